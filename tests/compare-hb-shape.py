@@ -8,6 +8,11 @@ Hebrew, whose shaper stands in `shape_users`. The fonts are two copies of DejaVu
 without `kern` and without names of glyphs, one with both. Each line is compared whole: numbers or names, clusters,
 offsets, advances, flags, boxes. `--texts N` asks for N texts a script in one form of lines, `--options LISTS` for so
 many random lists of options (levels, directions, features, forms of lines).
+
+`--broken FONTS` runs `fontshape` alone, over so many broken copies of the font: bytes changed at random, and prefixes.
+Each run ends within a second of processor time, never by a signal, and in one of two ways: with status 0, or with
+status 1 and the line that says that there is no such font. The font's table GPOS is taken out of its directory, so that
+its table `kern` is read; every second run draws.
 """
 import argparse
 import collections
@@ -15,6 +20,8 @@ import importlib.util
 import os
 import random
 import re
+import resource
+import struct
 import subprocess
 import sys
 import tempfile
@@ -61,6 +68,11 @@ FEATURES = ["kern", "+kern", "-kern", "kern=0", "kern[3:5]", "kern[3]=0", "kern[
             "kern=on", " kern=0  liga -mark ", "-kern[2:4]", "kern=-1", "kern=4294967296", "kern[2:4]=0,+liga,-mark", "-kern,kern[1:6]",
             "kern=0,kern[:3]=1,kern[5:]=2", "vkrn,-vert", "aalt[3:5]=2"]
 LANGUAGES = ["en_US.UTF-8", "fa", "x-hbot", "de-AT"]
+
+# what is shaped over broken fonts, the tables that are broken, and what `fontshape` says where there is no font
+BROKEN_TEXT = "AVATo \u00c5\u0308\u0301e\u0323\u0302 fi\u00df \u05e9\u05c1\u05b8\u05dc \u4e00\u2003x\ufe00\U0001f600 \u1f84"
+READ = [b"cmap", b"head", b"hhea", b"hmtx", b"maxp", b"loca", b"glyf", b"post", b"kern", b"OS/2"]
+NO_FONT = b"fontshape: no font with this number in the file\n"
 
 
 def characters(spans, known):
@@ -178,17 +190,79 @@ def compare_font(comparison, chance, kind, font, known, count, lists):
         comparison.compare(kind, script, font, options, texts)
 
 
-def missing(program, crate):
-    """What is missing for the comparison, nothing if all is there; builds the program if it isn't built."""
+def spans(data):
+    """The directory, and each table that is read: where it begins and ends."""
+    count = struct.unpack(">H", data[4:6])[0]
+    found = [(0, 12 + 16 * count)]
+    for at in range(12, 12 + 16 * count, 16):
+        tag, _, start, length = struct.unpack(">4s3I", data[at:at + 16])
+        if tag in READ:
+            # the beginning of a table has its counts and offsets
+            found += [(start, start + length), (start, start + min(length, 64))]
+    return found
+
+
+def changed(chance, data, places):
+    """A copy with 1 to 1,000 bytes changed, all within a few places."""
+    copy = bytearray(data)
+    begin, end = chance.choice(places) if chance.random() < 0.9 else (0, len(data))
+    for _ in range(chance.choice([1, 2, 5, 20, 100, 1000])):
+        at = chance.randrange(begin, end)
+        copy[at] = chance.choice([0, 255, chance.randrange(256), copy[at] ^ 1 << chance.randrange(8)])
+    return bytes(copy)
+
+
+def run_broken(program, path, options):
+    """The status of a run over a broken font, what it says of an error, and its processor time."""
+    before = resource.getrusage(resource.RUSAGE_CHILDREN)
+    limit = lambda: resource.setrlimit(resource.RLIMIT_CPU, (10, 10))
+    done = subprocess.run([program, path, BROKEN_TEXT] + options, stdout=subprocess.PIPE, stderr=subprocess.PIPE, preexec_fn=limit)
+    after = resource.getrusage(resource.RUSAGE_CHILDREN)
+    return done.returncode, done.stderr, after.ru_utime + after.ru_stime - before.ru_utime - before.ru_stime
+
+
+def shape_broken(program, count, seed):
+    """Runs the program over broken copies of the font, and ends at the first run that doesn't end as it should."""
+    chance = random.Random(seed)
+    with open(FONT, "rb") as file:
+        data = file.read().replace(b"GPOS", b"GPOT", 1)
+    places = spans(data)
+    shaped, refused, longest = 0, 0, 0.0
+    with tempfile.TemporaryDirectory() as folder:
+        path = os.path.join(folder, "font.ttf")
+        for i in range(count):
+            prefix = i % 4 == 3
+            broken = data[:chance.randrange(len(data))] if prefix else changed(chance, data, places)
+            with open(path, "wb") as file:
+                file.write(broken)
+            status, error, seconds = run_broken(program, path, ["--svg"] if i // 2 % 2 else ["--show-extents"])
+            if (status, error) not in [(0, b""), (1, NO_FONT)] or seconds > 1.0:
+                with open("/tmp/hostile.ttf", "wb") as file:
+                    file.write(broken)
+                sys.exit("font %d (/tmp/hostile.ttf): status %d, %.2f s: %s" % (i, status, seconds, error.decode(errors="replace")))
+            shaped, refused, longest = shaped + (status == 0), refused + (status == 1), max(longest, seconds)
+    print("%d broken fonts: %d shaped, %d are no font; the longest run took %.0f ms" % (count, shaped, refused, longest * 1000))
+
+
+def lacks_harfbuzz():
+    """What is missing for the comparison with HarfBuzz, nothing if all is there."""
     try:
         import fontTools.ttLib  # noqa: F401
         version = subprocess.run(["hb-shape", "--version"], stdout=subprocess.PIPE).stdout.decode()
     except (ImportError, OSError):
         version = ""
-    if not version or not os.path.exists(FONT):
-        return "fonts-dejavu-core, libharfbuzz-bin or python3-fonttools is not installed (Debian's packages)"
-    if " 6.0.0" not in version.split("\n")[0]:
-        return "hb-shape is of another HarfBuzz than 6.0.0"
+    if not version:
+        return "libharfbuzz-bin or python3-fonttools is not installed (Debian's packages)"
+    return None if " 6.0.0" in version.split("\n")[0] else "hb-shape is of another HarfBuzz than 6.0.0"
+
+
+def missing(program, crate, alone):
+    """What is missing, nothing if all is there; builds the program if it isn't built. `fontshape` alone needs no HarfBuzz."""
+    if not os.path.exists(FONT):
+        return "fonts-dejavu-core is not installed (Debian's package)"
+    lack = None if alone else lacks_harfbuzz()
+    if lack:
+        return lack
     if not os.path.exists(program):
         build = "rt run < stdin > /dev/null"
         subprocess.run(["sh", "-c", build], cwd=crate)
@@ -209,13 +283,17 @@ def main():
     asked.add_argument("--texts", type=int, default=1000, help="texts a script in one form of lines")
     asked.add_argument("--seed", type=int, default=7)
     asked.add_argument("--options", type=int, default=300, metavar="LISTS", help="random lists of options, each over some 20 texts")
+    asked.add_argument("--broken", type=int, default=0, metavar="FONTS", help="broken copies of the font, in place of the comparison")
     asked.add_argument("--examples", type=int, default=20, help="how many differences are shown")
     asked.add_argument("--program", default=os.path.join(crate, "out/fontshape"))
     args = asked.parse_args()
-    lack = missing(args.program, crate)
+    lack = missing(args.program, crate, args.broken > 0)
     if lack:
         print("skipped: " + lack)
         sys.exit(77)
+    if args.broken > 0:
+        shape_broken(args.program, args.broken, args.seed)
+        return
     comparison = Comparison(args.program, args.examples)
     with tempfile.TemporaryDirectory() as folder:
         for kind in ("plain", "kern"):

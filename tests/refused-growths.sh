@@ -57,17 +57,17 @@ refuse_test() {
     return 1
 }
 
-refuse_test buffer_tests refusals::growths "the buffer's calls" || exit 1
-refuse_test buffer_tests lines::growths "the lines of some glyphs" || exit 1
+refuse_test test_stages buffer::refusals::growths "the buffer's calls" || exit 1
+refuse_test test_stages buffer::lines::growths "the lines of some glyphs" || exit 1
 for row in e_acute shortest_expansion ordering_merges three_spellings dotted_circle mark_above_and_below; do
-    refuse_test run_tests "refusals::$row" "the run $row" || exit 1
+    refuse_test test_runs "refusals::$row" "the run $row" || exit 1
 done
-refuse_test run_tests refusals::comparing "two texts that are compared" || exit 1
-refuse_test run_tests refusals::a_key "the key of a text" || exit 1
-refuse_test stage_tests substitution::refusals::growths_in_a_stage "the stages that grow" || exit 1
-refuse_test stage_tests substitution::refusals::growths_in_a_run "the runs with such stages" || exit 1
-refuse_test stage_tests substitution::refusals::growths_with_two_features "the run with two user features" || exit 1
-refuse_test font_tests kerning::growths "the run that kerns by a font's table, and its plan" || exit 1
+refuse_test test_runs refusals::comparing "two texts that are compared" || exit 1
+refuse_test test_runs refusals::a_key "the key of a text" || exit 1
+refuse_test test_stages substitution::refusals::growths_in_a_stage "the stages that grow" || exit 1
+refuse_test test_stages substitution::refusals::growths_in_a_run "the runs with such stages" || exit 1
+refuse_test test_stages substitution::refusals::growths_with_two_features "the run with two user features" || exit 1
+refuse_test test_stages fonts::kerning::growths "the run that kerns by a font's table, and its plan" || exit 1
 
 # How many growths a test of a crate asks for.
 growths_of() {
@@ -87,11 +87,11 @@ take_none() {
     echo "growths: $begun, and none for $4"
 }
 
-filled=no_memory::filled
-take_none buffer_tests "${filled}_is_begun" "${filled}_and_used" "the buffer's calls that can't be refused" || exit 1
-take_none buffer_tests lines::glyphs_are_begun lines::no_glyphs_make_no_line "lines of no glyphs" || exit 1
-take_none run_tests no_memory::text_is_begun no_memory::steps_are_made "the steps that can't be refused" || exit 1
-take_none run_tests no_memory::text_is_begun no_memory::empty_text_is_shaped "runs over an empty text" || exit 1
+filled=buffer::no_memory::filled
+take_none test_stages "${filled}_is_begun" "${filled}_and_used" "the buffer's calls that can't be refused" || exit 1
+take_none test_stages buffer::lines::glyphs_are_begun buffer::lines::no_glyphs_make_no_line "lines of no glyphs" || exit 1
+take_none test_runs no_memory::text_is_begun no_memory::steps_are_made "the steps that can't be refused" || exit 1
+take_none test_runs no_memory::text_is_begun no_memory::empty_text_is_shaped "runs over an empty text" || exit 1
 
 # Whether an answer is the expected one with `refused 1` in place of what answers one line.
 is_refused() {

@@ -1,22 +1,29 @@
 #!/usr/bin/env python3
-"""Runs the built program on the sessions of tests/sessions, and compares what it writes and its status.
+"""Runs the built programs on their sessions, and compares what they write and their status: `shapeline` on those of
+tests/sessions, `fontshape` on those of tests/fontshape.
 
     tests/sessions.py [FILE ..]
 
-tests/sessions/README.md says how a session is written. If no file is named it takes all, and then runs the program
-with each of its reads failing in turn, and with each of its writes, until a run has no such call. It ends with status
-1 if something isn't as it should be, and says at which case or call.
+tests/sessions/README.md says how a session is written. If no file is named it takes all, then the inputs that fuzzing
+kept, in tests/fuzz, then runs `shapeline` with each of its reads failing in turn, and with each of its writes, until a
+run has no such call, and `fontshape` on a long text and to a full device. It ends with status 1 if something isn't as
+it should be, and says at which case, input or call.
 """
 import os
 import re
+import resource
+import shlex
+import shutil
 import subprocess
 import sys
 import tempfile
 from pathlib import Path
 
 TESTS = Path(__file__).resolve().parent
-CRATE = TESTS.parent / "crates/shapeline"
-PROGRAM = CRATE / "out/shapeline"
+CRATES = TESTS.parent / "crates"
+PROGRAM = CRATES / "shapeline/out/shapeline"
+FONTSHAPE = CRATES / "fontshape/out/fontshape"
+FONTS = [CRATES / "fontshape/data/tiny.ttf", TESTS / "fontshape/tall.ttf", TESTS / "fontshape/two.ttc"]
 
 # How long a run may take, in seconds.
 LIMIT = 60
@@ -30,6 +37,7 @@ class Block:
 
     def __init__(self, number, title, section=None):
         self.number, self.title = number, title
+        self.words, self.said = [], b""
         self.given = section.given if section else b""
         self.wanted = section.wanted if section else b""
         self.status = section.status if section else 0
@@ -53,13 +61,24 @@ def line_of(text):
     return data + end
 
 
-def read_line(block, text):
+def words_of(text):
+    """Arguments, with the quotes of a shell; U+0301 stands for that character."""
+    return [re.sub(r"U\+([0-9A-F]{4})", lambda m: chr(int(m[1], 16)), word) for word in shlex.split(text)]
+
+
+def read_line(block, text, folder):
     """Reads a line of a block, and refuses one that begins as none does."""
     mark, _, rest = text.partition(" ")
-    if mark == "<":
+    if mark == "$":
+        block.words = words_of(rest)
+    elif mark == "<":
         block.given += line_of(rest)
     elif mark == ">":
         block.wanted += line_of(rest)
+    elif mark == "!":
+        block.said += line_of(rest)
+    elif mark == "answers":
+        block.wanted += (folder / rest).read_bytes()
     elif mark == "status":
         block.status = int(rest)
     elif mark == "without":
@@ -99,19 +118,20 @@ def cases_of(file):
                 cases.append(block)
             for number, line in lines:
                 place = f"{file}:{number}"
-                read_line(block, line)
+                read_line(block, line, file.parent)
     except ValueError as fault:
         sys.exit(f"{place}: {fault}")
     return cases
 
 
-def run(given):
-    """What a run on this input writes, and its status: negative after a signal, none if the run goes on too long."""
+def run(program, case, folder):
+    """What a run of a case writes, also on standard error, and its status: negative after a signal, none if the run
+    goes on too long."""
     try:
-        ended = subprocess.run([PROGRAM], input=given, stdout=subprocess.PIPE, timeout=LIMIT, check=False)
+        ended = subprocess.run([program, *case.words], input=case.given, capture_output=True, cwd=folder, timeout=LIMIT)
     except subprocess.TimeoutExpired as late:
-        return late.stdout or b"", None
-    return ended.stdout, ended.returncode
+        return late.stdout or b"", late.stderr or b"", None
+    return ended.stdout, ended.stderr, ended.returncode
 
 
 def shown(data):
@@ -125,29 +145,54 @@ def compared(written, left_out):
     return b"".join(line for line in re.findall(rb"[^\n]*\n|[^\n]+$", written) if not line.startswith(begins))
 
 
-def fault_of(case):
+def fault_of(program, case, folder):
     """What is wrong with a run of a case, or nothing."""
-    written, status = run(case.given)
+    written, said, status = run(program, case, folder)
     found = compared(written, case.left_out) if case.left_out else written
     if found != case.wanted:
         return f"it should write\n{shown(case.wanted)}  and writes\n{shown(found)}"
     if status != case.status:
         return f"it should end with status {case.status}, and ends with {status}\n"
+    if said != case.said:
+        return f"it should say\n{shown(case.said)}  and says\n{shown(said)}"
     return ""
 
 
-def run_sessions(files):
+def run_sessions(files, folder):
     """Runs all cases, and says which aren't as they should be. Gives whether all are."""
     count, bad = 0, 0
     for file in files:
+        program = FONTSHAPE if file.resolve().parent.name == "fontshape" else PROGRAM
         for case in cases_of(file):
             count += 1
-            fault = fault_of(case)
+            fault = fault_of(program, case, folder)
             if fault:
                 bad += 1
-                print(f"{file}:{case.number}: {case.title}\n  on\n{shown(case.given)}  {fault}", end="")
+                words = shlex.join(case.words)
+                print(f"{file}:{case.number}: {case.title} {words}\n  on\n{shown(case.given)}  {fault}", end="")
     print(f"sessions: {count - bad} of {count} cases in {len(files)} files answer as they should")
     return count > 0 and bad == 0
+
+
+def limit_processor_time():
+    """Ends a run by a signal after a second of processor time."""
+    resource.setrlimit(resource.RLIMIT_CPU, (1, 1))
+
+
+def run_fuzzed():
+    """Runs the inputs that fuzzing kept. Each ends within a second of processor time, never by a signal, and in one
+    of two ways: with status 0 and no error line, or with status 2 and the malformed line's number. Gives whether all do."""
+    inputs = sorted((TESTS / "fuzz").iterdir())
+    for file in inputs:
+        ended = subprocess.run([PROGRAM], input=file.read_bytes(), stdout=subprocess.PIPE, timeout=LIMIT,
+                               preexec_fn=limit_processor_time, check=False)
+        last = (ended.stdout.splitlines() or [b""])[-1]
+        wanted = 2 if last.startswith(b"error: line ") else None if last.startswith(b"error: ") else 0
+        if ended.returncode != wanted:
+            print(f"{file}: status {ended.returncode}, and the last line is {last!r}")
+            return False
+    print(f"fuzzing: {len(inputs)} inputs end as they should")
+    return len(inputs) > 0
 
 
 # Lines that only set something: more than 8 reads take, so that some stand in two of them.
@@ -201,14 +246,48 @@ def run_failing_calls():
         return run_all_failing(work, "WRITE", ASKED, (ANSWERED, 2), 2) and reads
 
 
+def run_long_text(folder):
+    """`fontshape` writes a text of 3,000 letters whole, and reads a language's name of 30,000 bytes. Gives whether it
+    does."""
+    wanted = b"[" + b"|".join(b"2=%d+600" % at for at in range(3000)) + b"]\n"
+    words = [FONTSHAPE, "tiny.ttf", "--no-glyph-names", "--language=" + "ab-" * 10000]
+    ended = subprocess.run(words, input=b"A" * 3000 + b"\n", stdout=subprocess.PIPE, cwd=folder, timeout=LIMIT)
+    right = (ended.returncode, ended.stdout) == (0, wanted)
+    if not right:
+        print("fontshape doesn't write 3,000 letters whole")
+    return right
+
+
+def run_full_device(folder):
+    """A write that fails ends `fontshape` with status 1, and it says so. Gives whether it does."""
+    with open("/dev/full", "wb") as full:
+        words = [FONTSHAPE, "tiny.ttf", "AB"]
+        ended = subprocess.run(words, stdout=full, stderr=subprocess.PIPE, cwd=folder, timeout=LIMIT)
+    right = (ended.returncode, ended.stderr) == (1, b"fontshape: a read or a write failed\n")
+    if not right:
+        print(f"fontshape on a full device: status {ended.returncode}, {ended.stderr}")
+    return right
+
+
+def build(program, words):
+    """Builds a program if it isn't built."""
+    if not program.exists():
+        crate = program.parent.parent
+        subprocess.run(["rt", "run", *words], cwd=crate, stdin=subprocess.DEVNULL, stdout=subprocess.DEVNULL)
+
+
 def main():
-    if not PROGRAM.exists():
-        with (CRATE / "stdin").open("rb") as reader:
-            subprocess.run(["rt", "run"], cwd=CRATE, stdin=reader, stdout=subprocess.DEVNULL, check=True)
+    build(PROGRAM, [])
+    build(FONTSHAPE, ["--", "data/tiny.ttf", ""])
     named = [Path(name) for name in sys.argv[1:]]
-    sessions = run_sessions(named or sorted((TESTS / "sessions").glob("*.txt")))
-    failing = named or run_failing_calls()
-    sys.exit(0 if sessions and failing else 1)
+    with tempfile.TemporaryDirectory() as folder:
+        for font in FONTS:
+            shutil.copy(font, folder)
+        all_files = sorted([*(TESTS / "sessions").glob("*.txt"), *(TESTS / "fontshape").glob("*.txt")])
+        right = [run_sessions(named or all_files, folder)]
+        if not named:
+            right += [run_fuzzed(), run_failing_calls(), run_long_text(folder), run_full_device(folder)]
+    sys.exit(0 if all(right) else 1)
 
 
 if __name__ == "__main__":

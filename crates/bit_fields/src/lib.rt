@@ -4,6 +4,9 @@
 //! lowest field first, a word is the list of their values, like a number that is the list of its digits.
 //! One law holds of all fields: putting a value into one leaves the others as they were,
 //! [`laws::a_put_field_changes_alone`]; [`laws`] has what else holds.
+//!
+//! It is a crate of its own, below all others, since what an implementation of `Model` cites may
+//! not stand in the proofs of its own crate.
 #![tactic(auto)]
 
 ghost use Rattle.std.specs.Prelude.{◌≡◌, ◌<◌, ◌≤◌, ◌+◌, ◌*◌, ◌^◌};

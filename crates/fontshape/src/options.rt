@@ -146,8 +146,8 @@ impl Options {
         for word in words {
             waiting = self.take(alloc, waiting, word.as_str())?;
         }
-        if waiting.is_some() {
-            return Err(Failure::NoValue);
+        if let Some(setting) = waiting {
+            return Err(self.blame(alloc, Failure::NoValue, setting.name()));
         }
         if self.font.is_none() && !self.help {
             return Err(Failure::NoName);

@@ -41,6 +41,19 @@ impl Setting {
             _ => None,
         }
     }
+
+    /// Its name without the dashes.
+    pub fn name(self) -> &'static str {
+        match self {
+            Setting::Features => "features",
+            Setting::Direction => "direction",
+            Setting::Script => "script",
+            Setting::Language => "language",
+            Setting::ClusterLevel => "cluster-level",
+            Setting::Mode => "mode",
+            Setting::FaceIndex => "face-index",
+        }
+    }
 }
 
 impl Switch {

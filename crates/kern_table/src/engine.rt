@@ -1,7 +1,7 @@
 //! The engine.
 ghost use Rattle.shape_font.specs.declared.face.FontFace.{FontFace as Face};
-ghost use Rattle.std.specs.Prelude.{◌≡◌};
-ghost use Rattle.shape_buffer.specs.Outcome.{Made};
+ghost use Rattle.std.specs.Prelude.{◌≡◌, IsOk, MatchResult};
+ghost use Rattle.shape_buffer.specs.Outcome.{IsWithinLimit, Made, Outcome, step};
 ghost use Rattle.kern_table.specs.Map.{kern_masks};
 ghost use Rattle.kern_table.specs.declared.map.KernMap.{KernMap as Compiled};
 ghost use Rattle.kern_table.specs.Engine.{kern_layout, kern_lookups, kern_masks-lawful, kern_lookups-lawful};
@@ -16,7 +16,8 @@ use shape_font::FontFace;
 use std::alloc::Global;
 
 /// The engine that kerns by the table `kern` of a font file, and does nothing else: it chooses no script, and has no
-/// stage. Read are the parts of format 0 of a table of version 0, those along the line. Takes no memory.
+/// stage. Read are the parts of format 0 of a table of version 0, those along the line. Takes no memory, and refuses
+/// nothing: its calls say so beside what the trait asks.
 pub struct KernTable;
 
 impl<'a> hb_ot_layout_t<FontFace<'a>> for KernTable {
@@ -39,9 +40,14 @@ impl<'a> hb_ot_layout_t<FontFace<'a>> for KernTable {
 
     fn compile(
         _alloc: Global,
-        _face: &FontFace<'a>,
+        face: &FontFace<'a>,
         builder: &hb_ot_map_builder_t,
-    ) -> Result<KernMap, ShapeError> {
+    ) -> Result<KernMap, ShapeError>
+        ensures made { MatchResult result
+            (λ map. map ≡ (kern_layout face.now).compiled builder.now)
+            (λ e. e ≡ ShapeError.Memory) }
+        ensures ok { IsOk result }
+    {
         Ok(map(builder.requests()))
     }
 
@@ -104,10 +110,15 @@ impl<'a> hb_ot_layout_t<FontFace<'a>> for KernTable {
     fn substitute_stage(
         _alloc: Global,
         _map: &KernMap,
-        _i: usize,
-        _face: &FontFace<'a>,
-        _buffer: &mut hb_buffer_t,
-    ) -> Result<(), ShapeError> {
+        i: usize,
+        face: &FontFace<'a>,
+        buffer: &mut hb_buffer_t,
+    ) -> Result<(), ShapeError>
+        requires { IsWithinLimit buffer.old }
+        ensures made { Outcome (step ((kern_lookups face.now).stage i))
+            buffer.old buffer.new result }
+        ensures ok { IsOk result }
+    {
         Ok(())
     }
 
@@ -120,10 +131,15 @@ impl<'a> hb_ot_layout_t<FontFace<'a>> for KernTable {
     fn aat_substitute(
         _alloc: Global,
         _map: &KernMap,
-        _user_features: &[Feature],
-        _face: &FontFace<'a>,
-        _buffer: &mut hb_buffer_t,
-    ) -> Result<(), ShapeError> {
+        user_features: &[Feature],
+        face: &FontFace<'a>,
+        buffer: &mut hb_buffer_t,
+    ) -> Result<(), ShapeError>
+        requires { IsWithinLimit buffer.old }
+        ensures made { Outcome (step ((kern_lookups face.now).aat_substitute user_features.now))
+            buffer.old buffer.new result }
+        ensures ok { IsOk result }
+    {
         Ok(())
     }
 
@@ -142,9 +158,14 @@ impl<'a> hb_ot_layout_t<FontFace<'a>> for KernTable {
     fn position(
         _alloc: Global,
         _map: &KernMap,
-        _face: &FontFace<'a>,
-        _buffer: &mut hb_buffer_t,
-    ) -> Result<(), ShapeError> {
+        face: &FontFace<'a>,
+        buffer: &mut hb_buffer_t,
+    ) -> Result<(), ShapeError>
+        requires { IsWithinLimit buffer.old }
+        ensures made { Outcome (step ((kern_lookups face.now).position))
+            buffer.old buffer.new result }
+        ensures ok { IsOk result }
+    {
         Ok(())
     }
 
@@ -155,10 +176,15 @@ impl<'a> hb_ot_layout_t<FontFace<'a>> for KernTable {
     fn aat_position(
         _alloc: Global,
         _map: &KernMap,
-        _kern_mask: hb_mask_t,
-        _face: &FontFace<'a>,
-        _buffer: &mut hb_buffer_t,
-    ) -> Result<(), ShapeError> {
+        kern_mask: hb_mask_t,
+        face: &FontFace<'a>,
+        buffer: &mut hb_buffer_t,
+    ) -> Result<(), ShapeError>
+        requires { IsWithinLimit buffer.old }
+        ensures made { Outcome (step ((kern_lookups face.now).aat_position kern_mask))
+            buffer.old buffer.new result }
+        ensures ok { IsOk result }
+    {
         Ok(())
     }
 
@@ -167,7 +193,12 @@ impl<'a> hb_ot_layout_t<FontFace<'a>> for KernTable {
         kern_mask: hb_mask_t,
         face: &FontFace<'a>,
         buffer: &mut hb_buffer_t,
-    ) -> Result<(), ShapeError> {
+    ) -> Result<(), ShapeError>
+        requires { IsWithinLimit buffer.old }
+        ensures made { (map : Compiled) → Outcome (step ((kern_lookups face.now).kern kern_mask))
+            buffer.old buffer.new result }
+        ensures ok { IsOk result }
+    {
         kern_table(face.kern_table(), kern_mask, buffer);
         Ok(())
     }

@@ -1,4 +1,7 @@
 //! Where kerning is on, by the requests of a plan.
+//!
+//! Kerning has eight bits of the mask, from bit 4 on, whatever values are asked for. HarfBuzz
+//! takes as few as the greatest value needs; the kerned glyphs are the same.
 ghost use Rattle.std.specs.Prelude.{◌≡◌};
 ghost use Rattle.std.specs.Int.RustNames.{bit_and};
 ghost use Rattle.kern_table.specs.Map.{asks, requested_by, kern_requests_of, map_of};

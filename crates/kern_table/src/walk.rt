@@ -1,4 +1,7 @@
 //! Kerning of a buffer by one part of the table.
+//!
+//! A glyph that waits is walked once. HarfBuzz looks for each glyph's right neighbour anew, in
+//! the square of the text if it finds none.
 ghost use Rattle.std.specs.Prelude.{◌≡◌, ◌+◌, ◌<◌, ◌^◌, ◌≤ℤ◌, pos, negsuc, length, is_some};
 ghost use Rattle.std.specs.Option.{IfSome};
 ghost use Rattle.std.specs.Int.RustNames.{bit_and};

@@ -8,17 +8,18 @@ use Rattle.shape_buffer.specs.declared.interfaces.map_request.TableIndex.{TableI
 use Rattle.shape_buffer.specs.declared.interfaces.map_request.TableIndex.TheVariants.{GSUB, GPOS}
 use Rattle.shape_common.specs.FlagNames.{F_GLOBAL}
 
--- the requests in order, and the scripts that the engine chose; is_simple begins true, and is false if a collect hook
+-- the requests in order, the text's language by the bytes of its name, and the scripts that the engine chose; is_simple begins true, and is false if a collect hook
 -- is given or user features are passed
 pub record Builder : Type 0 where
   pub requests : List MapRequest
   pub is_simple : Bool
+  pub language : Option (List ℕ)
   pub gsub_script : Option hb_tag_t
   pub gpos_script : Option hb_tag_t
 
--- a builder without requests
-abbrev pub new_builder : (TableIndex → Option hb_tag_t) → Builder
-new_builder chosen = record { requests = []; is_simple = true; gsub_script = chosen GSUB; gpos_script = chosen GPOS }
+-- a builder without requests, for a text in this language
+abbrev pub new_builder : Option (List ℕ) → (TableIndex → Option hb_tag_t) → Builder
+new_builder language chosen = record { requests = []; is_simple = true; language = language; gsub_script = chosen GSUB; gpos_script = chosen GPOS }
 
 -- the script that was chosen for a table
 abbrev pub chosen_script : Builder → TableIndex → Option hb_tag_t

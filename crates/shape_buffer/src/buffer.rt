@@ -1,6 +1,6 @@
 //! A text on its way to glyphs: its items and positions, and its settings.
 //!
-//! A text is filled into a [`UnicodeBuffer`], shaped as an [`hb_buffer_t`] and handed out as a
+//! A text is filled into a [`UnicodeBuffer`], shaped as an [`hb_buffer_t`] and returned as a
 //! [`GlyphBuffer`]: three views of one list of items, which always has as many positions as items.
 //! Contracts see each of them as the record `Buffer` of `shape_items`, so no clause names a field of
 //! theirs.

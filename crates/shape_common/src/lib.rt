@@ -14,6 +14,7 @@ mod map_face;
 pub mod modified_combining_class;
 mod plain_unicode;
 mod positions;
+mod script_names;
 mod scripts;
 pub mod space_types;
 mod text_types;

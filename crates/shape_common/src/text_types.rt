@@ -1,4 +1,7 @@
 //! What a caller sets of a text: tags, scripts, languages, directions, levels, features.
+//!
+//! The opposite of the direction Invalid is Invalid, which rustybuzz leaves open. `Language` is a
+//! type of this crate over a string: clauses see what it holds, and storage may change.
 ghost use Rattle.std.specs.Prelude.{◌≡◌, ◌+◌, ◌*◌, ◌↔◌, IsTrue, slice_index};
 
 use std::ops::Range;

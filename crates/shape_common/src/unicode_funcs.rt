@@ -1,4 +1,8 @@
 //! What shaping asks of Unicode.
+//!
+//! The laws range over all numbers. A character in a clause is a number, and the functions of a
+//! meaning are ghosts that their implementer chooses, past the characters too. So no law has the
+//! premise "is a character": an implementation loses nothing, and more is promised.
 ghost use Rattle.std.specs.Prelude.{◌≡◌};
 ghost use Rattle.shape_common.specs.Unicode.{UnicodeMeaning, LawfulUnicode};
 

@@ -1,4 +1,7 @@
 //! Sums, differences and products modulo 2^32.
+//!
+//! Clauses of public calls say by which of these positions are made; `specs/Wrapping.antt` says
+//! that a sum is the exact one if it fits.
 ghost use Rattle.std.specs.Prelude.{◌≡◌, ℤ, pos, ◌<ℤ◌, int_div};
 ghost use Rattle.shape_common.specs.Wrapping.{◌+ʷ◌, ◌-ʷ◌, ◌*ʷ◌, neg_w};
 

@@ -1,4 +1,7 @@
 //! Laws of the fallback steps: each function has laws as its contract, and nothing to do.
+//!
+//! A number is exact already if the last of its sums fits, whatever wraps before it. Only what is
+//! halved, divided or compared must fit too.
 ghost use Rattle.std.specs.Prelude.{Option};
 ghost use Rattle.shape_common.specs.Face.{FaceMeaning};
 ghost use Rattle.shape_buffer.specs.Preservation.{IsClusterPreserving, IsFlagPreserving};

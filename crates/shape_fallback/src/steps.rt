@@ -1,4 +1,7 @@
 //! The steps of a run that replace lookups: each asks the plan or the buffer whether it is due.
+//!
+//! They are functions of their own, so that the calls in them stay unconditional, as in
+//! rustybuzz.
 ghost use Rattle.std.specs.Prelude.{◌≡◌};
 ghost use Rattle.shape_buffer.specs.Outcome.{Made};
 ghost use Rattle.shape_fallback.specs.DueSteps.{recategorize_step, spaces_step, marks_step};

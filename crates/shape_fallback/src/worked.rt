@@ -1,4 +1,4 @@
-//! The definitions, computed on cases whose answers are worked out by hand.
+//! The definitions, computed on cases whose results were worked out by hand.
 ghost use Rattle.shape_fallback.specs.Worked.Buffers.{WorkedBuffers};
 ghost use Rattle.shape_fallback.specs.Worked.Ccc.{WorkedCcc};
 ghost use Rattle.shape_fallback.specs.Worked.Marks.{WorkedMarks};

@@ -52,9 +52,9 @@ abbrev pub group_of : List ℕ → ℕ → Option ℕ
 group_of t c = found_by (side_of_group t c) (groups_of t)
 
 -- what group `i` says of a character that it holds: in format 12 its glyphs stand in a row, in format 13 there is one
--- for all
+-- for all; 32 bits hold the number
 abbrev pub group_glyph : List ℕ → Bool → ℕ → ℕ → ℕ
-group_glyph t one c i = u32_of t (24 + 12 * i) + cond one 0 (c - u32_of t (16 + 12 * i))
+group_glyph t one c i = (u32_of t (24 + 12 * i) + cond one 0 (c - u32_of t (16 + 12 * i))) % 4294967296
 
 abbrev pub glyph_of_groups : List ℕ → Bool → ℕ → ℕ
 glyph_of_groups t one c = option_map_or (group_glyph t one c) (group_of t c) 0

@@ -13,19 +13,19 @@ use Rattle.shape_font.specs.declared.face.FontFace.{FontFace}
 use Rattle.shape_font.specs.declared.variations.GlyphVariant.{GlyphVariant}
 use Rattle.shape_font.specs.declared.variations.GlyphVariant.TheVariants.{Missing, Default, Own}
 
--- the glyph with this number, if the font has it; 0 is none
-abbrev pub own_glyph_of : FontFace → ℕ → Option GlyphId
-own_glyph_of f g = if nat_lt 0 g && nat_lt g f.glyph_count then Some (record { 0 = g }) else None
+-- the glyph with this number, whether the font has so many or not; 0 is none
+abbrev pub numbered : ℕ → Option GlyphId
+numbered g = if nat_lt 0 g then Some (record { 0 = g }) else None
 
--- the glyph of a character, if `cmap` names one that the font has
+-- the glyph of a character by `cmap`
 abbrev pub glyph_of : FontFace → ℕ → Option GlyphId
-glyph_of f c = own_glyph_of f (mapped_glyph f.cmap.now f.symbols c)
+glyph_of f c = numbered (mapped_glyph f.cmap.now f.symbols c)
 
 -- its glyph before a selector: the one that it has alone, or one of its own; none if the font says nothing
 abbrev pub varied : FontFace → ℕ → GlyphVariant → Option GlyphId
 varied f c Missing = None
 varied f c Default = glyph_of f c
-varied f c (Own g) = own_glyph_of f g
+varied f c (Own g) = numbered g
 
 abbrev pub variant_of : FontFace → ℕ → ℕ → Option GlyphId
 variant_of f c selector = varied f c (variation_of f.sequences.now c selector)

@@ -7,11 +7,11 @@ use crate::search::{found, side, side_by_end};
 use std::cmp::Ordering;
 
 /// The glyph of a character by a table of format 0, or 0.
-fn by_bytes(table: &[u8], c: u32) -> u64
+fn by_bytes(table: &[u8], c: u32) -> u32
     ensures { result ≡ glyph_0 table.now c }
 {
     if c < 256 {
-        u64::from(u8_at(table, 6 + c as usize))
+        u32::from(u8_at(table, 6 + c as usize))
     } else {
         0
     }
@@ -68,14 +68,14 @@ fn by_segments(table: &[u8], count: u32, c: u32) -> u32
 }
 
 /// The glyph of a character if `count` characters in a row from `start` on have theirs listed at `at`, or 0.
-fn by_list(table: &[u8], start: u32, count: u32, at: usize, c: u32) -> u64
+fn by_list(table: &[u8], start: u32, count: u32, at: usize, c: u32) -> u32
     requires { at < 2 ^ 32 }
     ensures { result ≡ listed_glyph table.now start count at c }
 {
     if c < start || count <= c - start {
         return 0;
     }
-    u64::from(u16_at(table, at + 2 * (c - start) as usize))
+    u32::from(u16_at(table, at + 2 * (c - start) as usize))
 }
 
 /// How many groups a table of format 12 or 13 has room for, at most as many as it says.
@@ -100,21 +100,22 @@ fn group(table: &[u8], c: u32) -> Option<u32>
     found(groups(table), |i| group_side(table, c, i))
 }
 
-/// The glyph that group `i` gives a character of its own; `one` if a group has one glyph for all.
-fn in_group(table: &[u8], one: bool, c: u32, i: u32) -> u64
+/// The glyph that group `i` gives a character of its own, as 32 bits hold it; `one` if a group has one glyph for all.
+fn in_group(table: &[u8], one: bool, c: u32, i: u32) -> u32
     ensures { result ≡ group_glyph table.now one c i }
 {
     let start = u32_at(table, 16 + 12 * i as usize);
     let first = u64::from(u32_at(table, 24 + 12 * i as usize));
-    if one {
-        first
+    let further = if one {
+        0
     } else {
-        first + u64::from(c.saturating_sub(start))
-    }
+        u64::from(c.saturating_sub(start))
+    };
+    ((first + further) % 0x1_0000_0000) as u32
 }
 
 /// The glyph of a character by a table of format 12, or 13 if groups have one glyph for all; or 0.
-fn by_groups(table: &[u8], one: bool, c: u32) -> u64
+fn by_groups(table: &[u8], one: bool, c: u32) -> u32
     ensures { result ≡ glyph_of_groups table.now one c }
 {
     match group(table, c) {
@@ -124,12 +125,12 @@ fn by_groups(table: &[u8], one: bool, c: u32) -> u64
 }
 
 /// The glyph of a character by the table's format, or 0. It may be past the last glyph of the face.
-pub fn glyph(table: &[u8], c: u32) -> u64
+pub fn glyph(table: &[u8], c: u32) -> u32
     ensures { result ≡ cmap_glyph table.now c }
 {
     match u16_at(table, 0) {
         0 => by_bytes(table, c),
-        4 => u64::from(by_segments(table, u32::from(u16_at(table, 6) / 2), c)),
+        4 => by_segments(table, u32::from(u16_at(table, 6) / 2), c),
         6 => by_list(
             table,
             u32::from(u16_at(table, 6)),
@@ -145,7 +146,7 @@ pub fn glyph(table: &[u8], c: u32) -> u64
 }
 
 /// The glyph of a character, or 0. In a table of symbols one below 256 without a glyph has that of U+F000 plus itself.
-pub fn mapped(table: &[u8], symbols: bool, c: u32) -> u64
+pub fn mapped(table: &[u8], symbols: bool, c: u32) -> u32
     ensures { result ≡ mapped_glyph table.now symbols c }
 {
     let found = glyph(table, c);

@@ -8,7 +8,7 @@ ghost use Rattle.shape_font.specs.Directory.{bytes_of, has_table};
 ghost use Rattle.shape_font.specs.Metrics.{long_metrics};
 ghost use Rattle.shape_font.specs.Names.{glyph_name as glyph_name_of};
 ghost use Rattle.shape_font.specs.declared.names.TheConstants.{STANDARD};
-ghost use Rattle.shape_font.specs.Face.{font_face, own_glyph_of, glyph_of, variant_of, h_advance_of, line_height, v_advance_of, inked_of, extents_of, half_room, origin_over, v_origin_of};
+ghost use Rattle.shape_font.specs.Face.{font_face, numbered as numbered_of, glyph_of, variant_of, h_advance_of, line_height, v_advance_of, inked_of, extents_of, half_room, origin_over, v_origin_of};
 
 use crate::bytes::{u16_at, u32_at};
 use crate::directory::{has, table_or_empty};
@@ -82,6 +82,17 @@ pub struct FontFace<'a> {
     gdef: &'a [u8],
     gsub: &'a [u8],
     gpos: &'a [u8],
+}
+
+/// The glyph with this number, whether the font has so many or not; 0 is none.
+fn numbered(glyph: u32) -> Option<GlyphId>
+    ensures { result ≡ numbered_of glyph }
+{
+    if 0 < glyph {
+        Some(GlyphId(glyph))
+    } else {
+        None
+    }
 }
 
 /// Which tables of lookups the font has.
@@ -224,22 +235,11 @@ impl<'a> FontFace<'a> {
         names::glyph_name(self.post, glyph.0)
     }
 
-    /// The glyph with this number, if the font has it; 0 is none.
-    fn own(&self, glyph: u64) -> Option<GlyphId>
-        ensures { result ≡ own_glyph_of self.now glyph }
-    {
-        if 0 < glyph && glyph < u64::from(self.glyph_count) {
-            Some(GlyphId(glyph as u32))
-        } else {
-            None
-        }
-    }
-
-    /// The glyph of a character, if `cmap` names one that the font has.
+    /// The glyph of a character by `cmap`. It may be past the last glyph of the font.
     fn glyph(&self, c: char) -> Option<GlyphId>
         ensures { result ≡ glyph_of self.now c }
     {
-        self.own(cmap::mapped(self.cmap, self.symbols, u32::from(c)))
+        numbered(cmap::mapped(self.cmap, self.symbols, u32::from(c)))
     }
 
     /// The glyph of a character before a selector: its own, or the character's if it looks as it does alone.
@@ -249,7 +249,7 @@ impl<'a> FontFace<'a> {
         match variation(self.sequences, u32::from(c), u32::from(selector)) {
             GlyphVariant::Missing => None,
             GlyphVariant::Default => self.glyph(c),
-            GlyphVariant::Own(glyph) => self.own(u64::from(glyph)),
+            GlyphVariant::Own(glyph) => numbered(glyph),
         }
     }
 

@@ -1,7 +1,7 @@
-//! A face over the bytes of a font file (OpenType, TrueType): [`FontFace`] is an `hb_font_t` whose answers are
+//! A face over the bytes of a font file (OpenType, TrueType): [`FontFace`] is an `hb_font_t` whose results are
 //! functions of the bytes.
 //!
-//! Any bytes are taken. What lies past the end of a table reads as 0, so no answer is refused, and one line says what
+//! Any bytes are taken. What lies past the end of a table reads as 0, so no call is refused, and one line says what
 //! each one means; no table is copied, and no memory is taken. [`bytes`] reads numbers, [`directory`] finds
 //! tables, [`cmap`] glyphs of characters, [`metrics`] advances and boxes, and [`face`] puts them together.
 //! [`worked`] has the definitions computed on bytes that were read by hand.

@@ -1,5 +1,9 @@
 //! Searches among records in order: by midpoints, as HarfBuzz searches, so that records out of order are found or
 //! missed as there.
+//!
+//! The definition is the search's own, place by place, so a contract is exact for any bytes; that
+//! among ranges in order it finds what a walk finds is a law. In `cmap` format 4 the end of a
+//! segment decides before its start, in groups the start before the end.
 ghost use Rattle.std.specs.Prelude.{◌≡◌, ℕ, ◌<◌, Option};
 ghost use Rattle.std.specs.declared.cmp.Ordering.{Ordering};
 ghost use Rattle.shape_font.specs.Search.{found_by, side_of, side_from_end};

@@ -1,17 +1,18 @@
 //! The definitions, computed on bytes that were read by hand.
-ghost use Rattle.shape_font.specs.Worked.Tables.{WorkedNumbers, WorkedDirectory, WorkedCollections, WorkedSubtables};
+ghost use Rattle.shape_font.specs.Worked.Tables.{WorkedNumbers, WorkedDirectory, WorkedCollections, WorkedSubtables, WorkedTags};
 ghost use Rattle.shape_font.specs.Worked.Glyphs.{WorkedLists, WorkedSegments, WorkedGroups, WorkedSymbols, WorkedMetrics};
 ghost use Rattle.shape_font.specs.Worked.Lines.{WorkedLines};
 ghost use Rattle.shape_font.specs.Worked.Searches.{WorkedSearches, WorkedVariations};
 ghost use Rattle.shape_font.specs.Worked.Names.{WorkedNames};
 ghost use Rattle.shape_font.specs.Worked.Face.{WorkedFace, WorkedOrigins};
 
-/// Numbers, the directory, collections, and the choice of a character map.
+/// Numbers, the directory, collections, the choice of a character map, and the tags of tables.
 pub fn tables_meet_worked_cases()
     ensures numbers { WorkedNumbers }
     ensures directory { WorkedDirectory }
     ensures collections { WorkedCollections }
     ensures subtables { WorkedSubtables }
+    ensures tags { WorkedTags }
 {}
 
 /// Glyphs of characters, advances and boxes, and what vertical lines take.

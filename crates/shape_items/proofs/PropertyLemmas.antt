@@ -19,7 +19,7 @@ unfolding properties_of
 first_put k value first lower upper lt fits =
     ap (λ l. properties_from l (fields lower_widths lower) (fields upper_widths upper)) (fields-with_field first_widths k value first lt fits)
 
-pub lower_put : (k value first lower upper : ℕ) → k < 6 → value < 2 ^ width_of lower_widths k
+pub lower_put : (k value first lower upper : ℕ) → k < 8 → value < 2 ^ width_of lower_widths k
     → properties_of first (with_field (place_of lower_widths k) (width_of lower_widths k) value lower) upper
     ≡ properties_from (fields first_widths first) (set (fields lower_widths lower) k value) (fields upper_widths upper)
 unfolding properties_of
@@ -65,7 +65,7 @@ first_kept k value first lower upper later earlier fits words =
       unused = unused_stays ∙ words.first_fields.unused;
     })
 
-pub lower_kept : (k value first lower upper : ℕ) → k < 6 → 3 ≢ k → value < 2 ^ width_of lower_widths k → AreWords first lower upper
+pub lower_kept : (k value first lower upper : ℕ) → k < 8 → 4 ≢ k → value < 2 ^ width_of lower_widths k → AreWords first lower upper
     → AreWords first (with_field (place_of lower_widths k) (width_of lower_widths k) value lower) upper
 lower_kept k value first lower upper lt used fits words = record {
   first_fits = words.first_fits;
@@ -73,8 +73,8 @@ lower_kept k value first lower upper lt used fits words = record {
   upper_fits = words.upper_fits;
   first_fields = words.first_fields;
   lower_unused =
-      ap (λ (l : List ℕ). get_or l 3 0) (fields-with_field lower_widths k value lower lt fits)
-      ∙ get_or-set_other (fields lower_widths lower) k 3 value 0 used ∙ words.lower_unused;
+      ap (λ (l : List ℕ). get_or l 4 0) (fields-with_field lower_widths k value lower lt fits)
+      ∙ get_or-set_other (fields lower_widths lower) k 4 value 0 used ∙ words.lower_unused;
 }
 
 pub upper_kept : (k value first lower upper : ℕ) → k < 4 → value < 2 ^ width_of upper_widths k → AreWords first lower upper

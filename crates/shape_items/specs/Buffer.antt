@@ -1,5 +1,5 @@
 -- A buffer as its callers see it.
-use Rattle.std.specs.Prelude.{ℕ, ◌*◌, min, max, List, [], Option, None, unwrap_or}
+use Rattle.std.specs.Prelude.{ℕ, ◌+◌, ◌*◌, ◌%◌, min, max, List, [], Option, None, unwrap_or}
 use Rattle.shape_items.specs.Items.{Item}
 use Rattle.shape_common.specs.declared.positions.GlyphPosition.{GlyphPosition}
 use Rattle.shape_common.specs.declared.text_types.Direction.{Direction}
@@ -24,6 +24,8 @@ pub record Buffer : Type 0 where
   pub not_found_variation_selector_glyph : Option GlyphId
   pub scratch_flags : ScratchFlags
   pub length_limit : Option ℕ
+  -- the ligature id that was given last, 0 for none
+  pub serial : ℕ
   pub pre_context : List ℕ
   pub post_context : List ℕ
 
@@ -41,6 +43,7 @@ new_buffer = record {
   not_found_variation_selector_glyph = None;
   scratch_flags = record { 0 = 0 };
   length_limit = None;
+  serial = 0;
   pre_context = [];
   post_context = [];
 }
@@ -55,9 +58,14 @@ cleared b = record b {
   language = None;
   scratch_flags = record { 0 = 0 };
   length_limit = None;
+  serial = 0;
   pre_context = [];
   post_context = [];
 }
+
+-- the ligature id after that one: from 1 to 7, and from 1 again
+abbrev pub next_ligature_id : ℕ → ℕ
+next_ligature_id serial = serial % 7 + 1
 
 -- the greatest number that can be counted
 abbrev pub most_countable : ℕ

@@ -1,10 +1,10 @@
 -- Clusters and flags of a buffer.
 use Rattle.std.specs.Prelude.{ℕ, ◌+◌, ◌==◌, nat_lt, if◌then◌else◌, slice_range}
 use Rattle.std.specs.Int.RustNames.{bit_and, bit_or}
-use Rattle.shape_items.specs.Clusters.{merge, least_cluster, map_range, mark_break, mark_concat}
+use Rattle.shape_items.specs.Clusters.{merge, least_cluster, map_range, mark_break, mark_concat, mark_tatweel}
 use Rattle.shape_items.specs.Buffer.{Buffer}
 use Rattle.shape_common.specs.declared.text_types.BufferClusterLevel.TheVariants.{MonotoneGraphemes, MonotoneCharacters, Characters}
-use Rattle.shape_common.specs.FlagNames.{PRODUCE_UNSAFE_TO_CONCAT, HAS_GLYPH_FLAGS}
+use Rattle.shape_common.specs.FlagNames.{PRODUCE_UNSAFE_TO_CONCAT, PRODUCE_SAFE_TO_INSERT_TATWEEL, HAS_GLYPH_FLAGS}
 
 -- the buffer with the scratch flag HAS_GLYPH_FLAGS set
 abbrev pub with_glyph_flags : Buffer → Buffer
@@ -19,6 +19,23 @@ unsafe_to_break start end b =
       items = map_range (mark_break (least_cluster (slice_range b.items start end))) start end b.items;
     }
     else b
+
+-- the span marked safe to insert tatweel, except for the items of its least cluster; a span of fewer than two items
+-- changes nothing
+abbrev pub tatweel_marked : ℕ → ℕ → Buffer → Buffer
+tatweel_marked start end b =
+    if nat_lt (start + 1) end then
+    record (with_glyph_flags b) {
+      items = map_range (mark_tatweel (least_cluster (slice_range b.items start end))) start end b.items;
+    }
+    else b
+
+-- the span marked so if the buffer's flags ask for that, else unsafe to break
+abbrev pub safe_to_insert_tatweel : ℕ → ℕ → Buffer → Buffer
+safe_to_insert_tatweel start end b =
+    if bit_and b.flags.0 PRODUCE_SAFE_TO_INSERT_TATWEEL == PRODUCE_SAFE_TO_INSERT_TATWEEL
+    then tatweel_marked start end b
+    else unsafe_to_break start end b
 
 -- the span marked unsafe to concat, if the buffer's flags ask for that
 abbrev pub unsafe_to_concat : ℕ → ℕ → Buffer → Buffer

@@ -3,7 +3,7 @@ use Rattle.std.specs.Prelude.{ℕ, ◌+◌, ◌-◌, ◌==◌, List, [], ◌∷�
 use Rattle.std.specs.Int.RustNames.{bit_or}
 use Rattle.std.specs.List.{prefix_len, suffix_len}
 use Rattle.shape_items.specs.Items.{Item, has_cluster, put_in}
-use Rattle.shape_common.specs.FlagNames.{UNSAFE_TO_CONCAT, UNSAFE}
+use Rattle.shape_common.specs.FlagNames.{UNSAFE_TO_CONCAT, SAFE_TO_INSERT_TATWEEL, UNSAFE}
 
 -- the clusters of a list
 abbrev pub clusters : List Item → List ℕ
@@ -49,6 +49,11 @@ merge start end xs =
 abbrev pub mark_break : ℕ → Item → Item
 mark_break least item =
     if item.cluster == least then item else record item { mask = bit_or item.mask UNSAFE }
+
+-- the item marked safe to insert tatweel, except for one in that least cluster
+abbrev pub mark_tatweel : ℕ → Item → Item
+mark_tatweel least item =
+    if item.cluster == least then item else record item { mask = bit_or item.mask SAFE_TO_INSERT_TATWEEL }
 
 -- the item marked unsafe to concat
 abbrev pub mark_concat : Item → Item

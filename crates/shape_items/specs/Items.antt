@@ -31,6 +31,8 @@ new_item c cluster = record {
     glyph_class = record { 0 = 0 };
     substituted = false;
     ligated = false;
+    multiplied = false;
+    mark_attachment_class = 0;
     ligature_id = 0;
     ligature_component = 0;
     number_of_components = 1;

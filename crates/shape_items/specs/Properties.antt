@@ -17,6 +17,8 @@ pub record Properties : Type 0 where
   pub glyph_class : GlyphPropsFlags
   pub substituted : Bool
   pub ligated : Bool
+  pub multiplied : Bool
+  pub mark_attachment_class : ℕ
   pub ligature_id : ℕ
   pub ligature_component : ℕ
   pub number_of_components : ℕ

@@ -9,9 +9,10 @@ use Rattle.shape_items.specs.Properties.{Properties}
 abbrev pub first_widths : List ℕ
 first_widths = 8 ∷ 8 ∷ 8 ∷ 1 ∷ 1 ∷ 1 ∷ 1 ∷ 1 ∷ 1 ∷ 2 ∷ []
 
--- those of the second word's halves; the ten bits above those for substituted and ligated have no use
+-- those of the second word's halves; the bit between those for multiplied and the mark attachment class has no use, so
+-- that the first sixteen bits are the glyph properties of OpenType layout
 abbrev pub lower_widths : List ℕ
-lower_widths = 4 ∷ 1 ∷ 1 ∷ 10 ∷ 8 ∷ 8 ∷ []
+lower_widths = 4 ∷ 1 ∷ 1 ∷ 1 ∷ 1 ∷ 8 ∷ 8 ∷ 8 ∷ []
 
 abbrev pub upper_widths : List ℕ
 upper_widths = 8 ∷ 8 ∷ 8 ∷ 8 ∷ []
@@ -28,7 +29,8 @@ first_values p =
 
 abbrev pub lower_values : Properties → List ℕ
 lower_values p =
-    p.glyph_class.0 ∷ number_of p.substituted ∷ number_of p.ligated ∷ 0 ∷ p.ligature_id ∷ p.ligature_component ∷ []
+    p.glyph_class.0 ∷ number_of p.substituted ∷ number_of p.ligated ∷ number_of p.multiplied ∷ 0 ∷ p.mark_attachment_class
+    ∷ p.ligature_id ∷ p.ligature_component ∷ []
 
 abbrev pub upper_values : Properties → List ℕ
 upper_values p = p.number_of_components ∷ p.syllable ∷ p.shaper_category ∷ p.shaper_auxiliary ∷ []
@@ -51,8 +53,10 @@ properties_from first lower upper = record {
   glyph_class = record { 0 = get_or lower 0 0 };
   substituted = is_set (get_or lower 1 0);
   ligated = is_set (get_or lower 2 0);
-  ligature_id = get_or lower 4 0;
-  ligature_component = get_or lower 5 0;
+  multiplied = is_set (get_or lower 3 0);
+  mark_attachment_class = get_or lower 5 0;
+  ligature_id = get_or lower 6 0;
+  ligature_component = get_or lower 7 0;
   number_of_components = get_or upper 0 0;
   syllable = get_or upper 1 0;
   shaper_category = get_or upper 2 0;
@@ -73,7 +77,7 @@ pub record AreWords (first lower upper : ℕ) : Type 0 where
   pub lower_fits : lower < 2 ^ 32
   pub upper_fits : upper < 2 ^ 32
   pub first_fields : AreFirstFields (fields first_widths first)
-  pub lower_unused : get_or (fields lower_widths lower) 3 0 ≡ 0
+  pub lower_unused : get_or (fields lower_widths lower) 4 0 ≡ 0
 
 unfoldable pub first_word : Properties → ℕ
 first_word p = word_of first_widths (first_values p)

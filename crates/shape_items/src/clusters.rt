@@ -3,6 +3,10 @@
 //! A cluster leads from glyphs back to the text: glyphs of one cluster come from one piece of it. If
 //! items of several clusters are mixed they are merged into the least one, and so are the items beside
 //! them that stood in a cluster which is now partly gone.
+//!
+//! Merging depends on clusters alone, and is defined on items: the code counts and writes items,
+//! and a definition on the list of clusters would have to be tied to them. That an item stays
+//! except for its cluster and defined flags is one lemma either way.
 ghost use Rattle.std.specs.Prelude.{◌≡◌, ◌+◌, ◌≤◌, ◌<◌, length, map, slice_range};
 ghost use Rattle.std.specs.List.{prefix_len, suffix_len};
 ghost use Rattle.shape_items.specs.ClusterOrder.{PreservesClusters};
@@ -12,19 +16,20 @@ ghost use Rattle.shape_items.specs.Clusters.{growth_left as growth_left_of};
 ghost use Rattle.shape_items.specs.Clusters.{growth_right as growth_right_of, map_range};
 ghost use Rattle.shape_items.specs.Clusters.{mark_break as mark_break_of};
 ghost use Rattle.shape_items.specs.Clusters.{mark_concat as mark_concat_of, merge};
+ghost use Rattle.shape_items.specs.Clusters.{mark_tatweel as mark_tatweel_of};
 
 mod delete;
 mod each_span;
 mod glyph_clusters;
 mod unwritten;
 
-use crate::items::{UNSAFE_TO_BREAK, UNSAFE_TO_CONCAT, hb_glyph_info_t};
+use crate::items::{SAFE_TO_INSERT_TATWEEL, UNSAFE_TO_BREAK, UNSAFE_TO_CONCAT, hb_glyph_info_t};
 pub use delete::delete_items;
 pub use each_span::{merge_each, merge_graphemes};
 pub use glyph_clusters::{GlyphCluster, clusters_in_order};
 
 /// The least cluster, 0 for no items.
-pub(super) fn least_cluster(infos: &[hb_glyph_info_t]) -> u32
+pub fn least_cluster(infos: &[hb_glyph_info_t]) -> u32
     ensures { result ≡ least_cluster_of infos.now }
 {
     match infos.split_first() {
@@ -36,7 +41,7 @@ pub(super) fn least_cluster(infos: &[hb_glyph_info_t]) -> u32
 }
 
 /// How many items at the beginning have the cluster.
-pub(super) fn count_at_start(infos: &[hb_glyph_info_t], cluster: u32) -> usize
+pub fn count_at_start(infos: &[hb_glyph_info_t], cluster: u32) -> usize
     ensures { result ≡ prefix_len (has_cluster cluster) infos.now }
 {
     infos
@@ -121,6 +126,19 @@ pub fn mark_break(infos: &mut [hb_glyph_info_t], start: usize, end: usize)
     mark_all_break(&mut infos[start..end], least);
 }
 
+/// Marks the items of a span safe to insert tatweel, except for those of its least cluster.
+pub fn mark_tatweel(infos: &mut [hb_glyph_info_t], start: usize, end: usize)
+    requires ordered { start ≤ end }
+    requires within { end ≤ length infos.old }
+    ensures { infos.new
+        ≡ map_range (mark_tatweel_of (least_cluster_of (slice_range infos.old start end)))
+        start end infos.old }
+{
+    let items: &[hb_glyph_info_t] = infos;
+    let least = least_cluster(&items[start..end]);
+    mark_all_tatweel(&mut infos[start..end], least);
+}
+
 /// Marks the items of a span unsafe to concat.
 pub fn mark_concat(infos: &mut [hb_glyph_info_t], start: usize, end: usize)
     requires ordered { start ≤ end }
@@ -136,6 +154,16 @@ fn mark_all_break(infos: &mut [hb_glyph_info_t], least: u32)
     for info in infos.iter_mut() {
         if info.cluster != least {
             info.mask |= UNSAFE_TO_BREAK | UNSAFE_TO_CONCAT;
+        }
+    }
+}
+
+fn mark_all_tatweel(infos: &mut [hb_glyph_info_t], least: u32)
+    ensures { infos.new ≡ map (mark_tatweel_of least) infos.old }
+{
+    for info in infos.iter_mut() {
+        if info.cluster != least {
+            info.mask |= SAFE_TO_INSERT_TATWEEL;
         }
     }
 }

@@ -2,6 +2,9 @@
 //!
 //! The five fields are open to everybody; the named properties are read by `_hb_glyph_info_get_` and
 //! set by `_hb_glyph_info_set_`, each followed by the property's name.
+//!
+//! The ccc keeps rustybuzz's name in accessors, `modified_combining_class`; elsewhere "class" is
+//! a glyph's.
 ghost use Rattle.std.specs.Prelude.{◌≡◌};
 ghost use Rattle.bit_fields.specs.Fields.{fields};
 ghost use Rattle.shape_items.specs.UnicodeProps.{is_hidden_char};
@@ -78,9 +81,9 @@ impl hb_glyph_info_t {
     ///
     /// - First word: 0 to 7 category, 8 to 15 ccc, 16 to 23 space type, 24 ignorable, 25 hidden, 26 continuation,
     ///   27 ZWJ, 28 ZWNJ, 29 selector mark; 30 and 31 are 0.
-    /// - Second word: 0 to 3 glyph class, 4 substituted, 5 ligated; 6 to 15 are 0; 16 to 23 ligature id, 24 to 31
-    ///   component, 32 to 39 number of components, 40 to 47 syllable, 48 to 55 the shaper's category, 56 to 63 its
-    ///   auxiliary byte.
+    /// - Second word: 0 to 3 glyph class, 4 substituted, 5 ligated, 6 multiplied; 7 is 0; 8 to 15 mark attachment
+    ///   class, 16 to 23 ligature id, 24 to 31 component, 32 to 39 number of components, 40 to 47 syllable, 48 to
+    ///   55 the shaper's category, 56 to 63 its auxiliary byte.
     ///
     /// A category's number is its place among the variants, from 0.
     pub fn words(&self) -> (u32, u64)

@@ -4,6 +4,9 @@
 //! of it, and reads its clusters; the calls of a buffer stand on these. [`cluster_laws`] has what follows for
 //! flags. The record `Buffer` of `specs/Buffer.antt`, by which contracts see a buffer, stands here, too: the rules of
 //! merging and deleting speak of it.
+//!
+//! The calls stand over slices, so that a buffer's calls and those of a list share them; a buffer
+//! is in `shape_buffer`, which shows these types, too.
 #![tactic(auto)]
 #![allow(non_camel_case_types)]
 

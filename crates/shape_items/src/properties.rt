@@ -3,6 +3,10 @@
 //! Contracts see the record `Properties` of `specs/Properties.antt` and never the storage, so the
 //! storage may change without a change of any clause. It is two words, of 32 and of 64 bits, in which each
 //! property has a field of its own (`specs/Words.antt`).
+//!
+//! Bits without use are 0 in every item, by the invariant of the words: only so do the properties
+//! decide the words. The second word is kept in two halves: a u64 is aligned by 8 bytes, and an
+//! item with it would take 40 bytes in place of 32. No field crosses the middle.
 ghost use Rattle.std.specs.Prelude.{◌≡◌, ◌&&◌, false, nat_le};
 ghost use Rattle.std.specs.Int.RustNames.{bit_and};
 ghost use Rattle.bit_fields.specs.Fields.{fields};
@@ -35,6 +39,10 @@ const SUBSTITUTED: u32 = 4;
 
 const LIGATED: u32 = 5;
 
+const MULTIPLIED: u32 = 6;
+
+const MARK_ATTACHMENT_CLASS: u32 = 8;
+
 const LIGATURE_ID: u32 = 16;
 
 const LIGATURE_COMPONENT: u32 = 24;
@@ -52,8 +60,8 @@ const SHAPER_AUXILIARY: u32 = 24;
 ///
 /// - First word: 0 to 7 category, 8 to 15 ccc, 16 to 23 space type, 24 ignorable, 25 hidden, 26 continuation,
 ///   27 ZWJ, 28 ZWNJ, 29 selector mark; 30 and 31 are 0.
-/// - Lower half of the second: 0 to 3 glyph class, 4 substituted, 5 ligated, 6 to 15 are 0, 16 to 23 ligature id,
-///   24 to 31 ligature component.
+/// - Lower half of the second: 0 to 3 glyph class, 4 substituted, 5 ligated, 6 multiplied, 7 is 0, 8 to 15 mark
+///   attachment class, 16 to 23 ligature id, 24 to 31 ligature component.
 /// - Upper half: 0 to 7 number of components, 8 to 15 syllable, 16 to 23 the shaper's category, 24 to 31 its
 ///   auxiliary byte.
 #[derive(Clone, Copy, Debug)]
@@ -298,6 +306,30 @@ impl ItemProperties {
         ensures { self.new ≡ record self.old { ligated = ligated } }
     {
         self.lower = put_bit(self.lower, LIGATED, ligated);
+    }
+
+    pub(crate) fn multiplied(&self) -> bool
+        ensures { result ≡ self.now.multiplied }
+    {
+        read_bit(self.lower, MULTIPLIED)
+    }
+
+    pub(crate) fn set_multiplied(&mut self, multiplied: bool)
+        ensures { self.new ≡ record self.old { multiplied = multiplied } }
+    {
+        self.lower = put_bit(self.lower, MULTIPLIED, multiplied);
+    }
+
+    pub(crate) fn mark_attachment_class(&self) -> u8
+        ensures { result ≡ self.now.mark_attachment_class }
+    {
+        read_byte(self.lower, MARK_ATTACHMENT_CLASS)
+    }
+
+    pub(crate) fn set_mark_attachment_class(&mut self, mark_attachment_class: u8)
+        ensures { self.new ≡ record self.old { mark_attachment_class = mark_attachment_class } }
+    {
+        self.lower = put_byte(self.lower, MARK_ATTACHMENT_CLASS, mark_attachment_class);
     }
 
     pub(crate) fn ligature_id(&self) -> u8

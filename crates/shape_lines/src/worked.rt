@@ -1,4 +1,4 @@
-//! The definitions, computed on small cases whose answers are worked out by hand.
+//! The definitions, computed on small cases whose results were worked out by hand.
 ghost use Rattle.shape_lines.specs.Worked.CanCut.{WorkedCanCut, WorkedCannotCut};
 ghost use Rattle.shape_lines.specs.Worked.Lines.{WorkedLines};
 ghost use Rattle.shape_lines.specs.Worked.Places.{WorkedTextOrder, WorkedPlaces};

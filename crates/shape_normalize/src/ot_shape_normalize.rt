@@ -5,6 +5,11 @@
 //! the characters of some point of the chain are put in its place, if the face has glyphs for all of
 //! them. A shaper may bring splits of its own. The marks after a character are then put in one order,
 //! so that spellings of one text become one list (UAX 15; The Unicode Standard, D68 and D107 to D109).
+//!
+//! No promise rests on ccc after a given reorder hook, which may renumber: items with selectors
+//! and items by their place are then compared except for ccc. Rounds one and two are defined over
+//! items, and the places that items came from are claimed beside them, since a hook is a function
+//! on buffers that carries no place.
 ghost use Rattle.std.specs.Prelude.{◌≡◌, ◌<◌, ◌≤◌, [], length, map, All, IsOk, OnOk, OnErr, Err};
 ghost use Rattle.shape_items.specs.Buffer.{cleared, limit_of};
 ghost use Rattle.shape_items.specs.Clusters.{clusters};

@@ -1,4 +1,4 @@
-//! The definitions of normalising, computed on small cases whose answers are worked out by hand.
+//! The definitions of normalising, computed on small cases whose results were worked out by hand.
 ghost use Rattle.shape_normalize.specs.Worked.Form.{FormWorked};
 ghost use Rattle.shape_normalize.specs.Worked.Hooks.{HooksWorked};
 ghost use Rattle.shape_normalize.specs.Worked.One.{RoundOneWorked};

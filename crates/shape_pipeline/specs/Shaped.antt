@@ -42,9 +42,9 @@ shaped_steps run = glyph_part run ++ (place_part run ++ finish_steps run)
 abbrev pub all_steps : Run → Direction → List Step
 all_steps run target = prepare_steps run target ++ (normalising run.rules ∷ shaped_steps run)
 
--- the text as a run begins: no scratch flag, and a limit by its length
+-- the text as a run begins: no scratch flag, no ligature id given, and a limit by its length
 abbrev pub entered : Buffer → Buffer
-entered b = record b { scratch_flags = record { 0 = 0 }; length_limit = Some (run_limit (length b.items)) }
+entered b = record b { scratch_flags = record { 0 = 0 }; length_limit = Some (run_limit (length b.items)); serial = 0 }
 
 -- the glyphs as they are handed out: in the direction of the text, and without a limit
 abbrev pub finished : Direction → Buffer → Buffer

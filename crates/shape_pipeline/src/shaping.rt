@@ -1,4 +1,8 @@
 //! The entries: text goes in, glyphs come out.
+//!
+//! `form` is a law of every buffer that is normalised, so it has "prepared" among its premises; a
+//! run prepares each text by itself, so `canonical` has not. Clusters at MONOTONE_GRAPHEMES are
+//! those of graphemes found before a dotted circle was inserted, which has its mark's.
 ghost use Rattle.std.specs.Prelude.{◌≡◌, ◌≤◌, [], length, IsOk, IfOk, IfErr};
 ghost use Rattle.shape_items.specs.Buffer.{cleared, run_limit};
 ghost use Rattle.shape_buffer.specs.Guess.{guessed, guessed_direction};

@@ -57,7 +57,7 @@ begun_planner planning face shaper direction script language =
       face = face;
       direction = direction;
       script = script;
-      ot_map = new_builder ((planning.layouts face).chosen_script script language);
+      ot_map = new_builder language ((planning.layouts face).chosen_script script language);
       apply_morx = morx;
       script_zero_marks = not (planning.constants.zero_width_marks == 0);
       script_fallback_mark_positioning = planning.constants.fallback_position;

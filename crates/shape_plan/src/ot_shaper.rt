@@ -3,6 +3,10 @@
 //! A shaper says by constants which hooks it gives; one that isn't given is never called. What the hooks
 //! mean is one record of functions, and what every shaper must provide is a law of the trait. Its author writes a
 //! [`script_shaper`] and the hooks that it gives, each by the trait of [`hooks`].
+//!
+//! What a run depends on is quoted: `Runs` is a trait that every shaper has and none writes, and
+//! clauses say `⟦<S as Runs<U, F, M>>⟧.run plan face`. A clause can't name a trait's constant, so
+//! each constant has a ghost twin, and one equation ties them together.
 ghost use Rattle.std.specs.Prelude.{◌≡◌, ◌<◌, ◌≤◌, ℕ, ℤ, Bool, Option, List, length, MatchResult};
 ghost use Rattle.std.specs.Prelude.{OnOk, IfErr};
 ghost use Rattle.shape_buffer.specs.MapBuilder.{Builder, with_requests};

@@ -1,4 +1,4 @@
-//! The planner of a run: what it asks of the layout engine, and the plan that it makes of the answers.
+//! The planner of a run: what it asks of the layout engine, and the plan that it makes of the results.
 //!
 //! A plan is made in three steps. `new` asks what is known of the face and the shaper, and whether the
 //! shaper is used: if `morx` substitutes, the face does a script's work itself. `collect_features` asks
@@ -7,6 +7,10 @@
 //! overrides, which wins over the user's. `compile` has the engine compile the requests, and then
 //! decides who positions, kerns and places marks. All that depends on no text is decided here, once for
 //! every text that the plan fits.
+//!
+//! Planning takes memory, so `collect_features` and `compile` take the allocator, which they pass
+//! on to hooks and the engine. The planner borrows face and shaper for one lifetime, so a plan's
+//! face lives as long as the plan.
 ghost use Rattle.std.specs.Prelude.{◌≡◌, Option, OnOk, IsOkUnless, IfOk, IfErr, string_bytes};
 ghost use Rattle.std.specs.Option.{option_map};
 ghost use Rattle.shape_plan.specs.Planner.{begun_planner, collected_planner, compiled_plan};
@@ -57,14 +61,15 @@ impl<U: hb_unicode_funcs_t, F: hb_font_t, M: hb_ot_layout_t<F>, S: hb_ot_shaper_
     } };
 }
 
-/// A plan in the making, for one face, direction and script.
+/// A plan in the making, for one face, direction and script. `'a` is the time of face and shaper, which the plan
+/// refers to, and `'t` that of the language, which it doesn't.
 #[derive(Drop)]
-pub struct hb_ot_shape_planner_t<'a, F, S> {
+pub struct hb_ot_shape_planner_t<'a, 't, F, S> {
     pub face: &'a F,
     pub direction: Direction,
     pub script: Option<Script>,
     /// The requests.
-    pub ot_map: hb_ot_map_builder_t,
+    pub ot_map: hb_ot_map_builder_t<'t>,
     /// Whether glyphs are substituted by the table `morx`.
     pub apply_morx: bool,
     /// Whether the given shaper wants marks to lose their advances.
@@ -74,7 +79,7 @@ pub struct hb_ot_shape_planner_t<'a, F, S> {
     pub shaper: ChosenShaper<'a, S>,
 }
 
-impl<'a, F, S> Model for hb_ot_shape_planner_t<'a, F, S> {
+impl<'a, 't, F, S> Model for hb_ot_shape_planner_t<'a, 't, F, S> {
     ghost use Rattle.shape_plan.specs.Plan.{given_shaper};
     ghost use Rattle.shape_plan.specs.Planner.{Planner};
 
@@ -111,7 +116,7 @@ fn kept<'a, S>(apply_morx: bool, is_default: bool, shaper: &'a S) -> ChosenShape
     }
 }
 
-impl<'a, F, S> hb_ot_shape_planner_t<'a, F, S> {
+impl<'a, 't, F, S> hb_ot_shape_planner_t<'a, 't, F, S> {
     /// A planner without requests. Takes what the given shaper prefers for marks, before the shaper may give
     /// way to the one that knows no script.
     #[tactic(auto, unfolding(crate::specs::Planner::begun_planner))]
@@ -121,7 +126,7 @@ impl<'a, F, S> hb_ot_shape_planner_t<'a, F, S> {
         shaper: &'a S,
         direction: Direction,
         script: Option<Script>,
-        language: Option<&Language>,
+        language: Option<&'t Language>,
     ) -> Self
     where
         U: hb_unicode_funcs_t,

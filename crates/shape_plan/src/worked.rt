@@ -1,4 +1,4 @@
-//! The definitions of planning, computed on small cases whose answers are worked out by hand.
+//! The definitions of planning, computed on small cases whose results were worked out by hand.
 ghost use Rattle.std.specs.Prelude.{ℕ};
 ghost use Rattle.shape_plan.specs.Plan.{Plan};
 ghost use Rattle.shape_plan.specs.Worked.Requests.{RequestsOfDirections, RequestsOfUsers};

@@ -3,6 +3,8 @@
 //! Earlier steps mark single glyphs as unsafe to break or to concat, but a line can only be cut between
 //! clusters. So the flags of a cluster's glyphs are united and each of them gets all: a caller may then ask
 //! any one of them. The masks hold flags alone from here on.
+//!
+//! If the run has seen no flag, masks stay as they are.
 ghost use Rattle.std.specs.Prelude.{◌≡◌, ◌==◌, false, IsTrue};
 ghost use Rattle.std.specs.List.{prefix_len};
 ghost use Rattle.std.specs.Int.RustNames.{bit_and};

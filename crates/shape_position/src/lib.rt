@@ -1,4 +1,4 @@
-//! Positions of glyphs, and what is handed out of them: the second half of a run.
+//! Positions of glyphs, and the last steps over them: the second half of a run.
 //!
 //! A face and the tables of a plan place the glyphs of a list one after another; then the list is put in
 //! the order of its direction, what is to stay unseen is hidden, and each cluster gets one set of flags.

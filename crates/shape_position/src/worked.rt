@@ -1,4 +1,4 @@
-//! The definitions, computed on small cases whose answers are worked out by hand.
+//! The definitions, computed on small cases whose results were worked out by hand.
 ghost use Rattle.shape_position.specs.Worked.Glyphs.{WorkedGlyphs};
 ghost use Rattle.shape_position.specs.Worked.Positions.{WorkedPositions};
 ghost use Rattle.shape_position.specs.Worked.Steps.{WorkedSteps};

@@ -4,6 +4,9 @@
 //! before the tables place it, after, or never. If no table moves marks, a mark of a forward line is
 //! moved back by the advance that it loses, so that it hangs over the glyph before it; in a backward line
 //! it then hangs over the glyph that comes to stand before it when the line is reversed.
+//!
+//! The constant of the shaper that the plan uses decides when; a plan that uses none never
+//! zeroes.
 ghost use Rattle.std.specs.Prelude.{◌≡◌, ◌<◌, length, slice_index_or, slice_set};
 ghost use Rattle.shape_items.specs.Items.{Item};
 ghost use Rattle.shape_buffer.specs.Outcome.{Made};

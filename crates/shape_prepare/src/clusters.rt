@@ -1,6 +1,6 @@
 //! The clusters of graphemes.
 //!
-//! A caller who asks for graphemes gets one cluster for each. Any other is told that a line can't be
+//! A caller who asks for graphemes gets one cluster for each. For any other it is marked that a line can't be
 //! broken inside one without shaping anew. Text of ASCII characters alone has graphemes of one item, so
 //! nothing is done for it.
 ghost use Rattle.std.specs.Prelude.{◌≡◌, ◌≢◌};

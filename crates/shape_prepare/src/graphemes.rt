@@ -7,6 +7,8 @@
 //! of regional indicators (GB12, GB13).
 //!
 //! What the rules ask of the item before fits three cases, so one walk sets properties and continuations.
+//!
+//! An item that was joined to a ZWJ is itself no open regional indicator and joins nothing.
 ghost use Rattle.std.specs.Prelude.{◌≡◌};
 ghost use Rattle.shape_buffer.specs.Outcome.{Made};
 ghost use Rattle.shape_prepare.specs.Graphemes.{graphemes_marked, with_continuation, continues};

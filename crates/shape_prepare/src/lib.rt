@@ -3,7 +3,7 @@
 //!
 //! Fonts make their lookups for text in the order in which its script is written, and marks that stand
 //! after their base. So a run first finds the graphemes, the pieces that no reversal may divide; then it
-//! reverses a text that was handed over against its script's direction, grapheme by grapheme. Each step is a
+//! reverses a text that runs against its script's direction, grapheme by grapheme. Each step is a
 //! function of its own, and its contract says which function on buffers it is; [`prepare`] makes them one
 //! after another.
 #![tactic(auto)]

@@ -3,6 +3,10 @@
 //! Lookups are made for text in the direction in which its script is written, so a text that was handed
 //! over against it is reversed. Each grapheme stays as it was: its marks must stand after their base. So each
 //! grapheme is reversed in place first, and then the whole list is.
+//!
+//! Positions are reversed with their items; all are zero then. Graphemes are merged in a walk of
+//! their own before a reversal. Whether the list is reversed is decided after clusters were
+//! formed.
 ghost use Rattle.std.specs.Prelude.{◌≡◌, length};
 ghost use Rattle.std.specs.List.{list_any};
 ghost use Rattle.shape_buffer.specs.Outcome.{Made};

@@ -1,4 +1,4 @@
-//! The lines that a text is answered with.
+//! The lines that are printed for a text.
 //!
 //! Each call appends to a string, which keeps what it has, and refuses if a growth was refused.
 ghost use Rattle.std.specs.Prelude.{◌≡◌, ◌++◌, string_bytes, IfOk};

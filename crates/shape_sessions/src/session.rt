@@ -1,7 +1,10 @@
 //! What the lines so far have set.
 //!
 //! The state after a line is a function of the state before it and of the line's words: each command sets
-//! one thing, a malformed line nothing, and lines that ask for an answer leave the state.
+//! one thing, a malformed line nothing, and lines that ask for output leave the state.
+//!
+//! Its setters are public, one for each line that sets something, and the program chooses among
+//! them: a line that asks for glyphs needs the pipeline, which a session doesn't know.
 ghost use Rattle.std.specs.Prelude.{◌≡◌, Some, MatchOption};
 ghost use Rattle.std.specs.Str.{IsUtf8};
 ghost use Rattle.shape_sessions.specs.Lines.{IsObeyed, line_words};

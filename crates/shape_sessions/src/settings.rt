@@ -1,6 +1,9 @@
 //! What the words after the first one of a line set.
 //!
 //! Each function reads all words of its line and refuses a line that has others; none takes memory.
+//!
+//! `auto` is kept as the direction Invalid, which guessing fills in. Bits of `flags` are tested
+//! by `BufferFlags::from_bits`, so by the flags' own table.
 ghost use Rattle.std.specs.Prelude.{MatchOption};
 ghost use Rattle.std.specs.Option.{SomeIff};
 ghost use Rattle.shape_sessions.specs.Modes.{mode_of};

@@ -5,7 +5,7 @@
 //! on one: if a law speaks of marks, the function asks for the category as it runs. A ccc counts only for
 //! a mark, a mark splits only into marks, characters compose only into one that splits into them, mirror
 //! images and vertical forms are of characters that are neither marks nor spaces, and an ASCII character
-//! would be no mark whatever the database said. On these tables none of the tests changes an answer.
+//! would be no mark whatever the database said. On these tables none of the tests changes a result.
 
 mod category;
 mod ccc;

@@ -20,10 +20,16 @@ class_of_glyph item =
     if is_nonspacing_category item.properties.general_category && not (is_ignorable_item item) then record { 0 = MARK }
     else record { 0 = BASE_GLYPH }
 
--- the item with that class, as a glyph that no lookup has made
+-- the item with that class, as a glyph that no lookup has made, and in no class of attaching marks
 abbrev pub with_class : Item → Item
 with_class item = record item {
-  properties = record item.properties { glyph_class = class_of_glyph item; substituted = false; ligated = false };
+  properties = record item.properties {
+    glyph_class = class_of_glyph item;
+    substituted = false;
+    ligated = false;
+    multiplied = false;
+    mark_attachment_class = 0;
+  };
 }
 
 unfoldable pub classes_synthesised : Buffer → Buffer

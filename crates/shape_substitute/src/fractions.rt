@@ -4,6 +4,9 @@
 //! numerator and those directly after it as the denominator. A font has features for the two parts and one
 //! for the whole; here each part gets its features, so that a font needn't look for digits. In a buffer that
 //! isn't forward the denominator comes first.
+//!
+//! A digit is an item of category DecimalNumber, a slash with that category too; with Unicode's
+//! own categories there is none.
 ghost use Rattle.std.specs.Prelude.{◌≡◌, ◌+◌, ◌-◌, ◌^◌, ◌<◌, ◌≤◌, ◌&&◌, nat_lt, length};
 ghost use Rattle.std.specs.List.{prefix_len, suffix_len};
 ghost use Rattle.shape_buffer.specs.Outcome.{Made};

@@ -1,4 +1,4 @@
-//! Glyphs, as substitution finds them: the ones that the face returned, with a class each.
+//! Glyphs, as substitution finds them: those that the face returned, with a class each.
 //!
 //! Lookups may skip glyphs of a class. If a face doesn't say which glyphs are marks, the characters
 //! do: a nonspacing mark is one, except for default ignorables, which lookups are to see.
@@ -51,7 +51,7 @@ fn class_of_glyph(info: &hb_glyph_info_t) -> GlyphPropsFlags
     }
 }
 
-/// An item with that class, as a glyph that no lookup has made.
+/// An item with that class, as a glyph that no lookup has made. It has no mark attachment class.
 fn with_class(info: &hb_glyph_info_t) -> hb_glyph_info_t
     ensures { result ≡ with_class_of info.now }
 {
@@ -59,6 +59,8 @@ fn with_class(info: &hb_glyph_info_t) -> hb_glyph_info_t
     info._hb_glyph_info_set_glyph_class(class_of_glyph(&info));
     info._hb_glyph_info_set_substituted(false);
     info._hb_glyph_info_set_ligated(false);
+    info._hb_glyph_info_set_multiplied(false);
+    info._hb_glyph_info_set_mark_attachment_class(0);
     info
 }
 

@@ -1,4 +1,4 @@
-//! What masks and substitution preserve, for those who run them as parts of a longer list of steps.
+//! What masks and substitution preserve, for those who run them in a longer list of steps.
 //!
 //! A step that preserves clusters leaves them in order, rising or falling, and brings none; one that preserves flags
 //! sets none on a glyph unless the run notes it. Hooks and lookups are asked for no more than that.

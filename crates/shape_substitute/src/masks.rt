@@ -1,6 +1,6 @@
 //! Masks that depend on the text: fractions, what the shaper sets, what the user asks for.
 //!
-//! Each later one sees what the earlier ones have set, so the user's preference stands over the shaper's.
+//! Each later one sees what the earlier ones have set, so the user's request overrides the shaper's.
 ghost use Rattle.std.specs.Prelude.{◌≡◌};
 ghost use Rattle.shape_buffer.specs.Outcome.{IsWithinLimit, Made, Ran};
 ghost use Rattle.shape_plan.specs.Run.{hook_if};

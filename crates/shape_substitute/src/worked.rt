@@ -1,4 +1,4 @@
-//! The definitions, computed on small cases whose answers are worked out by hand.
+//! The definitions, computed on small cases whose results were worked out by hand.
 ghost use Rattle.shape_substitute.specs.Worked.Fractions.{WorkedFractions};
 ghost use Rattle.shape_substitute.specs.Worked.Lookups.{WorkedLookups};
 ghost use Rattle.shape_substitute.specs.Worked.Ranges.{WorkedRanges};

@@ -2,6 +2,9 @@
 //!
 //! A sign, a tag, a range of the text, a value, each where it may stand; spaces may stand between them. A range goes
 //! from one place between characters to another; a number alone names the one character after that place.
+//!
+//! A word for a value that is neither `on` nor `off` makes the text no feature: a mistyped value
+//! shouldn't switch a feature on. HarfBuzz skips the word.
 ghost use Rattle.std.specs.Prelude.{◌≡◌, ◌<◌, ◌+◌, ◌%◌, ◌^◌, slice_index_or};
 ghost use Rattle.std.specs.Option.{option_map, option_or};
 ghost use Rattle.shape_text_forms.specs.Scan.{after_byte};

@@ -2,7 +2,9 @@
 //!
 //! A glyph is its name or number, `=` and its cluster, `@` and where it is moved to, `+` and how far the pen moves
 //! on; if they are asked for, also `#` and its flags, and its box.
-ghost use Rattle.std.specs.Prelude.{◌≡◌, ◌++◌, true, pos, length, string_bytes, IfOk};
+//!
+//! A name is asked of a `glyph_names` beside the face: shaping asks no face for names.
+ghost use Rattle.std.specs.Prelude.{◌≡◌, ◌++◌, true, pos, [], length, string_bytes, IfOk, IsOk};
 ghost use Rattle.std.specs.Option.{option_map};
 ghost use Rattle.shape_text_forms.specs.Serialize.{asks, cluster_word, offset_word, advance_word};
 ghost use Rattle.shape_text_forms.specs.Serialize.{position_word, flags_word, corner_word, size_word, box_word, extents_word};
@@ -300,7 +302,8 @@ fn append_glyphs<F: hb_font_t, N: glyph_names>(
     Ok(())
 }
 
-/// The glyphs as text, as `hb-shape` writes them: an empty text for no glyphs. Refuses if a growth was refused.
+/// The glyphs as text, as `hb-shape` writes them: an empty text for no glyphs, which takes no memory. Refuses only if a
+/// growth of that text was refused.
 pub fn serialize<F: hb_font_t, N: glyph_names>(
     alloc: Global,
     glyphs: &GlyphBuffer,
@@ -308,11 +311,12 @@ pub fn serialize<F: hb_font_t, N: glyph_names>(
     names: &N,
     flags: SerializeFlags,
 ) -> Result<String, AllocError>
-    ensures { IfOk result (λ text. string_bytes text ≡ serialized (record {
+    ensures text { IfOk result (λ text. string_bytes text ≡ serialized (record {
       flags = flags.0;
       name = N.name names.now;
       extents = (F.face face.now).extents;
     }) glyphs.now.items glyphs.now.positions) }
+    ensures empty { glyphs.now.items ≡ [] → IsOk result }
 {
     let mut out = String::new(alloc);
     if glyphs.is_empty() {

@@ -4,6 +4,9 @@
 //! Any text is taken: each value is a function of the text's bytes, and what is no feature is none. [`scan`] has what
 //! stands at the front of a text, [`feature`] the grammar of a feature, [`names`] what one word names, [`glyph_text`]
 //! the text of glyphs. [`worked`] has the definitions computed on texts that were read by hand.
+//!
+//! The calls are functions and not `FromStr`, since neither the trait nor the types are this
+//! crate's.
 #![tactic(auto)]
 #![allow(non_camel_case_types)]
 

@@ -1,5 +1,5 @@
 //! What one word names: a tag, a direction, a script, a language.
-ghost use Rattle.std.specs.Prelude.{◌≡◌, ◌≤◌, ◌<◌, map, take, length, string_bytes, IfOk};
+ghost use Rattle.std.specs.Prelude.{◌≡◌, ◌≤◌, ◌<◌, None, map, take, length, string_bytes, IfOk, IsOk};
 ghost use Rattle.std.specs.List.{prefix_len};
 ghost use Rattle.std.specs.Option.{option_map};
 ghost use Rattle.shape_text_forms.specs.Names.{tag_of_text, script_of_text, direction_of_text, spelled, is_spelled};
@@ -76,9 +76,11 @@ fn respelled(alloc: Global, bytes: &[u8]) -> Result<String, AllocError>
 
 /// The language of a name of BCP 47 or of POSIX, in HarfBuzz's spelling: small letters, `-` for `_`, and nothing from
 /// the first other byte on, so that `fa_IR.UTF-8` is `fa-ir`. None if no name is left (HarfBuzz,
-/// `hb_language_from_string`). Refuses if a growth was refused.
+/// `hb_language_from_string`). Refuses only if a growth of the name was refused, so never if there is none.
 pub fn language_from_string(alloc: Global, text: &str) -> Result<Option<Language>, AllocError>
-    ensures { IfOk result (λ r. option_map (λ l. string_bytes l.0) r ≡ language_of_text text.now) }
+    ensures named { IfOk result (λ r. option_map (λ l. string_bytes l.0) r
+        ≡ language_of_text text.now) }
+    ensures unnamed { language_of_text text.now ≡ None → IsOk result }
 {
     let bytes = text.as_bytes();
     let len = name_len(bytes);

@@ -1,4 +1,4 @@
-//! What is known of the answers beyond the laws that each implementation proves: each function has laws
+//! What is known of the results beyond the laws that each implementation proves: each function has laws
 //! as its contract, and nothing to do.
 //!
 //! They tie the small tables to the character database, for every character, so that a wrong entry is

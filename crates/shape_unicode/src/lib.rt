@@ -5,9 +5,13 @@
 //! kit; where shaping differs from the database, as HarfBuzz does, a short table says so, in the module
 //! that its function stands in.
 //!
-//! The contracts say each answer in the words of the database (`specs/Meaning.antt`), and the laws of
+//! The contracts say each result in the words of the database (`specs/Meaning.antt`), and the laws of
 //! [`hb_unicode_funcs_t`](shape_buffer::interfaces::hb_unicode_funcs_t) are proved of all characters:
 //! they are computed over the rows of the database.
+//!
+//! Facts computed over a short table are premises of the laws that need them
+//! (`specs/TableFacts.antt`): so a wrong entry of the table is refused with a message that names
+//! the fact.
 #![tactic(auto)]
 #![allow(non_camel_case_types)]
 

@@ -1,4 +1,7 @@
 //! Mirror images, for text that runs from right to left (UAX 9, Bidi_Mirroring_Glyph).
+//!
+//! A pair stands once in the table and is searched from both sides, and only for characters that
+//! are Bidi_Mirrored. The pairs are those of version 15.
 ghost use Rattle.std.specs.Prelude.{◌≡◌};
 ghost use Rattle.shape_unicode.specs.Mirror.{other_one, other_of_pair, is_between_brackets, mirrored_of};
 ghost use Rattle.shape_unicode.specs.Mirror.{is_before_angles};

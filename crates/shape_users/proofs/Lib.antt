@@ -1,3 +1,4 @@
+pub mod AuthorLemmas
 mod FoundRows
 mod HookLemmas
 mod LigatureLemmas

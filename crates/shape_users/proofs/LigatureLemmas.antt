@@ -3,14 +3,13 @@ use Rattle.std.proofs.Common.{◌≡◌, ℕ, zero, suc, ◌+◌, ◌≤◌, ◌
 use Rattle.std.proofs.lemmas.Bool.Decides.{nat_tests}
 use Rattle.std.proofs.Math.ListN.{get_or-eq_default}
 use Rattle.std.proofs.Math.Seq.{map-set_same}
-use Rattle.std.specs.Int.RustNames.{bit_and}
-use Rattle.std.specs.List.{list_any, remove}
+use Rattle.std.specs.List.{remove}
 use Rattle.shape_items.specs.Buffer.{Buffer}
 use Rattle.shape_items.specs.BufferClusters.{merge_clusters, merge_at}
 use Rattle.shape_items.specs.Clusters.{clusters}
 use Rattle.shape_items.specs.ClusterOrder.{IsMonotoneLevel}
 use Rattle.shape_items.specs.Items.{Item, new_item}
-use Rattle.shape_buffer.specs.Preservation.{EachLookup, PreservesOrder, IsClusterPreserving, IsFlagPreserving, LookupsPreserveClusters, LookupsPreserveFlags}
+use Rattle.shape_buffer.specs.Preservation.{PreservesOrder, IsClusterPreserving, IsFlagPreserving, LookupsPreserveClusters, LookupsPreserveFlags}
 use Rattle.shape_items.specs.PreservesFlags.{PreservesFlags, has_flag, some_has}
 use Rattle.shape_items.proofs.Merging.ClusterLemmas.{merge_clusters-monotone}
 use Rattle.shape_items.proofs.Deletion.DeletePreserves.{merged_preserves}
@@ -19,6 +18,7 @@ use Rattle.shape_items.proofs.Flags.FlagLemmas.{PreservesFlags-same, PreservesFl
 use Rattle.shape_buffer.proofs.Steps.PreservationLemmas.{PreservesClusters-equal, PreservesClusters-then, PreservesOrder-same, PreservesOrder-then, clusters-map}
 use Rattle.shape_users.specs.Ligatures.{with_glyph, single, singled, nth_item, is_pair, glyph_put, taken_out, ligated_at, ligated, substituted, ligature_lookups}
 use Rattle.shape_users.specs.declared.ligatures.substitution.TheConstants.{SINGLE, LIGATURE}
+use Rattle.shape_users.proofs.AuthorLemmas.{flags-same_masks, EachLookup-one_stage}
 
 -- ---- an item taken out
 
@@ -45,22 +45,6 @@ taken_out-some flag (x ∷ xs) zero some = or_right (has_flag flag x) (some_has 
 taken_out-some flag (x ∷ xs) (suc i) some =
     or_left (has_flag flag x) (some_has flag (remove xs i)) (some_has flag xs) (taken_out-some flag xs i) some
 
--- ---- masks that stay
-
-some_has-masks : (flag : ℕ) (xs ys : List Item) → map (λ (x : Item). x.mask) ys ≡ map (λ (x : Item). x.mask) xs → some_has flag ys ≡ true
-    → some_has flag xs ≡ true
-some_has-masks flag xs ys same some =
-    sym (by_masks xs) ∙ ap (λ (ms : List ℕ). list_any (λ m. nat_lt 0 (bit_and m flag)) ms) (sym same) ∙ by_masks ys ∙ some
-  where
-    by_masks : (zs : List Item) → list_any (λ m. nat_lt 0 (bit_and m flag)) (map (λ (x : Item). x.mask) zs) ≡ some_has flag zs
-    by_masks [] = refl
-    by_masks (z ∷ zs) = ap (λ (b : Bool). nat_lt 0 (bit_and z.mask flag) || b) (by_masks zs)
-
-masks-kept : (b : Buffer) (ys : List Item) → map (λ (x : Item). x.mask) ys ≡ map (λ (x : Item). x.mask) b.items
-    → PreservesFlags b (record b { items = ys })
-masks-kept b ys same =
-    record { flags = refl; stays_set = λ e. e; none_new = λ flag is some. inl (some_has-masks flag b.items ys same some) }
-
 -- ---- single glyphs
 
 single-mask : (x : Item) → (single x).mask ≡ x.mask
@@ -79,7 +63,7 @@ singled-order b monotone =
     record { clusters = PreservesClusters-equal _ _ (clusters-map single single-cluster b.items); direction = refl; flags = refl; level = refl }
 
 singled-flags : IsFlagPreserving singled
-singled-flags b = masks-kept b (map single b.items) (masks-singled b.items)
+singled-flags b = flags-same_masks b (map single b.items) (masks-singled b.items)
 
 -- ---- ligatures
 
@@ -131,7 +115,7 @@ ligated_at-flags i b =
           let put = glyph_put i LIGATURE.2 merged in
           let first = (merged_preserves i (i + 2) b merged (pair-within b.items i e) refl).1 in
           let same = map-set_same (λ (x : Item). x.mask) merged.items i (with_glyph LIGATURE.2 (nth_item merged.items i)) (new_item 0 0) refl in
-          let second : PreservesFlags merged put = masks-kept merged put.items same in
+          let second : PreservesFlags merged put = flags-same_masks merged put.items same in
           let third : PreservesFlags put (taken_out (i + 1) put) = record {
             flags = refl;
             stays_set = λ e. e;
@@ -164,23 +148,8 @@ substituted-flags b = PreservesFlags-then b (singled b) (substituted b) (singled
 
 -- ---- the engine
 
-EachLookup-substituted : (Preserves : (Buffer → Buffer) → Type 0) → Preserves (λ b. b) → Preserves substituted → EachLookup Preserves ligature_lookups
-EachLookup-substituted Preserves left stage = record {
-  substitute_start = left;
-  stage = λ i. stage;
-  aat_substitute = λ features. left;
-  aat_remove_deleted = left;
-  aat_zero_width_deleted = left;
-  position_start = left;
-  position = left;
-  position_finish_advances = left;
-  position_finish_offsets = left;
-  aat_position = λ mask. left;
-  kern = λ mask. left;
-}
-
 pub clusters-ligatures : LookupsPreserveClusters ligature_lookups
-clusters-ligatures = EachLookup-substituted IsClusterPreserving (λ b monotone. PreservesOrder-same b) substituted-order
+clusters-ligatures = EachLookup-one_stage IsClusterPreserving (λ i. substituted) (λ b monotone. PreservesOrder-same b) (λ i. substituted-order)
 
 pub flags-ligatures : LookupsPreserveFlags ligature_lookups
-flags-ligatures = EachLookup-substituted IsFlagPreserving (λ b. PreservesFlags-same b) substituted-flags
+flags-ligatures = EachLookup-one_stage IsFlagPreserving (λ i. substituted) (λ b. PreservesFlags-same b) (λ i. substituted-flags)

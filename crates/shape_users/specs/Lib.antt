@@ -1,4 +1,5 @@
 pub mod Arabic
+pub mod Capitals
 pub mod Forms
 pub mod Ligatures
 pub mod Lines

@@ -12,7 +12,8 @@ use Rattle.shape_buffer.specs.Text.{text_items}
 use Rattle.shape_plan.specs.Rules.{has_glyph}
 use Rattle.shape_plan.specs.Run.{Run}
 use Rattle.shape_pipeline.specs.Headline.{target_of}
-use Rattle.shape_pipeline.specs.Shaped.{all_steps, entered}
+use Rattle.shape_pipeline.specs.Shaped.{all_steps, entered, Shapes, ShapingPasses}
+use Rattle.shape_users.specs.Words.{spelled}
 
 -- each cluster of the glyphs is one of the text's
 abbrev pub AreOfText : List Item → List Item → Type 0
@@ -63,3 +64,15 @@ pub record IsTextOf (bytes : List ℕ) (text : Buffer) : Type 0 where
   pub rest : record text { items = []; positions = [] } ≡ new_buffer
   pub rising : IsNonDecreasing (clusters text.items)
   pub places : (k : ℕ) → Contains (clusters text.items) k → IsPlaceIn bytes k
+
+-- the text of a string: its characters, nothing else set
+unfoldable pub string_text : List ℕ → Buffer
+string_text bytes = spelled bytes
+
+-- a string was shaped: exactly what a run makes of its text, and no step made a list past the run's limit
+abbrev pub AreGlyphsOf : Run → List ℕ → Buffer → Type 0
+AreGlyphsOf run bytes glyphs = let text = string_text bytes in Shapes run (target_of run text) (guessed run.unicode text) glyphs
+
+-- some step of a run over the text of a string would make such a list
+abbrev pub StringPasses : Run → List ℕ → Type 0
+StringPasses run bytes = let text = string_text bytes in ShapingPasses run (target_of run text) (guessed run.unicode text)

@@ -5,7 +5,7 @@
 //! The shaper gives one of the ten hooks; `no_hook` stands for the others. What a run by it must provide is what its
 //! engine's lookups must provide, and no more: [`arabic_runs_preserve`]. It asks for no features of joining letters: these
 //! are the caller's.
-ghost use Rattle.std.specs.Prelude.{true, false, None, pos, refl};
+ghost use Rattle.std.specs.Prelude.{◌≡◌, true, false, None, pos, refl};
 ghost use Rattle.shape_buffer.specs.Preservation.{LookupsPreserveClusters, LookupsPreserveFlags};
 ghost use Rattle.shape_plan.specs.Preservation.{RunPreservesFlags};
 ghost use Rattle.shape_plan.specs.Plan.{Plan};
@@ -24,7 +24,7 @@ use shape_pipeline::ot_shape_normalize::HB_OT_SHAPE_NORMALIZATION_MODE_AUTO;
 use shape_pipeline::ot_shape_plan::hb_ot_shape_plan_t;
 use shape_pipeline::ot_shaper::hooks::reorder_marks_hook;
 use shape_pipeline::ot_shaper::{
-    HB_OT_SHAPE_ZERO_WIDTH_MARKS_BY_GDEF_LATE, Runs, no_hook, script_shaper,
+    HB_OT_SHAPE_ZERO_WIDTH_MARKS_BY_GDEF_LATE, Runs, hb_ot_shaper_t, no_hook, script_shaper,
 };
 
 /// The shaper of texts in Arabic script.
@@ -117,4 +117,11 @@ pub fn arabic_runs_preserve<U: hb_unicode_funcs_t, F: hb_font_t, M: hb_ot_layout
 /// Which marks step to the front of a run, which don't, and their clusters, on runs worked out by hand.
 pub fn modifiers_meet_worked_cases()
     ensures { WorkedModifiers }
+{}
+
+/// What a run takes from the shaper: marks lose their widths late, whatever their class (2), and are placed by their boxes if
+/// no table places them.
+pub fn arabic_marks_are_placed<U: hb_unicode_funcs_t, F: hb_font_t, M: hb_ot_layout_t<F>>()
+    ensures widths { ⟦<ArabicShaper as hb_ot_shaper_t<U, F, M>>⟧.constants.zero_width_marks ≡ 2 }
+    ensures places { ⟦<ArabicShaper as hb_ot_shaper_t<U, F, M>>⟧.constants.fallback_position ≡ true }
 {}

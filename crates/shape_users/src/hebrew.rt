@@ -3,7 +3,7 @@
 //!
 //! The shaper gives two of the ten hooks; `no_hook` stands for the others. What a run by it must provide is what
 //! its engine's lookups must provide, and no more: [`hebrew_runs_preserve`].
-ghost use Rattle.std.specs.Prelude.{true, false, None, pos, refl};
+ghost use Rattle.std.specs.Prelude.{◌≡◌, true, false, None, pos, refl};
 ghost use Rattle.std.specs.Option.{option_or};
 ghost use Rattle.shape_buffer.specs.Preservation.{LookupsPreserveClusters, LookupsPreserveFlags};
 ghost use Rattle.shape_plan.specs.Preservation.{RunPreservesFlags};
@@ -27,7 +27,7 @@ use shape_pipeline::ot_shape_normalize::HB_OT_SHAPE_NORMALIZATION_MODE_AUTO;
 use shape_pipeline::ot_shape_plan::hb_ot_shape_plan_t;
 use shape_pipeline::ot_shaper::hooks::{compose_hook, reorder_marks_hook};
 use shape_pipeline::ot_shaper::{
-    HB_OT_SHAPE_ZERO_WIDTH_MARKS_BY_GDEF_LATE, Runs, no_hook, script_shaper,
+    HB_OT_SHAPE_ZERO_WIDTH_MARKS_BY_GDEF_LATE, Runs, hb_ot_shaper_t, no_hook, script_shaper,
 };
 
 /// The shaper of texts in Hebrew script.
@@ -144,4 +144,11 @@ pub fn forms_meet_worked_cases()
 /// Which points are reordered, where, and their clusters, on runs worked out by hand.
 pub fn points_meet_worked_cases()
     ensures { WorkedPoints }
+{}
+
+/// What a run takes from the shaper: marks lose their widths late, whatever their class (2), and are placed by their boxes if
+/// no table places them.
+pub fn hebrew_marks_are_placed<U: hb_unicode_funcs_t, F: hb_font_t, M: hb_ot_layout_t<F>>()
+    ensures widths { ⟦<HebrewShaper as hb_ot_shaper_t<U, F, M>>⟧.constants.zero_width_marks ≡ 2 }
+    ensures places { ⟦<HebrewShaper as hb_ot_shaper_t<U, F, M>>⟧.constants.fallback_position ≡ true }
 {}

@@ -1,6 +1,7 @@
 //! Users of the layer at work, each on public contracts alone.
 //!
-//! [`arabic`] and [`hebrew`] are script shapers with hooks, which have no more obligations than their engine.
+//! [`arabic`] and [`hebrew`] are script shapers with hooks, which have no more obligations than their engine; [`capitals`] requests a
+//! feature and sets its masks.
 //! [`ligatures`] is a small engine with single and ligature substitutions, which preserves clusters and flags.
 //! [`breaking`] goes from a string to its lines, and [`lines`] answers a line breaker: may the text be
 //! cut here? [`paragraph`] leads from glyphs to the text that they show, and back. [`plain_glyphs`] says
@@ -11,6 +12,7 @@
 
 pub mod arabic;
 pub mod breaking;
+pub mod capitals;
 pub mod hebrew;
 pub mod ligatures;
 pub mod lines;

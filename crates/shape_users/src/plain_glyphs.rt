@@ -1,11 +1,12 @@
 //! What a caller with the default shaper and no lookups knows of glyphs: the clauses of `shape_with_plan` in
 //! plain words, with nothing left to ask of hooks and lookups. One function has a hook and lookups, which
-//! preserve clusters and flags; one takes a string, of which nothing is left to ask either.
+//! preserve clusters and flags; one takes a string, with no premise left.
 //!
 //! Each function shapes a text and does nothing else. Its contract is what a user of that clause wants to hear:
 //! so a clause that comes to say less, of one direction or of one level alone, is refused here.
-ghost use Rattle.std.specs.Prelude.{◌≡◌, ◌≢◌, ◌==◌, ◌<◌, ◌≤◌, ◌*◌, ◌↔◌, ℕ, false, [], length, All, Contains};
-ghost use Rattle.std.specs.Prelude.{IfOk, IfErr, OnOk, OnErr};
+ghost use Rattle.std.specs.Prelude.{◌≡◌, ◌≢◌, ◌==◌, ◌<◌, ◌≤◌, ◌*◌, ◌^◌, ◌↔◌, ◌⊎◌};
+ghost use Rattle.std.specs.Prelude.{ℕ, false, [], length, All, Contains};
+ghost use Rattle.std.specs.Prelude.{IfOk, IfErr, OnOk, OnErr, MatchResult, Err};
 ghost use Rattle.std.specs.Str.{chars};
 ghost use Rattle.std.specs.Int.RustNames.{bit_and};
 ghost use Rattle.std.specs.List.Sorted.{IsNonDecreasing};
@@ -30,7 +31,8 @@ ghost use Rattle.shape_pipeline.specs.Headline.{prepared_text, normalised_list};
 ghost use Rattle.shape_pipeline.specs.Order.{grapheme_clusters};
 ghost use Rattle.shape_users.specs.PlainGlyphs.{AreOfText, HaveGlyphs, IsGivenBackEmpty};
 ghost use Rattle.shape_users.specs.PlainGlyphs.{NoStepPasses, SomeStepPasses};
-ghost use Rattle.shape_users.specs.PlainGlyphs.{IsTextOf, IsPlaceIn};
+ghost use Rattle.shape_users.specs.PlainGlyphs.{IsTextOf, IsPlaceIn, AreGlyphsOf, StringPasses, string_text};
+ghost use Rattle.shape_pipeline.specs.Planned.{planned_for};
 ghost use Rattle.shape_users.specs.Worked.Plain.{WorkedPlain};
 
 pub mod by_shape;
@@ -43,6 +45,7 @@ use shape_pipeline::laws::plain_runs_have_no_obligations;
 use shape_pipeline::ot_shape_plan::hb_ot_shape_plan_t;
 use shape_pipeline::ot_shaper::{DEFAULT_SHAPER, Runs, hb_default_shaper_t};
 use shape_pipeline::{shape, shape_with_plan};
+use shape_plan::planner::Plans;
 use std::alloc::Global;
 
 /// A plan of the default shaper, without lookups.
@@ -206,6 +209,11 @@ where
 /// with `Memory` if a growth was refused; the buffer that comes back is new.
 fn text_of_str(alloc: Global, string: &str) -> Result<UnicodeBuffer, ShapeFault>
     ensures ok { IfOk result (λ text. IsTextOf string.now text) }
+    ensures text { IfOk result (λ text. text ≡ string_text string.now) }
+    ensures length { IfErr result (λ fault. fault.cause ≡ ShapeError.Length
+        → 2 ^ 32 ≤ length string.now) }
+    ensures bytes { 2 ^ 32 ≤ length string.now
+        → MatchResult result (λ _. ⊥) (λ fault. fault.cause ≡ ShapeError.Length) }
     ensures refused { IfErr result (λ fault. fault.buffer ≡ new_buffer) }
 {
     let mut buffer = UnicodeBuffer::new(alloc);
@@ -217,9 +225,12 @@ fn text_of_str(alloc: Global, string: &str) -> Result<UnicodeBuffer, ShapeFault>
 }
 
 /// Appends a string to a new buffer, if it has fewer than 2^32 bytes.
+#[tactic(auto, unfolding(crate::specs::PlainGlyphs::string_text))]
 fn append(buffer: &mut UnicodeBuffer, string: &str) -> Result<(), ShapeError>
     requires { buffer.old ≡ new_buffer }
     ensures ok { OnOk result (IsTextOf string.now buffer.new) }
+    ensures text { OnOk result (buffer.new ≡ string_text string.now) }
+    ensures length { (result ≡ Err ShapeError.Length) ↔ (2 ^ 32 ≤ length string.now) }
     ensures refused { OnErr result (buffer.new ≡ new_buffer) }
 {
     if string.len() > u32::MAX as usize {
@@ -228,16 +239,27 @@ fn append(buffer: &mut UnicodeBuffer, string: &str) -> Result<(), ShapeError>
     buffer.push_str(string)
 }
 
-/// The glyphs of a string, in the direction of its script. Nothing is asked of the string or the
-/// face: each cluster is the place of a character's first byte in the string, clusters stand in the
+/// The glyphs of a string, in the direction of its script: those that `shape` makes of its text, with no
+/// features asked for and nothing else set. Nothing is asked of the string or the face: each cluster is the place of a character's first byte in the string, clusters stand in the
 /// order in which the glyphs run, neighbours in one cluster have the same flags, no glyph is unsafe to
 /// concat, and a string of at most 256 characters has at most 16384 glyphs, a longer one at most 64
-/// for each. Refuses with `Length` a longer result or a string of 2^32 bytes and more, and with
-/// `Memory` if a growth was refused; a new buffer comes back then.
+/// for each. Refuses with `Length` a string of 2^32 bytes and more, or one of which a step would leave a
+/// list past the run's limit, and with `Memory` if a growth was refused; a new buffer comes back then.
 pub fn glyphs_of_str<U, F>(alloc: Global, face: &F, string: &str) -> Result<GlyphBuffer, ShapeFault>
 where
     U: hb_unicode_funcs_t,
     F: hb_font_t,
+    ensures glyphs { let run = ⟦<hb_default_shaper_t as Runs<U, F, NoLookups>>⟧.run
+        (planned_for U.unicode ⟦<hb_default_shaper_t as Plans<U, F, NoLookups>>⟧.planning
+        face.now DEFAULT_SHAPER [] (string_text string.now)) face.now in
+        IfOk result (λ glyphs. AreGlyphsOf run string.now glyphs) }
+    ensures length { let run = ⟦<hb_default_shaper_t as Runs<U, F, NoLookups>>⟧.run
+        (planned_for U.unicode ⟦<hb_default_shaper_t as Plans<U, F, NoLookups>>⟧.planning
+        face.now DEFAULT_SHAPER [] (string_text string.now)) face.now in
+        IfErr result (λ fault. fault.cause ≡ ShapeError.Length
+        → (2 ^ 32 ≤ length string.now) ⊎ StringPasses run string.now) }
+    ensures bytes { 2 ^ 32 ≤ length string.now
+        → MatchResult result (λ _. ⊥) (λ fault. fault.cause ≡ ShapeError.Length) }
     ensures direction { IfOk result (λ glyphs. glyphs.direction
         ≡ script_or_ltr U.unicode (first_script U.unicode (text_items string.now))) }
     ensures places { IfOk result (λ glyphs. (k : ℕ) → Contains (clusters glyphs.items) k

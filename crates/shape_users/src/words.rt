@@ -4,7 +4,7 @@
 //! normalised characters; if `equivalent_spellings` can tell, these are the equivalent spellings, so that
 //! U+0071 U+0301 U+00E9 and U+0071 U+0301 U+0065 U+0301 are kept once. A cache that must never show one word
 //! for another needs no more than that; it may use any mode.
-ghost use Rattle.std.specs.Prelude.{◌≡◌, length, Err, IsErr, IfOk, OnErr, IfSome, IfNone};
+ghost use Rattle.std.specs.Prelude.{◌≡◌, [], length, Err, IsOk, IsErr, IfOk, OnErr, IfSome, IfNone};
 ghost use Rattle.shape_plan.specs.Plan.{Fits};
 ghost use Rattle.shape_users.specs.Words.{spelled as text_spelled, FitsAt, IsPlaceOf, IsNowhere};
 ghost use Rattle.shape_users.specs.Words.{NoneFits, KeepsWords, FindsTooLong, KeepsTooLong};
@@ -46,7 +46,7 @@ pub fn find_plan<U: hb_unicode_funcs_t, S, P, D>(
 
 /// The place of a word that was shaped under a spelling with the same normalised characters: the first such.
 /// Refuses as `same_word` does for the spelling and a word up to that place: with `Length`
-/// if one of the two is too long, and always then.
+/// if one of the two is too long, and always then. Compares nothing if there is no word, and refuses nothing then.
 pub fn find_word<U, F, M, S>(
     alloc: Global,
     face: &F,
@@ -68,6 +68,7 @@ where
         result ≡ Err ShapeError.Length → FindsTooLong run words.now spelling.now }
     ensures too_long { let run = ⟦<S as Runs<U, F, M>>⟧.run plan.now face.now in
         FindsTooLong run words.now spelling.now → IsErr result }
+    ensures no_words { words.now ≡ [] → IsOk result }
 {
     for place in 0..words.len() {
         let known = words[place].spelling.as_str();

@@ -2,6 +2,9 @@
 //!
 //! Nothing is kept of a line but what it sets, and what a line answers is written before the next one is
 //! read. The first line that can't be obeyed ends the program's run, with a status that says why.
+//!
+//! Lines are counted in a loop over all u128 numbers, which ends later than any input: a loop
+//! without an end would need a handle. The printed number stays at the greatest u64.
 ghost use Rattle.std.specs.Prelude.{◌≡◌, ◌≤◌, Some};
 ghost use Rattle.shape_sessions.specs.Lines.{IsLine, IsObeyed, line_words, obeyed};
 ghost use Rattle.shape_sessions.specs.Lines.{command_of_words};

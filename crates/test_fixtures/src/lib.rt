@@ -1,10 +1,11 @@
 //! What tests bring to shaping: small Unicode functions, a face that is plain data, an engine that does what the
 //! face says, and shapers that split, compose, reorder, change or double characters, or have preferences for marks.
-//! And definitions computed on cases over them.
+//! How cases are read from lines of text, and how glyphs are printed. And definitions computed on cases over them.
 #![tactic(auto)]
 #![allow(non_camel_case_types)]
 
 mod absorbing;
+pub mod cases;
 mod changing;
 mod doubling;
 mod face;
@@ -12,6 +13,7 @@ mod layout;
 mod lookups;
 mod marking;
 mod preferring;
+pub mod printing;
 mod reversing;
 mod rules;
 mod small_unicode;
@@ -24,7 +26,7 @@ pub use changing::ChangingShaper;
 pub use doubling::DoublingShaper;
 pub use face::{EVERY_GLYPH, KnownGlyph, PLAIN_FACE, TestFace};
 pub use layout::{TestLayout, TestMap};
-pub use marking::{EarlyHanging, Marking};
+pub use marking::{EarlyHanging, EarlyScripted, LateHanging, Marking, Never};
 pub use preferring::{Automatic, EarlyShaper, HangingShaper, LateShaper, PreferringShaper};
 pub use reversing::ReversingShaper;
 pub use rules::{Ligature, Multiple, Single, Stage};

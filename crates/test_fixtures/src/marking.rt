@@ -1,7 +1,8 @@
 //! How shapers want marks to be treated, as types, since a shaper's preference is a constant.
-ghost use Rattle.std.specs.Prelude.{◌≡◌, ℕ, Bool, Option, true, false, None, refl};
+ghost use Rattle.std.specs.Prelude.{◌≡◌, ℕ, Bool, Option, true, false, None, Some, refl};
 ghost use Rattle.shape_common.specs.declared.text_types.hb_tag_t.{hb_tag_t as AnyTag};
 ghost use Rattle.shape_plan.specs.Shaper.{is_zero_width_type};
+ghost use Rattle.shape_plan.specs.Tags.{tag};
 
 use shape_buffer::buffer::hb_tag_t;
 use shape_pipeline::ot_shaper::{
@@ -93,6 +94,64 @@ impl Marking for Late {
     ghost ZERO_WIDTH_MARKS = { 2 };
 
     const ZERO_WIDTH_MARKS: u32 = HB_OT_SHAPE_ZERO_WIDTH_MARKS_BY_GDEF_LATE;
+
+    ghost FALLBACK_POSITION = { false };
+
+    const FALLBACK_POSITION: bool = false;
+
+    ghost GPOS_TAG = { None };
+
+    const GPOS_TAG: Option<hb_tag_t> = None;
+
+    ghost lawful = { refl };
+}
+
+/// Marks are zeroed after tables have placed them, and are placed by their boxes.
+pub struct LateHanging;
+
+impl Marking for LateHanging {
+    ghost ZERO_WIDTH_MARKS = { 2 };
+
+    const ZERO_WIDTH_MARKS: u32 = HB_OT_SHAPE_ZERO_WIDTH_MARKS_BY_GDEF_LATE;
+
+    ghost FALLBACK_POSITION = { true };
+
+    const FALLBACK_POSITION: bool = true;
+
+    ghost GPOS_TAG = { None };
+
+    const GPOS_TAG: Option<hb_tag_t> = None;
+
+    ghost lawful = { refl };
+}
+
+/// Marks are zeroed before tables place them, and are placed by their boxes unless the positioning lookups are those of the
+/// script 1.
+pub struct EarlyScripted;
+
+impl Marking for EarlyScripted {
+    ghost ZERO_WIDTH_MARKS = { 1 };
+
+    const ZERO_WIDTH_MARKS: u32 = HB_OT_SHAPE_ZERO_WIDTH_MARKS_BY_GDEF_EARLY;
+
+    ghost FALLBACK_POSITION = { true };
+
+    const FALLBACK_POSITION: bool = true;
+
+    ghost GPOS_TAG = { Some (tag 1) };
+
+    const GPOS_TAG: Option<hb_tag_t> = Some(hb_tag_t(1));
+
+    ghost lawful = { refl };
+}
+
+/// Marks are never zeroed, and none is placed by its box.
+pub struct Never;
+
+impl Marking for Never {
+    ghost ZERO_WIDTH_MARKS = { 0 };
+
+    const ZERO_WIDTH_MARKS: u32 = HB_OT_SHAPE_ZERO_WIDTH_MARKS_NONE;
 
     ghost FALLBACK_POSITION = { false };
 

@@ -17,6 +17,7 @@ pub record WorkedEngine : Type 0 where
       → (kern_layout f).compiled b ≡ record { is_on = true; everywhere = 1 }
   pub kerned : (f : FontFace) → f.kern.now ≡ table 1 1
       → along ((kern_lookups f).kern 16 (line LeftToRight (on 2 0 ∷ on 3 1 ∷ []))) ≡ (pos 575, pos 0) ∷ (pos 575, negsuc 24) ∷ []
+  pub no_machine : (f : FontFace) → f.kern.now ≡ table 1 1 → (kern_layout f).has_machine_kerning ≡ false
 
 pub worked_engine : WorkedEngine
 unfolding i16_of ◌+ʷ◌ ◌-ʷ◌ int_wrap
@@ -26,4 +27,5 @@ worked_engine = record {
   other_version = λ f e. rw e refl;
   compiled = λ f b e. rw e refl;
   kerned = λ f e. rw e refl;
+  no_machine = λ f e. refl;
 }

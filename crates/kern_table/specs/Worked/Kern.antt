@@ -42,6 +42,9 @@ pub record WorkedValues : Type 0 where
   pub other_format : is_read (0 ∷ 0 ∷ 0 ∷ 1 ∷ 0 ∷ 0 ∷ 0 ∷ 14 ∷ 2 ∷ 1 ∷ []) 4 true ≡ false
   pub parts : parts_of (table 3 1) ≡ 3
   pub other_version : parts_of (0 ∷ 1 ∷ 0 ∷ 0 ∷ 0 ∷ 0 ∷ 0 ∷ 1 ∷ []) ≡ 0
+  pub minimum_too : is_read (table 1 3) 4 true ≡ true
+  -- 65536 more than the right glyph of (2, 3) if the left one is 1
+  pub right_past_all_glyphs : value_of (table 1 1) 4 1 65539 ≡ pos 0
 
 pub worked_values : WorkedValues
 unfolding i16_of
@@ -60,6 +63,8 @@ worked_values = record {
   other_format = refl;
   parts = refl;
   other_version = refl;
+  minimum_too = refl;
+  right_past_all_glyphs = refl;
 }
 
 -- an item with a glyph, for which kerning is on (bit 4) or off
@@ -69,9 +74,12 @@ on glyph cluster = record (new_item 0 cluster) { glyph_id = glyph; mask = 16 }
 abbrev pub off : ℕ → ℕ → Item
 off glyph cluster = record (new_item 0 cluster) { glyph_id = glyph }
 
--- a mark, and a default ignorable
+-- a glyph of these classes, a mark, and a default ignorable
+abbrev pub in_classes : ℕ → ℕ → Item
+in_classes bits cluster = record (on 9 cluster) { properties = record new_properties { glyph_class = record { 0 = bits } } }
+
 abbrev pub mark : ℕ → Item
-mark cluster = record (on 9 cluster) { properties = record new_properties { glyph_class = record { 0 = 8 } } }
+mark cluster = in_classes 8 cluster
 
 abbrev pub ignorable : ℕ → Item
 ignorable cluster = record (on 9 cluster) { properties = record new_properties { ignorable = true } }
@@ -134,6 +142,11 @@ pub record WorkedLines : Type 0 where
       ≡ (pos 550, pos 0) ∷ (pos 550, negsuc 49) ∷ []
   pub short_part : along (table_kerned (0 ∷ 0 ∷ 0 ∷ 1 ∷ part 5 1 2) 16 (line LeftToRight (on 2 0 ∷ on 3 1 ∷ []))) ≡ still ∷ still ∷ []
   pub no_mask : along (table_kerned (table 1 1) 0 (line LeftToRight (on 2 0 ∷ on 3 1 ∷ []))) ≡ still ∷ still ∷ []
+  -- six bytes of another format, and a part after them
+  pub after_a_short_part : along (table_kerned (0 ∷ 0 ∷ 0 ∷ 2 ∷ 0 ∷ 0 ∷ 0 ∷ 6 ∷ 2 ∷ 1 ∷ part 26 1 2) 16
+      (line LeftToRight (on 2 0 ∷ on 3 1 ∷ []))) ≡ (pos 575, pos 0) ∷ (pos 575, negsuc 24) ∷ []
+  pub over_a_mark_of_two_classes : along (by_part (on 2 0 ∷ in_classes 10 0 ∷ on 3 1 ∷ []))
+      ≡ (pos 575, pos 0) ∷ still ∷ (pos 575, negsuc 24) ∷ []
 
 pub worked_lines : WorkedLines
 unfolding i16_of ◌+ʷ◌ ◌-ʷ◌ int_wrap
@@ -160,6 +173,8 @@ worked_lines = record {
   two_parts = refl;
   short_part = refl;
   no_mask = refl;
+  after_a_short_part = refl;
+  over_a_mark_of_two_classes = refl;
 }
 
 -- requests for `kern`: for the whole text or for a range, with a fallback or without
@@ -185,6 +200,10 @@ pub record WorkedMaps : Type 0 where
   pub off_for_all : (kern_masks (record { is_on = true; everywhere = 0 })).global_mask ≡ 0
   pub no_bits : (kern_masks (record { is_on = false; everywhere = 1 })).mask KERN ≡ (0, 4)
   pub no_bits_for_others : (kern_masks (record { is_on = true; everywhere = 1 })).mask (record { 0 = 1 }) ≡ (0, 4)
+  pub eight_bits : map_of (whole 257 ∷ []) ≡ record { is_on = true; everywhere = 1 }
+  pub one_off : (kern_masks (record { is_on = false; everywhere = 1 })).one_mask KERN ≡ 0
+  pub by_value_for_all : (kern_masks (record { is_on = true; everywhere = 2 })).global_mask ≡ 32
+  pub no_one_for_others : (kern_masks (record { is_on = true; everywhere = 1 })).one_mask (record { 0 = 1 }) ≡ 0
 
 pub worked_maps : WorkedMaps
 worked_maps = record {
@@ -200,4 +219,8 @@ worked_maps = record {
   off_for_all = refl;
   no_bits = refl;
   no_bits_for_others = refl;
+  eight_bits = refl;
+  one_off = refl;
+  by_value_for_all = refl;
+  no_one_for_others = refl;
 }

@@ -1,14 +1,14 @@
 -- What preserves the order of clusters and the flags of glyphs, step by step.
 use Rattle.std.proofs.Common.{◌≡◌, ℕ, List, [], ◌∷◌, ◌++◌, refl, ap, ◌∙◌}
 use Rattle.shape_items.specs.Buffer.{Buffer}
-use Rattle.shape_items.specs.BufferClusters.{unsafe_to_break}
+use Rattle.shape_items.specs.BufferClusters.{unsafe_to_break, safe_to_insert_tatweel}
 use Rattle.shape_items.specs.Clusters.{clusters}
 use Rattle.shape_items.specs.Items.{Item}
 use Rattle.shape_buffer.specs.Preservation.{PreservesOrder, IsClusterPreserving, EachStep}
 use Rattle.shape_buffer.specs.Outcome.{Step}
 use Rattle.shape_buffer.specs.Walks.{items_mapped}
 pub use Rattle.shape_items.proofs.Order.PreservesClusterLemmas.{PreservesClusters-same, PreservesClusters-equal, PreservesClusters-then, clusters-map}
-use Rattle.shape_items.proofs.Merging.KeyLemmas.{keys-unsafe_to_break, without_items-unsafe_to_break}
+use Rattle.shape_items.proofs.Merging.KeyLemmas.{keys-unsafe_to_break, without_items-unsafe_to_break, keys-safe_to_insert_tatweel, without_items-safe_to_insert_tatweel}
 
 -- ---- buffers
 
@@ -37,6 +37,17 @@ order-unsafe_to_break start end b =
     let rest = without_items-unsafe_to_break start end b in
     record {
       clusters = PreservesClusters-equal (clusters b.items) _ (keys-unsafe_to_break (λ item. item.cluster) (λ item. refl) start end b);
+      direction = ap (λ c. c.direction) rest;
+      flags = ap (λ c. c.flags) rest;
+      level = ap (λ c. c.cluster_level) rest;
+    }
+
+pub order-safe_to_insert_tatweel : (start end : ℕ) (b : Buffer) → PreservesOrder b (safe_to_insert_tatweel start end b)
+order-safe_to_insert_tatweel start end b =
+    let rest = without_items-safe_to_insert_tatweel start end b in
+    let same = keys-safe_to_insert_tatweel (λ item. item.cluster) (λ item. refl) (λ item. refl) start end b in
+    record {
+      clusters = PreservesClusters-equal (clusters b.items) _ same;
       direction = ap (λ c. c.direction) rest;
       flags = ap (λ c. c.flags) rest;
       level = ap (λ c. c.cluster_level) rest;

@@ -1,4 +1,8 @@
 //! The list of items that the stages of shaping work on, with its settings.
+//!
+//! Beside the list stands room for deletion, 8 bytes an item, in which it notes where runs of one
+//! cluster begin. The calls that grow the list grow it too, so deletion takes no memory and can't
+//! be refused.
 ghost use Rattle.std.specs.Prelude.{◌≡◌, ◌<◌, ◌↔◌, [], length, slice_set, IsTrue, Some};
 
 mod edits;
@@ -42,6 +46,8 @@ pub struct hb_buffer_t {
     not_found_variation_selector_glyph: Option<GlyphId>,
     scratch_flags: ScratchFlags,
     length_limit: Option<usize>,
+    /// The ligature id that was given last, 0 for none.
+    serial: u8,
     pre_context: Context,
     post_context: Context,
 }
@@ -66,6 +72,7 @@ impl Model for hb_buffer_t {
       not_found_variation_selector_glyph = b.not_found_variation_selector_glyph;
       scratch_flags = b.scratch_flags;
       length_limit = b.length_limit;
+      serial = b.serial;
       pre_context = b.pre_context;
       post_context = b.post_context;
     } };
@@ -100,6 +107,7 @@ impl hb_buffer_t {
             not_found_variation_selector_glyph: None,
             scratch_flags: ScratchFlags(0),
             length_limit: None,
+            serial: 0,
             pre_context: Context::new(),
             post_context: Context::new(),
         }
@@ -142,15 +150,17 @@ impl hb_buffer_t {
         self.length_limit.unwrap_or(usize::MAX)
     }
 
-    /// Begins a run: no scratch flag, and a limit of 64 times as many items as there are, or of 16384
-    /// if that is more.
+    /// Begins a run: no scratch flag, no ligature id given yet, and a limit of 64 times as many items as
+    /// there are, or of 16384 if that is more.
     pub fn enter(&mut self)
         ensures { self.new ≡ record self.old {
           scratch_flags = record { 0 = 0 };
           length_limit = Some (run_limit (length self.old.items));
+          serial = 0;
         } }
     {
         self.scratch_flags = ScratchFlags(0);
+        self.serial = 0;
         self.length_limit = Some(
             self.infos
                 .len()
@@ -184,8 +194,8 @@ impl hb_buffer_t {
         self.has_positions = true;
     }
 
-    /// Leaves the buffer cleared: no item, direction, script, language, context, scratch flag or limit.
-    /// Flags, level and the two glyph settings stay.
+    /// Leaves the buffer cleared: no item, direction, script, language, context, scratch flag, limit or
+    /// ligature id. Flags, level and the two glyph settings stay.
     pub fn reset(&mut self)
         ensures { self.new ≡ cleared self.old }
     {
@@ -197,6 +207,7 @@ impl hb_buffer_t {
         self.language = None;
         self.scratch_flags = ScratchFlags(0);
         self.leave();
+        self.serial = 0;
         self.pre_context = Context::new();
         self.post_context = Context::new();
     }

@@ -8,16 +8,20 @@ use crate::interfaces::map_request::{F_GLOBAL, MapRequest, TableIndex, hb_ot_map
 use std::alloc::Global;
 use std::marker::Model;
 
-/// The requests of a plan in order, and the scripts that the layout engine chose for it.
+/// The requests of a plan in order, the language of its texts, and the scripts that the layout engine chose
+/// for it.
 #[derive(Drop)]
-pub struct hb_ot_map_builder_t {
+pub struct hb_ot_map_builder_t<'a> {
     requests: Vec<MapRequest>,
     is_simple: bool,
+    language: Option<&'a Language>,
     gsub_script: Option<hb_tag_t>,
     gpos_script: Option<hb_tag_t>,
 }
 
-impl Model for hb_ot_map_builder_t {
+impl<'a> Model for hb_ot_map_builder_t<'a> {
+    ghost use Rattle.std.specs.Prelude.{string_bytes};
+    ghost use Rattle.std.specs.Option.{option_map};
     ghost use Rattle.shape_buffer.specs.MapBuilder.{Builder};
 
     ghost Value = { Builder };
@@ -25,12 +29,13 @@ impl Model for hb_ot_map_builder_t {
     ghost view = { λ b. record {
       requests = b.requests.items;
       is_simple = b.is_simple;
+      language = option_map (λ language. string_bytes language.now.0) b.language;
       gsub_script = b.gsub_script;
       gpos_script = b.gpos_script;
     } };
 }
 
-impl hb_ot_map_builder_t {
+impl<'a> hb_ot_map_builder_t<'a> {
     ghost use Rattle.shape_buffer.specs.MapBuilder.{
       new_builder,
       chosen_script as chosen_script_of,
@@ -41,19 +46,21 @@ impl hb_ot_map_builder_t {
       pause,
     };
 
-    /// A builder without requests. Asks the engine which scripts it takes for this one.
+    /// A builder without requests, for texts of this script and language. Asks the engine which scripts it
+    /// takes.
     pub fn new<F, M: hb_ot_layout_t<F>>(
         alloc: Global,
         face: &F,
         script: Option<Script>,
-        language: Option<&Language>,
+        language: Option<&'a Language>,
     ) -> Self
-        ensures { result ≡ new_builder ((M.layout face.now).chosen_script script
-            (option_map (λ l. string_bytes l.now.0) language.entry)) }
+        ensures { let name = option_map (λ l. string_bytes l.now.0) language.entry in
+            result ≡ new_builder name ((M.layout face.now).chosen_script script name) }
     {
         hb_ot_map_builder_t {
             requests: Vec::new(alloc),
             is_simple: true,
+            language,
             gsub_script: M::chosen_script(face, script, language, TableIndex::GSUB),
             gpos_script: M::chosen_script(face, script, language, TableIndex::GPOS),
         }
@@ -79,6 +86,13 @@ impl hb_ot_map_builder_t {
         ensures { self.new ≡ record self.old { is_simple = is_simple } }
     {
         self.is_simple = is_simple;
+    }
+
+    /// The language of the texts, if it is known, by which an engine chooses a language system.
+    pub fn language(&self) -> Option<&'a Language>
+        ensures { option_map (λ language. string_bytes language.now.0) result ≡ self.now.language }
+    {
+        self.language
     }
 
     /// Makes room for so many more requests, so that making them isn't refused. Changes nothing that is seen.

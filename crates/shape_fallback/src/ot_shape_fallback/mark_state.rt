@@ -1,9 +1,12 @@
 //! Placing the marks of a base, one after the other.
 //!
-//! A mark stands beyond the marks of its ccc before it, so each hands on the base's extents, grown by it.
+//! A mark stands beyond the marks of its ccc before it, so each passes on the base's extents, grown by it.
 //! A mark of another ccc begins at the base's own extents again, and one of another component of a ligature
 //! at that component's. The pen has passed the base when it comes to the marks, so in forward text each is
 //! moved back by the advances since.
+//!
+//! Components run to the right by the plan's direction if that is horizontal, else by its
+//! script's. None and Invalid count as left to right, a vertical script's direction doesn't.
 ghost use Rattle.std.specs.Prelude.{◌≡◌, pos, ◌<◌};
 ghost use Rattle.shape_fallback.specs.MarkState.{component_of, place_of};
 ghost use Rattle.shape_fallback.specs.MarkState.{component_extents as component_extents_of};

@@ -4,25 +4,26 @@ use Rattle.std.specs.Int.{int_wrap}
 use Rattle.shape_common.specs.Wrapping.{◌+ʷ◌}
 use Rattle.shape_common.specs.declared.face.hb_glyph_extents_t.{hb_glyph_extents_t}
 use Rattle.shape_font.specs.Bytes.{i16_of}
-use Rattle.shape_font.specs.Face.{font_face, own_glyph_of, glyph_of, variant_of, h_advance_of, v_advance_of, extents_of, inked_of, origin_over}
+use Rattle.shape_font.specs.Face.{font_face, numbered, glyph_of, variant_of, h_advance_of, v_advance_of, extents_of, inked_of, origin_over}
 use Rattle.shape_font.specs.Worked.Glyphs.{words, short_list}
 use Rattle.shape_font.specs.Worked.Lines.{origins, plain_line}
 use Rattle.shape_font.specs.Worked.Searches.{three_selectors}
 use Rattle.shape_font.specs.declared.face.FontFace.{FontFace}
 
 pub record WorkedFace : Type 0 where
-  pub glyph_0_is_none : (f : FontFace) → f.glyph_count ≡ 7 → own_glyph_of f 0 ≡ None
-  pub last_glyph : (f : FontFace) → f.glyph_count ≡ 7 → own_glyph_of f 6 ≡ Some (record { 0 = 6 })
-  pub past_the_last_glyph : (f : FontFace) → f.glyph_count ≡ 7 → own_glyph_of f 7 ≡ None
+  pub glyph_0_is_none : numbered 0 ≡ None
+  pub glyph_1 : numbered 1 ≡ Some (record { 0 = 1 })
+  pub glyph_of_32_bits : numbered 65543 ≡ Some (record { 0 = 65543 })
   -- U+0041 has glyph 7, U+0042 glyph 9
-  pub of_a_character : (f : FontFace) → f.glyph_count ≡ 9 → f.symbols ≡ false → f.cmap.now ≡ short_list
+  pub of_a_character : (f : FontFace) → f.symbols ≡ false → f.cmap.now ≡ short_list
       → glyph_of f 0x41 ≡ Some (record { 0 = 7 })
   pub past_the_last_of_a_character : (f : FontFace) → f.glyph_count ≡ 9 → f.symbols ≡ false → f.cmap.now ≡ short_list
-      → glyph_of f 0x42 ≡ None
-  pub as_alone : (f : FontFace) → f.glyph_count ≡ 9 → f.symbols ≡ false → f.cmap.now ≡ short_list → f.sequences.now ≡ three_selectors
+      → glyph_of f 0x42 ≡ Some (record { 0 = 9 })
+  pub as_alone : (f : FontFace) → f.symbols ≡ false → f.cmap.now ≡ short_list → f.sequences.now ≡ three_selectors
       → variant_of f 0x41 0xFE00 ≡ Some (record { 0 = 7 })
-  pub own : (f : FontFace) → f.glyph_count ≡ 8 → f.sequences.now ≡ three_selectors → variant_of f 0x41 0xFE01 ≡ Some (record { 0 = 7 })
-  pub own_past_the_last : (f : FontFace) → f.glyph_count ≡ 7 → f.sequences.now ≡ three_selectors → variant_of f 0x41 0xFE01 ≡ None
+  pub own : (f : FontFace) → f.sequences.now ≡ three_selectors → variant_of f 0x41 0xFE01 ≡ Some (record { 0 = 7 })
+  pub own_past_the_last : (f : FontFace) → f.glyph_count ≡ 7 → f.sequences.now ≡ three_selectors
+      → variant_of f 0x41 0xFE01 ≡ Some (record { 0 = 7 })
   pub no_variant : (f : FontFace) → f.sequences.now ≡ three_selectors → variant_of f 0x43 0xFE00 ≡ None
   pub advance : (f : FontFace) → f.glyph_count ≡ 7 → f.h_count ≡ 2 → f.hmtx.now ≡ words (500 ∷ 50 ∷ 600 ∷ 60 ∷ [])
       → h_advance_of f (record { 0 = 0 }) ≡ pos 500
@@ -36,17 +37,19 @@ pub record WorkedFace : Type 0 where
   pub no_box_past_the_last : (f : FontFace) → f.outlines ≡ true → f.glyph_count ≡ 7 → extents_of f (record { 0 = 7 }) ≡ None
   pub no_box_without_outlines : (f : FontFace) → f.outlines ≡ false → extents_of f (record { 0 = 1 }) ≡ None
   pub box_of_the_last : (f : FontFace) → f.outlines ≡ true → f.glyph_count ≡ 7 → extents_of f (record { 0 = 6 }) ≡ Some (inked_of f 6)
+  pub half_of_an_odd_em : (f : FontFace) → f.glyph_count ≡ 7 → f.h_count ≡ 0 → f.units_per_em ≡ 1001
+      → h_advance_of f (record { 0 = 6 }) ≡ pos 500
 
 pub worked_face : WorkedFace
 worked_face = record {
-  glyph_0_is_none = λ f e. refl;
-  last_glyph = λ f e. rw e refl;
-  past_the_last_glyph = λ f e. rw e refl;
-  of_a_character = λ f e s c. rw (e, s, c) refl;
-  past_the_last_of_a_character = λ f e s c. rw (e, s, c) refl;
-  as_alone = λ f e s c q. rw (e, s, c, q) refl;
-  own = λ f e q. rw (e, q) refl;
-  own_past_the_last = λ f e q. rw (e, q) refl;
+  glyph_0_is_none = refl;
+  glyph_1 = refl;
+  glyph_of_32_bits = refl;
+  of_a_character = λ f s c. rw (s, c) refl;
+  past_the_last_of_a_character = λ f e s c. rw (s, c) refl;
+  as_alone = λ f s c q. rw (s, c, q) refl;
+  own = λ f q. rw q refl;
+  own_past_the_last = λ f e q. rw q refl;
   no_variant = λ f q. rw q refl;
   advance = λ f e h t. rw (e, h, t) refl;
   shared_advance = λ f e h t. rw (e, h, t) refl;
@@ -56,6 +59,7 @@ worked_face = record {
   no_box_past_the_last = λ f o e. rw (o, e) refl;
   no_box_without_outlines = λ f o. rw o refl;
   box_of_the_last = λ f o e. rw (o, e) refl;
+  half_of_an_odd_em = λ f e h u. rw (e, h, u) refl;
 }
 
 -- a box 705 high, whose upper side is at 700
@@ -78,14 +82,19 @@ pub record WorkedOrigins : Type 0 where
   pub by_its_bearing : (f : FontFace) → f.v_count ≡ 1 → f.vmtx.now ≡ words (900 ∷ 50 ∷ 60 ∷ []) → origin_over f 1 box ≡ pos 760
   -- 295 is left, and half of that is 147
   pub in_the_middle : (f : FontFace) → f.v_count ≡ 0 → f.os2.now ≡ [] → f.hhea.now ≡ plain_line → origin_over f 1 box ≡ pos 847
-  pub glyph : (f : FontFace) → f.glyph_count ≡ 9 → f.symbols ≡ false → f.cmap.now ≡ short_list
+  pub glyph : (f : FontFace) → f.symbols ≡ false → f.cmap.now ≡ short_list
       → (font_face f).nominal_glyph 0x41 ≡ Some (record { 0 = 7 })
-  pub variant : (f : FontFace) → f.glyph_count ≡ 8 → f.sequences.now ≡ three_selectors
+  pub variant : (f : FontFace) → f.sequences.now ≡ three_selectors
       → (font_face f).variation_glyph 0x41 0xFE01 ≡ Some (record { 0 = 7 })
   pub advance : (f : FontFace) → f.glyph_count ≡ 7 → f.h_count ≡ 1 → f.hmtx.now ≡ words (501 ∷ 50 ∷ [])
       → (font_face f).h_advance (record { 0 = 6 }) ≡ pos 501
   pub no_box : (f : FontFace) → f.outlines ≡ false → (font_face f).extents (record { 0 = 1 }) ≡ None
   pub em : (f : FontFace) → f.units_per_em ≡ 2048 → (font_face f).units_per_em ≡ 2048
+  -- 1005 high: -5 is left, and half of that is -3
+  pub higher_than_the_line : (f : FontFace) → f.v_count ≡ 0 → f.os2.now ≡ [] → f.hhea.now ≡ plain_line
+      → origin_over f 1 (record box { height = negsuc 1004 }) ≡ pos 697
+  pub listed_by_a_minor_version : (f : FontFace) → f.vorg.now ≡ words (0 ∷ 1 ∷ 880 ∷ 0 ∷ [])
+      → (font_face f).v_origin (record { 0 = 3 }) ≡ pos 880
 
 pub worked_origins : WorkedOrigins
 unfolding i16_of ◌+ʷ◌ int_wrap
@@ -98,9 +107,11 @@ worked_origins = record {
   without_a_box = λ f v o s h. rw (v, o, s, h) refl;
   by_its_bearing = λ f v t. rw (v, t) refl;
   in_the_middle = λ f v o h. rw (v, o, h) refl;
-  glyph = λ f e s c. rw (e, s, c) refl;
-  variant = λ f e q. rw (e, q) refl;
+  glyph = λ f s c. rw (s, c) refl;
+  variant = λ f q. rw q refl;
   advance = λ f e h t. rw (e, h, t) refl;
   no_box = λ f o. rw o refl;
   em = λ f u. u;
+  higher_than_the_line = λ f v o h. rw (v, o, h) refl;
+  listed_by_a_minor_version = λ f v. rw v refl;
 }

@@ -9,10 +9,13 @@ abbrev pub words : List ℕ → List ℕ
 words [] = []
 words (n ∷ ns) = n / 256 ∷ n % 256 ∷ words ns
 
--- format 4 with three segments: U+0041..0043 moved by -64, U+0061..0062 by the list 9, 0 with 5 added, U+FFFF
+-- format 4 with three segments: U+0041..0043 moved by -64, U+0061..0062 by the list 9, 0 with a number added, U+FFFF
+abbrev pub listed_with : ℕ → List ℕ
+listed_with delta = words (4 ∷ 44 ∷ 0 ∷ 6 ∷ 0 ∷ 0 ∷ 0 ∷ 0x43 ∷ 0x62 ∷ 0xFFFF ∷ 0 ∷ 0x41 ∷ 0x61 ∷ 0xFFFF
+    ∷ 65472 ∷ delta ∷ 1 ∷ 0 ∷ 4 ∷ 0 ∷ 9 ∷ 0 ∷ [])
+
 abbrev pub three_segments : List ℕ
-three_segments = words (4 ∷ 44 ∷ 0 ∷ 6 ∷ 0 ∷ 0 ∷ 0 ∷ 0x43 ∷ 0x62 ∷ 0xFFFF ∷ 0 ∷ 0x41 ∷ 0x61 ∷ 0xFFFF
-    ∷ 65472 ∷ 5 ∷ 1 ∷ 0 ∷ 4 ∷ 0 ∷ 9 ∷ 0 ∷ [])
+three_segments = listed_with 5
 
 pub record WorkedSegments : Type 0 where
   pub first : cmap_glyph three_segments 0x41 ≡ 1
@@ -24,6 +27,9 @@ pub record WorkedSegments : Type 0 where
   pub delta_wraps : cmap_glyph three_segments 0xFFFF ≡ 0
   pub past_plane_0 : cmap_glyph three_segments 0x10041 ≡ 0
   pub other_format : cmap_glyph (words (5 ∷ 44 ∷ [])) 0x41 ≡ 0
+  pub listed_delta_wraps : cmap_glyph (listed_with 65533) 0x61 ≡ 6
+  -- 9 to 3, and 5 to 5: the end decides first
+  pub after_a_segment_that_ends_before_it_starts : cmap_glyph (words (4 ∷ 32 ∷ 0 ∷ 4 ∷ 0 ∷ 0 ∷ 0 ∷ 3 ∷ 5 ∷ 0 ∷ 9 ∷ 5 ∷ 0 ∷ 2 ∷ 0 ∷ 0 ∷ [])) 5 ≡ 7
 
 pub worked_segments : WorkedSegments
 worked_segments = record {
@@ -36,6 +42,8 @@ worked_segments = record {
   delta_wraps = refl;
   past_plane_0 = refl;
   other_format = refl;
+  listed_delta_wraps = refl;
+  after_a_segment_that_ends_before_it_starts = refl;
 }
 
 -- format 0: glyphs 5, 6 and 7 for U+0000..0002, and no more bytes
@@ -65,6 +73,7 @@ pub record WorkedLists : Type 0 where
   pub first_of_the_long_list : cmap_glyph long_list 0x1F600 ≡ 7
   pub last_of_the_long_list : cmap_glyph long_list 0x1F601 ≡ 9
   pub past_the_long_list : cmap_glyph long_list 0x1F602 ≡ 0
+  pub count_of_32_bits : cmap_glyph (words (10 ∷ 0 ∷ 0 ∷ 22 ∷ 0 ∷ 0 ∷ 0 ∷ 0x41 ∷ 1 ∷ 0 ∷ 7 ∷ [])) 0x41 ≡ 7
 
 pub worked_lists : WorkedLists
 worked_lists = record {
@@ -83,6 +92,7 @@ worked_lists = record {
   first_of_the_long_list = refl;
   last_of_the_long_list = refl;
   past_the_long_list = refl;
+  count_of_32_bits = refl;
 }
 
 -- format 6 of symbols: glyphs 3 and 4 at U+F0FF and U+F100; and format 12: glyph 5 at U+0020, 9 at U+F020
@@ -126,6 +136,10 @@ pub record WorkedGroups : Type 0 where
   pub other_group_for_all : cmap_glyph (groups_in 13 2) 0x1F600 ≡ 9
   pub past_the_groups_for_all : cmap_glyph (groups_in 13 2) 0x43 ≡ 0
   pub no_more_than_there_is_room_for : groups_of (two_groups 65535) ≡ 2
+  pub glyph_of_32_bits : cmap_glyph (words (12 ∷ 0 ∷ 0 ∷ 28 ∷ 0 ∷ 0 ∷ 0 ∷ 1 ∷ 0 ∷ 0x41 ∷ 0 ∷ 0x41 ∷ 1 ∷ 7 ∷ [])) 0x41 ≡ 65543
+  -- 9 to 3, and 5 to 5: the start decides first
+  pub before_a_group_that_ends_before_it_starts : cmap_glyph (words (12 ∷ 0 ∷ 0 ∷ 40 ∷ 0 ∷ 0 ∷ 0 ∷ 2 ∷ 0 ∷ 9 ∷ 0 ∷ 3 ∷ 0 ∷ 7 ∷ 0 ∷ 5 ∷ 0 ∷ 5 ∷ 0 ∷ 8 ∷ [])) 5
+      ≡ 0
 
 pub worked_groups : WorkedGroups
 worked_groups = record {
@@ -139,6 +153,8 @@ worked_groups = record {
   other_group_for_all = refl;
   past_the_groups_for_all = refl;
   no_more_than_there_is_room_for = refl;
+  glyph_of_32_bits = refl;
+  before_a_group_that_ends_before_it_starts = refl;
 }
 
 -- two long metrics, 500 and 600 wide, then the bearings of glyphs 2 and 3

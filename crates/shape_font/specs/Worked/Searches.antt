@@ -54,14 +54,18 @@ worked_searches = record {
 }
 
 -- format 14 of three selectors. U+FE00: U+0041..0042 look as they do alone. U+FE01: U+0041 has glyph 7, U+0042 none,
--- U+1F600 glyph 9. U+E0100: both
-abbrev pub three_selectors : List ℕ
-three_selectors = 0 ∷ 14 ∷ 0 ∷ 0 ∷ 0 ∷ 70 ∷ 0 ∷ 0 ∷ 0 ∷ 3
+-- U+1F600 glyph 9. U+E0100: both. So
+-- many selectors, and rows of glyphs, are stated
+abbrev pub stated_selectors : ℕ → ℕ → List ℕ
+stated_selectors selectors rows = 0 ∷ 14 ∷ 0 ∷ 0 ∷ 0 ∷ 70 ∷ 0 ∷ 0 ∷ 0 ∷ selectors
     ∷ 0 ∷ 0xFE ∷ 0x00 ∷ 0 ∷ 0 ∷ 0 ∷ 43 ∷ 0 ∷ 0 ∷ 0 ∷ 0
     ∷ 0 ∷ 0xFE ∷ 0x01 ∷ 0 ∷ 0 ∷ 0 ∷ 0 ∷ 0 ∷ 0 ∷ 0 ∷ 51
     ∷ 0x0E ∷ 0x01 ∷ 0x00 ∷ 0 ∷ 0 ∷ 0 ∷ 43 ∷ 0 ∷ 0 ∷ 0 ∷ 51
     ∷ 0 ∷ 0 ∷ 0 ∷ 1 ∷ 0 ∷ 0 ∷ 0x41 ∷ 1
-    ∷ 0 ∷ 0 ∷ 0 ∷ 3 ∷ 0 ∷ 0 ∷ 0x41 ∷ 0 ∷ 7 ∷ 0 ∷ 0 ∷ 0x42 ∷ 0 ∷ 0 ∷ 1 ∷ 0xF6 ∷ 0 ∷ 0 ∷ 9 ∷ []
+    ∷ 0 ∷ 0 ∷ 0 ∷ rows ∷ 0 ∷ 0 ∷ 0x41 ∷ 0 ∷ 7 ∷ 0 ∷ 0 ∷ 0x42 ∷ 0 ∷ 0 ∷ 1 ∷ 0xF6 ∷ 0 ∷ 0 ∷ 9 ∷ []
+
+abbrev pub three_selectors : List ℕ
+three_selectors = stated_selectors 3 3
 
 -- `cmap` of one subtable, by encoding and format
 abbrev pub one_table : ℕ → ℕ → List ℕ
@@ -83,6 +87,11 @@ pub record WorkedVariations : Type 0 where
   pub sequences : sequences_of (one_table 5 14) ≡ 0 ∷ 14 ∷ []
   pub other_format : sequences_of (one_table 5 12) ≡ []
   pub other_encoding : sequences_of (one_table 4 14) ≡ []
+  -- an offset of 0 is no part, not the beginning of the table
+  pub no_part : variation_of (0 ∷ 14 ∷ 0 ∷ 0 ∷ 0 ∷ 0 ∷ 0 ∷ 0 ∷ 0 ∷ 1 ∷ 0 ∷ 0xFE ∷ 0 ∷ 0 ∷ 0 ∷ 0 ∷ 0 ∷ 0 ∷ 0 ∷ 0 ∷ 0 ∷ []) 0 0xFE00
+      ≡ Missing
+  pub fewer_selectors : variation_of (stated_selectors 1 3) 0x41 0xFE01 ≡ Missing
+  pub fewer_rows : variation_of (stated_selectors 3 2) 0x1F600 0xFE01 ≡ Missing
 
 pub worked_variations : WorkedVariations
 worked_variations = record {
@@ -101,4 +110,7 @@ worked_variations = record {
   sequences = refl;
   other_format = refl;
   other_encoding = refl;
+  no_part = refl;
+  fewer_selectors = refl;
+  fewer_rows = refl;
 }

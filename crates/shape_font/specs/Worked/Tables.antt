@@ -1,8 +1,9 @@
 -- Numbers and tables, on bytes that were read by hand.
-use Rattle.std.specs.Prelude.{◌≡◌, ℕ, pos, negsuc, List, [], ◌∷◌, ◌++◌, Some, None, true, false, refl}
+use Rattle.std.specs.Prelude.{◌≡◌, ℕ, pos, negsuc, List, [], ◌∷◌, ◌++◌, Some, None, true, false, codes, refl}
 use Rattle.shape_font.specs.Bytes.{u16_of, u32_of, i16_of, fitting}
 use Rattle.shape_font.specs.Directory.{font_start, part_of, table_at, table_of, has_table, bytes_of}
 use Rattle.shape_font.specs.Subtables.{subtable_of, chosen_subtable, symbols_of}
+use Rattle.shape_font.specs.declared.face.TheConstants.{HEAD, HHEA, MAXP, HMTX, VHEA, VMTX, VORG, OS2, CMAP, LOCA, GLYF, GSUB, GPOS, MORX, KERX, TRAK, KERN, POST}
 
 pub record WorkedNumbers : Type 0 where
   pub two_bytes : u16_of (7 ∷ 1 ∷ 2 ∷ []) 1 ≡ 258
@@ -54,6 +55,7 @@ pub record WorkedDirectory : Type 0 where
   pub as_it_is : bytes_of (two_tables 2) 0 0x41412020 ≡ 11 ∷ 12 ∷ []
   pub empty : bytes_of (two_tables 2) 0 0x43432020 ≡ []
   pub whole : part_of (11 ∷ 12 ∷ []) 0 2 ≡ Some (11 ∷ 12 ∷ [])
+  pub cut_off : table_of (header 1 ++ 65 ∷ 65 ∷ 32 ∷ 32 ∷ []) 0 0x41412020 ≡ None
 
 pub worked_directory : WorkedDirectory
 worked_directory = record {
@@ -69,6 +71,7 @@ worked_directory = record {
   as_it_is = refl;
   empty = refl;
   whole = refl;
+  cut_off = refl;
 }
 
 -- a collection of two fonts, at 300 and 65536
@@ -83,6 +86,7 @@ pub record WorkedCollections : Type 0 where
   pub one_font_only : font_start (two_tables 2) 1 ≡ None
   -- records are found from the font's beginning, tables from the file's
   pub after_a_byte : table_at (99 ∷ header 1 ++ entry 65 29 1 ++ 11 ∷ []) 1 0x41412020 ≡ Some (11 ∷ [])
+  pub count_of_32_bits : font_start (0x74 ∷ 0x74 ∷ 0x63 ∷ 0x66 ∷ 0 ∷ 1 ∷ 0 ∷ 0 ∷ 0 ∷ 1 ∷ 0 ∷ 0 ∷ 0 ∷ 0 ∷ 1 ∷ 44 ∷ []) 0 ≡ Some 300
 
 pub worked_collections : WorkedCollections
 worked_collections = record {
@@ -92,15 +96,19 @@ worked_collections = record {
   one_font = refl;
   one_font_only = refl;
   after_a_byte = refl;
+  count_of_32_bits = refl;
 }
 
 -- a table `cmap` of one subtable or two, each one byte long and at the end
 abbrev pub one_subtable : ℕ → ℕ → List ℕ
 one_subtable platform encoding = 0 ∷ 0 ∷ 0 ∷ 1 ∷ 0 ∷ platform ∷ 0 ∷ encoding ∷ 0 ∷ 0 ∷ 0 ∷ 12 ∷ 77 ∷ []
 
+abbrev pub stated_subtables : ℕ → ℕ → ℕ → ℕ → ℕ → List ℕ
+stated_subtables count platform encoding second_platform second_encoding =
+    0 ∷ 0 ∷ 0 ∷ count ∷ 0 ∷ platform ∷ 0 ∷ encoding ∷ 0 ∷ 0 ∷ 0 ∷ 20 ∷ 0 ∷ second_platform ∷ 0 ∷ second_encoding ∷ 0 ∷ 0 ∷ 0 ∷ 21 ∷ 77 ∷ 78 ∷ []
+
 abbrev pub two_subtables : ℕ → ℕ → ℕ → ℕ → List ℕ
-two_subtables platform encoding second_platform second_encoding =
-    0 ∷ 0 ∷ 0 ∷ 2 ∷ 0 ∷ platform ∷ 0 ∷ encoding ∷ 0 ∷ 0 ∷ 0 ∷ 20 ∷ 0 ∷ second_platform ∷ 0 ∷ second_encoding ∷ 0 ∷ 0 ∷ 0 ∷ 21 ∷ 77 ∷ 78 ∷ []
+two_subtables = stated_subtables 2
 
 pub record WorkedSubtables : Type 0 where
   pub found : subtable_of (one_subtable 3 1) 0x30001 ≡ Some (77 ∷ [])
@@ -121,6 +129,7 @@ pub record WorkedSubtables : Type 0 where
   pub offset_past_the_end : subtable_of (0 ∷ 0 ∷ 0 ∷ 1 ∷ 0 ∷ 3 ∷ 0 ∷ 1 ∷ 0 ∷ 0 ∷ 0 ∷ 99 ∷ 77 ∷ []) 0x30001 ≡ Some []
   pub symbols : symbols_of (two_subtables 3 1 3 0) ≡ true
   pub no_symbols : symbols_of (two_subtables 3 1 3 10) ≡ false
+  pub past_the_count : subtable_of (stated_subtables 1 3 1 3 10) 0x3000A ≡ None
 
 pub worked_subtables : WorkedSubtables
 worked_subtables = record {
@@ -142,4 +151,48 @@ worked_subtables = record {
   offset_past_the_end = refl;
   symbols = refl;
   no_symbols = refl;
+  past_the_count = refl;
+}
+
+-- the tables by their tags
+pub record WorkedTags : Type 0 where
+  pub head : HEAD ≡ u32_of (codes "head") 0
+  pub hhea : HHEA ≡ u32_of (codes "hhea") 0
+  pub maxp : MAXP ≡ u32_of (codes "maxp") 0
+  pub hmtx : HMTX ≡ u32_of (codes "hmtx") 0
+  pub vhea : VHEA ≡ u32_of (codes "vhea") 0
+  pub vmtx : VMTX ≡ u32_of (codes "vmtx") 0
+  pub vorg : VORG ≡ u32_of (codes "VORG") 0
+  pub os2 : OS2 ≡ u32_of (codes "OS/2") 0
+  pub cmap : CMAP ≡ u32_of (codes "cmap") 0
+  pub loca : LOCA ≡ u32_of (codes "loca") 0
+  pub glyf : GLYF ≡ u32_of (codes "glyf") 0
+  pub gsub : GSUB ≡ u32_of (codes "GSUB") 0
+  pub gpos : GPOS ≡ u32_of (codes "GPOS") 0
+  pub morx : MORX ≡ u32_of (codes "morx") 0
+  pub kerx : KERX ≡ u32_of (codes "kerx") 0
+  pub trak : TRAK ≡ u32_of (codes "trak") 0
+  pub kern : KERN ≡ u32_of (codes "kern") 0
+  pub post : POST ≡ u32_of (codes "post") 0
+
+pub worked_tags : WorkedTags
+worked_tags = record {
+  head = refl;
+  hhea = refl;
+  maxp = refl;
+  hmtx = refl;
+  vhea = refl;
+  vmtx = refl;
+  vorg = refl;
+  os2 = refl;
+  cmap = refl;
+  loca = refl;
+  glyf = refl;
+  gsub = refl;
+  gpos = refl;
+  morx = refl;
+  kerx = refl;
+  trak = refl;
+  kern = refl;
+  post = refl;
 }

@@ -10,9 +10,9 @@ use Rattle.std.specs.List.{list_any}
 use Rattle.shape_items.specs.Items.{Item, put_in, feature_bits}
 use Rattle.shape_items.specs.Clusters.{map_range, merge, least_cluster}
 use Rattle.shape_items.specs.Buffer.{Buffer}
-use Rattle.shape_items.specs.BufferClusters.{with_glyph_flags, merge_at, unsafe_to_break, merge_clusters, merge_out_clusters}
+use Rattle.shape_items.specs.BufferClusters.{with_glyph_flags, merge_at, unsafe_to_break, safe_to_insert_tatweel, merge_clusters, merge_out_clusters}
 use Rattle.shape_items.specs.PreservesFlags.{IsDefinedFlag, has_flag, some_has, has_glyph_flags, PreservesFlags}
-use Rattle.shape_items.proofs.Merging.ClusterLemmas.{grown_start, grown_end, merge-cases, unsafe_to_break-cases, merge_clusters-cases, merge_out-cases}
+use Rattle.shape_items.proofs.Merging.ClusterLemmas.{grown_start, grown_end, merge-cases, unsafe_to_break-cases, tatweel-cases, merge_clusters-cases, merge_out-cases}
 
 -- HAS_GLYPH_FLAGS is set
 pub glyph_flags_set : (b : Buffer) → has_glyph_flags (with_glyph_flags b) ≡ true
@@ -127,6 +127,10 @@ merge_at_preserves start end b = PreservesFlags-items b _ (λ flag d some. merge
 pub unsafe_to_break_preserves : (start end : ℕ) (b : Buffer) → PreservesFlags b (unsafe_to_break start end b)
 unsafe_to_break_preserves start end b =
     unsafe_to_break-cases (PreservesFlags b) start end b (λ long. PreservesFlags-set b _) (PreservesFlags-same b)
+
+pub safe_to_insert_tatweel_preserves : (start end : ℕ) (b : Buffer) → PreservesFlags b (safe_to_insert_tatweel start end b)
+safe_to_insert_tatweel_preserves start end b =
+    tatweel-cases (PreservesFlags b) start end b (λ long. PreservesFlags-set b _) (PreservesFlags-same b) (unsafe_to_break_preserves start end b)
 
 pub merge_clusters_preserves : (start end : ℕ) (b : Buffer) → PreservesFlags b (merge_clusters start end b)
 merge_clusters_preserves start end b =

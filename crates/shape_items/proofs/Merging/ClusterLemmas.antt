@@ -1,12 +1,12 @@
 -- Merging and marking, case by case: a span is long or short, a level merges or marks.
-use Rattle.std.proofs.Common.{◌≡◌, ℕ, ◌+◌, ◌-◌, ◌<◌, ◌≤◌, true, false, List, map, refl, sym, subst, arith, nat_lt, slice_range, inl, inr, ◌⊎◌}
+use Rattle.std.proofs.Common.{◌≡◌, ℕ, ◌+◌, ◌-◌, ◌<◌, ◌≤◌, ◌==◌, true, false, List, map, refl, sym, subst, arith, nat_lt, bit_and, slice_range, inl, inr, ◌⊎◌}
 use Rattle.std.proofs.lemmas.Bool.{cases_Bool}
 use Rattle.std.proofs.lemmas.Bool.Decides.{nat_tests}
 use Rattle.std.proofs.lemmas.List.{drop-drop}
 use borrow.Rule.Slice.PartMut.{put_mid}
 use Rattle.shape_items.specs.Buffer.{Buffer}
-use Rattle.shape_items.specs.BufferClusters.{with_glyph_flags, merge_at, merge_clusters, merge_out_clusters, unsafe_to_break}
-use Rattle.shape_items.specs.Clusters.{map_range, put_range, merge, mark_break, least_cluster, growth_left, growth_right}
+use Rattle.shape_items.specs.BufferClusters.{with_glyph_flags, merge_at, merge_clusters, merge_out_clusters, unsafe_to_break, tatweel_marked, safe_to_insert_tatweel}
+use Rattle.shape_items.specs.Clusters.{map_range, put_range, merge, mark_break, mark_tatweel, least_cluster, growth_left, growth_right}
 use Rattle.shape_items.specs.ClusterOrder.{IsMonotoneLevel}
 use Rattle.shape_items.specs.Items.{Item}
 use Rattle.shape_common.specs.declared.text_types.BufferClusterLevel.{BufferClusterLevel}
@@ -59,6 +59,26 @@ pub unsafe_to_break-cases : (P : Buffer → Type 0) (start end : ℕ) (b : Buffe
 unsafe_to_break-cases P start end b long short = elim (cases_Bool (nat_lt (start + 1) end)) [
   | inl more ↦ rw more (long (grind (arith, nat_tests)))
   | inr few ↦ rw few short
+]
+
+-- the span marked safe to insert tatweel
+abbrev pub tatweel_span : ℕ → ℕ → Buffer → Buffer
+tatweel_span start end b =
+    record (with_glyph_flags b) { items = map_range (mark_tatweel (least_cluster (slice_range b.items start end))) start end b.items }
+
+tatweel_marked-cases : (P : Buffer → Type 0) (start end : ℕ) (b : Buffer) → (start + 1 < end → P (tatweel_span start end b)) → P b
+    → P (tatweel_marked start end b)
+tatweel_marked-cases P start end b long short = elim (cases_Bool (nat_lt (start + 1) end)) [
+  | inl more ↦ rw more (long (grind (arith, nat_tests)))
+  | inr few ↦ rw few short
+]
+
+-- it is asked for, or the span is marked unsafe to break
+pub tatweel-cases : (P : Buffer → Type 0) (start end : ℕ) (b : Buffer) → (start + 1 < end → P (tatweel_span start end b)) → P b
+    → P (unsafe_to_break start end b) → P (safe_to_insert_tatweel start end b)
+tatweel-cases P start end b long short unsafe = elim (cases_Bool (bit_and b.flags.0 128 == 128)) [
+  | inl asked ↦ rw asked (tatweel_marked-cases P start end b long short)
+  | inr unasked ↦ rw unasked unsafe
 ]
 
 pub merge_clusters-cases : (P : Buffer → Type 0) (start end : ℕ) (b : Buffer) → (IsMonotoneLevel b.cluster_level → P (merge_at start end b))

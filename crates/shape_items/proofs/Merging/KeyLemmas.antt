@@ -4,10 +4,10 @@ use Rattle.std.proofs.Common.{◌≡◌, ℕ, ◌≤◌, Bool, true, false, if�
 use Rattle.std.proofs.lemmas.Nat.{and_assoc, and_or_apart}
 use Rattle.std.proofs.lemmas.List.{length-map, map-append, take-append-drop}
 use Rattle.std.proofs.lemmas.List.Folds.{drop_split}
-use Rattle.shape_items.proofs.Merging.ClusterLemmas.{grown_start, grown_end, merge-cases, unsafe_to_break-cases, merge_clusters-cases, merge_out-cases}
+use Rattle.shape_items.proofs.Merging.ClusterLemmas.{grown_start, grown_end, merge-cases, unsafe_to_break-cases, tatweel-cases, merge_clusters-cases, merge_out-cases}
 use Rattle.shape_items.specs.Buffer.{Buffer}
-use Rattle.shape_items.specs.BufferClusters.{merge_clusters, merge_out_clusters, unsafe_to_break}
-use Rattle.shape_items.specs.Clusters.{map_range, merge, mark_break, least_cluster}
+use Rattle.shape_items.specs.BufferClusters.{merge_clusters, merge_out_clusters, unsafe_to_break, safe_to_insert_tatweel}
+use Rattle.shape_items.specs.Clusters.{map_range, merge, mark_break, mark_tatweel, least_cluster}
 use Rattle.shape_items.specs.Items.{Item, ccc_of_item, put_in, feature_bits}
 use Rattle.canonical_form.specs.Order.{falls, sink, in_order}
 
@@ -63,6 +63,22 @@ module _ {B : Type 0} (key : Item → B) where
         unsafe_to_break-cases (λ c. map key c.items ≡ map key b.items) start end b
         (λ long. keys-map_range (mark_break least) (key-mark_break least) start end b.items (omega arith)) refl
 
+    module _ (by_tatweel : (item : Item) → key (record item { mask = bit_or item.mask 4 }) ≡ key item) where
+      key-mark_tatweel : (least : ℕ) (item : Item) → key (mark_tatweel least item) ≡ key item
+      key-mark_tatweel least item =
+          elim (item.cluster == least) as (λ t. key (if t then item else record item { mask = bit_or item.mask 4 }) ≡ key item) [
+            | true ↦ refl
+            | false ↦ by_tatweel item
+          ]
+
+      pub keys-safe_to_insert_tatweel : (start end : ℕ) (b : Buffer)
+          → map key (safe_to_insert_tatweel start end b).items ≡ map key b.items
+      keys-safe_to_insert_tatweel start end b =
+          let least = least_cluster (slice_range b.items start end) in
+          tatweel-cases (λ c. map key c.items ≡ map key b.items) start end b
+          (λ long. keys-map_range (mark_tatweel least) (key-mark_tatweel least) start end b.items (omega arith)) refl
+          (keys-unsafe_to_break start end b)
+
 -- a part of items that depends on neither their clusters nor the defined flags of their masks
 pub record IsKey {B : Type 0} (key : Item → B) : Type 0 where
   pub by_cluster : (item : Item) (cluster : ℕ) → key (record item { cluster = cluster; mask = feature_bits item.mask }) ≡ key item
@@ -116,6 +132,10 @@ length-merge start end xs = same_length _ xs (keys-merge nothing IsKey-nothing s
 pub length-unsafe_to_break : (start end : ℕ) (b : Buffer) → length (unsafe_to_break start end b).items ≡ length b.items
 length-unsafe_to_break start end b = same_length _ b.items (keys-unsafe_to_break nothing (λ item. refl) start end b)
 
+pub length-safe_to_insert_tatweel : (start end : ℕ) (b : Buffer) → length (safe_to_insert_tatweel start end b).items ≡ length b.items
+length-safe_to_insert_tatweel start end b =
+    same_length _ b.items (keys-safe_to_insert_tatweel nothing (λ item. refl) (λ item. refl) start end b)
+
 pub length-merge_clusters : (start end : ℕ) (b : Buffer) → length (merge_clusters start end b).items ≡ length b.items
 length-merge_clusters start end b = same_length _ b.items (keys-merge_clusters nothing IsKey-nothing start end b)
 
@@ -140,6 +160,11 @@ without_items b = record b { items = []; scratch_flags = record { 0 = 0 } }
 
 pub without_items-unsafe_to_break : (start end : ℕ) (b : Buffer) → without_items (unsafe_to_break start end b) ≡ without_items b
 without_items-unsafe_to_break start end b = unsafe_to_break-cases (λ c. without_items c ≡ without_items b) start end b (λ long. refl) refl
+
+pub without_items-safe_to_insert_tatweel : (start end : ℕ) (b : Buffer)
+    → without_items (safe_to_insert_tatweel start end b) ≡ without_items b
+without_items-safe_to_insert_tatweel start end b =
+    tatweel-cases (λ c. without_items c ≡ without_items b) start end b (λ long. refl) refl (without_items-unsafe_to_break start end b)
 
 -- merging changes items and scratch flags alone
 pub without_items-merge_clusters : (start end : ℕ) (b : Buffer) → without_items (merge_clusters start end b) ≡ without_items b

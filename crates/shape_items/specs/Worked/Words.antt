@@ -54,6 +54,17 @@ pub record SecondWordWorked : Type 0 where
   pub mark_in_syllable : second_of (record fresh { glyph_class = record { 0 = MARK }; syllable = 5 }) ≡ 5501853106184
   pub substituted : second_of (record fresh { substituted = true }) ≡ 4294967312
   pub ligated : second_of (record fresh { ligated = true }) ≡ 4294967328
+  pub multiplied : second_of (record fresh { multiplied = true }) ≡ 4294967360
+  pub mark_attachment_class : second_of (record fresh { mark_attachment_class = 1 }) ≡ 4294967552
+  pub greatest_attachment_class : second_of (record fresh { mark_attachment_class = 255 }) ≡ 4295032576
+  -- a mark of class 3 that lookups made by all three ways: 8, 16, 32, 64, and 3 times 256
+  pub glyph_properties : second_of (record fresh {
+    glyph_class = record { 0 = MARK };
+    substituted = true;
+    ligated = true;
+    multiplied = true;
+    mark_attachment_class = 3;
+  }) ≡ 4294968184
   pub ligature_id : second_of (record fresh { ligature_id = 1 }) ≡ 4295032832
   pub ligature_component : second_of (record fresh { ligature_component = 1 }) ≡ 4311744512
   pub number_of_components : second_of (record fresh { number_of_components = 0 }) ≡ 0
@@ -67,6 +78,10 @@ second_word_worked = record {
   mark_in_syllable = refl;
   substituted = refl;
   ligated = refl;
+  multiplied = refl;
+  mark_attachment_class = refl;
+  greatest_attachment_class = refl;
+  glyph_properties = refl;
   ligature_id = refl;
   ligature_component = refl;
   number_of_components = refl;

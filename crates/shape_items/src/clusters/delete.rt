@@ -5,6 +5,11 @@
 //!
 //! A kept run of one cluster may take smaller clusters again and again. So the kept items stand as runs
 //! whose writing is put off, and each item is written once.
+//!
+//! The test sees each item once, as it stands when it is reached, after what earlier picks
+//! changed in its cluster and flags. A cluster is handed on together with defined bits but
+//! without the scratch flag, so of flags the weaker half is promised: one that no item had comes
+//! only with the scratch flag.
 ghost use Rattle.std.specs.Prelude.{◌≡◌, ◌+◌, ◌<◌, ◌≤◌, List, [], ◌∷◌, ◌++◌, length, take, drop};
 ghost use Rattle.std.specs.Prelude.{Bool};
 ghost use Rattle.std.specs.Fn.{FnReturnsAt};

@@ -1,4 +1,7 @@
 //! What substitution notes of a glyph: its class, and whether and of what a lookup made it.
+//!
+//! The setter of the class drops bits that `GlyphPropsFlags` doesn't define, so it has no
+//! condition, whatever the storage.
 ghost use Rattle.std.specs.Prelude.{◌≡◌};
 ghost use Rattle.std.specs.Int.RustNames.{bit_and};
 ghost use Rattle.shape_items.specs.Items.{is_ignorable_item};
@@ -65,6 +68,43 @@ impl hb_glyph_info_t {
             ≡ record self.old { properties = record self.old.properties { ligated = ligated } } }
     {
         self.properties.set_ligated(ligated);
+    }
+
+    /// Reads the multiplied bit, of the glyphs that a lookup put in for one glyph. That of a new item is unset.
+    pub fn _hb_glyph_info_get_multiplied(&self) -> bool
+        ensures { result ≡ self.now.properties.multiplied }
+    {
+        self.properties.multiplied()
+    }
+
+    /// Sets or unsets the multiplied bit, and nothing else.
+    pub fn _hb_glyph_info_set_multiplied(&mut self, multiplied: bool)
+        ensures { self.new
+            ≡ record self.old {
+              properties = record self.old.properties { multiplied = multiplied };
+            } }
+    {
+        self.properties.set_multiplied(multiplied);
+    }
+
+    /// Reads the mark attachment class of the glyph (OpenType, `GDEF`, MarkAttachClassDef), by which lookups
+    /// choose among marks. That of a new item is 0, for none.
+    pub fn _hb_glyph_info_get_mark_attachment_class(&self) -> u8
+        ensures { result ≡ self.now.properties.mark_attachment_class }
+    {
+        self.properties.mark_attachment_class()
+    }
+
+    /// Sets the mark attachment class of the glyph, and nothing else.
+    pub fn _hb_glyph_info_set_mark_attachment_class(&mut self, mark_attachment_class: u8)
+        ensures { self.new
+            ≡ record self.old {
+              properties =
+                  record self.old.properties { mark_attachment_class = mark_attachment_class };
+            } }
+    {
+        self.properties
+            .set_mark_attachment_class(mark_attachment_class);
     }
 
     /// Reads the number of the ligature that the glyph is or belongs to. That of a new item is 0, for none.

@@ -3,6 +3,9 @@
 //!
 //! A variation sequence is merged before it becomes one item, and a shaper that reorders may merge what a
 //! later run takes in: both concern the whole list, so round one is over before round two begins.
+//!
+//! Both ways have one definition, what the two rounds make. Which is taken is decided before the
+//! first write, since items that stay keep the glyph index that they had.
 ghost use Rattle.std.specs.Prelude.{◌≡◌, ◌≤◌, ◌<◌, length, OnOk, Err, if◌then◌else◌, None, false};
 ghost use Rattle.shape_items.specs.Buffer.{cleared, limit_of};
 ghost use Rattle.shape_normalize.specs.OneWalk.{HasNoSelectorSequence};

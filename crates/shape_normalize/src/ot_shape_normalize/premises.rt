@@ -4,6 +4,9 @@
 //! may miss: a face lacks a glyph, or marks stand in too long a row. This is the test of them. Full of the
 //! text is walked from its end to its beginning, the order in which a chain gives its parts; so all that
 //! is kept is how many marks stand in a row, and no memory is taken.
+//!
+//! The premises range over all numbers, as Unicode's laws do. A hook is called on characters; past
+//! them "does not split" meets every law.
 ghost use Rattle.std.specs.Prelude.{◌≡◌, ◌↔◌, ◌&&◌, IsTrue, not, is_some};
 ghost use Rattle.std.specs.List.{list_all};
 ghost use Rattle.canonical_form.specs.Chain.{full};

@@ -3,6 +3,9 @@
 //!
 //! Whether the shortest or the longest expansion is taken depends on the mode, and on whether the item stands
 //! in a sequence with marks. A sequence with marks that holds a variation selector isn't expanded.
+//!
+//! `Length` counts what is emitted: the test is made when the items that a character becomes are
+//! known, and no estimate refuses earlier.
 ghost use Rattle.std.specs.Prelude.{◌≡◌, ◌<◌, ◌≤◌, ◌++◌, length, fold, vec_len, OnOk, IfOk};
 ghost use Rattle.std.specs.Prelude.{Err};
 ghost use Rattle.std.specs.List.{flat_map};

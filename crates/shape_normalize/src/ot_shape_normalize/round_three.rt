@@ -8,6 +8,10 @@
 //! A walk puts each composed character in its starter's place, and notes the span that ends with the mark. In most
 //! texts nothing composes, and nothing is written. Otherwise the clusters of the spans are merged while all items still
 //! stand in the list, and then the marks are taken out of it in place: no list of items is made.
+//!
+//! Spans are merged one by one as long as each begins in its least cluster, as in a text whose
+//! clusters rise: such a merge grows to the right alone. From the first other span on they are
+//! merged at once.
 ghost use Rattle.std.specs.Prelude.{◌≡◌, ◌<◌, ◌≤◌, length, set, drop, slice_index_or};
 ghost use Rattle.std.specs.Prelude.{IfOk, IsOkUnless, OnOk};
 ghost use Rattle.canonical_form.specs.Recompose.{compose_with_glyph};

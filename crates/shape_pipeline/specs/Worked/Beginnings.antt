@@ -29,13 +29,14 @@ use Rattle.shape_pipeline.specs.Order.{RunPreservesClusters, ClustersComeInOrder
 use Rattle.shape_pipeline.specs.Planned.{planned_for}
 use Rattle.shape_pipeline.specs.Shaped.{entered}
 
--- scratch flags that an earlier use has left go, and a limit comes
+-- scratch flags and the last ligature id that an earlier use has left go, and a limit comes
 pub record WorkedEntries : Type 0 where
   pub scratch_flags : (entered (record new_buffer { scratch_flags = record { 0 = 63 } })).scratch_flags ≡ record { 0 = 0 }
   pub limit : (entered new_buffer).length_limit ≡ Some 16384
+  pub serial : (entered (record new_buffer { serial = 7 })).serial ≡ 0
 
 worked_entries : WorkedEntries
-worked_entries = record { scratch_flags = refl; limit = refl }
+worked_entries = record { scratch_flags = refl; limit = refl; serial = refl }
 
 -- a text of script 100, in a language of so many letters
 abbrev pub text_in : Option (List ℕ) → Buffer
@@ -47,15 +48,17 @@ requests_in language =
     (planned_for plain_unicode (record (planning_with constants_of) { layouts = λ _. telling_layout })
     no_tables 5 [] (text_in language)).ot_map
 
--- the engine is told the language of the text
+-- the engine is asked with the language of the text, and its builder has it
 pub record WorkedLanguages : Type 0 where
   pub gsub : (requests_in german).gsub_script ≡ Some (tag 102)
   pub gpos : (requests_in german).gpos_script ≡ Some (tag 1102)
   pub without_language : (requests_in None).gsub_script ≡ Some (tag 100)
+  pub language : (requests_in german).language ≡ german
+  pub no_language : (requests_in None).language ≡ None
 
 worked_languages : WorkedLanguages
 unfolding begun_planner requested collected_planner facts_of decided compiled_plan planned
-worked_languages = record { gsub = refl; gpos = refl; without_language = refl }
+worked_languages = record { gsub = refl; gpos = refl; without_language = refl; language = refl; no_language = refl }
 
 -- a glyph stands with its middle on a vertical line: half an odd advance is taken towards 0
 abbrev pub OriginIsHalf : ℤ → ℤ → Type 0

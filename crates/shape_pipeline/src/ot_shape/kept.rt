@@ -1,6 +1,6 @@
 //! The settings that clearing keeps.
 //!
-//! A hook or a lookup may have changed them before a later one was refused. What is handed back then is the
+//! A hook or a lookup may have changed them before a later one was refused. What is returned then is the
 //! caller's buffer cleared, so these settings are put back as the caller had them.
 ghost use Rattle.std.specs.Prelude.{◌≡◌};
 ghost use Rattle.shape_items.specs.Buffer.{Buffer, new_buffer};

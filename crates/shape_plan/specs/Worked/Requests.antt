@@ -19,7 +19,7 @@ stop = pause None
 
 -- what is asked for without hooks, by direction and the user's features
 abbrev pub plain : Direction → List Feature → Builder
-plain direction features = requested direction None None None features (new_builder (λ _. None))
+plain direction features = requested direction None None None features (new_builder None (λ _. None))
 
 -- rvrn, the pause, ltra, ltrm; frac, numr, dnom, rand; trak, Harf, HARF, Buzz; BUZZ, abvm, blwm, ccmp; locl, mark,
 -- mkmk, rlig; calt, clig, curs, dist; kern, liga, rclt
@@ -105,7 +105,7 @@ telling = Some (λ builder direction script. ask (length builder.requests) (if b
 
 -- what is asked for right to left with hooks
 abbrev pub hooked_texts : Collector → Collector → List Feature → Builder
-hooked_texts collects overrides features = requested RightToLeft None collects overrides features (new_builder (λ _. None))
+hooked_texts collects overrides features = requested RightToLeft None collects overrides features (new_builder None (λ _. None))
 
 abbrev pub script_of : ℕ → Option Script
 script_of number = Some (record { 0 = tag number })
@@ -126,7 +126,7 @@ telling_text = Some (λ builder direction script. ask (number_of_direction direc
 
 -- what is asked for of script 100 with hooks
 abbrev pub asked_by : Direction → Collector → Collector → Builder
-asked_by direction collects overrides = requested direction (script_of 100) collects overrides [] (new_builder (λ _. None))
+asked_by direction collects overrides = requested direction (script_of 100) collects overrides [] (new_builder None (λ _. None))
 
 pub record TextsOfHooks : Type 0 where
   pub collects : slice_get (asked_by RightToLeft telling_text None).requests 11 ≡ Some (ask 2 100 7)
@@ -146,7 +146,7 @@ pub record RequestsOfHooks : Type 0 where
   pub still_simple : (hooked_texts None telling []).is_simple ≡ true
   pub after_users : slice_get (hooked_texts None telling (kern_off ∷ [])).requests 28 ≡ Some (ask 28 0 7)
   pub both : length (hooked_texts telling telling []).requests ≡ 29
-  pub begun_anew : (requested RightToLeft None None None [] (record (new_builder (λ _. None)) { is_simple = false })).is_simple ≡ true
+  pub begun_anew : (requested RightToLeft None None None [] (record (new_builder None (λ _. None)) { is_simple = false })).is_simple ≡ true
 
 pub requests_of_hooks : RequestsOfHooks
 unfolding requested

@@ -39,10 +39,19 @@ pub record ScriptsOfTexts : Type 0 where
   pub gpos : (begun_in german).gpos_script ≡ Some (tag 1102)
   pub gsub_without_language : (begun_in None).gsub_script ≡ Some (tag 100)
   pub gpos_without_language : (begun_in None).gpos_script ≡ Some (tag 1100)
+  pub language : (begun_in german).language ≡ german
+  pub no_language : (begun_in None).language ≡ None
 
 pub scripts_of_texts : ScriptsOfTexts
 unfolding begun_planner
-scripts_of_texts = record { gsub = refl; gpos = refl; gsub_without_language = refl; gpos_without_language = refl }
+scripts_of_texts = record {
+  gsub = refl;
+  gpos = refl;
+  gsub_without_language = refl;
+  gpos_without_language = refl;
+  language = refl;
+  no_language = refl;
+}
 
 -- masks and an index in GPOS for one tag alone: 8 for the value 1, 24 for all values
 abbrev pub one_tag : ℕ → MapMeaning

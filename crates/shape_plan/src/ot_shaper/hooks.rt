@@ -3,6 +3,11 @@
 //! A hook is a trait of its own, implemented for a type that the shaper names: the shaper itself as a rule,
 //! or [`no_hook`](crate::ot_shaper::no_hook) if it gives none. `S` is the shaper, `D` what it keeps in
 //! a plan.
+//!
+//! A hook has no default body: a body in a trait is proved for every implementation, so it can't
+//! meet the meaning that each one gives. What `reorder_marks` must do is a list of steps over a
+//! run in order: exchanges of its items, merges within it, other nonzero ccc. That it permutes
+//! the run is a law.
 ghost use Rattle.std.specs.Prelude.{◌≡◌, ◌<◌, ◌≤◌, ℕ, Bool, Option, List, length, MatchResult};
 ghost use Rattle.std.specs.Prelude.{OnOk, IfErr};
 ghost use Rattle.canonical_form.specs.Chain.{FallsAlong};

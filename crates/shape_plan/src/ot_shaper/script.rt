@@ -1,4 +1,6 @@
 //! What the author of a script shaper writes.
+//!
+//! Associated types have no defaults, so an author names every hook, given or not: a line each.
 ghost use Rattle.std.specs.Prelude.{◌≡◌, ℕ, ℤ, Bool, true, Option};
 ghost use Rattle.shape_plan.specs.Shaper.{is_preference, is_zero_width_type};
 ghost use Rattle.shape_common.specs.declared.text_types.hb_tag_t.{hb_tag_t as AnyTag};

@@ -1,8 +1,10 @@
-//! What a plan decides of what its planner knows and of the answers of face and engine.
+//! What a plan decides by what its planner, the face and the engine know.
 //!
 //! First all that the decisions depend on is asked, once; then each decision is a formula over it. They build
 //! on one another in this order: who positions (`GPOS` or `kerx`), who kerns if that leaves kerning out,
 //! and, since whoever positions or kerns may place marks, what is left to do for marks.
+//!
+//! Questions to the face and the engine have no effect, so all are asked of every face.
 ghost use Rattle.std.specs.Prelude.{◌≡◌};
 ghost use Rattle.shape_plan.specs.Decisions.{
   is_on as is_on_of,
@@ -61,7 +63,7 @@ fn disables_gpos<S>(
 /// All that the decisions of a planner depend on, with the compiled requests.
 #[tactic(auto, unfolding(crate::specs::Planner::facts_of))]
 pub(crate) fn facts<T: ShapingTypes>(
-    planner: &hb_ot_shape_planner_t<'_, T::Face, T::Shaper>,
+    planner: &hb_ot_shape_planner_t<'_, '_, T::Face, T::Shaper>,
     map: &MapOf<T>,
 ) -> PlanFacts
     ensures { result ≡ facts_of ⟦<T::Shaper as Plans<T::Unicode, T::Face, T::Engine>>⟧.planning

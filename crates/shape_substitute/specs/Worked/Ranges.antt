@@ -100,6 +100,8 @@ glyph category ignorable substituted =
         glyph_class = record { 0 = 12 };
         substituted = substituted;
         ligated = true;
+        multiplied = true;
+        mark_attachment_class = 2;
         ligature_id = 3;
         syllable = 4;
       };
@@ -117,6 +119,8 @@ pub record ClassesOfGlyphs : Type 0 where
   pub asked_first : (with_class (glyph NonspacingMark true true)).properties.glyph_class.0 ≡ 8
   pub clears_substituted : (with_class (glyph NonspacingMark true true)).properties.substituted ≡ false
   pub clears_ligated : (with_class (glyph OtherLetter false true)).properties.ligated ≡ false
+  pub clears_multiplied : (with_class (glyph OtherLetter false true)).properties.multiplied ≡ false
+  pub clears_attachment : (with_class (glyph NonspacingMark false true)).properties.mark_attachment_class ≡ 0
   pub clears_no_more : record (with_class (glyph OtherLetter true true)) { properties = (glyph OtherLetter true true).properties }
       ≡ glyph OtherLetter true true
   pub preserves_ligature : (with_class (glyph OtherLetter true true)).properties.ligature_id ≡ 3
@@ -144,6 +148,8 @@ classes_of_glyphs = record {
   asked_first = refl;
   clears_substituted = refl;
   clears_ligated = refl;
+  clears_multiplied = refl;
+  clears_attachment = refl;
   clears_no_more = refl;
   preserves_ligature = refl;
   glyph_of_index = refl;

@@ -40,6 +40,13 @@ pub record WorkedFeatures : Type 0 where
   pub digit_of_the_tag : feature_of (codes "ss01") ≡ of 0x73733031 1 0 4294967295
   -- double quotes (34)
   pub double_quotes : feature_of (34 ∷ 107 ∷ 101 ∷ 114 ∷ 110 ∷ 34 ∷ 48 ∷ []) ≡ kern 0 0 4294967295
+  pub carriage_return : feature_of (107 ∷ 101 ∷ 114 ∷ 110 ∷ 61 ∷ 13 ∷ 50 ∷ []) ≡ kern 2 0 4294967295
+  pub tab_in_a_tag : feature_of (97 ∷ 98 ∷ 9 ∷ 99 ∷ []) ≡ of 0x61620963 1 0 4294967295
+  pub plus_of_a_number : feature_of (codes "kern=+2") ≡ kern 2 0 4294967295
+  pub space_before_the_sign : feature_of (codes " -kern") ≡ kern 0 0 4294967295
+  pub word_after_equals : feature_of (codes "kern=off") ≡ kern 0 0 4294967295
+  pub space_before_quotes : feature_of (codes " 'kern'") ≡ kern 1 0 4294967295
+  pub quote_in_a_tag : feature_of (codes "ke'n") ≡ of 0x6B65276E 1 0 4294967295
 
 pub worked_features : WorkedFeatures
 worked_features = record {
@@ -69,6 +76,13 @@ worked_features = record {
   last_character = refl;
   digit_of_the_tag = refl;
   double_quotes = refl;
+  carriage_return = refl;
+  tab_in_a_tag = refl;
+  plus_of_a_number = refl;
+  space_before_the_sign = refl;
+  word_after_equals = refl;
+  space_before_quotes = refl;
+  quote_in_a_tag = refl;
 }
 
 pub record WorkedRefusals : Type 0 where
@@ -87,6 +101,9 @@ pub record WorkedRefusals : Type 0 where
   pub other_quote : feature_of (34 ∷ 107 ∷ 101 ∷ 114 ∷ 110 ∷ 39 ∷ []) ≡ None
   -- a byte 0 ends a tag, and nothing takes it
   pub byte_0 : feature_of (107 ∷ 101 ∷ 0 ∷ []) ≡ None
+  pub space_in_quotes : feature_of (39 ∷ 97 ∷ 98 ∷ 32 ∷ 32 ∷ 39 ∷ []) ≡ None
+  pub space_after_minus : feature_of (codes "kern=- 1") ≡ None
+  pub past_64_bits : feature_of (codes "kern=18446744073709551617") ≡ None
 
 pub worked_refusals : WorkedRefusals
 worked_refusals = record {
@@ -103,4 +120,7 @@ worked_refusals = record {
   too_great = refl;
   other_quote = refl;
   byte_0 = refl;
+  space_in_quotes = refl;
+  space_after_minus = refl;
+  past_64_bits = refl;
 }

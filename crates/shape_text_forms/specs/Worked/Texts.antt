@@ -34,6 +34,7 @@ pub record WorkedNames : Type 0 where
   pub simplified_han : script_of_text (codes "HANS") ≡ script 0x48616E69
   pub unknown : script_of_text (codes "1234") ≡ script 0x5A7A7A7A
   pub no_script : script_of_text (codes "") ≡ None
+  pub capital_left : direction_of_text (codes "LTR") ≡ LeftToRight
 
 pub worked_names : WorkedNames
 worked_names = record {
@@ -57,6 +58,7 @@ worked_names = record {
   simplified_han = refl;
   unknown = refl;
   no_script = refl;
+  capital_left = refl;
 }
 
 -- glyph 2 has the name `A` and a box; no other glyph has either
@@ -100,6 +102,12 @@ pub record WorkedTexts : Type 0 where
   pub no_advances : text_of 32 ≡ codes "[A=0|gid30=1@550,7]"
   pub flags_and_boxes : text_of 26 ≡ codes "[A=0<10,700,580,-700>|gid30=1#1<0,0,0,0>]"
   pub glyphs_alone : text_of 7 ≡ codes "[2|30]"
+  pub moved_across : serialized (form 0) (glyph 2 0 0 ∷ []) (place (pos 600) (pos 0) (negsuc 49) (pos 0) ∷ [])
+      ≡ codes "[A=0@-50,0+600]"
+  pub tatweel : serialized (form 16) (glyph 2 0 4 ∷ []) (place (pos 600) (pos 0) (pos 0) (pos 0) ∷ []) ≡ codes "[A=0+600#4]"
+  pub pen_down : serialized (form 32) (glyph 2 0 0 ∷ glyph 2 1 0 ∷ [])
+      (place (pos 0) (negsuc 999) (pos 0) (pos 0) ∷ place (pos 0) (pos 0) (pos 0) (pos 7) ∷ [])
+      ≡ codes "[A=0|A=1@0,-993]"
 
 pub worked_texts : WorkedTexts
 unfolding digits ◌+ʷ◌ int_wrap
@@ -114,4 +122,7 @@ worked_texts = record {
   no_advances = refl;
   flags_and_boxes = refl;
   glyphs_alone = refl;
+  moved_across = refl;
+  tatweel = refl;
+  pen_down = refl;
 }

@@ -1,4 +1,7 @@
 //! Letters with a point as one character (the presentation forms that are left out of composition).
+//!
+//! The pairs of shin hold in both orders of points: shaping puts the dot of a shin before its
+//! dagesh, whose ccc is higher.
 ghost use Rattle.std.specs.Prelude.{◌≡◌};
 ghost use Rattle.shape_users.specs.Forms.{form_of};
 

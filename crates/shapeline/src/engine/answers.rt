@@ -1,6 +1,6 @@
 //! What becomes of a text on its way through a run: prepared, normalised, shaped.
 //!
-//! A whole run hands out its glyphs alone. So the program runs the steps up to normalising on a buffer of
+//! A whole run returns its glyphs alone. So the program runs the steps up to normalising on a buffer of
 //! its own, and reads the lists that they leave.
 ghost use Rattle.std.specs.Prelude.{◌≡◌, ◌≢◌, IfOk};
 ghost use Rattle.shape_buffer.specs.Guess.{guessed};

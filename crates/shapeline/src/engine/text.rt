@@ -1,4 +1,7 @@
 //! The line `text C ..`: shapes the characters, and prints what became of them.
+//!
+//! The second buffer is planned for anew, so that the plan fits by its own words and a text
+//! without a script stays without one.
 ghost use Rattle.std.specs.Prelude.{◌≡◌, ◌≢◌, [], IfOk, IsOkUnless};
 ghost use Rattle.std.specs.Option.{SomeIff};
 ghost use Rattle.shape_items.specs.Buffer.{new_buffer};

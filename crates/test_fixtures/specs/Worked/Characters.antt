@@ -52,6 +52,8 @@ all_set c = record {
     glyph_class = record { 0 = 8 };
     substituted = true;
     ligated = true;
+    multiplied = true;
+    mark_attachment_class = 2;
     ligature_id = 7;
     ligature_component = 2;
     number_of_components = 3;
@@ -83,6 +85,8 @@ seen c category ccc ignorable hidden continuation zwj zwnj = record {
     glyph_class = record { 0 = 8 };
     substituted = true;
     ligated = true;
+    multiplied = true;
+    mark_attachment_class = 2;
     ligature_id = 7;
     ligature_component = 2;
     number_of_components = 3;

@@ -44,18 +44,19 @@ pub record FirstBytes : Type 0 where
 abbrev pub tag : ℕ → hb_tag_t
 tag number = record { 0 = number }
 
--- script 1 for GSUB, script 2 for GPOS
+-- script 1 for GSUB, script 2 for GPOS, for a text in German
 abbrev pub two_scripts : Builder
-two_scripts = new_builder (λ table. elim table [ GSUB ↦ Some (tag 1) | GPOS ↦ Some (tag 2) ])
+two_scripts = new_builder (Some (0x64 ∷ 0x65 ∷ [])) (λ table. elim table [ GSUB ↦ Some (tag 1) | GPOS ↦ Some (tag 2) ])
 
 pub record Requests : Type 0 where
   pub of_gsub : chosen_script two_scripts GSUB ≡ Some (tag 1)
   pub of_gpos : chosen_script two_scripts GPOS ≡ Some (tag 2)
+  pub language : two_scripts.language ≡ Some (0x64 ∷ 0x65 ∷ [])
   pub in_order : with_request (with_request two_scripts (feature_off (tag 7))) (pause (Some 3))
       ≡ record two_scripts { requests = Feature (tag 7) 1 0 ∷ pause (Some 3) ∷ [] }
 
 pub requests : Requests
-requests = record { of_gsub = refl; of_gpos = refl; in_order = refl }
+requests = record { of_gsub = refl; of_gpos = refl; language = refl; in_order = refl }
 
 -- ---- ranges and spans
 
@@ -103,15 +104,15 @@ runs_of_clusters = record { lengths = refl }
 
 -- ---- words
 
--- of the first field: 29 is the last category; of the second word: bits 6 to 15 have no use
+-- of the first field: 29 is the last category; of the second word: bit 7 has no use
 pub record WordsOfItems : Type 0 where
   pub last_category : AreFirstFields (29 ∷ 255 ∷ 255 ∷ 1 ∷ 1 ∷ 1 ∷ 1 ∷ 1 ∷ 1 ∷ 0 ∷ [])
   pub no_category : AreFirstFields (30 ∷ 0 ∷ 0 ∷ 0 ∷ 0 ∷ 0 ∷ 0 ∷ 0 ∷ 0 ∷ 0 ∷ []) → ⊥
   pub bits_without_use : AreFirstFields (0 ∷ 0 ∷ 0 ∷ 0 ∷ 0 ∷ 0 ∷ 0 ∷ 0 ∷ 0 ∷ 1 ∷ []) → ⊥
   pub of_a_new_item : AreWords 0 0 1
-  pub greatest : AreWords 1073741597 4294901823 4294967295
+  pub greatest : AreWords 1073741597 4294967167 4294967295
   pub unused_in_the_first : AreWords 1073741824 0 1 → ⊥
-  pub unused_in_the_second : AreWords 0 64 1 → ⊥
+  pub unused_in_the_second : AreWords 0 128 1 → ⊥
   pub too_great : AreWords 0 0 4294967296 → ⊥
 
 -- ---- flags that are seen

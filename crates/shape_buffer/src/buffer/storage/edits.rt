@@ -16,7 +16,8 @@ use crate::buffer::storage::hb_buffer_t;
 use crate::buffer::text::{append_text, number_clusters};
 use shape_common::GlyphPosition;
 use shape_items::hb_glyph_info_t;
-use std::alloc::AllocError;
+use std::alloc::{AllocError, Global};
+use std::mem;
 
 impl hb_buffer_t {
     /// Reverses the order of the items, and that of their positions with it.
@@ -119,6 +120,40 @@ impl hb_buffer_t {
         make_zeros(self.has_positions, self.positions.as_mut_slice());
         self.has_positions = false;
         self.infos = infos;
+        Ok(())
+    }
+
+    /// Hands the items and their positions over to a walk that edits lists of its own, and leaves the buffer
+    /// without any. All settings stay. `put_lists` gives them back.
+    pub fn take_lists(&mut self, alloc: Global) -> (Vec<hb_glyph_info_t>, Vec<GlyphPosition>)
+        ensures infos { result.0.items ≡ self.old.items }
+        ensures positions { result.1.items ≡ self.old.positions }
+        ensures as_many { length result.1.items ≡ length result.0.items }
+        ensures left { self.new ≡ record self.old { items = []; positions = [] } }
+    {
+        let infos = mem::replace(&mut self.infos, Vec::new(alloc));
+        let positions = mem::replace(&mut self.positions, Vec::new(alloc));
+        self.has_positions = false;
+        (infos, positions)
+    }
+
+    /// Makes these the items, at these positions, as many as items. Refuses with `Memory` alone, if a growth
+    /// was refused; a refused call drops what it was given and changes nothing.
+    pub fn put_lists(
+        &mut self,
+        infos: Vec<hb_glyph_info_t>,
+        positions: Vec<GlyphPosition>,
+    ) -> Result<(), ShapeError>
+        requires { vec_len positions ≡ vec_len infos }
+        ensures ok { OnOk result (self.new
+            ≡ record self.old { items = infos.items; positions = positions.items }) }
+        ensures memory { IsOkUnless result ShapeError.Memory }
+        ensures err { OnErr result (self.new ≡ self.old) }
+    {
+        make_room(&mut self.run_starts, infos.len())?;
+        self.has_positions = true;
+        self.infos = infos;
+        self.positions = positions;
         Ok(())
     }
 

@@ -1,4 +1,6 @@
 //! Guessing what a caller left open: the script of a text and its direction.
+//!
+//! What guessing would set can be read without setting it: a plan is made, and fits, by that.
 ghost use Rattle.std.specs.Prelude.{◌≡◌};
 ghost use Rattle.shape_buffer.specs.Guess.{guessed, guessed_script, guessed_direction};
 ghost use Rattle.shape_buffer.specs.Guess.{first_script as first_script_of, script_or_ltr};

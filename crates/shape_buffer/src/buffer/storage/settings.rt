@@ -1,6 +1,10 @@
 //! The settings of a buffer: what its text is, what its caller asks of a run, and what the run has seen.
-ghost use Rattle.std.specs.Prelude.{◌≡◌, ◌≤◌, length, string_bytes};
+//!
+//! A setting that may be unset is an `Option` in its setter as in its reader: a caller can unset
+//! what it has set.
+ghost use Rattle.std.specs.Prelude.{◌≡◌, ◌<◌, ◌≤◌, length, string_bytes};
 ghost use Rattle.std.specs.Option.{option_map};
+ghost use Rattle.shape_items.specs.Buffer.{next_ligature_id};
 ghost use Rattle.shape_buffer.specs.Text.{context_before, context_after};
 
 use crate::buffer::context::Context;
@@ -160,5 +164,31 @@ impl hb_buffer_t {
         ensures { self.new ≡ record self.old { scratch_flags = scratch_flags } }
     {
         self.scratch_flags = scratch_flags;
+    }
+
+    /// Reads the ligature id that was given last, 0 if the run has given none.
+    pub fn serial(&self) -> u8
+        ensures { result ≡ self.now.serial }
+    {
+        self.serial
+    }
+
+    /// Sets the ligature id that was given last, and nothing else.
+    pub fn set_serial(&mut self, serial: u8)
+        ensures { self.new ≡ record self.old { serial = serial } }
+    {
+        self.serial = serial;
+    }
+
+    /// Gives the next ligature id: 1 to 7, and 1 again after 7, so never 0, which means no ligature. A
+    /// lookup gives it to a ligature and to the marks that stood between its components (HarfBuzz,
+    /// `_hb_allocate_lig_id`).
+    pub fn allocate_lig_id(&mut self) -> u8
+        ensures id { result ≡ next_ligature_id self.old.serial }
+        ensures given { self.new ≡ record self.old { serial = next_ligature_id self.old.serial } }
+        ensures some { (0 < result) × (result ≤ 7) }
+    {
+        self.serial = self.serial % 7 + 1;
+        self.serial
     }
 }

@@ -3,6 +3,8 @@ ghost use Rattle.std.specs.Prelude.{◌≡◌, ◌≤◌, [], Bool, length};
 ghost use Rattle.std.specs.Fn.{FnReturnsAt};
 ghost use Rattle.shape_items.specs.BufferClusters.{merge_clusters as merge_clusters_of};
 ghost use Rattle.shape_items.specs.BufferClusters.{merge_out_clusters as merge_out_clusters_of};
+ghost use Rattle.shape_items.specs.BufferClusters.{safe_to_insert_tatweel as safe_to_insert_tatweel_of};
+ghost use Rattle.shape_items.specs.BufferClusters.{tatweel_marked};
 ghost use Rattle.shape_items.specs.BufferClusters.{unsafe_to_break as unsafe_to_break_of};
 ghost use Rattle.shape_items.specs.BufferClusters.{unsafe_to_concat as unsafe_to_concat_of};
 ghost use Rattle.shape_items.specs.ClusterOrder.{PreservesClusters};
@@ -19,7 +21,7 @@ use crate::buffer::storage::hb_buffer_t;
 use bitflags::Flags;
 use shape_common::{BufferClusterLevel, BufferFlags, ScratchFlags};
 use shape_items::clusters::{
-    delete_items, mark_break, mark_concat, merge_each, merge_graphemes, merge_items,
+    delete_items, mark_break, mark_concat, mark_tatweel, merge_each, merge_graphemes, merge_items,
 };
 use shape_items::hb_glyph_info_t;
 
@@ -156,6 +158,40 @@ impl hb_buffer_t {
         }
         self.scratch_flags.insert(ScratchFlags::HAS_GLYPH_FLAGS);
         mark_break(self.infos.as_mut_slice(), start, end);
+    }
+
+    /// Marks the items from `start` up to `end` safe to insert tatweel, except for those of their least
+    /// cluster, and sets the scratch flag HAS_GLYPH_FLAGS, if the flag PRODUCE_SAFE_TO_INSERT_TATWEEL asks
+    /// for it; a span of fewer than two items changes nothing then. If it isn't asked for, marks the span
+    /// unsafe to break (HarfBuzz, `safe_to_insert_tatweel`).
+    pub fn safe_to_insert_tatweel(&mut self, start: usize, end: usize)
+        requires ordered { start ≤ end }
+        requires within { end ≤ length self.old.items }
+        ensures marked { self.new ≡ safe_to_insert_tatweel_of start end self.old }
+        ensures preserves { PreservesFlags self.old self.new }
+    {
+        if self
+            .flags
+            .contains(BufferFlags::PRODUCE_SAFE_TO_INSERT_TATWEEL)
+        {
+            self.mark_tatweel(start, end);
+        } else {
+            self.unsafe_to_break(start, end);
+        }
+    }
+
+    /// Marks a span safe to insert tatweel, whatever is asked for.
+    fn mark_tatweel(&mut self, start: usize, end: usize)
+        requires ordered { start ≤ end }
+        requires within { end ≤ length self.old.items }
+        ensures marked { self.new ≡ tatweel_marked start end self.old }
+        ensures preserves { PreservesFlags self.old self.new }
+    {
+        if end - start < 2 {
+            return;
+        }
+        self.scratch_flags.insert(ScratchFlags::HAS_GLYPH_FLAGS);
+        mark_tatweel(self.infos.as_mut_slice(), start, end);
     }
 
     /// Marks the items from `start` up to `end` unsafe to concat and sets the scratch flag

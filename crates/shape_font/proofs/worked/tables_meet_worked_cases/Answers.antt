@@ -1,4 +1,4 @@
-use Rattle.shape_font.specs.Worked.Tables.{worked_numbers, worked_directory, worked_collections, worked_subtables}
+use Rattle.shape_font.specs.Worked.Tables.{worked_numbers, worked_directory, worked_collections, worked_subtables, worked_tags}
 use Rattle.shape_font.proofs.worked.tables_meet_worked_cases.Goals as goal
 
 pub returns-clause-numbers : goal.returns-clause-numbers
@@ -12,3 +12,6 @@ returns-clause-collections c = worked_collections
 
 pub returns-clause-subtables : goal.returns-clause-subtables
 returns-clause-subtables c = worked_subtables
+
+pub returns-clause-tags : goal.returns-clause-tags
+returns-clause-tags c = worked_tags

@@ -1,4 +1,8 @@
 //! Items that become one with the variation selector after them: their clusters are merged first.
+//!
+//! The round is defined as one walk that merges on its way. Merging first gives the same:
+//! expanded items copy cluster and mask, and a selector that goes is in one cluster with its
+//! item.
 ghost use Rattle.std.specs.Prelude.{◌≡◌, ◌+◌, ◌<◌, ◌^◌, ◌++◌, length, IfOk, OnOk, OnErr};
 ghost use Rattle.shape_items.specs.Spans.{all_merged};
 ghost use Rattle.shape_normalize.specs.RoundOne.{sequences, variants, variation_sequences_from};

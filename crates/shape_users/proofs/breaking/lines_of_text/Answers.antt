@@ -1,17 +1,29 @@
-use Rattle.std.proofs.Common.{◌<◌, length, List, sym, subst}
-use Rattle.std.specs.Prelude.{All}
-use Rattle.shape_items.specs.Items.{Item}
-use Rattle.shape_users.specs.PlainGlyphs.{IsTextOf}
-use Rattle.shape_users.proofs.PlainLemmas.{plan_of, text_of-appended, string-level}
+use Rattle.std.proofs.Common.{◌≡◌, ◌<◌, ℕ, Bool, true, false, List, inl, inr, arith}
+use Rattle.std.proofs.lemmas.List.Elements.{Contains-get_or}
+use Rattle.shape_common.specs.Direction.{is_backward}
+use Rattle.shape_buffer.specs.declared.buffer.error.ShapeError.TheVariants.{Length}
+use Rattle.shape_items.specs.ClusterOrder.{IsOrderedFor}
+use Rattle.shape_items.specs.Clusters.{clusters}
+use Rattle.shape_lines.specs.CanCut.{IsMonotone}
 use Rattle.shape_users.proofs.breaking.lines_of_text.Goals as goal
+
+monotone : (back : Bool) (ks : List ℕ) → IsOrderedFor back ks → IsMonotone ks
+monotone true ks falls = inr falls
+monotone false ks rises = inl rises
 
 pub cut_lines-requires : goal.cut_lines-requires
 cut_lines-requires g c =
-    let bytes = c.args.text.now in
-    let pushed = c.in_ok-push_str.ensures in
-    let obligations = c.plain_runs_have_no_obligations.ensures (plan_of _ _ _ _ _) c.args.face.now in
-    let is : IsTextOf bytes c.push_str.new.self
-    = text_of-appended bytes c.new-buffer.result _ _ c.new-buffer.ensures pushed.ok pushed.clusters.0 pushed.first in
-    c.glyphs_can_be_cut.ensures _ _ c.push_str.new.self c.in-Ok.glyphs (length bytes) c.in-Ok.ensures.clusters c.in-Ok.ensures.flags
-    obligations.clusters obligations.flags (string-level bytes c.push_str.new.self is) is.rising
-    (subst (λ (items : List Item). All (λ item. item.cluster < length bytes) items) (sym is.items) pushed.clusters.1)
+    let glyphs = c.in-Ok.glyphs in
+    record {
+      monotone = monotone (is_backward glyphs.direction) (clusters glyphs.items) c.in-Ok.ensures.ordered;
+      one_set = c.in-Ok.ensures.one_set;
+      below = λ i d lt. (c.in-Ok.ensures.places _ (Contains-get_or (clusters glyphs.items) i d lt)).within;
+    }
+
+pub returns-in-Err-clause-length : goal.returns-in-Err-clause-length
+returns-in-Err-clause-length g c = λ is.
+    let cause : c.in-Err.fault.cause ≡ Length = cc in
+    elim (c.in-Err.ensures.length cause) [
+      | inl many ↦ absurd (let few = c.requires in omega (arith, many, few))
+      | inr passes ↦ passes
+    ]

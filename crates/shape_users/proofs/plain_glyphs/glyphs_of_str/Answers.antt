@@ -1,10 +1,17 @@
-use Rattle.std.proofs.Common.{◌∙◌, sym, subst}
+use Rattle.std.proofs.Common.{◌∙◌, inr, sym, subst}
 use Rattle.shape_items.specs.ClusterOrder.{IsOrderedFor}
 use Rattle.shape_items.specs.Clusters.{clusters}
 use Rattle.shape_common.specs.Direction.{is_backward}
 use Rattle.shape_common.specs.declared.text_types.Direction.{Direction}
 use Rattle.shape_users.proofs.PlainLemmas.{if_ok-then, if_ok-both, if_err-then, plan_of, string-direction, string-come, string-without_concat, string-few, string-many, string-cleared}
 use Rattle.shape_users.proofs.plain_glyphs.glyphs_of_str.Goals as goal
+
+pub returns-in-Ok-clause-glyphs : goal.returns-in-Ok-clause-glyphs
+returns-in-Ok-clause-glyphs g c = rw (← c.in-Ok.ensures.text) c.shape.ensures.counted
+
+pub returns-in-Ok-clause-length : goal.returns-in-Ok-clause-length
+returns-in-Ok-clause-length g c = rw (← c.in-Ok.ensures.text)
+    (if_err-then c.shape.result (λ fault passes is. inr (passes is)) c.shape.ensures.length)
 
 pub returns-in-Ok-clause-direction : goal.returns-in-Ok-clause-direction
 returns-in-Ok-clause-direction g c =

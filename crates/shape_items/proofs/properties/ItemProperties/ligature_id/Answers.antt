@@ -7,5 +7,5 @@ use Rattle.shape_items.proofs.properties.ItemProperties.ligature_id.Goals as goa
 pub returns : goal.returns
 unfolding properties_of
 returns c =
-    c.read_byte.ensures ∙ sym (fields-at lower_widths 4 c.self.inside.lower (lit< tt))
+    c.read_byte.ensures ∙ sym (fields-at lower_widths 6 c.self.inside.lower (lit< tt))
     ∙ ap (λ (p : Properties). p.ligature_id) c.self.view_is

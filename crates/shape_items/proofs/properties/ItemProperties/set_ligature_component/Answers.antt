@@ -7,7 +7,7 @@ use Rattle.shape_items.proofs.properties.ItemProperties.set_ligature_component.G
 pub invariant_of-self : goal.invariant_of-self
 invariant_of-self c =
     rw c.put_byte-self-inside.ensures
-    (lower_kept 5 c.args.ligature_component c.self.inside.first c.self.inside.lower c.self.inside.upper (lit< tt) (λ e. absurd (omega arith)) (omega arith) c.self.invariant)
+    (lower_kept 7 c.args.ligature_component c.self.inside.first c.self.inside.lower c.self.inside.upper (lit< tt) (λ e. absurd (omega arith)) (omega arith) c.self.invariant)
 
 pub returns : goal.returns
 unfolding properties_of
@@ -16,5 +16,5 @@ returns c =
     let lower = c.self.inside.lower in
     let upper = c.self.inside.upper in
     ap (λ w. properties_of first w upper) c.put_byte-self-inside.ensures
-    ∙ lower_put 5 c.args.ligature_component first lower upper (lit< tt) (omega arith)
+    ∙ lower_put 7 c.args.ligature_component first lower upper (lit< tt) (omega arith)
     ∙ ap (λ (p : Properties). record p { ligature_component = c.args.ligature_component }) c.self.view_is

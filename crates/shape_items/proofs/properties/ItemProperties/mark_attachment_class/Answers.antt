@@ -1,0 +1,11 @@
+use Rattle.std.proofs.Common.{sym, ap, ◌∙◌, lit<}
+use Rattle.bit_fields.proofs.FieldLemmas.{fields-at}
+use Rattle.shape_items.specs.Properties.{Properties}
+use Rattle.shape_items.specs.Words.{lower_widths, properties_of}
+use Rattle.shape_items.proofs.properties.ItemProperties.mark_attachment_class.Goals as goal
+
+pub returns : goal.returns
+unfolding properties_of
+returns c =
+    c.read_byte.ensures ∙ sym (fields-at lower_widths 5 c.self.inside.lower (lit< tt))
+    ∙ ap (λ (p : Properties). p.mark_attachment_class) c.self.view_is

@@ -1,0 +1,12 @@
+use Rattle.std.proofs.Common.{sym, ap, ◌∙◌, lit<}
+use Rattle.bit_fields.specs.Fields.{is_set}
+use Rattle.bit_fields.proofs.FieldLemmas.{fields-at}
+use Rattle.shape_items.specs.Properties.{Properties}
+use Rattle.shape_items.specs.Words.{lower_widths, properties_of}
+use Rattle.shape_items.proofs.properties.ItemProperties.multiplied.Goals as goal
+
+pub returns : goal.returns
+unfolding properties_of
+returns c =
+    c.read_bit.ensures ∙ ap is_set (sym (fields-at lower_widths 3 c.self.inside.lower (lit< tt)))
+    ∙ ap (λ (p : Properties). p.multiplied) c.self.view_is

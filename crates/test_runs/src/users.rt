@@ -1,0 +1,18 @@
+//! Tests of the users of the layer, through their public calls: texts in Hebrew and in Arabic, ligatures,
+//! lines and their pieces, spans, plain glyphs and words.
+
+mod arabic;
+mod breaking;
+mod broken_rows;
+mod capitals;
+mod cuts;
+mod every_form;
+mod hebrew;
+mod ligatures;
+mod lines;
+mod paragraph;
+mod plain_glyphs;
+mod rows;
+mod seen;
+mod shaping;
+mod words;

@@ -1,0 +1,312 @@
+#!/usr/bin/env python3
+"""Writes docs/API.md, the public items of each library, from the sources.
+
+    tests/api-index.py            writes the page
+    tests/api-index.py --check    ends with status 1 if the page isn't what it would write, or if the table of must-fail edits
+                                  in docs/TESTING.md doesn't name exactly those that there are, or if
+                                  docs/SAFE_AND_TOTAL.md lacks a public function that requires something
+
+An item is public if every module on its path is, or if a `pub use` of such a module names it. Crates of tests and of benches
+are left out, and so are programs.
+"""
+
+import re
+import sys
+import textwrap
+from pathlib import Path
+
+ROOT = Path(__file__).resolve().parent.parent
+PAGE = ROOT / "docs" / "API.md"
+TESTING = ROOT / "docs" / "TESTING.md"
+SAFE_AND_TOTAL = ROOT / "docs" / "SAFE_AND_TOTAL.md"
+YARD = re.compile(r"^(test|bench)_|_(tests|bench)$|^test_fixtures$|^unlawful_search$")
+ITEM = re.compile(r"(pub )?(?:const )?(?:unsafe )?(fn|struct|enum|trait|const|static|type|mod) (\w+)")
+HEAD = """# Public items, by library
+
+Made by `tests/api-index.py` from the sources, lowest crate first; the gate checks that it isn't stale. Items stand
+under the module that a caller names, with the first sentence of their documentation and the names of their methods.
+What each promises stands in its contract; [PROMISES](PROMISES.md) is the index of these.
+"""
+# The most constants of a module that are listed one by one.
+FEW = 8
+
+
+class Item:
+    def __init__(self, kind, name, doc):
+        self.kind, self.name, self.doc, self.members = kind, name, doc, []
+
+
+class Module:
+    """A module: its items, the names that it shows by `pub use`, and its modules with whether each is public."""
+
+    def __init__(self, doc):
+        self.doc, self.items, self.shown, self.children = doc, [], [], []
+
+
+def first_sentence(lines):
+    text = " ".join(line.strip() for line in lines)
+    end = re.search(r"[.:](?: (?=[A-Z`\[])|$)", text)
+    text = text[: end.start()] if end else text
+    text = re.sub(r"\[(`[^`]*`)\](\([^)]*\))?", r"\1", text)
+    return re.sub(r"  +", " ", text)
+
+
+def names_of_use(statement):
+    """The names that `a::{b, c as d}` shows."""
+    inner = re.search(r"\{(.*)\}", statement, re.S)
+    parts = inner.group(1).split(",") if inner else [statement]
+    names = []
+    for part in parts:
+        part = part.strip()
+        if part:
+            path, _, alias = part.partition(" as ")
+            names.append((path.split("::")[-1].strip(), alias.strip()))
+    return names
+
+
+def read(path, methods):
+    """The module of a file. Methods of its types go into `methods`, by the name of the type."""
+    lines = path.read_text().split("\n")
+    head = [line[3:].strip() for line in lines if line.startswith("//!")]
+    blank = head.index("") if "" in head else len(head)
+    module = Module(first_sentence(head[:blank]))
+    doc, hidden, owner, at = [], False, None, 0
+    while at < len(lines):
+        line = lines[at]
+        at += 1
+        bare = line.strip()
+        if bare.startswith("///"):
+            doc.append(bare[3:])
+            continue
+        if bare.startswith("#["):
+            hidden |= "cfg(test)" in bare
+            continue
+        if line.startswith("pub use "):
+            while ";" not in line:
+                line += " " + lines[at].strip()
+                at += 1
+            module.shown.append(line[len("pub use "):].split(";")[0])
+        elif line.startswith("impl"):
+            while "{" not in re.sub(r"⟦.*?⟧", "", line):
+                line += " " + lines[at].strip()
+                at += 1
+            named = re.match(r"impl(?:<.*?>)? (\w+)(?:<[^{]*>)? *(?:where.*)?\{", line)
+            owner = methods.setdefault(named.group(1), []) if named and " for " not in line.split("{")[0] else None
+        elif line.startswith("}"):
+            owner = None
+        else:
+            found = ITEM.match(bare) if line[:1].strip() or line.startswith("    ") else None
+            if found and not hidden:
+                public, kind, name = found.groups()
+                top = not line.startswith(" ")
+                if top and kind == "mod":
+                    if bare.endswith(";"):
+                        module.children.append((bool(public), name))
+                elif top and public:
+                    module.items.append(Item(kind, name, first_sentence(doc)))
+                    if kind == "trait":
+                        owner = module.items[-1].members
+                        while "{" not in line and not line.endswith("}"):
+                            line = lines[at]
+                            at += 1
+                        if line.rstrip().endswith("{}"):
+                            owner = None
+                elif owner is not None and kind in ("fn", "const") and not line.startswith("     "):
+                    if public or owner is module.items[-1].members if module.items else public:
+                        owner.append(name)
+        if bare and not bare.startswith("///"):
+            doc, hidden = [], False
+    return module
+
+
+def modules_of(crate):
+    """The modules of a crate by path, whether each is public, and the methods of its types."""
+    methods, found = {}, {}
+
+    def walk(path, folder, name, public):
+        module = read(path, methods)
+        found[name] = (public, module)
+        for child_public, child in module.children:
+            child_path = folder / f"{child}.rt"
+            if child_path.exists():
+                walk(child_path, folder / child, f"{name}::{child}" if name else child, public and child_public)
+
+    source = ROOT / "crates" / crate / "src"
+    walk(source / "lib.rt", source, "", True)
+    return found, methods
+
+
+def wrapped(text, indent):
+    return textwrap.fill(text, 118, initial_indent=indent + "- ", subsequent_indent=indent + "  ",
+                         break_long_words=False, break_on_hyphens=False)
+
+
+def entry(item, methods):
+    members = item.members + methods.get(item.name, [])
+    line = f"{item.kind} `{item.name}`" + (f": {item.doc}" if item.doc else "")
+    lines = [wrapped(line, "")]
+    if members:
+        lines.append(wrapped(", ".join(f"`{name}`" for name in dict.fromkeys(members)), "  "))
+    return lines
+
+
+def section(crate):
+    found, methods = modules_of(crate)
+    own = {item.name: item for _, module in found.values() for item in module.items}
+    private = {item.name for public, module in found.values() if not public for item in module.items}
+    lines = [f"## `{crate}`", "", textwrap.fill(found[""][1].doc + ".", 118), ""]
+    for name, (public, module) in found.items():
+        if not public:
+            continue
+        items, others = list(module.items), []
+        for statement in module.shown:
+            for shown, alias in names_of_use(statement):
+                if shown in private:
+                    items.append(own[shown])
+                elif shown not in own or name == "":
+                    others.append(alias or shown)
+        if not items and not others:
+            continue
+        if name:
+            lines += [f"### `{crate}::{name}`", ""]
+        named = items if name.endswith("worked") else [item for item in items if item.kind == "const"]
+        if not name.endswith("worked") and len(named) <= FEW:
+            named = []
+        for item in items:
+            if item not in named:
+                lines += entry(item, methods)
+        if named:
+            lines.append(wrapped(f"{named[0].kind} " + ", ".join(f"`{item.name}`" for item in named), ""))
+        if others:
+            lines.append(wrapped("shown here too: " + ", ".join(f"`{other}`" for other in dict.fromkeys(others)), ""))
+        lines.append("")
+    return lines
+
+
+def page():
+    listed = [line.split(":")[0].split()[0] for line in (ROOT / "crates.txt").read_text().split("\n")
+              if ":" in line and not line.startswith("#")]
+    lines = [HEAD]
+    for crate in listed:
+        if not YARD.search(crate) and (ROOT / "crates" / crate / "src" / "lib.rt").exists():
+            lines += section(crate)
+    return "\n".join(lines).rstrip("\n") + "\n"
+
+
+def edits_of_page():
+    """The must-fail edits that docs/TESTING.md names; a row without a crate goes on with the one above."""
+    named, crate = set(), ""
+    for row in re.finditer(r"^\| (?:`(\w+)` )?\| `(\w+)` \| [^|]* \|$", TESTING.read_text(), re.M):
+        crate = row.group(1) or crate
+        named.add(f"{crate}/{row.group(2)}")
+    return named
+
+
+# A library that serves a program of trials alone.
+LEFT_OUT = {"shape_sessions"}
+
+
+def code_of(file):
+    """The lines of a file without comments and without modules of tests."""
+    return [line.split("//")[0] for line in file.read_text().splitlines()]
+
+
+def modules_with_files(root, path=()):
+    """Each module of a crate: its path, its file, and whether all on the way to it are public."""
+    found = [(path, root, True)]
+    lines = code_of(root)
+    base = root.parent if root.name in ("lib.rt", "main.rt") else root.parent / root.stem
+    for before, line in zip([""] + lines, lines):
+        match = re.match(r"(pub(?:\([^)]*\))? )?mod (\w+);", line)
+        if match and "cfg(test)" not in before:
+            file = base / f"{match[2]}.rt"
+            if file.exists():
+                public = match[1] == "pub "
+                for inner, inner_file, inner_public in modules_with_files(file, path + (match[2],)):
+                    found.append((inner, inner_file, public and inner_public))
+    return found
+
+
+def reexported(files):
+    """The names that some `pub use` of the crate brings out."""
+    names = set()
+    for file in files:
+        for clause in re.findall(r"^pub use ([^;]+);", "\n".join(code_of(file)), re.M):
+            names |= set(re.findall(r"\w+", clause))
+    return names
+
+
+def contract_of(lines, at):
+    """What stands between a function's name and its body."""
+    text = ""
+    for line in lines[at:]:
+        if re.match(r"^ *(\{|\{\}|\}) *$", line) or (line.rstrip().endswith("{") and "requires" not in line and "ensures" not in line):
+            return text
+        text += line + "\n"
+        if line.rstrip().endswith(";"):
+            return text
+    return text
+
+
+def conditions(crate):
+    """The public functions of a crate that ask something: module, name, first condition."""
+    root = ROOT / "crates" / crate / "src/lib.rt"
+    all_modules = modules_with_files(root)
+    names = reexported([file for _, file, _ in all_modules])
+    for path, file, public in all_modules:
+        lines, inside = code_of(file), None
+        for at, line in enumerate(lines):
+            if re.match(r"(pub )?(trait|impl)\b", line):
+                inside = line
+            elif line.startswith("}"):
+                inside = None
+            match = re.match(r"^( *)(pub )?fn (\w+)", line)
+            if not match or not (match[2] or (inside and re.match(r"pub trait\b", inside))):
+                continue
+            name = match[3]
+            reached = public or name in names or bool(inside and names & set(re.findall(r"\w+", inside)))
+            text = contract_of(lines, at)
+            asked = re.search(r"\brequires\b ?(\w+)? ?\{ ?(.*)", text)
+            if reached and asked:
+                yield path, name, asked[2].removesuffix("}").strip()
+
+
+def lacking_conditions():
+    """The public functions with a `requires` that docs/SAFE_AND_TOTAL.md doesn't name, in a code span by themselves, with their
+    path, or as `module::*`."""
+    spans = re.findall(r"`([^`]+)`", SAFE_AND_TOTAL.read_text())
+    named = {span.split("::")[-1].split("(")[0] for span in spans}
+    wholes = {span.split("::")[-2] for span in spans if span.endswith("::*")}
+    lines = (ROOT / "crates.txt").read_text().splitlines()
+    crates = sorted(line.split(":")[0].split()[0] for line in lines if line.strip() and not line.startswith("#"))
+    for crate in crates:
+        if YARD.search(crate) or crate in LEFT_OUT or not (ROOT / "crates" / crate / "src/lib.rt").exists():
+            continue
+        for path, name, asked in conditions(crate):
+            if name not in named and not wholes & ({crate} | set(path)):
+                yield f"{'::'.join((crate,) + path)}::{name}: {asked}"
+
+
+def check():
+    """What is stale, a line each."""
+    stale = []
+    if not PAGE.exists() or PAGE.read_text() != page():
+        stale.append("docs/API.md: run tests/api-index.py")
+    edits = {f"{edit.parent.parent.name}/{edit.stem}" for edit in ROOT.glob("crates/*/must-fail/*.edit")}
+    stale += [f"docs/TESTING.md lacks the edit {edit}" for edit in sorted(edits - edits_of_page())]
+    stale += [f"docs/TESTING.md names an edit that isn't there: {edit}" for edit in sorted(edits_of_page() - edits)]
+    stale += [f"docs/SAFE_AND_TOTAL.md lacks {line}" for line in lacking_conditions()]
+    return stale
+
+
+def main():
+    if sys.argv[1:] == ["--check"]:
+        stale = check()
+        print("\n".join(stale) if stale else "api-index: the pages are up to date")
+        return 1 if stale else 0
+    PAGE.write_text(page())
+    return 0
+
+
+if __name__ == "__main__":
+    sys.exit(main())
