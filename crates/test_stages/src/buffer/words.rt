@@ -86,7 +86,7 @@ fn set(item: &mut hb_glyph_info_t, property: usize, greatest: bool) {
 /// An item with every property at its greatest or its least value.
 fn at_extreme(greatest: bool) -> hb_glyph_info_t {
     let mut item = hb_glyph_info_t::new('a', 3);
-    for property in 0..18 {
+    for property in 0..20 {
         set(&mut item, property, greatest);
     }
     item
@@ -113,14 +113,14 @@ fn two_are_set(from: hb_glyph_info_t, one: (usize, bool), other: (usize, bool)) 
     }
     let words = item.words();
     let open = item.codepoint == 'a' && item.cluster == 3;
-    open && values(&item) == expected && words.0 < 1 << 30 && words.1 & 0xFFC0 == 0
+    open && values(&item) == expected && words.0 < 1 << 30 && words.1 & 0x80 == 0
 }
 
 #[test]
 fn each_property_beside_each_other(rt: HostRuntime) {
     for from in [false, true] {
-        for one in 0..18 {
-            for other in 0..18 {
+        for one in 0..20 {
+            for other in 0..20 {
                 assert_that(
                     &rt,
                     two_are_set(at_extreme(from), (one, false), (other, false)),
@@ -153,6 +153,6 @@ fn words_of_items(rt: HostRuntime) {
     assert_same(
         &rt,
         at_extreme(true).words(),
-        (0x3FFF_FF1D, 0xFFFF_FFFF_FFFF_003E),
+        (0x3FFF_FF1D, 0xFFFF_FFFF_FFFF_FF7E),
     );
 }
