@@ -1,6 +1,6 @@
 -- The rule of a lookup that matches at a place (OpenType, "Common table formats", sequence context 1 to 3, chained 1 to 3).
 use Rattle.std.specs.Prelude.{ℕ, List, Bool, false, Option, None, ◌+◌, ◌-◌, ◌||◌, min, nat_eq, if◌then◌else◌}
-use Rattle.std.specs.Option.{option_and_then, option_map, option_map_or}
+use Rattle.std.specs.Option.{option_and_then, option_map, option_map_or, unwrap_or}
 use Rattle.shape_font.specs.Bytes.{u16_of, fitting}
 use Rattle.shape_items.specs.Items.{Item}
 use Rattle.layout_tables.specs.Coverage.{coverage_index, covers}
@@ -54,12 +54,14 @@ found_whole l items origin part = let rule = whole_rule l.table.now (is_chained 
     (if is_first l.table.now part.start rule (nth items origin.at).glyph_id then found_if l items origin rule else None)
 
 -- formats 1 and 2: rules by the number of the first glyph, whose glyphs are named, or by its class
-abbrev pub place_at : List ℕ → ℕ → ℕ → ℕ
-place_at t start at = start + u16_of t (start + at)
+
+-- where a ClassDef stands; past the end, where all glyphs are of class 0, if its offset is NULL
+abbrev pub class_place : List ℕ → ℕ → ℕ → ℕ
+class_place t start at = unwrap_or (offset16_of t start (start + at)) FAR
 
 abbrev pub set_by_class : List ℕ → Bool → ℕ → ℕ → Option ℕ
-set_by_class t is_chain start glyph = if is_chain then rules_at t start 10 (class_of t (place_at t start 6) glyph)
-    else rules_at t start 6 (class_of t (place_at t start 4) glyph)
+set_by_class t is_chain start glyph = if is_chain then rules_at t start 10 (class_of t (class_place t start 6) glyph)
+    else rules_at t start 6 (class_of t (class_place t start 4) glyph)
 
 abbrev pub set_for : List ℕ → Bool → ℕ → ℕ → ℕ → Option ℕ
 set_for t is_chain start glyph number = if nat_eq (u16_of t start) 1 then rules_at t start 4 number
@@ -68,8 +70,8 @@ set_for t is_chain start glyph number = if nat_eq (u16_of t start) 1 then rules_
 abbrev pub rule_of : List ℕ → Bool → ℕ → ℕ → Rule
 rule_of t is_chain start at = if nat_eq (u16_of t start) 1
     then (if is_chain then chained t Glyph start start start 0 at else plain_rule t Glyph start at (at + 4))
-    else (if is_chain then chained t Class (place_at t start 4) (place_at t start 6) (place_at t start 8) 0 at
-    else plain_rule t Class (place_at t start 4) at (at + 4))
+    else (if is_chain then chained t Class (class_place t start 4) (class_place t start 6) (class_place t start 8) 0 at
+    else plain_rule t Class (class_place t start 4) at (at + 4))
 
 abbrev pub found_rule : Lookup → List Item → Origin → LookupSubtable → ℕ → ℕ → Option Found
 found_rule l items origin part set r =

@@ -1,0 +1,32 @@
+-- Rules of context, computed by hand on tables of 16-bit words.
+use Rattle.std.specs.Prelude.{◌≡◌, ℕ, List, [], ◌∷◌, Some, None, true, false, refl}
+use Rattle.shape_font.specs.Worked.Glyphs.{words}
+use Rattle.layout_matching.specs.Found.{set_by_class, rule_of}
+use Rattle.layout_matching.specs.Rules.{fits_row}
+
+-- format 2 with a NULL ClassDef: class 0 has one set, at 16. Its bytes, read as a ClassDef of format 2, would put glyph 3 into class 2
+abbrev pub null_classes : List ℕ
+null_classes = words (2 ∷ 10 ∷ 0 ∷ 1 ∷ 16 ∷ 1 ∷ 1 ∷ 3 ∷ 1 ∷ 4 ∷ 2 ∷ 1 ∷ 0 ∷ 0 ∷ 1 ∷ [])
+
+-- chained, format 2: glyph 5 is of class 1, which has a set at 30. Its one rule, at 34, wants class 0 before the glyph and class 0
+-- after it, by NULL ClassDefs. The bytes, read as a ClassDef of format 2, would put glyph 5 into class 1
+abbrev pub null_around : List ℕ
+null_around = words (2 ∷ 16 ∷ 0 ∷ 22 ∷ 0 ∷ 2 ∷ 0 ∷ 30 ∷ 1 ∷ 1 ∷ 5 ∷ 1 ∷ 5 ∷ 1 ∷ 1 ∷ 1 ∷ 4 ∷ 1 ∷ 0 ∷ 1 ∷ 1 ∷ 0 ∷ 1 ∷ 0 ∷ 1 ∷ [])
+
+pub record WorkedNullClasses : Type 0 where
+  pub set_of_class_0 : set_by_class null_classes false 0 3 ≡ Some 16
+  pub any_second_glyph : fits_row null_classes (rule_of null_classes false 0 20).input 0 3 ≡ true
+  pub set_of_class_1 : set_by_class null_around true 0 5 ≡ Some 30
+  pub set_of_another_glyph : set_by_class null_around true 0 7 ≡ None
+  pub any_glyph_before : fits_row null_around (rule_of null_around true 0 34).before 0 5 ≡ true
+  pub any_glyph_after : fits_row null_around (rule_of null_around true 0 34).after 0 5 ≡ true
+
+pub worked_null_classes : WorkedNullClasses
+worked_null_classes = record {
+  set_of_class_0 = refl;
+  any_second_glyph = refl;
+  set_of_class_1 = refl;
+  set_of_another_glyph = refl;
+  any_glyph_before = refl;
+  any_glyph_after = refl;
+}
