@@ -9,7 +9,7 @@ use Rattle.layout_tables.specs.Classes.{class_of}
 use Rattle.layout_tables.specs.Lookups.{subtable_count_of, subtable_of}
 use Rattle.layout_tables.specs.declared.lookups.LookupSubtable.{LookupSubtable}
 use Rattle.layout_matching.specs.Loops.{first_some}
-use Rattle.layout_matching.specs.Rules.{FAR, rules_at, plain_rule, chained, rule_place}
+use Rattle.layout_matching.specs.Rules.{FAR, is_inside, rules_at, plain_rule, chained, rule_place}
 use Rattle.layout_matching.specs.Skipping.{nth}
 use Rattle.layout_matching.specs.Spans.{span_of}
 use Rattle.layout_matching.specs.declared.found.Found.{Found}
@@ -34,8 +34,10 @@ is_chained l part = nat_eq part.kind (chained_kind l)
 abbrev pub is_context_part : Lookup → LookupSubtable → Bool
 is_context_part l part = nat_eq part.kind (context_kind l) || is_chained l part
 
+-- a rule that leads past the end of the table matches nothing
 abbrev pub found_if : Lookup → List Item → Origin → Rule → Option Found
-found_if l items origin rule = option_map (λ span. record { rule = rule; span = span }) (span_of l items origin rule)
+found_if l items origin rule = if is_inside l.table.now rule
+    then option_map (λ span. record { rule = rule; span = span }) (span_of l items origin rule) else None
 
 -- format 3: one rule, whose glyphs are lists
 abbrev pub whole_rule : List ℕ → Bool → ℕ → Rule

@@ -1,8 +1,13 @@
 -- Rules of context, computed by hand on tables of 16-bit words.
 use Rattle.std.specs.Prelude.{◌≡◌, ℕ, List, [], ◌∷◌, Some, None, true, false, refl}
 use Rattle.shape_font.specs.Worked.Glyphs.{words}
-use Rattle.layout_matching.specs.Found.{set_by_class, rule_of}
-use Rattle.layout_matching.specs.Rules.{fits_row}
+use Rattle.shape_items.specs.Items.{Item}
+use Rattle.layout_matching.specs.Found.{found_if, set_by_class, rule_of}
+use Rattle.layout_matching.specs.Rules.{fits_row, is_inside, plain_rule, chained}
+use Rattle.layout_matching.specs.declared.lookup.Lookup.{Lookup}
+use Rattle.layout_matching.specs.declared.rules.Rule.{Rule}
+use Rattle.layout_matching.specs.declared.rules.Test.TheVariants.{Glyph}
+use Rattle.layout_matching.specs.declared.spans.Origin.{Origin}
 
 -- format 2 with a NULL ClassDef: class 0 has one set, at 16. Its bytes, read as a ClassDef of format 2, would put glyph 3 into class 2
 abbrev pub null_classes : List ℕ
@@ -29,4 +34,35 @@ worked_null_classes = record {
   set_of_another_glyph = refl;
   any_glyph_before = refl;
   any_glyph_after = refl;
+}
+
+-- a rule of one glyph with three records, of which the table has one
+abbrev pub records_cut : List ℕ
+records_cut = words (1 ∷ 3 ∷ 0 ∷ 1 ∷ [])
+
+abbrev pub rule_at_0 : List ℕ → Rule
+rule_at_0 t = plain_rule t Glyph 0 0 4
+
+abbrev pub chain_at_0 : List ℕ → Rule
+chain_at_0 t = chained t Glyph 0 0 0 0 0
+
+pub record WorkedEnds : Type 0 where
+  pub one_record : is_inside (words (1 ∷ 1 ∷ 0 ∷ 1 ∷ [])) (rule_at_0 (words (1 ∷ 1 ∷ 0 ∷ 1 ∷ []))) ≡ true
+  pub two_records_missing : is_inside records_cut (rule_at_0 records_cut) ≡ false
+  pub no_record : is_inside (words (2 ∷ 0 ∷ 9 ∷ [])) (rule_at_0 (words (2 ∷ 0 ∷ 9 ∷ []))) ≡ true
+  pub value_missing : is_inside (words (2 ∷ 0 ∷ [])) (rule_at_0 (words (2 ∷ 0 ∷ []))) ≡ false
+  pub chain : is_inside (words (1 ∷ 9 ∷ 1 ∷ 1 ∷ 9 ∷ 1 ∷ 0 ∷ 1 ∷ [])) (chain_at_0 (words (1 ∷ 9 ∷ 1 ∷ 1 ∷ 9 ∷ 1 ∷ 0 ∷ 1 ∷ []))) ≡ true
+  pub chain_cut : is_inside (words (1 ∷ 9 ∷ 1 ∷ 1 ∷ 9 ∷ 1 ∷ 0 ∷ [])) (chain_at_0 (words (1 ∷ 9 ∷ 1 ∷ 1 ∷ 9 ∷ 1 ∷ 0 ∷ []))) ≡ false
+  pub cut_matches_nothing : (l : Lookup) (items : List Item) (origin : Origin) → l.table.now ≡ records_cut
+      → found_if l items origin (rule_at_0 records_cut) ≡ None
+
+pub worked_ends : WorkedEnds
+worked_ends = record {
+  one_record = refl;
+  two_records_missing = refl;
+  no_record = refl;
+  value_missing = refl;
+  chain = refl;
+  chain_cut = refl;
+  cut_matches_nothing = λ l items origin t. rw t refl;
 }

@@ -6,7 +6,7 @@ ghost use Rattle.std.specs.Option.{IfSome};
 ghost use Rattle.layout_matching.specs.Found.{context_kind as context_kind_of, chained_kind as chained_kind_of, extension_kind as extension_kind_of, is_chained as is_chained_of, is_context_part as is_context_part_of, found_if as found_if_of, whole_rule as whole_rule_of, is_first as is_first_of, found_whole as found_whole_of, class_place as class_place_of, set_by_class as set_by_class_of, set_for as set_for_of, rule_of, found_rule as found_rule_of, found_in_set as found_in_set_of, found_by_number as found_by_number_of, number_of, found_in_sets as found_in_sets_of, found_in_part as found_in_part_of, found_at_part as found_at_part_of, found_of, is_context as is_context_of};
 
 use crate::lookup::Lookup;
-use crate::rules::{FAR, Rule, Test, chain, plain, rule_at, rules};
+use crate::rules::{FAR, Rule, Test, chain, is_inside, plain, rule_at, rules};
 use crate::skipping::item_at;
 use crate::spans::{Origin, Span, span_at};
 use layout_tables::classes::class;
@@ -56,7 +56,7 @@ fn is_context_part(lookup: &Lookup<'_>, part: LookupSubtable) -> bool
     part.kind == context_kind(lookup) || is_chained(lookup, part)
 }
 
-/// The rule, if it matches.
+/// The rule, if the table has all of its bytes, and it matches.
 fn found_if(
     lookup: &Lookup<'_>,
     items: &[hb_glyph_info_t],
@@ -67,6 +67,9 @@ fn found_if(
     ensures value { result ≡ found_if_of lookup.now items.now origin rule }
     ensures last { IfSome result (λ f. f.span.last < length items.now) }
 {
+    if !is_inside(lookup.table, &rule) {
+        return None;
+    }
     match span_at(lookup, items, origin, &rule) {
         Some(span) => Some(Found { rule, span }),
         None => None,
