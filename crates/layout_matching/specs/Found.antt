@@ -107,6 +107,13 @@ found_at_part l items origin i =
 abbrev pub found_of : Lookup → List Item → Origin → Option Found
 found_of l items origin = first_some (found_at_part l items origin) (subtable_count_of l.table.now l.place) 0
 
--- a lookup of context, by its first part
+-- part `i`; none if its offset is NULL
+abbrev pub part_of : Lookup → ℕ → Option LookupSubtable
+part_of l i = subtable_of l.table.now (extension_kind l) l.place i
+
+-- the first part whose offset isn't NULL; all parts are of the type of the lookup, or of the one that its extensions stand for
+abbrev pub first_part : Lookup → Option LookupSubtable
+first_part l = first_some (part_of l) (subtable_count_of l.table.now l.place) 0
+
 abbrev pub is_context : Lookup → Bool
-is_context l = option_map_or (is_context_part l) (subtable_of l.table.now (extension_kind l) l.place 0) false
+is_context l = option_map_or (is_context_part l) (first_part l) false

@@ -1,8 +1,8 @@
 -- Rules of context, computed by hand on tables of 16-bit words.
-use Rattle.std.specs.Prelude.{◌≡◌, ℕ, List, [], ◌∷◌, Some, None, true, false, refl}
+use Rattle.std.specs.Prelude.{◌≡◌, ℕ, Bool, List, [], ◌∷◌, Some, None, true, false, refl}
 use Rattle.shape_font.specs.Worked.Glyphs.{words}
 use Rattle.shape_items.specs.Items.{Item}
-use Rattle.layout_matching.specs.Found.{found_if, set_by_class, rule_of}
+use Rattle.layout_matching.specs.Found.{found_if, is_context, set_by_class, rule_of}
 use Rattle.layout_matching.specs.Rules.{fits_row, is_inside, plain_rule, chained}
 use Rattle.layout_matching.specs.declared.lookup.Lookup.{Lookup}
 use Rattle.layout_matching.specs.declared.rules.Rule.{Rule}
@@ -65,4 +65,32 @@ worked_ends = record {
   chain = refl;
   chain_cut = refl;
   cut_matches_nothing = λ l items origin t. rw t refl;
+}
+
+-- a lookup whose first offset is NULL; its second subtable is there, or stands for one of the type
+abbrev pub null_first : ℕ → List ℕ
+null_first kind = words (kind ∷ 0 ∷ 2 ∷ 0 ∷ 10 ∷ 3 ∷ [])
+
+abbrev pub null_first_extension : ℕ → List ℕ
+null_first_extension kind = words (7 ∷ 0 ∷ 2 ∷ 0 ∷ 10 ∷ 1 ∷ kind ∷ 0 ∷ 8 ∷ 3 ∷ [])
+
+abbrev pub IsContext : List ℕ → Bool → Type 0
+IsContext table is = (l : Lookup) → l.table.now ≡ table → is_context (record l { place = 0; positioning = false }) ≡ is
+
+pub record WorkedTypes : Type 0 where
+  pub context : IsContext (null_first 5) true
+  pub chained_context : IsContext (null_first 6) true
+  pub ligature : IsContext (null_first 4) false
+  pub extended_context : IsContext (null_first_extension 6) true
+  pub extended_ligature : IsContext (null_first_extension 4) false
+  pub no_subtable : IsContext (words (5 ∷ 0 ∷ 0 ∷ [])) false
+
+pub worked_types : WorkedTypes
+worked_types = record {
+  context = λ l t. rw t refl;
+  chained_context = λ l t. rw t refl;
+  ligature = λ l t. rw t refl;
+  extended_context = λ l t. rw t refl;
+  extended_ligature = λ l t. rw t refl;
+  no_subtable = λ l t. rw t refl;
 }

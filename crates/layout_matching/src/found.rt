@@ -3,7 +3,7 @@
 //! Rules are asked in the order of the table, and the first that matches is taken. Nothing is changed, and no memory is taken.
 ghost use Rattle.std.specs.Prelude.{◌≡◌, ◌<◌, ◌+◌, ◌^◌, length};
 ghost use Rattle.std.specs.Option.{IfSome};
-ghost use Rattle.layout_matching.specs.Found.{context_kind as context_kind_of, chained_kind as chained_kind_of, extension_kind as extension_kind_of, is_chained as is_chained_of, is_context_part as is_context_part_of, found_if as found_if_of, whole_rule as whole_rule_of, is_first as is_first_of, found_whole as found_whole_of, class_place as class_place_of, set_by_class as set_by_class_of, set_for as set_for_of, rule_of, found_rule as found_rule_of, found_in_set as found_in_set_of, found_by_number as found_by_number_of, number_of, found_in_sets as found_in_sets_of, found_in_part as found_in_part_of, found_at_part as found_at_part_of, found_of, is_context as is_context_of};
+ghost use Rattle.layout_matching.specs.Found.{context_kind as context_kind_of, chained_kind as chained_kind_of, extension_kind as extension_kind_of, is_chained as is_chained_of, is_context_part as is_context_part_of, found_if as found_if_of, whole_rule as whole_rule_of, is_first as is_first_of, found_whole as found_whole_of, class_place as class_place_of, set_by_class as set_by_class_of, set_for as set_for_of, rule_of, found_rule as found_rule_of, found_in_set as found_in_set_of, found_by_number as found_by_number_of, number_of, found_in_sets as found_in_sets_of, found_in_part as found_in_part_of, found_at_part as found_at_part_of, found_of, part_of, first_part as first_part_of, is_context as is_context_of};
 
 use crate::lookup::Lookup;
 use crate::rules::{FAR, Rule, Test, chain, is_inside, plain, rule_at, rules};
@@ -345,12 +345,36 @@ pub fn find(lookup: &Lookup<'_>, items: &[hb_glyph_info_t], origin: Origin) -> O
     None
 }
 
-/// Whether the lookup is one of context, by its first part.
+/// Part `i` of the lookup; none if its offset is NULL.
+fn part_at(lookup: &Lookup<'_>, i: u32) -> Option<LookupSubtable>
+    requires near { lookup.now.place < 2 ^ 17 }
+    requires few { i < 2 ^ 16 }
+    ensures value { result ≡ part_of lookup.now i }
+{
+    subtable(lookup.table, extension_kind(lookup), lookup.place, i)
+}
+
+/// The first part of the lookup whose offset isn't NULL. All parts are of the type of the lookup, or of the one that its
+/// extensions stand for.
+#[tactic(auto, using(crate::proofs::LoopLemmas::first_some_next, crate::proofs::LoopLemmas::first_some_found, crate::proofs::LoopLemmas::first_some_end))]
+pub fn first_part(lookup: &Lookup<'_>) -> Option<LookupSubtable>
+    requires { lookup.now.place < 2 ^ 17 }
+    ensures { result ≡ first_part_of lookup.now }
+{
+    for i in 0..subtable_count(lookup.table, lookup.place) {
+        if let Some(part) = part_at(lookup, i) {
+            return Some(part);
+        }
+    }
+    None
+}
+
+/// Whether the lookup is one of context, by its type.
 pub fn is_context(lookup: &Lookup<'_>) -> bool
     requires { lookup.now.place < 2 ^ 17 }
     ensures { result ≡ is_context_of lookup.now }
 {
-    match subtable(lookup.table, extension_kind(lookup), lookup.place, 0) {
+    match first_part(lookup) {
         Some(part) => is_context_part(lookup, part),
         None => false,
     }
