@@ -6,7 +6,7 @@ use Rattle.shape_items.specs.Buffer.{Buffer}
 use Rattle.shape_items.specs.Items.{Item}
 use Rattle.layout_tables.specs.Lookups.{subtable_count_of, subtable_of}
 use Rattle.layout_tables.specs.declared.lookups.LookupSubtable.{LookupSubtable}
-use Rattle.layout_matching.specs.Found.{extension_kind, number_of}
+use Rattle.layout_matching.specs.Found.{extension_kind, first_part, number_of}
 use Rattle.layout_matching.specs.Loops.{times, first_some}
 use Rattle.layout_matching.specs.Rules.{row}
 use Rattle.layout_matching.specs.Skipping.{nth, is_on}
@@ -64,6 +64,6 @@ reverse_step l s = if nat_eq s.at 0 then s else record { buffer = reversed_at l 
 abbrev pub reversed : Lookup → Buffer → Buffer
 reversed l b = (times (reverse_step l) (length b.items) (record { buffer = b; at = length b.items })).buffer
 
--- a lookup that goes backwards, by its first part
+-- a lookup that goes backwards, by its type
 abbrev pub is_reverse : Lookup → Bool
-is_reverse l = option_map_or (λ part. nat_eq part.kind 8) (subtable_of l.table.now (extension_kind l) l.place 0) false
+is_reverse l = option_map_or (λ part. nat_eq part.kind 8) (first_part l) false

@@ -5,7 +5,7 @@ ghost use Rattle.std.specs.Prelude.{◌≡◌, ◌<◌, ◌≤◌, ◌-◌, ◌+
 ghost use Rattle.layout_matching.specs.Loops.{times};
 ghost use Rattle.layout_context.specs.Reverse.{reverse_rule as reverse_rule_of, reversal_at as reversal_at_of, reversal_of, reversal_by as reversal_by_of, reversal_in as reversal_in_of, reversal_found, reversed_by, reversed_at, Backwards, reverse_step, reversed, is_reverse as is_reverse_of};
 
-use layout_matching::found::{extension_kind, number_in};
+use layout_matching::found::{extension_kind, first_part, number_in};
 use layout_matching::lookup::Lookup;
 use layout_matching::rules::{Row, Rule, Test};
 use layout_matching::skipping::{is_on, item_at};
@@ -197,12 +197,12 @@ fn reverse_one(lookup: &Lookup<'_>, buffer: &mut hb_buffer_t, at: usize) -> usiz
     at - 1
 }
 
-/// Whether the lookup goes backwards, by its first part.
+/// Whether the lookup goes backwards, by its type.
 pub fn is_reverse(lookup: &Lookup<'_>) -> bool
     requires { lookup.now.place < 2 ^ 17 }
     ensures { result ≡ is_reverse_of lookup.now }
 {
-    match subtable(lookup.table, extension_kind(lookup), lookup.place, 0) {
+    match first_part(lookup) {
         Some(part) => part.kind == 8,
         None => false,
     }

@@ -1,6 +1,6 @@
 -- The rule of a lookup that matches at a place (OpenType, "Common table formats", sequence context 1 to 3, chained 1 to 3).
 use Rattle.std.specs.Prelude.{ℕ, List, Bool, false, Option, None, ◌+◌, ◌-◌, ◌||◌, min, nat_eq, if◌then◌else◌}
-use Rattle.std.specs.Option.{option_and_then, option_map, option_map_or}
+use Rattle.std.specs.Option.{option_and_then, option_map, option_map_or, unwrap_or}
 use Rattle.shape_font.specs.Bytes.{u16_of, fitting}
 use Rattle.shape_items.specs.Items.{Item}
 use Rattle.layout_tables.specs.Coverage.{coverage_index, covers}
@@ -9,7 +9,7 @@ use Rattle.layout_tables.specs.Classes.{class_of}
 use Rattle.layout_tables.specs.Lookups.{subtable_count_of, subtable_of}
 use Rattle.layout_tables.specs.declared.lookups.LookupSubtable.{LookupSubtable}
 use Rattle.layout_matching.specs.Loops.{first_some}
-use Rattle.layout_matching.specs.Rules.{FAR, rules_at, plain_rule, chained, rule_place}
+use Rattle.layout_matching.specs.Rules.{FAR, is_inside, rules_at, plain_rule, chained, rule_place}
 use Rattle.layout_matching.specs.Skipping.{nth}
 use Rattle.layout_matching.specs.Spans.{span_of}
 use Rattle.layout_matching.specs.declared.found.Found.{Found}
@@ -34,8 +34,10 @@ is_chained l part = nat_eq part.kind (chained_kind l)
 abbrev pub is_context_part : Lookup → LookupSubtable → Bool
 is_context_part l part = nat_eq part.kind (context_kind l) || is_chained l part
 
+-- a rule that leads past the end of the table matches nothing
 abbrev pub found_if : Lookup → List Item → Origin → Rule → Option Found
-found_if l items origin rule = option_map (λ span. record { rule = rule; span = span }) (span_of l items origin rule)
+found_if l items origin rule = if is_inside l.table.now rule
+    then option_map (λ span. record { rule = rule; span = span }) (span_of l items origin rule) else None
 
 -- format 3: one rule, whose glyphs are lists
 abbrev pub whole_rule : List ℕ → Bool → ℕ → Rule
@@ -54,12 +56,14 @@ found_whole l items origin part = let rule = whole_rule l.table.now (is_chained 
     (if is_first l.table.now part.start rule (nth items origin.at).glyph_id then found_if l items origin rule else None)
 
 -- formats 1 and 2: rules by the number of the first glyph, whose glyphs are named, or by its class
-abbrev pub place_at : List ℕ → ℕ → ℕ → ℕ
-place_at t start at = start + u16_of t (start + at)
+
+-- where a ClassDef stands; past the end, where all glyphs are of class 0, if its offset is NULL
+abbrev pub class_place : List ℕ → ℕ → ℕ → ℕ
+class_place t start at = unwrap_or (offset16_of t start (start + at)) FAR
 
 abbrev pub set_by_class : List ℕ → Bool → ℕ → ℕ → Option ℕ
-set_by_class t is_chain start glyph = if is_chain then rules_at t start 10 (class_of t (place_at t start 6) glyph)
-    else rules_at t start 6 (class_of t (place_at t start 4) glyph)
+set_by_class t is_chain start glyph = if is_chain then rules_at t start 10 (class_of t (class_place t start 6) glyph)
+    else rules_at t start 6 (class_of t (class_place t start 4) glyph)
 
 abbrev pub set_for : List ℕ → Bool → ℕ → ℕ → ℕ → Option ℕ
 set_for t is_chain start glyph number = if nat_eq (u16_of t start) 1 then rules_at t start 4 number
@@ -68,8 +72,8 @@ set_for t is_chain start glyph number = if nat_eq (u16_of t start) 1 then rules_
 abbrev pub rule_of : List ℕ → Bool → ℕ → ℕ → Rule
 rule_of t is_chain start at = if nat_eq (u16_of t start) 1
     then (if is_chain then chained t Glyph start start start 0 at else plain_rule t Glyph start at (at + 4))
-    else (if is_chain then chained t Class (place_at t start 4) (place_at t start 6) (place_at t start 8) 0 at
-    else plain_rule t Class (place_at t start 4) at (at + 4))
+    else (if is_chain then chained t Class (class_place t start 4) (class_place t start 6) (class_place t start 8) 0 at
+    else plain_rule t Class (class_place t start 4) at (at + 4))
 
 abbrev pub found_rule : Lookup → List Item → Origin → LookupSubtable → ℕ → ℕ → Option Found
 found_rule l items origin part set r =
@@ -103,6 +107,13 @@ found_at_part l items origin i =
 abbrev pub found_of : Lookup → List Item → Origin → Option Found
 found_of l items origin = first_some (found_at_part l items origin) (subtable_count_of l.table.now l.place) 0
 
--- a lookup of context, by its first part
+-- part `i`; none if its offset is NULL
+abbrev pub part_of : Lookup → ℕ → Option LookupSubtable
+part_of l i = subtable_of l.table.now (extension_kind l) l.place i
+
+-- the first part whose offset isn't NULL; all parts are of the type of the lookup, or of the one that its extensions stand for
+abbrev pub first_part : Lookup → Option LookupSubtable
+first_part l = first_some (part_of l) (subtable_count_of l.table.now l.place) 0
+
 abbrev pub is_context : Lookup → Bool
-is_context l = option_map_or (is_context_part l) (subtable_of l.table.now (extension_kind l) l.place 0) false
+is_context l = option_map_or (is_context_part l) (first_part l) false

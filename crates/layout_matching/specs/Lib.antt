@@ -6,3 +6,4 @@ pub mod Input
 pub mod Spans
 pub mod Found
 pub mod Nesting
+pub mod Worked

@@ -1,5 +1,5 @@
 -- Rules of context: what stands before, what is matched, what stands after, and the lookups that are applied then
-use Rattle.std.specs.Prelude.{ℕ, List, Bool, Option, None, min, ◌+◌, ◌-◌, ◌*◌, ◌&&◌, nat_eq, nat_lt, if◌then◌else◌}
+use Rattle.std.specs.Prelude.{ℕ, List, Bool, Option, None, min, ◌+◌, ◌-◌, ◌*◌, ◌&&◌, nat_eq, nat_lt, nat_le, length, if◌then◌else◌}
 use Rattle.shape_font.specs.Bytes.{u16_of, fitting}
 use Rattle.layout_tables.specs.Coverage.{covers}
 use Rattle.layout_tables.specs.Offsets.{offset16_of}
@@ -53,6 +53,10 @@ chained t test from_before from_input from_after whole at =
     let after = row test from_after (u16_of t follows) (follows + 2) in
     let last = follows + 2 + 2 * after.count in
     record { before = before; input = input; after = after; lookups = last + 2; count = u16_of t last }
+
+-- whether the table has all bytes of a rule, whose records of lookups, 4 bytes each, come last
+abbrev pub is_inside : List ℕ → Rule → Bool
+is_inside t rule = nat_le rule.lookups (length t) && nat_le (4 * rule.count) (length t - rule.lookups)
 
 -- the rule number `r` of those at `rules`
 abbrev pub rule_place : List ℕ → ℕ → ℕ → Option ℕ

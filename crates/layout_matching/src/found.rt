@@ -3,10 +3,10 @@
 //! Rules are asked in the order of the table, and the first that matches is taken. Nothing is changed, and no memory is taken.
 ghost use Rattle.std.specs.Prelude.{◌≡◌, ◌<◌, ◌+◌, ◌^◌, length};
 ghost use Rattle.std.specs.Option.{IfSome};
-ghost use Rattle.layout_matching.specs.Found.{context_kind as context_kind_of, chained_kind as chained_kind_of, extension_kind as extension_kind_of, is_chained as is_chained_of, is_context_part as is_context_part_of, found_if as found_if_of, whole_rule as whole_rule_of, is_first as is_first_of, found_whole as found_whole_of, place_at as place_at_of, set_by_class as set_by_class_of, set_for as set_for_of, rule_of, found_rule as found_rule_of, found_in_set as found_in_set_of, found_by_number as found_by_number_of, number_of, found_in_sets as found_in_sets_of, found_in_part as found_in_part_of, found_at_part as found_at_part_of, found_of, is_context as is_context_of};
+ghost use Rattle.layout_matching.specs.Found.{context_kind as context_kind_of, chained_kind as chained_kind_of, extension_kind as extension_kind_of, is_chained as is_chained_of, is_context_part as is_context_part_of, found_if as found_if_of, whole_rule as whole_rule_of, is_first as is_first_of, found_whole as found_whole_of, class_place as class_place_of, set_by_class as set_by_class_of, set_for as set_for_of, rule_of, found_rule as found_rule_of, found_in_set as found_in_set_of, found_by_number as found_by_number_of, number_of, found_in_sets as found_in_sets_of, found_in_part as found_in_part_of, found_at_part as found_at_part_of, found_of, part_of, first_part as first_part_of, is_context as is_context_of};
 
 use crate::lookup::Lookup;
-use crate::rules::{FAR, Rule, Test, chain, plain, rule_at, rules};
+use crate::rules::{FAR, Rule, Test, chain, is_inside, plain, rule_at, rules};
 use crate::skipping::item_at;
 use crate::spans::{Origin, Span, span_at};
 use layout_tables::classes::class;
@@ -56,7 +56,7 @@ fn is_context_part(lookup: &Lookup<'_>, part: LookupSubtable) -> bool
     part.kind == context_kind(lookup) || is_chained(lookup, part)
 }
 
-/// The rule, if it matches.
+/// The rule, if the table has all of its bytes, and it matches.
 fn found_if(
     lookup: &Lookup<'_>,
     items: &[hb_glyph_info_t],
@@ -67,6 +67,9 @@ fn found_if(
     ensures value { result ≡ found_if_of lookup.now items.now origin rule }
     ensures last { IfSome result (λ f. f.span.last < length items.now) }
 {
+    if !is_inside(lookup.table, &rule) {
+        return None;
+    }
     match span_at(lookup, items, origin, &rule) {
         Some(span) => Some(Found { rule, span }),
         None => None,
@@ -119,14 +122,18 @@ fn found_whole(
     }
 }
 
-/// The place whose offset stands so far after `start`.
-fn place_at(table: &[u8], start: usize, at: usize) -> usize
+/// Where the ClassDef stands whose offset is `at` bytes after `start`. A NULL one stands past any table, so that each glyph is
+/// of class 0.
+fn class_place(table: &[u8], start: usize, at: usize) -> usize
     requires start { start < 2 ^ 35 }
     requires at { at < 16 }
-    ensures value { result ≡ place_at_of table.now start at }
-    ensures near { result < 2 ^ 36 }
+    ensures value { result ≡ class_place_of table.now start at }
+    ensures near { result < 2 ^ 39 }
 {
-    start + usize::from(u16_at(table, start + at))
+    match offset16(table, start, start + at) {
+        Some(place) => place,
+        None => FAR,
+    }
 }
 
 fn set_by_class(table: &[u8], is_chain: bool, start: usize, glyph: u32) -> Option<usize>
@@ -135,10 +142,10 @@ fn set_by_class(table: &[u8], is_chain: bool, start: usize, glyph: u32) -> Optio
     ensures near { IfSome result (λ s. s < 2 ^ 36) }
 {
     if is_chain {
-        let of = class(table, place_at(table, start, 6), glyph);
+        let of = class(table, class_place(table, start, 6), glyph);
         rules(table, start, 10, u32::from(of))
     } else {
-        let of = class(table, place_at(table, start, 4), glyph);
+        let of = class(table, class_place(table, start, 4), glyph);
         rules(table, start, 6, u32::from(of))
     }
 }
@@ -169,14 +176,14 @@ fn rule_by(table: &[u8], is_chain: bool, start: usize, at: usize) -> Rule
         return plain(table, Test::Glyph, start, at, at + 4);
     }
     if !is_chain {
-        return plain(table, Test::Class, place_at(table, start, 4), at, at + 4);
+        return plain(table, Test::Class, class_place(table, start, 4), at, at + 4);
     }
     chain(
         table,
         Test::Class,
-        place_at(table, start, 4),
-        place_at(table, start, 6),
-        place_at(table, start, 8),
+        class_place(table, start, 4),
+        class_place(table, start, 6),
+        class_place(table, start, 8),
         0,
         at,
     )
@@ -338,12 +345,36 @@ pub fn find(lookup: &Lookup<'_>, items: &[hb_glyph_info_t], origin: Origin) -> O
     None
 }
 
-/// Whether the lookup is one of context, by its first part.
+/// Part `i` of the lookup; none if its offset is NULL.
+fn part_at(lookup: &Lookup<'_>, i: u32) -> Option<LookupSubtable>
+    requires near { lookup.now.place < 2 ^ 17 }
+    requires few { i < 2 ^ 16 }
+    ensures value { result ≡ part_of lookup.now i }
+{
+    subtable(lookup.table, extension_kind(lookup), lookup.place, i)
+}
+
+/// The first part of the lookup whose offset isn't NULL. All parts are of the type of the lookup, or of the one that its
+/// extensions stand for.
+#[tactic(auto, using(crate::proofs::LoopLemmas::first_some_next, crate::proofs::LoopLemmas::first_some_found, crate::proofs::LoopLemmas::first_some_end))]
+pub fn first_part(lookup: &Lookup<'_>) -> Option<LookupSubtable>
+    requires { lookup.now.place < 2 ^ 17 }
+    ensures { result ≡ first_part_of lookup.now }
+{
+    for i in 0..subtable_count(lookup.table, lookup.place) {
+        if let Some(part) = part_at(lookup, i) {
+            return Some(part);
+        }
+    }
+    None
+}
+
+/// Whether the lookup is one of context, by its type.
 pub fn is_context(lookup: &Lookup<'_>) -> bool
     requires { lookup.now.place < 2 ^ 17 }
     ensures { result ≡ is_context_of lookup.now }
 {
-    match subtable(lookup.table, extension_kind(lookup), lookup.place, 0) {
+    match first_part(lookup) {
         Some(part) => is_context_part(lookup, part),
         None => false,
     }

@@ -15,3 +15,4 @@ pub mod rules;
 pub mod seeking;
 pub mod skipping;
 pub mod spans;
+pub mod worked;

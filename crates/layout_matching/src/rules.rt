@@ -1,7 +1,7 @@
 //! Rules of context: what stands before, what is matched, what stands after, and the lookups that are applied then.
 ghost use Rattle.std.specs.Prelude.{◌≡◌, ◌<◌, ◌^◌};
 ghost use Rattle.std.specs.Option.{IfSome};
-ghost use Rattle.layout_matching.specs.Rules.{is_named as is_named_of, fits_row as fits_row_of, rules_at, row, plain_rule, chained, rule_place};
+ghost use Rattle.layout_matching.specs.Rules.{is_named as is_named_of, is_inside as is_inside_of, fits_row as fits_row_of, rules_at, row, plain_rule, chained, rule_place};
 
 use layout_tables::classes::class;
 use layout_tables::coverage::covers;
@@ -87,6 +87,13 @@ pub fn rule_at(table: &[u8], rules: usize, r: u32) -> Option<usize>
     ensures near { IfSome result (λ r. r < 2 ^ 37) }
 {
     offset16(table, rules, rules + 2 + 2 * r as usize)
+}
+
+/// Whether the table has all bytes of a rule, of which the records of lookups come last.
+pub fn is_inside(table: &[u8], rule: &Rule) -> bool
+    ensures { result ≡ is_inside_of table.now rule.now }
+{
+    rule.lookups <= table.len() && 4 * usize::from(rule.count) <= table.len() - rule.lookups
 }
 
 fn row_of(test: Test, from: usize, count: u16, values: usize) -> Row

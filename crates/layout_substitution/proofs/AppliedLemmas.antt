@@ -1,19 +1,19 @@
 -- What the parts of lookups make of a buffer preserves it.
 use Prim.Native.Nat.{zero}
 use Rattle.std.proofs.lemmas.Bool.Decides.{nat_tests}
-use Rattle.std.proofs.Common.{◌≡◌, arith, sym, ap, ◌∙◌, ℕ, suc, ◌+◌, ◌-◌, ◌<◌, ◌&&◌, ◌||◌, not, Bool, true, false, nat_lt, nat_eq, refl, if◌then◌else◌, length, Option, Some, None}
+use Rattle.std.proofs.Common.{◌≡◌, arith, ℕ, suc, ◌+◌, ◌-◌, ◌<◌, ◌||◌, not, Bool, true, false, nat_lt, nat_eq, refl, if◌then◌else◌, length, Option, Some, None}
 use Rattle.std.specs.Option.{option_and_then, option_map_or}
 use Rattle.shape_items.specs.Buffer.{Buffer}
 use Rattle.shape_items.specs.Delete.{hand_over}
 use Rattle.shape_items.specs.Items.{Item}
 use Rattle.layout_tables.specs.Gdef.{has_glyph_classes, glyph_props}
-use Rattle.layout_substitution.specs.Edits.{item_at, is_inside, put_at, put_after, taken_out, merged}
+use Rattle.layout_substitution.specs.Edits.{item_at, is_inside, put_at, merged}
 use Rattle.layout_matching.specs.Loops.{times}
-use Rattle.layout_substitution.specs.Replaced.{replaced, with_class, with_glyph, as_part, taken_apart, with_parts, is_ligated, as_ligature}
+use Rattle.layout_substitution.specs.Replaced.{replaced, with_class, with_glyph, as_part, is_multiplied, taken_apart, with_parts, is_ligated, as_ligature}
 use Rattle.layout_matching.specs.Skipping.{shares}
 use Rattle.layout_substitution.specs.Substitutes.{single_of, set_of, alternate_of, listed_count, listed_at, ligature_glyph, component_count}
 use Rattle.layout_substitution.specs.Applied.{Applied, unapplied, put_one, single_applied, value_of, alternate_applied, cluster_at, is_left_in, Handing, is_handed, handed_step, handed_back, left_to_neighbours, gone, Copying, copy_put, copies_put, first_put, several_put, list_put, sequence_put, multiple_applied}
-use Rattle.layout_substitution.specs.Ligatures.{Joined, between_stays, component_gone, looked_for, join_step, follows, follow_step, followed, first_joined, joined, is_own, ligation_of, ligature_found, ligature_put, ligature_made, ligature_applied}
+use Rattle.layout_substitution.specs.Ligatures.{Joined, between_stays, component_gone, looked_for, join_step, follows, follow_step, followed, first_joined, joined, ligation_of, ligature_found, ligature_put, ligature_made, ligature_applied}
 use Rattle.layout_matching.specs.Seeking.{is_between}
 use Rattle.layout_matching.specs.declared.lookup.Lookup.{Lookup}
 use Rattle.layout_substitution.specs.declared.ligature.Components.{Components}
@@ -35,10 +35,13 @@ like-replaced l guess glyph x =
     (like-if (nat_lt 0 guess) x (with_class guess (with_glyph glyph x)) (with_glyph glyph x) (record { cluster = refl; mask = refl }) same)
 
 like-apart : (l : Lookup) (glyph i : ℕ) (x : Item) → IsLike x (taken_apart l glyph i x)
+unfolding is_multiplied
 like-apart l glyph i x =
     let y = if nat_eq x.properties.ligature_id 0 then as_part 0 i x else x in
     let first : IsLike x y = like-if (nat_eq x.properties.ligature_id 0) x (as_part 0 i x) x (record { cluster = refl; mask = refl }) (IsLike-same x) in
-    IsLike-then x y (taken_apart l glyph i x) first (like-replaced l (if shares x.properties.glyph_class.0 4 then 2 else 0) glyph y)
+    let z = replaced l (if shares x.properties.glyph_class.0 4 then 2 else 0) glyph y in
+    let second : IsLike y z = like-replaced l (if shares x.properties.glyph_class.0 4 then 2 else 0) glyph y in
+    IsLike-then x z (is_multiplied z) (IsLike-then x y z first second) (record { cluster = refl; mask = refl })
 
 like-ligature : (l : Lookup) (own : Bool) (id parts glyph : ℕ) (x : Item) → IsLike x (as_ligature l own id parts glyph x)
 like-ligature l own id parts glyph x =

@@ -4,3 +4,4 @@ pub mod Replaced
 pub mod Applied
 pub mod Ligatures
 pub mod Kinds
+pub mod Worked

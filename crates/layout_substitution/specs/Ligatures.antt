@@ -16,7 +16,7 @@ use Rattle.layout_matching.specs.declared.rules.Test.TheVariants.{Glyph}
 use Rattle.layout_substitution.specs.Applied.{Applied, unapplied, put_one, with_as_many_after}
 use Rattle.layout_substitution.specs.Edits.{item_at, is_inside, put_at, taken_out, merged}
 use Rattle.layout_substitution.specs.Replaced.{as_part, as_ligature, parts_of}
-use Rattle.layout_substitution.specs.Substitutes.{set_of, listed_count, ligature_glyph, component_count}
+use Rattle.layout_substitution.specs.Substitutes.{set_of, listed_count, ligature_glyph, component_count, has_components}
 use Rattle.layout_substitution.specs.declared.apply.Spot.{Spot}
 use Rattle.layout_substitution.specs.declared.ligature.Components.{Components}
 use Rattle.layout_substitution.specs.declared.ligature.Joining.{Joining}
@@ -29,10 +29,10 @@ component_row l ligature = row Glyph 0 (component_count l.table.now ligature) (l
 abbrev pub components_at : ℕ → Matched → Components
 components_at ligature m = record { ligature = ligature; last = m.last; all_marks = m.all_marks }
 
--- a ligature of no component stands nowhere
+-- a ligature of no component stands nowhere, nor does one that leads past the end of the table
 abbrev pub ligature_matched : Lookup → Buffer → ℕ → ℕ → Option Components
-ligature_matched l b at ligature = if nat_eq (component_count l.table.now ligature) 0 then None
-    else option_map (components_at ligature) (input_matched l b.items at (component_row l ligature))
+ligature_matched l b at ligature = if has_components l.table.now ligature
+    then option_map (components_at ligature) (input_matched l b.items at (component_row l ligature)) else None
 
 abbrev pub ligature_in : Lookup → Buffer → ℕ → ℕ → ℕ → Option Components
 ligature_in l b at set i = option_and_then (ligature_matched l b at) (offset16_of l.table.now set (set + 2 + 2 * i))

@@ -1,5 +1,5 @@
 -- Glyphs put in place of others.
-use Rattle.std.specs.Prelude.{ℕ, Bool, true, ◌+◌, ◌%◌, nat_eq, nat_lt, if◌then◌else◌}
+use Rattle.std.specs.Prelude.{ℕ, Bool, true, false, ◌%◌, nat_eq, nat_lt, if◌then◌else◌}
 use Rattle.std.specs.Int.RustNames.{bit_and}
 use Rattle.shape_common.specs.declared.general_category.hb_unicode_general_category_t.{hb_unicode_general_category_t}
 use Rattle.shape_common.specs.declared.general_category.hb_unicode_general_category_t.TheVariants.{NonspacingMark, OtherLetter}
@@ -30,10 +30,13 @@ as_part id part item = record item {
   properties = record item.properties { ligature_id = id; ligature_component = part % 16; number_of_components = 1 };
 }
 
+unfoldable pub is_multiplied : Item → Item
+is_multiplied item = record item { properties = record item.properties { multiplied = true } }
+
 -- glyph number `i` of those that one is taken apart into; a glyph that belongs to a ligature stays with it
 abbrev pub taken_apart : Lookup → ℕ → ℕ → Item → Item
-taken_apart l glyph i item = replaced l (if shares item.properties.glyph_class.0 4 then 2 else 0) glyph
-    (if nat_eq item.properties.ligature_id 0 then as_part 0 i item else item)
+taken_apart l glyph i item = is_multiplied (replaced l (if shares item.properties.glyph_class.0 4 then 2 else 0) glyph
+    (if nat_eq item.properties.ligature_id 0 then as_part 0 i item else item))
 
 abbrev pub letter_of : hb_unicode_general_category_t → hb_unicode_general_category_t
 letter_of NonspacingMark = OtherLetter
@@ -50,8 +53,9 @@ with_parts id parts item = record item {
   };
 }
 
+-- of multiplied and ligated, what happened last holds
 abbrev pub is_ligated : Item → Item
-is_ligated item = record item { properties = record item.properties { ligated = true } }
+is_ligated item = record item { properties = record item.properties { ligated = true; multiplied = false } }
 
 -- the ligature in place of its first component; a ligature of marks, or of a base and marks, keeps what the component was
 abbrev pub as_ligature : Lookup → Bool → ℕ → ℕ → ℕ → Item → Item

@@ -1,5 +1,5 @@
 -- What the parts of lookups put in place of glyphs (OpenType, "GSUB", single, multiple, alternate and ligature).
-use Rattle.std.specs.Prelude.{ℕ, List, Option, Some, None, ◌+◌, ◌-◌, ◌*◌, ◌%◌, ◌&&◌, nat_eq, nat_lt, nat_le, if◌then◌else◌}
+use Rattle.std.specs.Prelude.{ℕ, List, Bool, Option, Some, None, ◌+◌, ◌-◌, ◌*◌, ◌%◌, ◌&&◌, nat_eq, nat_lt, nat_le, length, if◌then◌else◌}
 use Rattle.std.specs.Option.{option_and_then}
 use Rattle.shape_font.specs.Bytes.{u16_of, fitting}
 use Rattle.layout_tables.specs.Offsets.{offset16_of}
@@ -41,3 +41,8 @@ ligature_glyph t ligature = u16_of t ligature
 
 abbrev pub component_count : List ℕ → ℕ → ℕ
 component_count t ligature = u16_of t (ligature + 2)
+
+-- whether a ligature has a component, and the table all of its bytes; the first component isn't listed
+abbrev pub has_components : List ℕ → ℕ → Bool
+has_components t ligature = let count = component_count t ligature in
+    nat_lt 0 count && nat_le (ligature + 4 + 2 * (count - 1)) (length t)

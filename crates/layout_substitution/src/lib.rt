@@ -13,3 +13,4 @@ pub mod kinds;
 pub mod ligature;
 pub mod replaced;
 pub mod substitutes;
+pub mod worked;

@@ -10,7 +10,7 @@ ghost use Rattle.layout_substitution.specs.Ligatures.{component_row as component
 use crate::apply::Spot;
 use crate::edits::{item, merge, next_place, put, take_out};
 use crate::replaced::{as_ligature, as_part, parts_of};
-use crate::substitutes::{components, count, ligature_at, ligature_glyph};
+use crate::substitutes::{components, count, has_components, ligature_at, ligature_glyph};
 use layout_matching::input::{is_mark_glyph, match_input, seek_input};
 use layout_matching::lookup::Lookup;
 use layout_matching::rules::{Row, Test};
@@ -72,7 +72,7 @@ pub fn matched_at(
     ensures inside { IfSome result (λ m. m.last < length buffer.now.items) }
     ensures near { IfSome result (λ m. m.ligature < 2 ^ 37) }
 {
-    if components(lookup.table, ligature) == 0 {
+    if !has_components(lookup.table, ligature) {
         return None;
     }
     match match_input(lookup, buffer.infos(), at, component_row(lookup, ligature)) {

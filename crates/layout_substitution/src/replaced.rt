@@ -49,7 +49,8 @@ pub fn as_part(id: u8, part: u32, item: hb_glyph_info_t) -> hb_glyph_info_t
     item
 }
 
-/// Glyph number `i` of those that one is taken apart into.
+/// Glyph number `i` of those that one is taken apart into: each is multiplied.
+#[tactic(auto, unfolding(crate::specs::Replaced::is_multiplied))]
 pub fn taken_apart(
     lookup: &Lookup<'_>,
     glyph: u32,
@@ -63,11 +64,13 @@ pub fn taken_apart(
     } else {
         0
     };
-    if item._hb_glyph_info_get_ligature_id() == 0 {
+    let mut part = if item._hb_glyph_info_get_ligature_id() == 0 {
         replaced(lookup, guess, glyph, as_part(0, i, item))
     } else {
         replaced(lookup, guess, glyph, item)
-    }
+    };
+    part._hb_glyph_info_set_multiplied(true);
+    part
 }
 
 /// A ligature with its number, of so many parts, which isn't a mark any more.
@@ -84,7 +87,8 @@ fn with_parts(id: u8, parts: u32, item: hb_glyph_info_t) -> hb_glyph_info_t
     item
 }
 
-/// The ligature in place of its first component. `own` if it isn't one of marks, or of a base and marks.
+/// The ligature in place of its first component, which isn't multiplied any more. `own` if it isn't one of marks, or of a base
+/// and marks.
 pub fn as_ligature(
     lookup: &Lookup<'_>,
     own: bool,
@@ -101,5 +105,6 @@ pub fn as_ligature(
         replaced(lookup, 0, glyph, item)
     };
     item._hb_glyph_info_set_ligated(true);
+    item._hb_glyph_info_set_multiplied(false);
     item
 }

@@ -2,7 +2,7 @@
 ghost use Rattle.std.specs.Prelude.{◌≡◌, ◌<◌, ◌+◌, ◌*◌, ◌^◌};
 ghost use Rattle.std.specs.Option.{IfSome};
 ghost use Rattle.layout_tables.specs.Offsets.{offset16_of};
-ghost use Rattle.layout_substitution.specs.Substitutes.{single_by, single_of, set_number, set_of, listed_count, listed_at, alternate_in, alternate_of, ligature_glyph as ligature_glyph_of, component_count};
+ghost use Rattle.layout_substitution.specs.Substitutes.{single_by, single_of, set_number, set_of, listed_count, listed_at, alternate_in, alternate_of, ligature_glyph as ligature_glyph_of, component_count, has_components as has_components_of};
 
 use layout_matching::found::number_in;
 use layout_tables::offsets::offset16;
@@ -129,4 +129,13 @@ pub fn components(table: &[u8], ligature: usize) -> u16
     ensures { result ≡ component_count table.now ligature }
 {
     u16_at(table, ligature + 2)
+}
+
+/// Whether a ligature has a component, and the table all of its bytes. The first component isn't listed.
+pub fn has_components(table: &[u8], ligature: usize) -> bool
+    requires { ligature < 2 ^ 37 }
+    ensures { result ≡ has_components_of table.now ligature }
+{
+    let count = usize::from(components(table, ligature));
+    0 < count && ligature + 4 + 2 * count.saturating_sub(1) <= table.len()
 }

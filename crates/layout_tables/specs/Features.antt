@@ -1,5 +1,5 @@
 -- Features (OpenType, "OpenType Layout Common Table Formats", Language System Table, Feature List and Feature Table).
-use Rattle.std.specs.Prelude.{ℕ, List, Option, Some, None, Bool, ◌+◌, ◌*◌, nat_eq, nat_lt, if◌then◌else◌}
+use Rattle.std.specs.Prelude.{ℕ, List, Option, Some, None, Bool, ◌+◌, ◌*◌, ◌||◌, ◌&&◌, length, nat_eq, nat_lt, if◌then◌else◌}
 use Rattle.std.specs.Option.{option_map, option_and_then, option_map_or}
 use Rattle.shape_font.specs.Bytes.{u16_of, u32_of, fitting}
 use Rattle.shape_font.specs.Search.{first_at}
@@ -19,12 +19,15 @@ tag_at t index list = if nat_lt index (features_at t list) then u32_of t (list +
 abbrev pub feature_tag_of : List ℕ → ℕ → ℕ
 feature_tag_of t index = option_map_or (tag_at t index) (header_offset_of t 6) 0
 
--- the feature that is on for a language system whatever is asked; 0xFFFF is none
+-- the feature that is on for a language system whatever is asked; 0xFFFF is none, and a language system past the end, or cut
+-- before its count of features, requires none
 abbrev pub required_feature_of : List ℕ → ℕ → Option ℕ
-required_feature_of t lang_sys = let index = u16_of t (lang_sys + 2) in (if nat_eq index 0xFFFF then None else Some index)
+required_feature_of t lang_sys = let index = u16_of t (lang_sys + 2) in
+    (if nat_eq index 0xFFFF || nat_lt (length t) (lang_sys + 6) then None else Some index)
 
+-- no feature has the tag 0
 abbrev pub has_tag : List ℕ → ℕ → ℕ → Bool
-has_tag t tag index = nat_eq (feature_tag_of t index) tag
+has_tag t tag index = nat_lt 0 tag && nat_eq (feature_tag_of t index) tag
 
 -- the first feature with the tag, of those that a language system lists by their indexes
 abbrev pub has_feature_tag : List ℕ → ℕ → ℕ → ℕ → Bool

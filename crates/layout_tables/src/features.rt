@@ -39,22 +39,25 @@ pub fn feature_tag(table: &[u8], index: u16) -> u32
     }
 }
 
-/// The index of the feature that is on for the language system at `lang_sys` whatever is asked; none if it has none.
+/// The index of the feature that is on for the language system at `lang_sys` whatever is asked; none if it has none, or leads
+/// past the end of the table.
 pub fn required_feature(table: &[u8], lang_sys: usize) -> Option<u16>
     requires { lang_sys < 2 ^ 18 }
     ensures { result ≡ required_feature_of table.now lang_sys }
 {
-    match u16_at(table, lang_sys + 2) {
-        0xFFFF => None,
-        index => Some(index),
+    let index = u16_at(table, lang_sys + 2);
+    if index == 0xFFFF || table.len() < lang_sys + 6 {
+        None
+    } else {
+        Some(index)
     }
 }
 
-/// Whether the feature with this index has the tag.
+/// Whether the feature with this index has the tag. None has the tag 0.
 fn has_tag(table: &[u8], tag: u32, index: u16) -> bool
     ensures { result ≡ has_tag_of table.now tag index }
 {
-    feature_tag(table, index) == tag
+    tag != 0 && feature_tag(table, index) == tag
 }
 
 /// Whether feature `i` of those that the language system at `lang_sys` lists has the tag.
@@ -80,7 +83,7 @@ fn feature_number(table: &[u8], lang_sys: usize, tag: u32, count: u32) -> Option
 }
 
 /// The index of the feature with this tag that the language system at `lang_sys` lists: the first one, if it lists
-/// several; none if it lists none.
+/// several; none if it lists none, or the tag is 0.
 pub fn feature_index(table: &[u8], lang_sys: usize, tag: u32) -> Option<u16>
     requires { lang_sys < 2 ^ 18 }
     ensures { result ≡ feature_index_of table.now lang_sys tag }
@@ -95,7 +98,8 @@ pub fn feature_index(table: &[u8], lang_sys: usize, tag: u32) -> Option<u16>
     Some(u16_at(table, lang_sys + 6 + 2 * i as usize))
 }
 
-/// The index of the first feature of the table with this tag, whatever the language system; none if it has none.
+/// The index of the first feature of the table with this tag, whatever the language system; none if it has none, or the tag is
+/// 0.
 #[tactic(auto, using(shape_font::proofs::SearchLemmas::first_at_next, shape_font::proofs::SearchLemmas::first_at_found, shape_font::proofs::SearchLemmas::first_at_end))]
 pub fn any_feature(table: &[u8], tag: u32) -> Option<u16>
     ensures { result ≡ any_feature_of table.now tag }

@@ -5,6 +5,7 @@ use Rattle.shape_items.specs.Buffer.{Buffer}
 use Rattle.shape_items.specs.Clusters.{merge}
 use Rattle.shape_items.specs.Items.{Item, new_properties}
 use Rattle.layout_matching.specs.declared.lookup.Lookup.{Lookup}
+use Rattle.layout_substitution.specs.Replaced.{is_multiplied}
 use Rattle.layout_context.specs.Worked.Lookups.{words, three_for_one, ligatures, on, glyph, mark, glyphs, after}
 
 -- a table with a header and two lookups; the first stands at place 16, and the second, which makes 30 31 32 of 5, so many bytes
@@ -55,7 +56,7 @@ pub record WorkedRules : Type 0 where
   pub glyphs_differ : HoldsOf by_glyphs [] (λ l. glyphs (after (on l 16 0) (glyph 5 0 ∷ glyph 7 1 ∷ [])) ≡ 5 ∷ 7 ∷ [])
 
 pub worked_rules : WorkedRules
-unfolding merge
+unfolding merge is_multiplied
 worked_rules = record {
   glyphs_match = λ l t g. rw (t, g) refl;
   glyphs_differ = λ l t g. rw t refl;
@@ -66,7 +67,7 @@ pub record WorkedClasses : Type 0 where
   pub classes_differ : HoldsOf by_classes [] (λ l. glyphs (after (on l 16 0) (glyph 5 0 ∷ glyph 5 1 ∷ [])) ≡ 5 ∷ 5 ∷ [])
 
 pub worked_classes : WorkedClasses
-unfolding merge
+unfolding merge is_multiplied
 worked_classes = record {
   classes_match = λ l t g. rw (t, g) refl;
   classes_differ = λ l t g. rw t refl;
@@ -79,7 +80,7 @@ pub record WorkedChains : Type 0 where
       (λ l. flags_of (after (on l 16 0) (glyph 9 0 ∷ glyph 5 1 ∷ glyph 6 2 ∷ [])) ≡ 0 ∷ 3 ∷ 3 ∷ 3 ∷ 3 ∷ [])
 
 pub worked_chains : WorkedChains
-unfolding merge
+unfolding merge is_multiplied
 worked_chains = record {
   chain_matches = λ l t g. rw (t, g) refl;
   chain_is_unsafe = λ l t g. rw (t, g) refl;

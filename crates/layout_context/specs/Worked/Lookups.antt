@@ -5,6 +5,7 @@ use Rattle.shape_items.specs.Clusters.{merge}
 use Rattle.shape_items.specs.Items.{Item, new_item, new_properties}
 use Rattle.shape_common.specs.Positions.{zero_position}
 use Rattle.layout_matching.specs.declared.lookup.Lookup.{Lookup}
+use Rattle.layout_substitution.specs.Replaced.{is_multiplied}
 use Rattle.layout_context.specs.Stages.{Walk, looked_up}
 
 abbrev pub words : List ℕ → List ℕ
@@ -125,7 +126,7 @@ pub record WorkedLookups : Type 0 where
   pub from_the_end : Holds backwards (λ l. glyphs (after (on l 0 0) (glyph 9 0 ∷ glyph 5 1 ∷ glyph 5 2 ∷ [])) ≡ 9 ∷ 60 ∷ 5 ∷ [])
 
 pub worked_lookups : WorkedLookups
-unfolding merge
+unfolding merge is_multiplied
 worked_lookups = record {
   distance = λ l t g. rw (t, g) refl;
   one_for_one = λ l t g. rw (t, g) refl;

@@ -33,9 +33,16 @@ pub record WorkedFeatureLists : Type 0 where
   pub past_the_last : feature_tag_of two_features 2 ≡ 0
   pub required : required_feature_of two_features 38 ≡ Some 1
   pub none_required : required_feature_of two_features 50 ≡ None
+  -- a language system needs 6 bytes, also to require feature 0
+  pub required_at_the_end : required_feature_of (words (0 ∷ 0 ∷ 0 ∷ [])) 0 ≡ Some 0
+  pub count_missing : required_feature_of (words (0 ∷ 0 ∷ [])) 0 ≡ None
+  pub required_past_the_end : required_feature_of two_features 0xFFF0 ≡ None
   pub listed_first : feature_index_of two_features 38 LIGA ≡ Some 1
   pub listed_second : feature_index_of two_features 38 KERN ≡ Some 0
   pub past_the_list : feature_index_of two_features 50 KERN ≡ None
+  -- a language system that lists feature 5, which the table doesn't have
+  pub tag_0 : feature_index_of (two_features ++ words (0 ∷ 65535 ∷ 1 ∷ 5 ∷ [])) 60 0 ≡ None
+  pub tag_0_of_all : any_feature_of (words (1 ∷ 0 ∷ 0 ∷ 10 ∷ 0 ∷ 1 ∷ 0 ∷ 0 ∷ 14 ∷ [])) 0 ≡ None
   pub first_of_two : feature_index_of same_tags 24 KERN ≡ Some 1
   pub first_of_all : any_feature_of same_tags KERN ≡ Some 0
   pub of_all : any_feature_of two_features LIGA ≡ Some 1
@@ -58,9 +65,14 @@ worked_feature_lists = record {
   past_the_last = refl;
   required = refl;
   none_required = refl;
+  required_at_the_end = refl;
+  count_missing = refl;
+  required_past_the_end = refl;
   listed_first = refl;
   listed_second = refl;
   past_the_list = refl;
+  tag_0 = refl;
+  tag_0_of_all = refl;
   first_of_two = refl;
   first_of_all = refl;
   of_all = refl;

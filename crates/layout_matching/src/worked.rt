@@ -1,0 +1,13 @@
+//! The definitions, computed by hand.
+ghost use Rattle.layout_matching.specs.Worked.{WorkedNullClasses, WorkedEnds, WorkedTypes};
+
+/// Rules of context: a NULL ClassDef has all glyphs in class 0, and a rule that leads past the end of the table matches nothing.
+pub fn rules_meet_worked_cases()
+    ensures null_classes { WorkedNullClasses }
+    ensures ends { WorkedEnds }
+{}
+
+/// Lookups of context, by the type of a lookup whose first subtable is NULL.
+pub fn types_meet_worked_cases()
+    ensures { WorkedTypes }
+{}

@@ -1,0 +1,13 @@
+//! The definitions, computed by hand.
+ghost use Rattle.layout_substitution.specs.Worked.{WorkedLigatures, WorkedPasts};
+
+/// Ligatures: their components, and one that leads past the end of the table.
+pub fn ligatures_meet_worked_cases()
+    ensures { WorkedLigatures }
+{}
+
+/// What becomes of items: which are ligated, and which multiplied.
+#[tactic(auto, unfolding(crate::specs::Replaced::is_multiplied))]
+pub fn items_meet_worked_cases()
+    ensures { WorkedPasts }
+{}
