@@ -1,3 +1,0 @@
-pub mod Gap
-pub mod GapLists
-pub mod GapMerging
