@@ -52,6 +52,8 @@ pub record WorkedWalk : Type 0 where
       → chains (over l (base 2 0 ∷ mark 8 0 ∷ mark 8 0 ∷ mark 8 0 ∷ [])) ≡ pos 0 ∷ negsuc 0 ∷ negsuc 1 ∷ negsuc 2 ∷ []
   pub mark_on_the_first_part : (l : Lookup) → IsLookup l (one_part 4 on_bases) 0 → l.place ≡ 0
       → chains (over l (part_of 0 (base 2 0) ∷ part_of 1 (base 3 0) ∷ mark 8 0 ∷ [])) ≡ pos 0 ∷ pos 0 ∷ negsuc 1 ∷ []
+  pub mark_on_the_listed_part : (l : Lookup) → IsLookup l (one_part 4 on_bases) 0 → l.place ≡ 0
+      → chains (over l (part_of 0 (base 3 0) ∷ part_of 1 (base 2 0) ∷ mark 8 0 ∷ [])) ≡ pos 0 ∷ pos 0 ∷ negsuc 0 ∷ []
   pub named_glyph_alone : (l : Lookup) → IsLookup l in_context 0 → l.place ≡ 16
       → offsets (over l (base 2 0 ∷ base 3 1 ∷ base 7 2 ∷ [])) ≡ still ∷ (pos 10, pos 0) ∷ still ∷ []
   pub out_of_context : (l : Lookup) → IsLookup l in_context 0 → l.place ≡ 16
@@ -67,6 +69,7 @@ worked_walk = record {
   pair_after_pair = λ l is p. rw (is.table, is.flags, is.mask, is.positioning, p) refl;
   marks_on_one_base = λ l is p. rw (is.table, is.flags, is.mask, is.positioning, p) refl;
   mark_on_the_first_part = λ l is p. rw (is.table, is.flags, is.mask, is.positioning, p) refl;
+  mark_on_the_listed_part = λ l is p. rw (is.table, is.flags, is.mask, is.positioning, p) refl;
   named_glyph_alone = λ l is p. rw (is.table, is.flags, is.mask, is.positioning, is.syllables, p) refl;
   out_of_context = λ l is p. rw (is.table, is.flags, is.mask, is.positioning, is.syllables, p) refl;
 }
