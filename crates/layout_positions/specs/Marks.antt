@@ -1,5 +1,5 @@
 -- Marks attached to bases, to ligatures and to marks (OpenType, `GPOS`, lookup types 4, 5 and 6).
-use Rattle.std.specs.Prelude.{ℕ, Bool, true, false, List, Option, Some, None, ◌+◌, ◌-◌, ◌*◌, ◌&&◌, ◌||◌, not, min, length, nat_eq, nat_lt, nat_le, if◌then◌else◌}
+use Rattle.std.specs.Prelude.{ℕ, Bool, true, false, List, Option, Some, None, ◌+◌, ◌-◌, ◌*◌, ◌&&◌, ◌||◌, not, min, length, is_some, nat_eq, nat_lt, nat_le, if◌then◌else◌}
 use Rattle.std.specs.Option.{option_map, option_map_or, option_and_then, option_or}
 use Rattle.std.specs.Int.RustNames.{bit_and}
 use Rattle.shape_common.specs.Wrapping.{◌-ʷ◌}
@@ -9,6 +9,7 @@ use Rattle.shape_font.specs.Search.{first_at}
 use Rattle.shape_items.specs.Buffer.{Buffer}
 use Rattle.shape_items.specs.Items.{Item}
 use Rattle.layout_tables.specs.Offsets.{offset16_of}
+use Rattle.layout_tables.specs.declared.lookups.LookupSubtable.{LookupSubtable}
 use Rattle.layout_matching.specs.Skipping.{nth, shares, is_transparent}
 use Rattle.layout_matching.specs.declared.lookup.Lookup.{Lookup}
 use Rattle.layout_positions.specs.Anchors.{number_at, anchor_in, class_of_mark, anchor_of_mark}
@@ -54,17 +55,37 @@ mark_attached l start i j number row matrix b =
 abbrev pub is_base_seen : Lookup → Item → Bool
 is_base_seen l item = not (shares item.properties.glyph_class.0 8) && not (is_transparent l true item) && has_lookup_on l item
 
+-- of a glyph that a multiple substitution took apart, a part right after the part before it; a part after a mark counts as a first one
+abbrev pub follows_part : Item → Item → Bool
+follows_part before item = item.properties.multiplied && before.properties.multiplied
+    && not (shares before.properties.glyph_class.0 8) && nat_eq item.properties.ligature_id before.properties.ligature_id
+    && nat_eq item.properties.ligature_component (before.properties.ligature_component + 1)
+
+abbrev pub is_later_part : List Item → ℕ → Bool
+is_later_part items j = nat_lt 0 j && follows_part (nth items (j - 1)) (nth items j)
+
+-- the subtable lists the glyph as a base
+abbrev pub is_listed_base : Lookup → ℕ → Item → Bool
+is_listed_base l start item = is_some (number_at l.table.now start (start + 4) item.glyph_id)
+
+-- a subtable of bases takes a part after the first one only if it lists it; a subtable of ligatures takes any part
+abbrev pub takes_part : Lookup → LookupSubtable → List Item → ℕ → Bool
+takes_part l part items j = not (nat_eq part.kind 4) || not (is_later_part items j) || is_listed_base l part.start (nth items j)
+
+abbrev pub is_base_at : Lookup → LookupSubtable → List Item → ℕ → Bool
+is_base_at l part items j = is_base_seen l (nth items j) && takes_part l part items j
+
 -- the nearest one, not before place `until`
-abbrev pub nearest_base : Lookup → List Item → ℕ → ℕ → Option ℕ
-nearest_base l items until i = option_map (λ d. i - 1 - d) (first_at (λ d. is_base_seen l (nth items (i - 1 - d))) (i - until) 0)
+abbrev pub nearest_base : Lookup → LookupSubtable → List Item → ℕ → ℕ → Option ℕ
+nearest_base l part items until i = option_map (λ d. i - 1 - d) (first_at (λ d. is_base_at l part items (i - 1 - d)) (i - until) 0)
 
--- each place is looked at once as long as the lookup goes on: from the place that was looked at last
-abbrev pub base_of : Lookup → List Item → ℕ → BaseSeen → Option ℕ
-base_of l items i seen = if nat_lt i seen.until then nearest_base l items 0 i
-    else option_or (nearest_base l items seen.until i) seen.place
+-- each place is looked at once as long as the lookup goes on: from the place that was looked at last, by any subtable
+abbrev pub base_of : Lookup → LookupSubtable → List Item → ℕ → BaseSeen → Option ℕ
+base_of l part items i seen = if nat_lt i seen.until then nearest_base l part items 0 i
+    else option_or (nearest_base l part items seen.until i) seen.place
 
-abbrev pub base_seen : Lookup → List Item → ℕ → BaseSeen → BaseSeen
-base_seen l items i seen = record { until = i; place = base_of l items i seen }
+abbrev pub base_seen : Lookup → LookupSubtable → List Item → ℕ → BaseSeen → BaseSeen
+base_seen l part items i seen = record { until = i; place = base_of l part items i seen }
 
 -- ---- to a base
 

@@ -32,7 +32,7 @@ looks_for_base l part i b = (nat_eq part.kind 4 || nat_eq part.kind 5) && nat_eq
     && is_some (mark_number l part.start i b)
 
 abbrev pub seen_at : Lookup → LookupSubtable → ℕ → Buffer → BaseSeen → BaseSeen
-seen_at l part i b seen = if looks_for_base l part i b then base_seen l b.items i seen else seen
+seen_at l part i b seen = if looks_for_base l part i b then base_seen l part b.items i seen else seen
 
 -- the subtables before number `part` have been tried
 pub record Trial : Type 0 where

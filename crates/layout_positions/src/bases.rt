@@ -1,13 +1,16 @@
-//! The glyph that a mark stands on: the nearest one before it that is no mark.
-ghost use Rattle.std.specs.Prelude.{◌≡◌, ◌<◌, ◌≤◌, ◌-◌, length};
+//! The glyph that a mark stands on: the nearest one before it that is no mark. Of a glyph that a
+//! multiple substitution took apart, attachment to bases takes the first part, or a part that the
+//! subtable lists.
+ghost use Rattle.std.specs.Prelude.{◌≡◌, ◌<◌, ◌≤◌, ◌-◌, ◌^◌, length};
 ghost use Rattle.std.specs.Option.{IfSome};
 ghost use Rattle.shape_font.specs.Search.{first_at};
-ghost use Rattle.layout_matching.specs.Skipping.{nth};
-ghost use Rattle.layout_positions.specs.Marks.{is_base_seen as is_base_seen_of, nearest_base as nearest_base_of, base_of, base_seen as base_seen_of};
+ghost use Rattle.layout_positions.specs.Marks.{is_base_seen as is_base_seen_of, follows_part as follows_part_of, is_later_part as is_later_part_of, is_listed_base as is_listed_base_of, takes_part as takes_part_of, is_base_at as is_base_at_of, nearest_base as nearest_base_of, base_of, base_seen as base_seen_of};
 
+use crate::anchors::number_there;
 use crate::neighbours::has_lookup_on;
 use layout_matching::lookup::Lookup;
 use layout_matching::skipping::is_transparent;
+use layout_tables::lookups::LookupSubtable;
 use shape_buffer::hb_glyph_info_t;
 
 /// The base that a lookup saw last, and the place before which it has looked for one. A run of
@@ -27,30 +30,82 @@ fn is_base_seen(lookup: &Lookup<'_>, item: &hb_glyph_info_t) -> bool
         && has_lookup_on(lookup, item)
 }
 
-/// Whether a mark may stand on the glyph at place `j`.
-fn is_base_at(lookup: &Lookup<'_>, items: &[hb_glyph_info_t], j: usize) -> bool
-    requires { j < length items.now }
-    ensures { result ≡ is_base_seen_of lookup.now (nth items.now j) }
+/// Whether the glyph is a part that follows the part `before` of a glyph that a multiple
+/// substitution took apart. A part after a mark counts as a first one.
+fn follows_part(before: &hb_glyph_info_t, item: &hb_glyph_info_t) -> bool
+    ensures { result ≡ follows_part_of before.now item.now }
 {
-    is_base_seen(lookup, &items[j])
+    let component = u16::from(before._hb_glyph_info_get_ligature_component());
+    item._hb_glyph_info_get_multiplied()
+        && before._hb_glyph_info_get_multiplied()
+        && before._hb_glyph_info_get_glyph_class().0 & 8 == 0
+        && item._hb_glyph_info_get_ligature_id() == before._hb_glyph_info_get_ligature_id()
+        && u16::from(item._hb_glyph_info_get_ligature_component()) == component + 1
+}
+
+/// Whether the glyph at place `j` follows a part of the same glyph.
+fn is_later_part(items: &[hb_glyph_info_t], j: usize) -> bool
+    requires { j < length items.now }
+    ensures { result ≡ is_later_part_of items.now j }
+{
+    0 < j && follows_part(&items[j - 1], &items[j])
+}
+
+/// Whether the subtable at `start` lists the glyph as a base.
+fn is_listed_base(lookup: &Lookup<'_>, start: usize, item: &hb_glyph_info_t) -> bool
+    requires { start < 2 ^ 34 }
+    ensures { result ≡ is_listed_base_of lookup.now start item.now }
+{
+    number_there(lookup.table, start, start + 4, item.glyph_id).is_some()
+}
+
+/// Whether the subtable takes the glyph at place `j` as a base if it is a part: a subtable of bases
+/// takes the first part, or one that it lists.
+fn takes_part(
+    lookup: &Lookup<'_>,
+    part: LookupSubtable,
+    items: &[hb_glyph_info_t],
+    j: usize,
+) -> bool
+    requires start { part.start < 2 ^ 34 }
+    requires inside { j < length items.now }
+    ensures { result ≡ takes_part_of lookup.now part items.now j }
+{
+    part.kind != 4 || !is_later_part(items, j) || is_listed_base(lookup, part.start, &items[j])
+}
+
+/// Whether a mark may stand on the glyph at place `j`.
+fn is_base_at(
+    lookup: &Lookup<'_>,
+    part: LookupSubtable,
+    items: &[hb_glyph_info_t],
+    j: usize,
+) -> bool
+    requires start { part.start < 2 ^ 34 }
+    requires inside { j < length items.now }
+    ensures { result ≡ is_base_at_of lookup.now part items.now j }
+{
+    is_base_seen(lookup, &items[j]) && takes_part(lookup, part, items, j)
 }
 
 /// How far before place `i` the nearest base stands, from 0 on, of `count` places.
 #[tactic(auto, using(shape_font::proofs::SearchLemmas::first_at_next, shape_font::proofs::SearchLemmas::first_at_found, shape_font::proofs::SearchLemmas::first_at_end))]
 fn base_back(
     lookup: &Lookup<'_>,
+    part: LookupSubtable,
     items: &[hb_glyph_info_t],
     i: usize,
     count: usize,
 ) -> Option<usize>
+    requires start { part.start < 2 ^ 34 }
     requires inside { i ≤ length items.now }
     requires count { count ≤ i }
     ensures value { result
-        ≡ first_at (λ d. is_base_seen_of lookup.now (nth items.now (i - 1 - d))) count 0 }
+        ≡ first_at (λ d. is_base_at_of lookup.now part items.now (i - 1 - d)) count 0 }
     ensures near { IfSome result (λ d. d < i) }
 {
     for d in 0..count {
-        if is_base_at(lookup, items, i - 1 - d) {
+        if is_base_at(lookup, part, items, i - 1 - d) {
             return Some(d);
         }
     }
@@ -60,15 +115,17 @@ fn base_back(
 /// The nearest base before place `i`, not before place `until`.
 fn nearest_base(
     lookup: &Lookup<'_>,
+    part: LookupSubtable,
     items: &[hb_glyph_info_t],
     until: usize,
     i: usize,
 ) -> Option<usize>
-    requires { i ≤ length items.now }
-    ensures value { result ≡ nearest_base_of lookup.now items.now until i }
+    requires start { part.start < 2 ^ 34 }
+    requires inside { i ≤ length items.now }
+    ensures value { result ≡ nearest_base_of lookup.now part items.now until i }
     ensures inside { IfSome result (λ j. j < i) }
 {
-    match base_back(lookup, items, i, i.saturating_sub(until)) {
+    match base_back(lookup, part, items, i, i.saturating_sub(until)) {
         Some(d) => Some(i - 1 - d),
         None => None,
     }
@@ -77,17 +134,19 @@ fn nearest_base(
 /// The base of the mark at place `i`, after what was seen before.
 fn base_at(
     lookup: &Lookup<'_>,
+    part: LookupSubtable,
     items: &[hb_glyph_info_t],
     i: usize,
     seen: BaseSeen,
 ) -> Option<usize>
-    requires { i ≤ length items.now }
-    ensures { result ≡ base_of lookup.now items.now i seen }
+    requires start { part.start < 2 ^ 34 }
+    requires inside { i ≤ length items.now }
+    ensures { result ≡ base_of lookup.now part items.now i seen }
 {
     if i < seen.until {
-        return nearest_base(lookup, items, 0, i);
+        return nearest_base(lookup, part, items, 0, i);
     }
-    match nearest_base(lookup, items, seen.until, i) {
+    match nearest_base(lookup, part, items, seen.until, i) {
         None => seen.place,
         found => found,
     }
@@ -96,15 +155,17 @@ fn base_at(
 /// Looks for the base of the mark at place `i`.
 pub fn base_seen(
     lookup: &Lookup<'_>,
+    part: LookupSubtable,
     items: &[hb_glyph_info_t],
     i: usize,
     seen: BaseSeen,
 ) -> BaseSeen
-    requires { i ≤ length items.now }
-    ensures { result ≡ base_seen_of lookup.now items.now i seen }
+    requires start { part.start < 2 ^ 34 }
+    requires inside { i ≤ length items.now }
+    ensures { result ≡ base_seen_of lookup.now part items.now i seen }
 {
     BaseSeen {
         until: i,
-        place: base_at(lookup, items, i, seen),
+        place: base_at(lookup, part, items, i, seen),
     }
 }

@@ -102,7 +102,7 @@ fn seen_at(
     ensures { result ≡ seen_at_of lookup.now part i buffer.now seen }
 {
     if looks_for_base(lookup, part, buffer, i) {
-        base_seen(lookup, buffer.infos(), i, seen)
+        base_seen(lookup, part, buffer.infos(), i, seen)
     } else {
         seen
     }

@@ -36,6 +36,10 @@ mark_on glyph id component cluster = record (new_item 0 cluster) {
   properties = record new_properties { glyph_class = record { 0 = 8 }; ligature_id = id; ligature_component = component };
 }
 
+-- a part of a glyph that a multiple substitution took apart; the parts count from 0
+abbrev pub part_of : ℕ → Item → Item
+part_of component item = record item { properties = record item.properties { multiplied = true; ligature_component = component } }
+
 -- a default ignorable
 abbrev pub ignorable : ℕ → Item
 ignorable cluster = record (new_item 0 cluster) { glyph_id = 9; mask = 16; properties = record new_properties { ignorable = true } }

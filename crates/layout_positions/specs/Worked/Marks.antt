@@ -1,15 +1,16 @@
 -- Marks attached to bases, ligatures and marks, on subtables that were read by hand.
-use Rattle.std.specs.Prelude.{◌≡◌, ℕ, ℤ, pos, negsuc, List, [], ◌∷◌, Some, None, true, false, refl}
+use Rattle.std.specs.Prelude.{◌≡◌, ℕ, ℤ, pos, negsuc, List, [], ◌∷◌, ◌++◌, Option, Some, None, true, false, length, refl}
 use Rattle.shape_common.specs.Wrapping.{◌-ʷ◌}
 use Rattle.std.specs.Int.{int_wrap}
 use Rattle.shape_common.specs.declared.text_types.Direction.TheVariants.{LeftToRight}
 use Rattle.shape_font.specs.Bytes.{i16_of}
 use Rattle.shape_items.specs.Items.{Item}
+use Rattle.layout_tables.specs.declared.lookups.LookupSubtable.{LookupSubtable}
 use Rattle.layout_matching.specs.declared.lookup.Lookup.{Lookup}
 use Rattle.layout_positions.specs.Lookups.{Applied}
 use Rattle.layout_positions.specs.Marks.{base_of, component_of, are_together, mark_base_applied, mark_ligature_applied, mark_mark_applied}
 use Rattle.layout_positions.specs.Walk.{none_seen}
-use Rattle.layout_positions.specs.Worked.Lines.{base, mark, ligature, mark_on, ignorable, line, offsets, chains, masks}
+use Rattle.layout_positions.specs.Worked.Lines.{base, mark, ligature, mark_on, part_of, ignorable, line, offsets, chains, masks}
 use Rattle.layout_positions.specs.Worked.Pairs.{IsLookup}
 
 -- mark 8 of class 1, its anchor at 10, 20; glyph 2 with an anchor at 300, 500 for class 1, and none for class 0
@@ -56,18 +57,25 @@ worked_marks = record {
 
 -- ---- the base of a mark
 
+-- subtables at 0: one of bases, which lists glyph 2, and one of ligatures
+abbrev of_bases : LookupSubtable
+of_bases = record { kind = 4; start = 0 }
+
+abbrev of_ligatures : LookupSubtable
+of_ligatures = record { kind = 5; start = 0 }
+
 pub record WorkedBases : Type 0 where
-  pub before_it : (l : Lookup) → IsLookup l [] 0 → base_of l (base 2 0 ∷ mark 8 0 ∷ []) 1 none_seen ≡ Some 0
-  pub over_marks : (l : Lookup) → IsLookup l [] 0 → base_of l (base 2 0 ∷ mark 8 0 ∷ mark 8 0 ∷ []) 2 none_seen ≡ Some 0
-  pub over_ignorables : (l : Lookup) → IsLookup l [] 0 → base_of l (base 2 0 ∷ ignorable 0 ∷ mark 8 0 ∷ []) 2 none_seen ≡ Some 0
-  pub not_past_another_base : (l : Lookup) → IsLookup l [] 0 → base_of l (base 2 0 ∷ base 3 1 ∷ mark 8 1 ∷ []) 2 none_seen ≡ Some 1
+  pub before_it : (l : Lookup) → IsLookup l [] 0 → base_of l of_bases (base 2 0 ∷ mark 8 0 ∷ []) 1 none_seen ≡ Some 0
+  pub over_marks : (l : Lookup) → IsLookup l [] 0 → base_of l of_bases (base 2 0 ∷ mark 8 0 ∷ mark 8 0 ∷ []) 2 none_seen ≡ Some 0
+  pub over_ignorables : (l : Lookup) → IsLookup l [] 0 → base_of l of_bases (base 2 0 ∷ ignorable 0 ∷ mark 8 0 ∷ []) 2 none_seen ≡ Some 0
+  pub not_past_another_base : (l : Lookup) → IsLookup l [] 0 → base_of l of_bases (base 2 0 ∷ base 3 1 ∷ mark 8 1 ∷ []) 2 none_seen ≡ Some 1
   pub seen_before : (l : Lookup) → IsLookup l [] 0
-      → base_of l (base 2 0 ∷ mark 8 0 ∷ mark 8 0 ∷ []) 2 (record { until = 1; place = Some 0 }) ≡ Some 0
+      → base_of l of_bases (base 2 0 ∷ mark 8 0 ∷ mark 8 0 ∷ []) 2 (record { until = 1; place = Some 0 }) ≡ Some 0
   pub another_one_since : (l : Lookup) → IsLookup l [] 0
-      → base_of l (base 2 0 ∷ base 3 1 ∷ mark 8 1 ∷ []) 2 (record { until = 1; place = Some 0 }) ≡ Some 1
+      → base_of l of_bases (base 2 0 ∷ base 3 1 ∷ mark 8 1 ∷ []) 2 (record { until = 1; place = Some 0 }) ≡ Some 1
   pub seen_too_far : (l : Lookup) → IsLookup l [] 0
-      → base_of l (base 2 0 ∷ mark 8 0 ∷ base 3 1 ∷ []) 1 (record { until = 3; place = Some 2 }) ≡ Some 0
-  pub none : (l : Lookup) → IsLookup l [] 0 → base_of l (mark 8 0 ∷ mark 8 0 ∷ []) 1 none_seen ≡ None
+      → base_of l of_bases (base 2 0 ∷ mark 8 0 ∷ base 3 1 ∷ []) 1 (record { until = 3; place = Some 2 }) ≡ Some 0
+  pub none : (l : Lookup) → IsLookup l [] 0 → base_of l of_bases (mark 8 0 ∷ mark 8 0 ∷ []) 1 none_seen ≡ None
 
 pub worked_bases : WorkedBases
 worked_bases = record {
@@ -79,6 +87,62 @@ worked_bases = record {
   another_one_since = λ l is. rw is.mask refl;
   seen_too_far = λ l is. rw is.mask refl;
   none = λ l is. refl;
+}
+
+-- ---- of a glyph that was taken apart the first part is the base
+
+abbrev of_ligature : ℕ → Item → Item
+of_ligature id item = record item { properties = record item.properties { ligature_id = id } }
+
+abbrev base_in : Lookup → LookupSubtable → List Item → Option ℕ
+base_in l part items = base_of l part (items ++ mark 8 0 ∷ []) (length items) none_seen
+
+pub record WorkedParts : Type 0 where
+  pub first_part : (l : Lookup) → IsLookup l on_bases 0 → base_in l of_bases (part_of 0 (base 2 0) ∷ part_of 1 (base 3 0) ∷ []) ≡ Some 0
+  pub first_of_three : (l : Lookup) → IsLookup l on_bases 0
+      → base_in l of_bases (part_of 0 (base 5 0) ∷ part_of 1 (base 3 0) ∷ part_of 2 (base 3 0) ∷ []) ≡ Some 0
+  pub part_that_is_listed : (l : Lookup) → IsLookup l on_bases 0
+      → base_in l of_bases (part_of 0 (base 3 0) ∷ part_of 1 (base 2 0) ∷ []) ≡ Some 1
+  pub mark_on_the_first : (l : Lookup) → IsLookup l on_bases 0
+      → base_of l of_bases (part_of 0 (base 3 0) ∷ mark 8 0 ∷ part_of 1 (base 5 0) ∷ []) 1 none_seen ≡ Some 0
+  pub part_after_a_mark : (l : Lookup) → IsLookup l on_bases 0
+      → base_in l of_bases (part_of 0 (base 2 0) ∷ part_of 1 (mark 7 0) ∷ part_of 2 (base 3 0) ∷ []) ≡ Some 2
+  -- the next glyph is another one's part
+  pub next_first_part : (l : Lookup) → IsLookup l on_bases 0
+      → base_in l of_bases (part_of 0 (base 2 0) ∷ part_of 0 (base 3 0) ∷ []) ≡ Some 1
+  pub not_the_part_before : (l : Lookup) → IsLookup l on_bases 0
+      → base_in l of_bases (part_of 0 (base 2 0) ∷ part_of 2 (base 3 0) ∷ []) ≡ Some 1
+  pub of_another_ligature : (l : Lookup) → IsLookup l on_bases 0
+      → base_in l of_bases (part_of 0 (of_ligature 1 (base 2 0)) ∷ part_of 1 (of_ligature 2 (base 3 0)) ∷ []) ≡ Some 1
+  pub of_one_ligature : (l : Lookup) → IsLookup l on_bases 0
+      → base_in l of_bases (part_of 0 (of_ligature 1 (base 2 0)) ∷ part_of 1 (of_ligature 1 (base 3 0)) ∷ []) ≡ Some 0
+  pub after_a_whole_glyph : (l : Lookup) → IsLookup l on_bases 0 → base_in l of_bases (base 2 0 ∷ part_of 1 (base 3 0) ∷ []) ≡ Some 1
+  pub whole_glyph : (l : Lookup) → IsLookup l on_bases 0
+      → base_in l of_bases (part_of 0 (base 2 0) ∷ record (base 3 0) { properties = record (part_of 1 (base 3 0)).properties { multiplied = false } } ∷ [])
+      ≡ Some 1
+  pub first_in_the_line : (l : Lookup) → IsLookup l on_bases 0 → base_in l of_bases (part_of 1 (base 3 0) ∷ []) ≡ Some 0
+  pub for_ligatures : (l : Lookup) → IsLookup l on_bases 0
+      → base_in l of_ligatures (part_of 0 (base 2 0) ∷ part_of 1 (base 3 0) ∷ []) ≡ Some 1
+  -- a part that one subtable passed over stays passed over for the next one
+  pub passed_over_before : (l : Lookup) → IsLookup l on_bases 0
+      → base_of l of_bases (part_of 0 (base 3 0) ∷ part_of 1 (base 2 0) ∷ mark 8 0 ∷ []) 2 (record { until = 2; place = Some 0 }) ≡ Some 0
+
+pub worked_parts : WorkedParts
+worked_parts = record {
+  first_part = λ l is. rw (is.mask, is.table) refl;
+  first_of_three = λ l is. rw (is.mask, is.table) refl;
+  part_that_is_listed = λ l is. rw (is.mask, is.table) refl;
+  mark_on_the_first = λ l is. rw is.mask refl;
+  part_after_a_mark = λ l is. rw is.mask refl;
+  next_first_part = λ l is. rw is.mask refl;
+  not_the_part_before = λ l is. rw is.mask refl;
+  of_another_ligature = λ l is. rw is.mask refl;
+  of_one_ligature = λ l is. rw (is.mask, is.table) refl;
+  after_a_whole_glyph = λ l is. rw is.mask refl;
+  whole_glyph = λ l is. rw is.mask refl;
+  first_in_the_line = λ l is. rw is.mask refl;
+  for_ligatures = λ l is. rw is.mask refl;
+  passed_over_before = λ l is. refl;
 }
 
 -- ---- components, and marks on marks

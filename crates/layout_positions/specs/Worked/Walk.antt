@@ -9,7 +9,7 @@ use Rattle.shape_items.specs.Buffer.{Buffer}
 use Rattle.shape_items.specs.Items.{Item}
 use Rattle.layout_matching.specs.declared.lookup.Lookup.{Lookup}
 use Rattle.layout_positions.specs.Walk.{lookup_applied}
-use Rattle.layout_positions.specs.Worked.Lines.{base, mark, line, advances, offsets, chains}
+use Rattle.layout_positions.specs.Worked.Lines.{base, mark, part_of, line, advances, offsets, chains}
 use Rattle.layout_positions.specs.Worked.Marks.{on_bases}
 use Rattle.layout_positions.specs.Worked.Pairs.{single_one, single_two, pairs_one, pairs_both, IsLookup}
 
@@ -50,6 +50,10 @@ pub record WorkedWalk : Type 0 where
       → advances (over l (base 2 0 ∷ base 3 1 ∷ base 3 2 ∷ [])) ≡ (pos 550, pos 0) ∷ (pos 530, pos 0) ∷ (pos 600, pos 0) ∷ []
   pub marks_on_one_base : (l : Lookup) → IsLookup l (one_part 4 on_bases) 0 → l.place ≡ 0
       → chains (over l (base 2 0 ∷ mark 8 0 ∷ mark 8 0 ∷ mark 8 0 ∷ [])) ≡ pos 0 ∷ negsuc 0 ∷ negsuc 1 ∷ negsuc 2 ∷ []
+  pub mark_on_the_first_part : (l : Lookup) → IsLookup l (one_part 4 on_bases) 0 → l.place ≡ 0
+      → chains (over l (part_of 0 (base 2 0) ∷ part_of 1 (base 3 0) ∷ mark 8 0 ∷ [])) ≡ pos 0 ∷ pos 0 ∷ negsuc 1 ∷ []
+  pub mark_on_the_listed_part : (l : Lookup) → IsLookup l (one_part 4 on_bases) 0 → l.place ≡ 0
+      → chains (over l (part_of 0 (base 3 0) ∷ part_of 1 (base 2 0) ∷ mark 8 0 ∷ [])) ≡ pos 0 ∷ pos 0 ∷ negsuc 0 ∷ []
   pub named_glyph_alone : (l : Lookup) → IsLookup l in_context 0 → l.place ≡ 16
       → offsets (over l (base 2 0 ∷ base 3 1 ∷ base 7 2 ∷ [])) ≡ still ∷ (pos 10, pos 0) ∷ still ∷ []
   pub out_of_context : (l : Lookup) → IsLookup l in_context 0 → l.place ≡ 16
@@ -64,6 +68,8 @@ worked_walk = record {
   far_away = λ l is p. rw (is.table, is.flags, is.mask, is.positioning, p) refl;
   pair_after_pair = λ l is p. rw (is.table, is.flags, is.mask, is.positioning, p) refl;
   marks_on_one_base = λ l is p. rw (is.table, is.flags, is.mask, is.positioning, p) refl;
+  mark_on_the_first_part = λ l is p. rw (is.table, is.flags, is.mask, is.positioning, p) refl;
+  mark_on_the_listed_part = λ l is p. rw (is.table, is.flags, is.mask, is.positioning, p) refl;
   named_glyph_alone = λ l is p. rw (is.table, is.flags, is.mask, is.positioning, is.syllables, p) refl;
   out_of_context = λ l is p. rw (is.table, is.flags, is.mask, is.positioning, is.syllables, p) refl;
 }
