@@ -1,5 +1,5 @@
 -- Steps that change masks and scratch flags alone: each is made, and preserves the order of clusters.
-use Rattle.std.proofs.Common.{◌≡◌, ℕ, ◌+◌, ◌≤◌, ◌==◌, length, List, map, refl, ap, sym, ◌∙◌, arith, inl, inr, bit_and, bit_or, ◌⊎◌}
+use Rattle.std.proofs.Common.{◌≡◌, ℕ, ◌≤◌, ◌==◌, length, map, refl, ap, sym, ◌∙◌, arith, inl, inr, bit_and, bit_or, ◌⊎◌}
 use Rattle.std.proofs.lemmas.Bool.{cases_Bool}
 use Rattle.std.proofs.lemmas.List.{length-map}
 use Rattle.shape_common.specs.FlagNames.{HAS_GLYPH_FLAGS}

@@ -1,21 +1,18 @@
 -- What each step of masks and substitution keeps.
-use Rattle.std.proofs.Common.{◌≡◌, ◌==◌, ◌&&◌, ◌+◌, ℕ, true, false, nat_le, nat_lt, List, [], ◌∷◌, map, refl, ap, sym, ◌∙◌, inl, inr, arith, bit_and, fold}
+use Rattle.std.proofs.Common.{◌≡◌, ◌&&◌, ◌+◌, ℕ, true, false, nat_le, nat_lt, List, [], ◌∷◌, map, refl, ap, sym, ◌∙◌, inl, inr, arith, fold}
 use Rattle.std.proofs.lemmas.Bool.{cases_Bool}
 use Rattle.std.proofs.lemmas.Bool.Decides.{nat_tests}
 use Rattle.shape_items.specs.Buffer.{Buffer}
-use Rattle.shape_items.specs.BufferClusters.{unsafe_to_concat}
 use Rattle.shape_common.specs.Direction.{is_forward}
 use Rattle.shape_items.specs.Items.{Item}
 use Rattle.shape_buffer.specs.Preservation.{IsClusterPreserving, IsFlagPreserving}
 use Rattle.shape_items.specs.PreservesFlags.{IsDefinedFlag, has_flag, PreservesFlags}
 use Rattle.shape_buffer.specs.Layout.{MapMeaning, LawfulMasks, HasNoDefinedFlag}
-use Rattle.shape_buffer.specs.Walks.{items_mapped}
 use Rattle.shape_common.specs.declared.text_types.Direction.{Direction}
 use Rattle.shape_common.specs.declared.text_types.Feature.{Feature}
-use Rattle.shape_items.proofs.Flags.FlagLemmas.{glyph_flags_set, the_first, range_brings, unsafe_to_break_preserves, PreservesFlags-items, PreservesFlags-same, PreservesFlags-then}
+use Rattle.shape_items.proofs.Flags.FlagLemmas.{the_first, range_brings, unsafe_to_break_preserves, PreservesFlags-items, PreservesFlags-same, PreservesFlags-then}
 use Rattle.shape_buffer.proofs.Steps.PreservationLemmas.{order-items_mapped, flags-none_brought, flags-items_mapped, flags-unsafe_to_concat}
 use Rattle.shape_buffer.proofs.Flags.FeatureBitLemmas.{feature-or, added_brings_none}
-use Rattle.shape_items.proofs.Merging.KeyLemmas.{keys-map}
 use Rattle.shape_plan.specs.Shaper.{without_mask}
 use Rattle.shape_plan.proofs.MaskLemmas.{MasksAlone, MasksAlone-same, MasksAlone-then, alone-items_mapped, order-masks}
 use Rattle.shape_plan.specs.declared.decisions.Decisions.{Decisions}
