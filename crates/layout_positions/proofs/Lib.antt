@@ -8,3 +8,4 @@ pub mod NestedLemmas
 pub mod NestedSteps
 pub mod PreservationLemmas
 pub mod UncoveredLemmas
+pub mod MadeLemmas

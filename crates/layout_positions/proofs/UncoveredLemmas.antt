@@ -1,12 +1,12 @@
 -- a list that no lookup covers stays as it is
 use Prim.Native.Nat.{zero}
-use Rattle.std.proofs.Common.{◌≡◌, ℕ, suc, ◌+◌, ◌&&◌, Bool, true, false, List, [], ◌∷◌, Option, Some, None, is_some, All, length, nat_eq, nat_lt, refl, sym, ap, ◌∙◌, arith, if◌then◌else◌}
+use Rattle.std.proofs.Common.{◌≡◌, ℕ, suc, ◌+◌, Bool, true, false, List, [], ◌∷◌, Option, Some, None, is_some, All, length, nat_eq, nat_lt, refl, ap, ◌∙◌, arith, if◌then◌else◌}
 use Rattle.std.specs.Option.{option_map_or, option_and_then}
 use Rattle.shape_font.specs.Bytes.{u16_of}
 use Rattle.shape_items.specs.Buffer.{Buffer}
 use Rattle.layout_tables.specs.Lookups.{subtable_count_of, subtable_of}
 use Rattle.layout_tables.specs.declared.lookups.LookupSubtable.{LookupSubtable}
-use Rattle.layout_matching.specs.Found.{found_of, is_context}
+use Rattle.layout_matching.specs.Found.{is_context}
 use Rattle.layout_matching.specs.Loops.{times}
 use Rattle.layout_matching.specs.Skipping.{nth, is_on}
 use Rattle.layout_matching.specs.declared.lookup.Lookup.{Lookup}
@@ -16,7 +16,7 @@ use Rattle.layout_positions.specs.Lookups.{Applied, unapplied}
 use Rattle.layout_positions.specs.Marks.{mark_base_at, mark_base_applied, mark_ligature_at, mark_ligature_applied, mark_mark_at, mark_mark_applied}
 use Rattle.layout_positions.specs.Nested.{rule_placed, level_placed, nested_placed, LEVELS, most_named}
 use Rattle.layout_positions.specs.Pairs.{single_value, single_put, single_applied, pair_at_number, has_pairs, pair_applied}
-use Rattle.layout_positions.specs.Trial.{if_first_format, kind_applied, seen_at, Trial, part_tried, next_tried, trial_of, trial_step, lookup_tried, Placing, unplaced, lookup_placed}
+use Rattle.layout_positions.specs.Trial.{if_first_format, kind_applied, seen_at, Trial, part_tried, next_tried, trial_of, trial_step, Placing, unplaced, lookup_placed}
 use Rattle.layout_positions.specs.Uncovered.{IsUncovered, IsUncoveredAt}
 use Rattle.layout_positions.specs.Walk.{Walk, gone_on, lookup_step, none_seen, lookup_applied, positioned}
 use Rattle.layout_positions.specs.declared.bases.BaseSeen.{BaseSeen}

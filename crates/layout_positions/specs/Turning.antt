@@ -1,5 +1,5 @@
 -- Cursive attachment: a glyph that gets another one to follow, and the chain that it was in.
-use Rattle.std.specs.Prelude.{ℕ, ℤ, pos, Bool, true, false, Option, Some, None, ◌&&◌, not, length, nat_eq, if◌then◌else◌}
+use Rattle.std.specs.Prelude.{ℕ, ℤ, pos, Bool, true, false, Option, Some, None, length, nat_eq, if◌then◌else◌}
 use Rattle.std.specs.Option.{option_and_then, option_map_or}
 use Rattle.shape_common.specs.Direction.{is_horizontal}
 use Rattle.shape_common.specs.Wrapping.{neg_w}

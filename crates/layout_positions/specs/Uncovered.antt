@@ -1,5 +1,5 @@
 -- Lookups that have nothing for the glyphs of a list.
-use Rattle.std.specs.Prelude.{◌≡◌, ℕ, List, Option, Some, None, true, false, ◌+◌, All}
+use Rattle.std.specs.Prelude.{◌≡◌, ℕ, Some, None, true, false, ◌+◌}
 use Rattle.shape_items.specs.Buffer.{Buffer}
 use Rattle.layout_tables.specs.Lookups.{subtable_of}
 use Rattle.layout_tables.specs.declared.lookups.LookupSubtable.{LookupSubtable}

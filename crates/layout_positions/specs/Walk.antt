@@ -1,13 +1,25 @@
 -- Lookups over a buffer, one after the other.
-use Rattle.std.specs.Prelude.{ℕ, List, Option, Some, None, ◌+◌, ◌<◌, ◌^◌, length, nat_lt, fold, if◌then◌else◌}
+use Rattle.std.specs.Prelude.{ℕ, pos, List, None, ◌+◌, ◌<◌, ◌^◌, length, nat_lt, fold, if◌then◌else◌}
 use Rattle.std.specs.Option.{option_map_or}
+use Rattle.shape_common.specs.declared.positions.GlyphPosition.{GlyphPosition}
 use Rattle.shape_items.specs.Buffer.{Buffer}
+use Rattle.shape_buffer.specs.PositionWalks.{positions_mapped}
 use Rattle.layout_matching.specs.Loops.{times}
 use Rattle.layout_matching.specs.Skipping.{nth, is_on}
 use Rattle.layout_matching.specs.declared.lookup.Lookup.{Lookup}
 use Rattle.layout_positions.specs.Nested.{LEVELS, most_named, nested_placed}
 use Rattle.layout_positions.specs.Trial.{Placing}
 use Rattle.layout_positions.specs.declared.bases.BaseSeen.{BaseSeen}
+
+-- ---- before the first lookup: no glyph is attached to another one
+
+abbrev pub unattached : GlyphPosition → GlyphPosition
+unattached p = record p { attach_chain = pos 0; attach_type = 0 }
+
+abbrev pub started : Buffer → Buffer
+started = positions_mapped (λ _ p. unattached p)
+
+-- ---- a lookup
 
 pub record Walk : Type 0 where
   pub buffer : Buffer

@@ -1,6 +1,7 @@
 //! Glyphs attached to others: how far away, and how they follow them once all lookups are done.
 ghost use Rattle.std.specs.Prelude.{◌≡◌, ◌<◌, ◌+◌, fold, length, nat_lt, pos, if◌then◌else◌};
 ghost use Rattle.std.specs.Option.{IfSome};
+ghost use Rattle.shape_buffer.specs.Outcome.{Made};
 ghost use Rattle.layout_positions.specs.Attachment.{chain_to, place_at as place_at_of, parent_of, freed, pen_on as pen_on_of, no_way, way as way_of, way_between as way_between_of, hung as hung_of, carried, followed, settled, offsets_finished};
 
 use crate::edits::{position, put};
@@ -189,14 +190,22 @@ fn settle(buffer: &mut hb_buffer_t, level: u32, i: usize)
     }
 }
 
-/// Glyphs that are attached follow what they are attached to, and are attached no more. A chain
-/// that goes round or out of the list ends there. Takes no memory.
+/// Each glyph follows the one that it is attached to.
 #[tactic(auto, using(crate::proofs::SettleLemmas::each_step))]
-pub fn finish_offsets(buffer: &mut hb_buffer_t)
+fn settle_each(buffer: &mut hb_buffer_t)
     ensures made { buffer.new ≡ offsets_finished buffer.old }
     ensures items { buffer.new.items ≡ buffer.old.items }
 {
     for i in 0..buffer.len() {
         settle(buffer, MOST_LINKS, i);
     }
+}
+
+/// Ends positioning: glyphs that are attached follow what they are attached to, and are attached no
+/// more. A chain that goes round or out of the list ends there. Takes no memory, and refuses
+/// nothing.
+pub fn finish_offsets(buffer: &mut hb_buffer_t)
+    ensures { Made offsets_finished buffer.old buffer.new }
+{
+    settle_each(buffer);
 }

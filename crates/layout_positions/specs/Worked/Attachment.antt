@@ -1,13 +1,13 @@
 -- Glyphs that follow others, on positions that were read by hand.
-use Rattle.std.specs.Prelude.{◌≡◌, ℕ, ℤ, pos, negsuc, List, [], ◌∷◌, map, Some, None, refl}
+use Rattle.std.specs.Prelude.{◌≡◌, ℤ, pos, negsuc, List, [], ◌∷◌, map, Some, None, refl}
 use Rattle.std.specs.Int.{int_wrap}
 use Rattle.shape_common.specs.Wrapping.{◌+ʷ◌, ◌-ʷ◌, neg_w}
 use Rattle.shape_common.specs.Positions.{zero_position}
 use Rattle.shape_common.specs.declared.positions.GlyphPosition.{GlyphPosition}
 use Rattle.shape_common.specs.declared.text_types.Direction.{Direction}
-use Rattle.shape_common.specs.declared.text_types.Direction.TheVariants.{LeftToRight, RightToLeft, TopToBottom, BottomToTop}
+use Rattle.shape_common.specs.declared.text_types.Direction.TheVariants.{LeftToRight, RightToLeft, TopToBottom}
 use Rattle.shape_items.specs.Buffer.{Buffer, new_buffer}
-use Rattle.shape_items.specs.Items.{Item, new_item}
+use Rattle.shape_items.specs.Items.{new_item}
 use Rattle.layout_positions.specs.Attachment.{chain_to, place_at, offsets_finished}
 use Rattle.layout_positions.specs.Turning.{attached}
 use Rattle.layout_positions.specs.Worked.Lines.{offsets, chains}

@@ -1,5 +1,5 @@
 -- Marks attached to bases, ligatures and marks, on subtables that were read by hand.
-use Rattle.std.specs.Prelude.{◌≡◌, ℕ, ℤ, pos, negsuc, List, [], ◌∷◌, ◌++◌, Option, Some, None, true, false, length, refl}
+use Rattle.std.specs.Prelude.{◌≡◌, ℕ, pos, negsuc, List, [], ◌∷◌, ◌++◌, Option, Some, None, false, length, refl}
 use Rattle.shape_common.specs.Wrapping.{◌-ʷ◌}
 use Rattle.std.specs.Int.{int_wrap}
 use Rattle.shape_common.specs.declared.text_types.Direction.TheVariants.{LeftToRight}
@@ -8,7 +8,7 @@ use Rattle.shape_items.specs.Items.{Item}
 use Rattle.layout_tables.specs.declared.lookups.LookupSubtable.{LookupSubtable}
 use Rattle.layout_matching.specs.declared.lookup.Lookup.{Lookup}
 use Rattle.layout_positions.specs.Lookups.{Applied}
-use Rattle.layout_positions.specs.Marks.{base_of, component_of, are_together, mark_base_applied, mark_ligature_applied, mark_mark_applied}
+use Rattle.layout_positions.specs.Marks.{base_of, mark_base_applied, mark_ligature_applied, mark_mark_applied}
 use Rattle.layout_positions.specs.Walk.{none_seen}
 use Rattle.layout_positions.specs.Worked.Lines.{base, mark, ligature, mark_on, part_of, ignorable, line, offsets, chains, masks}
 use Rattle.layout_positions.specs.Worked.Pairs.{IsLookup}

@@ -1,6 +1,5 @@
 -- Single and pair adjustment, on subtables that were read by hand.
 use Rattle.std.specs.Prelude.{◌≡◌, ℕ, ℤ, pos, negsuc, List, [], ◌∷◌, ◌++◌, Some, None, true, false, refl}
-use Rattle.std.specs.Option.{option_map}
 use Rattle.std.specs.Int.{int_wrap}
 use Rattle.std.specs.Int.Count.{ones}
 use Rattle.shape_common.specs.Wrapping.{◌+ʷ◌, ◌-ʷ◌}
@@ -11,7 +10,6 @@ use Rattle.layout_matching.specs.declared.lookup.Lookup.{Lookup}
 use Rattle.layout_positions.specs.Lookups.{Applied}
 use Rattle.layout_positions.specs.Pairs.{single_of, single_applied, pair_of, pair_applied}
 use Rattle.layout_positions.specs.Worked.Lines.{base, mark, ignorable, line, advances, offsets, masks}
-use Rattle.layout_positions.specs.declared.pairs.PairValues.{PairValues}
 use Rattle.layout_positions.specs.declared.values.Adjustment.{Adjustment}
 
 -- a list of glyphs 2 and 3

@@ -1,5 +1,5 @@
 -- Lookups over lines, on tables that were read by hand.
-use Rattle.std.specs.Prelude.{◌≡◌, ℕ, ℤ, pos, negsuc, List, [], ◌∷◌, ◌++◌, Some, None, true, false, refl}
+use Rattle.std.specs.Prelude.{◌≡◌, ℕ, ℤ, pos, negsuc, List, [], ◌∷◌, ◌++◌, refl}
 use Rattle.std.specs.Int.{int_wrap}
 use Rattle.std.specs.Int.Count.{ones}
 use Rattle.shape_common.specs.Wrapping.{◌+ʷ◌, ◌-ʷ◌}
@@ -11,7 +11,7 @@ use Rattle.layout_matching.specs.declared.lookup.Lookup.{Lookup}
 use Rattle.layout_positions.specs.Walk.{lookup_applied}
 use Rattle.layout_positions.specs.Worked.Lines.{base, mark, part_of, line, advances, offsets, chains}
 use Rattle.layout_positions.specs.Worked.Marks.{on_bases}
-use Rattle.layout_positions.specs.Worked.Pairs.{single_one, single_two, pairs_one, pairs_both, IsLookup}
+use Rattle.layout_positions.specs.Worked.Pairs.{single_one, single_two, pairs_one, IsLookup}
 
 -- a lookup of this type with one subtable, and one with two
 abbrev one_part : ℕ → List ℕ → List ℕ

@@ -1,6 +1,6 @@
 use Rattle.std.proofs.Common.{◌≡◌, drop, fold}
 use Rattle.layout_positions.specs.Walk.{lookup_applied}
-use Rattle.layout_positions.proofs.walk.position.Given as goal
+use Rattle.layout_positions.proofs.walk.apply_each.Given as goal
 
 -- what the lookups from here on make of the buffer is what all make of the first one
 abbrev pub invariant-loop-lookup : goal.invariant-loop-lookup
