@@ -1,6 +1,7 @@
 pub mod ProductLemmas
 pub mod CountLemmas
 pub mod SettleLemmas
+pub mod WayLemmas
 pub mod TurnLemmas
 pub mod StepLemmas
 pub mod TrialLemmas

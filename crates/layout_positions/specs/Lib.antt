@@ -1,6 +1,7 @@
 pub mod Edits
 pub mod Values
 pub mod Anchors
+pub mod Ways
 pub mod Attachment
 pub mod Turning
 pub mod Lookups

@@ -19,7 +19,12 @@ unattached p = record p { attach_chain = pos 0; attach_type = 0 }
 abbrev pub started : Buffer → Buffer
 started = positions_mapped (λ _ p. unattached p)
 
--- ---- a lookup
+-- ---- lookups
+
+-- a buffer, and how many lookups rules may still name
+pub record Budgeted : Type 0 where
+  pub buffer : Buffer
+  pub left : ℕ
 
 pub record Walk : Type 0 where
   pub buffer : Buffer
@@ -40,12 +45,19 @@ lookup_step l s =
 abbrev pub none_seen : BaseSeen
 none_seen = record { until = 0; place = None }
 
-abbrev pub lookup_applied : Buffer → Lookup → Buffer
-lookup_applied b l = (times (lookup_step l) (length b.items) (record { buffer = b; at = 0; seen = none_seen; left = most_named (length b.items) })).buffer
+abbrev pub first_walk : Budgeted → Walk
+first_walk s = record { buffer = s.buffer; at = 0; seen = none_seen; left = s.left }
 
--- lookups one after the other
+abbrev pub lookup_applied : Budgeted → Lookup → Budgeted
+lookup_applied s l = let end = times (lookup_step l) (length s.buffer.items) (first_walk s) in
+    record { buffer = end.buffer; left = end.left }
+
+-- lookups one after the other; the rules of all of them share one bound
+abbrev pub budgeted : Buffer → Budgeted
+budgeted b = record { buffer = b; left = most_named (length b.items) }
+
 abbrev pub positioned : List Lookup → Buffer → Buffer
-positioned lookups b = fold lookup_applied b lookups
+positioned lookups b = (fold lookup_applied (budgeted b) lookups).buffer
 
 -- a lookup of a list stands near the start of its table
 abbrev pub HasPlace : Lookup → Type 0

@@ -27,7 +27,7 @@ pub fn positions_are_keepers()
 {}
 
 /// A list that no lookup covers stays as it is: no subtable lists one of its glyphs, and no rule of
-/// context matches.
+/// context begins with one.
 pub fn uncovered_lists_stay()
     ensures { (lookups : List LookupOf) (b : Buffer) → All (IsUncovered b) lookups
         → positioned lookups b ≡ b }

@@ -24,4 +24,5 @@ pub mod trial;
 pub mod turning;
 pub mod values;
 pub mod walk;
+pub mod ways;
 pub mod worked;

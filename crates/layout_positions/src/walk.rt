@@ -1,7 +1,7 @@
 //! Positioning: no glyph is attached at first; then lookups go over the buffer, one after the other.
-ghost use Rattle.std.specs.Prelude.{◌≡◌, ◌<◌, ◌^◌, length, All};
+ghost use Rattle.std.specs.Prelude.{◌≡◌, ◌<◌, ◌^◌, fold, length, All};
 ghost use Rattle.shape_buffer.specs.Outcome.{Made};
-ghost use Rattle.layout_positions.specs.Walk.{unattached as unattached_of, started, lookup_step, lookup_applied, positioned, HasPlace};
+ghost use Rattle.layout_positions.specs.Walk.{unattached as unattached_of, started, lookup_step, lookup_applied, budgeted, positioned, HasPlace};
 
 use crate::bases::BaseSeen;
 use crate::nested::{apply_nested, most_named};
@@ -74,35 +74,39 @@ fn step_on(lookup: &Lookup<'_>, buffer: &mut hb_buffer_t, spot: Spot) -> Spot
     }
 }
 
-/// Goes over a buffer with a lookup, from its first glyph on.
+/// Goes over a buffer with a lookup, from its first glyph on, whose rules may name so many others.
+/// Returns how many may still be named.
 #[tactic(auto, using(layout_matching::proofs::LoopLemmas::times_step))]
-pub fn apply_over(lookup: &Lookup<'_>, buffer: &mut hb_buffer_t)
+pub fn apply_over(lookup: &Lookup<'_>, buffer: &mut hb_buffer_t, left: usize) -> usize
     requires { lookup.now.place < 2 ^ 17 }
-    ensures { buffer.new ≡ lookup_applied buffer.old lookup.now }
+    ensures { record { buffer = buffer.new; left = result }
+        ≡ lookup_applied (record { buffer = buffer.old; left = left }) lookup.now }
 {
+    let seen = BaseSeen {
+        until: 0,
+        place: None,
+    };
     let mut spot = Spot {
         at: 0,
-        carried: Carried {
-            seen: BaseSeen {
-                until: 0,
-                place: None,
-            },
-            left: most_named(buffer.len()),
-        },
+        carried: Carried { seen, left },
     };
     for _i in 0..buffer.len() {
         spot = step_on(lookup, buffer, spot);
     }
+    spot.carried.left
 }
 
-/// Goes over a buffer with each lookup.
-fn apply_each(lookups: &[Lookup<'_>], buffer: &mut hb_buffer_t)
+/// Goes over a buffer with each lookup; the rules of all of them share one bound.
+fn apply_each(lookups: &[Lookup<'_>], buffer: &mut hb_buffer_t) -> usize
     requires { All HasPlace lookups.now }
-    ensures { buffer.new ≡ positioned lookups.now buffer.old }
+    ensures { record { buffer = buffer.new; left = result }
+        ≡ fold lookup_applied (budgeted buffer.old) lookups.now }
 {
+    let mut left = most_named(buffer.len());
     for lookup in lookups {
-        apply_over(lookup, buffer);
+        left = apply_over(lookup, buffer, left);
     }
+    left
 }
 
 /// Positions the glyphs of a buffer by lookups, one after the other. The number of items and the

@@ -8,7 +8,7 @@ use Rattle.shape_font.specs.Bytes.{i16_of}
 use Rattle.shape_items.specs.Buffer.{Buffer}
 use Rattle.shape_items.specs.Items.{Item}
 use Rattle.layout_matching.specs.declared.lookup.Lookup.{Lookup}
-use Rattle.layout_positions.specs.Walk.{lookup_applied}
+use Rattle.layout_positions.specs.Walk.{positioned}
 use Rattle.layout_positions.specs.Worked.Lines.{base, mark, part_of, line, advances, offsets, chains}
 use Rattle.layout_positions.specs.Worked.Marks.{on_bases}
 use Rattle.layout_positions.specs.Worked.Pairs.{single_one, single_two, pairs_one, IsLookup}
@@ -30,7 +30,7 @@ in_context = 0 ∷ 1 ∷ 0 ∷ 0 ∷ 0 ∷ 0 ∷ 0 ∷ 0 ∷ 0 ∷ 10 ∷ 0 ∷ 
     0 ∷ 3 ∷ 0 ∷ 2 ∷ 0 ∷ 1 ∷ 0 ∷ 14 ∷ 0 ∷ 14 ∷ 0 ∷ 1 ∷ 0 ∷ 1 ∷ 0 ∷ 1 ∷ 0 ∷ 2 ∷ 0 ∷ 2 ∷ 0 ∷ 3 ∷ one_part 1 single_one)
 
 abbrev over : Lookup → List Item → Buffer
-over l items = lookup_applied (line LeftToRight items) l
+over l items = positioned (l ∷ []) (line LeftToRight items)
 
 -- the same glyph, for which the lookup is off
 abbrev off : ℕ → ℕ → Item
