@@ -46,6 +46,18 @@ where
         → ((i : ℕ) (o : Ordering) → i < count → F.post side i o → o ≡ says i)
         → result ≡ found_by says count }
 {
+    found_within(count, side)
+}
+
+/// The same, but `side` is called at places below `count` alone, so it may rely on the list's having room for them.
+pub fn found_within<F: Fn(u32) -> Ordering>(count: u32, side: F) -> Option<u32>
+where
+    F: Drop,
+    requires { (i : ℕ) → i < count → F.pre side i }
+    ensures { (says : ℕ → Ordering)
+        → ((i : ℕ) (o : Ordering) → i < count → F.post side i o → o ≡ says i)
+        → result ≡ found_by says count }
+{
     let (mut start, mut end) = (0, count);
     while start < end {
         let middle = start + (end - start - 1) / 2;

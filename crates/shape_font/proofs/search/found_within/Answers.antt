@@ -1,6 +1,6 @@
 use Rattle.std.proofs.Common.{◌∙◌, sym, refl, arith}
 use Rattle.shape_font.proofs.MidpointLemmas.{enough, found_in-none, step_less, step_equal, step_greater}
-use Rattle.shape_font.proofs.search.found.Goals as goal
+use Rattle.shape_font.proofs.search.found_within.Goals as goal
 
 pub loop-start-init : goal.loop-start-init
 loop-start-init g c = record { within = omega arith; same = λ says tells. enough says _ c.args.count 0 c.args.count (omega arith) (omega arith) }
