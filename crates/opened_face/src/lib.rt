@@ -1,0 +1,18 @@
+//! A face that is opened once: [`OpenedFace`] returns what [`FontFace`](shape_font::FontFace) returns for the same
+//! bytes, and most of it from tables that are made when it is opened.
+//!
+//! A look-up in `cmap` is a search of some hundred instructions; a look-up in a page of 256 glyphs is a few. So the
+//! pages of the characters that `cmap` lists are filled by searches once, and the advances of all glyphs are stored.
+//! What isn't stored is asked of the face below. [`ranges`] reads which characters a subtable lists, [`pages`]
+//! chooses and fills pages, [`advances`] stores advances, and [`face`] puts them together. [`worked`] has the
+//! definitions computed by hand.
+#![tactic(auto)]
+#![allow(non_camel_case_types)]
+
+pub mod advances;
+pub mod face;
+pub mod pages;
+pub mod ranges;
+pub mod worked;
+
+pub use face::OpenedFace;
