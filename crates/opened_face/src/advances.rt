@@ -7,7 +7,7 @@ use shape_font::FontFace;
 use std::alloc::Global;
 
 /// The horizontal advances of the glyphs of a face. Refuses with `Memory` if a growth was refused.
-pub fn advances_of(alloc: Global, face: &FontFace<'_>) -> Result<Vec<i32>, ShapeError>
+pub(crate) fn advances_of(alloc: Global, face: &FontFace<'_>) -> Result<Vec<i32>, ShapeError>
     ensures ok { IfOk result (λ advances. AreAdvances face.now advances.items) }
     ensures all { IfOk result (λ advances. length advances.items ≡ face.now.glyph_count) }
     ensures memory { IsOkUnless result ShapeError.Memory }

@@ -12,10 +12,10 @@ use shape_font::FontFace;
 use std::alloc::Global;
 
 /// The most pages that are stored.
-pub const MOST_PAGES: usize = 512;
+const MOST_PAGES: usize = 512;
 
 /// How many pages Unicode has.
-pub const UNICODE_PAGES: u16 = 4352;
+const UNICODE_PAGES: u16 = 4352;
 
 /// The entry of a page that isn't stored.
 const NOT_STORED: u16 = 65535;
@@ -49,7 +49,7 @@ fn page_of(c: u32) -> u16
 }
 
 /// The pages that are stored for a subtable. Refuses with `Memory` if a growth was refused.
-pub fn listed_pages(alloc: Global, table: &[u8]) -> Result<Vec<u16>, ShapeError>
+pub(crate) fn listed_pages(alloc: Global, table: &[u8]) -> Result<Vec<u16>, ShapeError>
     ensures few { IfOk result (λ pages. length pages.items ≤ 512) }
     ensures memory { IsOkUnless result ShapeError.Memory }
 {
@@ -64,7 +64,7 @@ pub fn listed_pages(alloc: Global, table: &[u8]) -> Result<Vec<u16>, ShapeError>
 }
 
 /// For each page of Unicode its place among the stored ones. Refuses with `Memory` if a growth was refused.
-pub fn index_of(alloc: Global, pages: &[u16]) -> Result<Vec<u16>, ShapeError>
+pub(crate) fn index_of(alloc: Global, pages: &[u16]) -> Result<Vec<u16>, ShapeError>
     requires { length pages.now ≤ 512 }
     ensures ok { IfOk result (λ index. IsIndexOf pages.now index.items) }
     ensures short { IfOk result (λ index. length index.items ≤ 4352) }
@@ -93,7 +93,11 @@ fn glyph_in(face: &FontFace<'_>, pages: &[u16], i: usize) -> u32
 }
 
 /// The glyphs of these pages. Refuses with `Memory` if a growth was refused.
-pub fn glyphs_of(alloc: Global, face: &FontFace<'_>, pages: &[u16]) -> Result<Vec<u32>, ShapeError>
+pub(crate) fn glyphs_of(
+    alloc: Global,
+    face: &FontFace<'_>,
+    pages: &[u16],
+) -> Result<Vec<u32>, ShapeError>
     requires { length pages.now ≤ 512 }
     ensures ok { IfOk result (λ glyphs. AreGlyphsOf face.now pages.now glyphs.items) }
     ensures all { IfOk result (λ glyphs. length glyphs.items ≡ 256 * length pages.now) }

@@ -6,7 +6,7 @@ ghost use Rattle.opened_face.specs.Ranges.{range_count as range_count_of, first_
 use shape_font::bytes::{records, u16_at, u32_at};
 
 /// How many ranges of characters the subtable has room for.
-pub fn range_count(table: &[u8]) -> u32
+pub(crate) fn range_count(table: &[u8]) -> u32
     ensures { result ≡ range_count_of table.now }
 {
     match u16_at(table, 0) {
@@ -18,7 +18,7 @@ pub fn range_count(table: &[u8]) -> u32
 }
 
 /// The first character of range `i`.
-pub fn first(table: &[u8], i: u32) -> u32
+pub(crate) fn first(table: &[u8], i: u32) -> u32
     ensures { result ≡ first_listed table.now i }
 {
     match u16_at(table, 0) {
@@ -34,7 +34,7 @@ pub fn first(table: &[u8], i: u32) -> u32
 }
 
 /// The last character of range `i`.
-pub fn last(table: &[u8], i: u32) -> u32
+pub(crate) fn last(table: &[u8], i: u32) -> u32
     ensures { result ≡ last_listed table.now i }
 {
     match u16_at(table, 0) {
