@@ -13,7 +13,7 @@ pub struct Frame {
 }
 
 /// A point of an outline; `on` if the outline goes through it.
-#[derive(Clone, Copy)]
+#[derive(Clone, Copy, PartialEq, Debug)]
 pub struct Point {
     pub x: f64,
     pub y: f64,
