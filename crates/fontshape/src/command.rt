@@ -33,56 +33,216 @@ enum Takes {
 struct Choice(&'static str, char, Takes, &'static str);
 
 const INPUT_CHOICES: [Choice; 10] = [
-    Choice("face-index", 'y', Takes::Number(0xFFFF_FFFF), "The font of a collection"),
+    Choice(
+        "face-index",
+        'y',
+        Takes::Number(0xFFFF_FFFF),
+        "The font of a collection",
+    ),
     Choice("text", ' ', Takes::Word("TEXT"), "The text"),
-    Choice("text-file", ' ', Takes::Word("FILE"), "A file to read texts from, - for standard input"),
-    Choice("unicodes", 'u', Takes::Word("LIST"), "The text by numbers such as U+0041,1F600"),
-    Choice("text-before", ' ', Takes::Word("TEXT"), "What stands before each text"),
-    Choice("text-after", ' ', Takes::Word("TEXT"), "What stands after each text"),
-    Choice("unicodes-before", ' ', Takes::Word("LIST"), "What stands before each text, by numbers"),
-    Choice("unicodes-after", ' ', Takes::Word("LIST"), "What stands after each text, by numbers"),
+    Choice(
+        "text-file",
+        ' ',
+        Takes::Word("FILE"),
+        "A file to read texts from, - for standard input",
+    ),
+    Choice(
+        "unicodes",
+        'u',
+        Takes::Word("LIST"),
+        "The text by numbers such as U+0041,1F600",
+    ),
+    Choice(
+        "text-before",
+        ' ',
+        Takes::Word("TEXT"),
+        "What stands before each text",
+    ),
+    Choice(
+        "text-after",
+        ' ',
+        Takes::Word("TEXT"),
+        "What stands after each text",
+    ),
+    Choice(
+        "unicodes-before",
+        ' ',
+        Takes::Word("LIST"),
+        "What stands before each text, by numbers",
+    ),
+    Choice(
+        "unicodes-after",
+        ' ',
+        Takes::Word("LIST"),
+        "What stands after each text, by numbers",
+    ),
     Choice("bot", ' ', Takes::Nothing, "Each text begins a paragraph"),
     Choice("eot", ' ', Takes::Nothing, "Each text ends a paragraph"),
 ];
 
 const SHAPING_CHOICES: [Choice; 15] = [
-    Choice("features", ' ', Takes::Word("LIST"), "Features such as kern=0,-liga,aalt[3:5]=2"),
-    Choice("direction", ' ', Takes::Word("DIRECTION"), "ltr, rtl, ttb or btt (guessed)"),
-    Choice("script", ' ', Takes::Word("SCRIPT"), "A tag of ISO 15924 (guessed)"),
+    Choice(
+        "features",
+        ' ',
+        Takes::Word("LIST"),
+        "Features such as kern=0,-liga,aalt[3:5]=2",
+    ),
+    Choice(
+        "direction",
+        ' ',
+        Takes::Word("DIRECTION"),
+        "ltr, rtl, ttb or btt (guessed)",
+    ),
+    Choice(
+        "script",
+        ' ',
+        Takes::Word("SCRIPT"),
+        "A tag of ISO 15924 (guessed)",
+    ),
     Choice("language", ' ', Takes::Word("LANGUAGE"), "A name of BCP 47"),
-    Choice("font-size", ' ', Takes::Word("SIZE"), "Units of the em square, or of its width and height (the font's)"),
-    Choice("cluster-level", ' ', Takes::Number(2), "0 merges graphemes, 1 characters, 2 nothing"),
-    Choice("mode", ' ', Takes::Number(4), "How texts are normalised (the shaper's)"),
-    Choice("utf8-clusters", ' ', Takes::Nothing, "Clusters are bytes and not characters"),
-    Choice("invisible-glyph", ' ', Takes::Number(0xFFFF_FFFF), "The glyph of default ignorables (the space's)"),
+    Choice(
+        "font-size",
+        ' ',
+        Takes::Word("SIZE"),
+        "Units of the em square, or of its width and height (the font's)",
+    ),
+    Choice(
+        "cluster-level",
+        ' ',
+        Takes::Number(2),
+        "0 merges graphemes, 1 characters, 2 nothing",
+    ),
+    Choice(
+        "mode",
+        ' ',
+        Takes::Number(4),
+        "How texts are normalised (the shaper's)",
+    ),
+    Choice(
+        "utf8-clusters",
+        ' ',
+        Takes::Nothing,
+        "Clusters are bytes and not characters",
+    ),
+    Choice(
+        "invisible-glyph",
+        ' ',
+        Takes::Number(0xFFFF_FFFF),
+        "The glyph of default ignorables (the space's)",
+    ),
     Choice(
         "not-found-variation-selector-glyph",
         ' ',
         Takes::Number(0xFFFF_FFFF),
         "The glyph of a variation selector that the font has no glyph for",
     ),
-    Choice("preserve-default-ignorables", ' ', Takes::Nothing, "Default ignorables stay as they are"),
-    Choice("remove-default-ignorables", ' ', Takes::Nothing, "Default ignorables are deleted"),
-    Choice("unsafe-to-concat", ' ', Takes::Nothing, "Ask for this flag of glyphs"),
-    Choice("safe-to-insert-tatweel", ' ', Takes::Nothing, "Ask for this flag of glyphs"),
-    Choice("no-layout", ' ', Takes::Nothing, "Shape without the tables of lookups"),
+    Choice(
+        "preserve-default-ignorables",
+        ' ',
+        Takes::Nothing,
+        "Default ignorables stay as they are",
+    ),
+    Choice(
+        "remove-default-ignorables",
+        ' ',
+        Takes::Nothing,
+        "Default ignorables are deleted",
+    ),
+    Choice(
+        "unsafe-to-concat",
+        ' ',
+        Takes::Nothing,
+        "Ask for this flag of glyphs",
+    ),
+    Choice(
+        "safe-to-insert-tatweel",
+        ' ',
+        Takes::Nothing,
+        "Ask for this flag of glyphs",
+    ),
+    Choice(
+        "no-layout",
+        ' ',
+        Takes::Nothing,
+        "Shape without the tables of lookups",
+    ),
 ];
 
 const OUTPUT_CHOICES: [Choice; 14] = [
-    Choice("output-file", 'o', Takes::Word("FILE"), "The file to write to (standard output)"),
-    Choice("output-format", 'O', Takes::Word("FORMAT"), "text or json (by the output file's name, else text)"),
-    Choice("svg", ' ', Takes::Nothing, "Draw all lines, a bar for each cluster, a mark where one may be cut"),
-    Choice("show-text", ' ', Takes::Nothing, "Write each text before its glyphs"),
-    Choice("show-unicode", ' ', Takes::Nothing, "Write the characters before their glyphs"),
-    Choice("show-line-num", ' ', Takes::Nothing, "Write the number of each line"),
+    Choice(
+        "output-file",
+        'o',
+        Takes::Word("FILE"),
+        "The file to write to (standard output)",
+    ),
+    Choice(
+        "output-format",
+        'O',
+        Takes::Word("FORMAT"),
+        "text or json (by the output file's name, else text)",
+    ),
+    Choice(
+        "svg",
+        ' ',
+        Takes::Nothing,
+        "Draw all lines, a bar for each cluster, a mark where one may be cut",
+    ),
+    Choice(
+        "show-text",
+        ' ',
+        Takes::Nothing,
+        "Write each text before its glyphs",
+    ),
+    Choice(
+        "show-unicode",
+        ' ',
+        Takes::Nothing,
+        "Write the characters before their glyphs",
+    ),
+    Choice(
+        "show-line-num",
+        ' ',
+        Takes::Nothing,
+        "Write the number of each line",
+    ),
     Choice("verbose", 'v', Takes::Nothing, "All of the last three"),
-    Choice("no-glyph-names", ' ', Takes::Nothing, "Write glyphs by their numbers"),
-    Choice("no-positions", ' ', Takes::Nothing, "Write no offsets and advances"),
-    Choice("no-advances", ' ', Takes::Nothing, "Write no advances, and offsets from the start of the line"),
+    Choice(
+        "no-glyph-names",
+        ' ',
+        Takes::Nothing,
+        "Write glyphs by their numbers",
+    ),
+    Choice(
+        "no-positions",
+        ' ',
+        Takes::Nothing,
+        "Write no offsets and advances",
+    ),
+    Choice(
+        "no-advances",
+        ' ',
+        Takes::Nothing,
+        "Write no advances, and offsets from the start of the line",
+    ),
     Choice("no-clusters", ' ', Takes::Nothing, "Write no clusters"),
-    Choice("ned", ' ', Takes::Nothing, "Write neither clusters nor advances"),
-    Choice("show-extents", ' ', Takes::Nothing, "Write the boxes of glyphs"),
-    Choice("show-flags", ' ', Takes::Nothing, "Write the flags of glyphs"),
+    Choice(
+        "ned",
+        ' ',
+        Takes::Nothing,
+        "Write neither clusters nor advances",
+    ),
+    Choice(
+        "show-extents",
+        ' ',
+        Takes::Nothing,
+        "Write the boxes of glyphs",
+    ),
+    Choice(
+        "show-flags",
+        ' ',
+        Takes::Nothing,
+        "Write the flags of glyphs",
+    ),
 ];
 
 /// An option as `clap` reads it: a later use counts and not an earlier one.
@@ -99,7 +259,9 @@ fn argument<'a>(alloc: Global, choice: Choice, heading: &'a str) -> Result<Arg<'
     Ok(match takes {
         Takes::Nothing => arg.action(ArgAction::SetTrue),
         Takes::Word(value) => arg.value_name(value).allow_hyphen_values(true),
-        Takes::Number(most) => arg.value_name("N").value_parser(ValueParser::unsigned(0, most)),
+        Takes::Number(most) => arg
+            .value_name("N")
+            .value_parser(ValueParser::unsigned(0, most)),
     })
 }
 
@@ -123,9 +285,9 @@ pub fn command<'a>(alloc: Global) -> Result<Command<'a>, AllocError> {
         .value_name("FONT")
         .required(true)
         .help("A font file (OpenType or TrueType), or a collection");
-    let word = Arg::new(alloc, "word")
-        .value_name("TEXT")
-        .help("The text to shape; without one, each line of standard input");
+    let word = Arg::new(alloc, "word").value_name("TEXT").help(
+        "The text to shape; without one, each line of standard input",
+    );
     let version = Arg::new(alloc, "version")
         .long("version")
         .help("Print version")

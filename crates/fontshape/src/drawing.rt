@@ -50,7 +50,11 @@ pub struct Bounds {
 
 /// A number that is near enough to be drawn; 0 if it is none.
 fn near(x: f64) -> f64 {
-    if x.is_nan() { 0.0 } else { x.max(-FARTHEST).min(FARTHEST) }
+    if x.is_nan() {
+        0.0
+    } else {
+        x.max(-FARTHEST).min(FARTHEST)
+    }
 }
 
 /// A drawing of at most so many bytes: a step that would pass them is left out.

@@ -69,7 +69,9 @@ impl Failure {
         if let ShapeError::Memory = error {
             return Failure::Memory;
         }
-        match format!(in alloc; "line {number}: the text is too long, or its glyphs would be too many") {
+        match format!(in alloc;
+            "line {number}: the text is too long, or its glyphs would be too many"
+        ) {
             Ok(text) => Failure::Refused(text),
             Err(_) => Failure::Memory,
         }

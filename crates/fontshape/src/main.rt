@@ -70,7 +70,15 @@ impl<'a, W: Write + Drop> Work<'a, W> {
                 Err(error) => Err(Failure::line(alloc, number, error)),
             },
             None => {
-                let output = written(alloc, self.options, &self.face, text, &line, number, &glyphs)?;
+                let output = written(
+                    alloc,
+                    self.options,
+                    &self.face,
+                    text,
+                    &line,
+                    number,
+                    &glyphs,
+                )?;
                 self.write(alloc, output.bytes())
             }
         }
@@ -146,13 +154,21 @@ fn buffered<R: Read + Drop>(alloc: Global, reader: R) -> Result<BufReader<R>, Fa
 }
 
 /// The outlines to draw, none if glyphs are written. Refuses to draw a font without any.
-fn drawn<'a>(alloc: Global, options: &Options, bytes: &'a [u8]) -> Result<Option<Outlines<'a>>, Failure> {
+fn drawn<'a>(
+    alloc: Global,
+    options: &Options,
+    bytes: &'a [u8],
+) -> Result<Option<Outlines<'a>>, Failure> {
     if options.format() != Format::Svg {
         return Ok(None);
     }
     match Outlines::from_slice(bytes, options.face_index()) {
         Some(outlines) => Ok(Some(outlines)),
-        None => Err(Failure::file(alloc, options.font(), "no outlines to draw, since it has no table glyf")),
+        None => Err(Failure::file(
+            alloc,
+            options.font(),
+            "no outlines to draw, since it has no table glyf",
+        )),
     }
 }
 

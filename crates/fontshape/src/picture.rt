@@ -213,7 +213,10 @@ impl Picture {
             rounded(self.right - self.left),
             rounded(0.0 - self.low),
         );
-        write!(out, " viewBox=\"{x} 0 {width} {height}\">\n<g transform=\"scale(1 -1)\">\n")?;
+        write!(
+            out,
+            " viewBox=\"{x} 0 {width} {height}\">\n<g transform=\"scale(1 -1)\">\n"
+        )?;
         out.push_str(self.body.as_str())?;
         out.push_str("</g>\n</svg>\n")?;
         Ok(out)

@@ -9,8 +9,8 @@ use shape_pipeline::ot_shaper::{
     ComposedDiacritics, ComposedDiacriticsNoShortCircuit, Decomposed, Preference, Shortest,
 };
 use shape_pipeline::{
-    DEFAULT_SHAPER, GlyphBuffer, NoLookups, Preferring, Script, ShapeError, UnicodeBuffer, hb_default_shaper_t,
-    hb_font_t, hb_ot_layout_t, hb_ot_shaper_t, shape,
+    DEFAULT_SHAPER, GlyphBuffer, NoLookups, Preferring, Script, ShapeError, UnicodeBuffer,
+    hb_default_shaper_t, hb_font_t, hb_ot_layout_t, hb_ot_shaper_t, shape,
 };
 use shape_unicode::UnicodeDatabase;
 use shape_users::hebrew::HebrewShaper;

@@ -46,7 +46,10 @@ impl Factor {
     /// A size over the units of the em square.
     fn new(size: i32, units: u16) -> Factor {
         if units == 0 {
-            return Factor { fixed: 0, real: 0.0 };
+            return Factor {
+                fixed: 0,
+                real: 0.0,
+            };
         }
         Factor {
             fixed: i64::from(size) * 65536 / i64::from(units),

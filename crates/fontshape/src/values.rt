@@ -16,10 +16,19 @@ use std::alloc::{AllocError, Global};
 const RUN_FLAGS: [(&str, BufferFlags); 6] = [
     ("bot", BufferFlags::BEGINNING_OF_TEXT),
     ("eot", BufferFlags::END_OF_TEXT),
-    ("preserve-default-ignorables", BufferFlags::PRESERVE_DEFAULT_IGNORABLES),
-    ("remove-default-ignorables", BufferFlags::REMOVE_DEFAULT_IGNORABLES),
+    (
+        "preserve-default-ignorables",
+        BufferFlags::PRESERVE_DEFAULT_IGNORABLES,
+    ),
+    (
+        "remove-default-ignorables",
+        BufferFlags::REMOVE_DEFAULT_IGNORABLES,
+    ),
     ("unsafe-to-concat", BufferFlags::PRODUCE_UNSAFE_TO_CONCAT),
-    ("safe-to-insert-tatweel", BufferFlags::PRODUCE_SAFE_TO_INSERT_TATWEEL),
+    (
+        "safe-to-insert-tatweel",
+        BufferFlags::PRODUCE_SAFE_TO_INSERT_TATWEEL,
+    ),
 ];
 
 /// Options that change what is written of glyphs.
@@ -30,7 +39,10 @@ const FORM_FLAGS: [(&str, u32); 7] = [
     ("no-clusters", SerializeFlags::NO_CLUSTERS),
     ("show-extents", SerializeFlags::GLYPH_EXTENTS),
     ("show-flags", SerializeFlags::GLYPH_FLAGS),
-    ("ned", SerializeFlags::NO_CLUSTERS | SerializeFlags::NO_ADVANCES),
+    (
+        "ned",
+        SerializeFlags::NO_CLUSTERS | SerializeFlags::NO_ADVANCES,
+    ),
 ];
 
 /// The value of an option, none if it isn't there.
@@ -55,7 +67,12 @@ pub fn word_or(
 fn numbers(alloc: Global, name: &str, list: &str) -> Result<String, Failure> {
     match text_of_numbers(alloc, list)? {
         Some(text) => Ok(text),
-        None => Err(Failure::value(alloc, name, list, "hexadecimal numbers of characters such as U+0041,1F600")),
+        None => Err(Failure::value(
+            alloc,
+            name,
+            list,
+            "hexadecimal numbers of characters such as U+0041,1F600",
+        )),
     }
 }
 
@@ -124,7 +141,12 @@ pub fn features(alloc: Global, matches: &ArgMatches) -> Result<Vec<Feature>, Fai
                     return Err(Failure::Memory);
                 }
             }
-            None => return Err(Failure::value(alloc, "features", text, "features such as kern=0,-liga,aalt[3:5]=2")),
+            None => return Err(Failure::value(
+                alloc,
+                "features",
+                text,
+                "features such as kern=0,-liga,aalt[3:5]=2",
+            )),
         }
     }
     Ok(features)
@@ -163,7 +185,12 @@ pub fn size(alloc: Global, matches: &ArgMatches) -> Result<Option<Size>, Failure
     }
     match size_from_string(value) {
         Some(size) => Ok(Some(size)),
-        None => Err(Failure::value(alloc, "font-size", value, "one or two whole numbers, or upem")),
+        None => Err(Failure::value(
+            alloc,
+            "font-size",
+            value,
+            "one or two whole numbers, or upem",
+        )),
     }
 }
 
@@ -229,7 +256,11 @@ pub fn format(alloc: Global, matches: &ArgMatches) -> Result<Format, Failure> {
         Some("text") => Ok(Format::Text),
         Some("json") => Ok(Format::Json),
         Some(other) => Err(Failure::value(alloc, "output-format", other, "text or json")),
-        None if matches.get_str("output-file").unwrap_or("").ends_with(".json") => Ok(Format::Json),
+        None
+            if matches
+                .get_str("output-file")
+                .unwrap_or("")
+                .ends_with(".json") => Ok(Format::Json),
         None => Ok(Format::Text),
     }
 }

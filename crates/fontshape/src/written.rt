@@ -36,7 +36,14 @@ fn glyph_text<F: hb_font_t>(
         return Ok(String::new(alloc));
     }
     match options.format() {
-        Format::Json => serialize_placed_json(alloc, infos, positions, boxes, names, options.form()),
+        Format::Json => serialize_placed_json(
+            alloc,
+            infos,
+            positions,
+            boxes,
+            names,
+            options.form(),
+        ),
         _ => serialize_placed(alloc, infos, positions, boxes, names, options.form()),
     }
 }
@@ -81,7 +88,13 @@ impl Output {
     }
 
     /// Appends the number of the line and a part, between these two, and the end of a line.
-    fn append(&mut self, alloc: Global, open: &str, part: &[u8], close: &str) -> Result<(), AllocError> {
+    fn append(
+        &mut self,
+        alloc: Global,
+        open: &str,
+        part: &[u8],
+        close: &str,
+    ) -> Result<(), AllocError> {
         if let Some(number) = self.number {
             let number = format!(in alloc; "{number}: ")?;
             self.bytes.extend_from_slice(number.as_bytes())?;

@@ -155,4 +155,3 @@ pub(crate) fn append_contours(
     }
     Ok(count.saturating_add(contours as u32))
 }
-

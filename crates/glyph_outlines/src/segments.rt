@@ -75,7 +75,11 @@ fn append_point(
 ) -> Result<Option<Point>, AllocError> {
     match control {
         Some(round) => {
-            let end = if point.on { point } else { middle(round, point) };
+            let end = if point.on {
+                point
+            } else {
+                middle(round, point)
+            };
             path.push(Segment::Curve(round, end))?;
         }
         None if point.on => path.push(Segment::Line(point))?,

@@ -18,6 +18,8 @@ use crate::{cmap, metrics, names, variations};
 use shape_buffer::wrapping::{half, sum};
 use shape_buffer::{GlyphId, hb_font_t, hb_glyph_extents_t, hb_tables_t};
 
+mod lines;
+
 const HEAD: u32 = 0x6865_6164;
 
 const HHEA: u32 = 0x6868_6561;
