@@ -5,9 +5,11 @@
 
 Each run has a font, a list of options and some lines, with marks, joiners, scripts from right to left, bytes that aren't
 UTF-8, and no line at all. The fonts are two copies of DejaVu Sans without GSUB and GPOS: one with `kern`, one without.
-Lists differ in all that `fontshape` takes but `--mode` and `--svg`. A run differs if a byte of standard output does, or
-if one ends with status 0 and the other doesn't. Sizes that don't divide are drawn for the font without `kern` alone: a
-kerned advance is the sum of two rounded numbers there, and of three in HarfBuzz.
+Lists differ in all that `fontshape` takes but `--mode`, `--no-layout`, `--svg` and `-v`, which `hb-shape` takes for
+`--ned`. A run differs if a byte of standard output does, or if one ends with status 0 and the other doesn't. A line in
+another size has no marks and doesn't run down, and one in a size that doesn't divide has no kerning: HarfBuzz halves
+and adds rounded numbers, and `fontshape` rounds what it has added. Variation selectors are left out: HarfBuzz 10 places
+marks after them, and breaks lines beside them, otherwise than HarfBuzz 6 and the libraries.
 
 It needs Debian's fonts-dejavu-core and python3-fonttools (run it by /usr/bin/python3), and a program hb-shape of version
 10; without one of them it says so and ends with status 77.
@@ -25,11 +27,11 @@ FONT = "/usr/share/fonts/truetype/dejavu/DejaVuSans.ttf"
 PROGRAM = Path(__file__).resolve().parent.parent / "crates/fontshape/out/fontshape"
 LOOKUPS = ("GSUB", "GPOS", "GDEF", "BASE", "JSTF")
 LETTERS = ["A", "V", "T", "o", ".", " ", "\u00c1", "\u00e9", "f", "i", "1", "\u2044", "2", "\u05d0", "\u05e9", "\u0416", "\u0391", "\u4e00", "\U0001f600"]
-MARKS = ["\u0301", "\u0323", "\u0302", "\u200d", "\u200c", "\u00ad", "\ufe00", "\ufe0f", "\u034f", "\r", "\t"]
+MARKS = ["\u0301", "\u0323", "\u0302", "\u200d", "\u200c", "\u00ad", "\u034f", "\r", "\t"]
 WRONG = [b"\xff", b"\xc3", b"\xe2\x82", b"\xf0\x9f\x98", b"\xed\xa0\x80", b"\xc0\xaf", b"\x80", b"\xf4\x90\x80\x80"]
 SWITCHES = ["--utf8-clusters", "--bot", "--eot", "--preserve-default-ignorables", "--remove-default-ignorables", "--unsafe-to-concat",
             "--safe-to-insert-tatweel", "--no-glyph-names", "--no-positions", "--no-advances", "--no-clusters", "--ned", "--show-extents",
-            "--show-flags", "--show-text", "--show-unicode", "--show-line-num", "--verbose", "-v"]
+            "--show-flags", "--show-text", "--show-unicode", "--show-line-num", "--verbose"]
 FEATURES = ["kern", "-kern", "kern=0", "kern[3:5]=0", "kern[:2]=0,-liga", "kern[1]=0 liga", ""]
 NUMBERS = ["41", "U+0041", "U+0041,U+0042", "0041 0301 42", "<U+05D0|U+05B8>", "1F600", "uni0041", "u41x42", "\\u0041\\u0301", "{41;42}", "41 A 42"]
 SIZES = ["upem", "2048", "4096", "2048 4096", "1024,2048", "-2048", "0"]
@@ -51,27 +53,28 @@ def fonts(folder):
         font.save(os.path.join(folder, name))
 
 
-def text_of(chance, wrong):
-    """A random line."""
+def text_of(chance, wrong, marks):
+    """A random line, with bytes that are wrong and with marks if they are asked for."""
     line = b""
     for _ in range(chance.randrange(9)):
         draw = chance.random()
         if wrong and draw < 0.2:
             line += chance.choice(WRONG)
         else:
-            line += chance.choice(LETTERS if draw < 0.7 else MARKS).encode()
+            line += chance.choice(LETTERS if draw < 0.7 or not marks else MARKS).encode()
     return line
 
 
-def word_of(chance):
+def word_of(chance, marks):
     """A random text as an argument: no byte that isn't UTF-8, and none that ends a line."""
-    return text_of(chance, False).decode().replace("\r", "")
+    return text_of(chance, False, marks).decode().replace("\r", "")
 
 
-def shaping_options(chance, font):
+def shaping_options(chance, font, sized):
     options = []
     if chance.random() < 0.3:
-        options += chance.choice([["--direction=" + chance.choice(["ltr", "rtl", "ttb", "btt", "l", "RTL"])], ["--direction", "ltr"]])
+        names = ["ltr", "rtl", "l", "RTL"] if sized else ["ltr", "rtl", "ttb", "btt", "l", "RTL"]
+        options += chance.choice([["--direction=" + chance.choice(names)], ["--direction", "ltr"]])
     if chance.random() < 0.3:
         options.append("--script=" + chance.choice(["Latn", "latn", "Hebr", "Grek"]))
     if chance.random() < 0.2:
@@ -84,7 +87,7 @@ def shaping_options(chance, font):
         options.append("--invisible-glyph=%d" % chance.choice([0, 3, 36, 65535]))
     if chance.random() < 0.2:
         options.append("--not-found-variation-selector-glyph=%d" % chance.choice([0, 5, 70000]))
-    if chance.random() < 0.3:
+    if sized:
         options.append("--font-size=" + chance.choice(SIZES if font == "kern.ttf" else SIZES + ODD_SIZES))
     return options
 
@@ -93,15 +96,16 @@ def context_options(chance):
     options = []
     for side in ("before", "after"):
         if chance.random() < 0.2:
-            options.append("--text-%s=%s" % (side, word_of(chance) or "x"))
+            options.append("--text-%s=%s" % (side, word_of(chance, True) or "x"))
         elif chance.random() < 0.1:
             options.append("--unicodes-%s=%s" % (side, chance.choice(NUMBERS)))
     return options
 
 
-def source_options(chance, given):
+def source_options(chance, given, marks):
     """Options that say what is shaped, and what is given on standard input."""
     draw = chance.random()
+    numbers = NUMBERS if marks else [list for list in NUMBERS if "03" not in list and "05" not in list]
     if draw < 0.5:
         return [], given
     if draw < 0.6:
@@ -109,10 +113,10 @@ def source_options(chance, given):
     if draw < 0.65:
         return ["--text-file", "-"], given
     if draw < 0.75:
-        return [chance.choice(["--unicodes=", "-u"]) + chance.choice(NUMBERS)], b""
+        return chance.choice([["--unicodes=" + chance.choice(numbers)], ["-u", chance.choice(numbers)]]), b""
     if draw < 0.85:
-        return ["--text", word_of(chance)], b""
-    return [word_of(chance) + chance.choice(["", "\n", "\nA"])], b""
+        return ["--text", word_of(chance, marks)], b""
+    return [word_of(chance, marks) + chance.choice(["", "\n", "\nA"])], b""
 
 
 def run(program, options, given, folder):
@@ -126,17 +130,17 @@ def run(program, options, given, folder):
 
 def random_run(chance):
     font = chance.choice(["kern.ttf", "plain.ttf"])
-    given = b"\n".join(text_of(chance, True) for _ in range(chance.randrange(4)))
+    sized = chance.random() < 0.25
+    given = b"\n".join(text_of(chance, True, not sized) for _ in range(chance.randrange(4)))
     given += b"\n" if chance.random() < 0.7 else b""
-    source, piped = source_options(chance, given)
-    options = shaping_options(chance, font) + context_options(chance) + [switch for switch in SWITCHES if chance.random() < 0.12]
+    source, piped = source_options(chance, given, not sized)
+    options = shaping_options(chance, font, sized) + context_options(chance) + [switch for switch in SWITCHES if chance.random() < 0.12]
     if chance.random() < 0.3:
         options += chance.choice([["--output-format=json"], ["--output-format=text"], ["-O", "json"]])
     if chance.random() < 0.1:
         options += chance.choice([["--output-file=written"], ["-o", "written"]])
-    chance.shuffle(source)
     words = [font] + options + source
-    if len(source) == 1 and not source[0].startswith("-") and chance.random() < 0.2:
+    if len(source) == 1 and source[0] and not source[0].startswith("-") and chance.random() < 0.2:
         words = options + [font, "--"] + source
     return words, given, piped
 

@@ -1,6 +1,6 @@
 #!/usr/bin/env python3
 """Makes the tests' fonts, of seven and eight glyphs of boxes, from nothing. It writes `tiny.ttf` beside itself and, as
-text, to the crate `test_stages`; and to tests/fontshape `tall.ttf`, which has metrics of vertical lines, a dotted circle
+text, to the crates `test_stages` and `test_forms`; and to tests/fontshape `tall.ttf`, which has metrics of vertical lines, a dotted circle
 and its kerning in GPOS too, `two.ttc`, a collection of both, `flat.ttf`, which has no outlines, and `heavy.ttf`, whose A
 has 65,536 points in few bytes. They are under this repository's licence.
 
@@ -222,9 +222,10 @@ def main():
         with open(os.path.join(top, name), "wb") as file:
             file.write(data)
         print(name, len(data), "bytes")
-    with open(os.path.join(top, "crates/test_stages/src/fonts/tiny.rt"), "w") as file:
-        file.write("//! The font that crates/fontshape/data/tiny-font.py makes: its bytes, 32 a row, by two digits each.\n\n")
-        file.write('pub const DIGITS: &str = "\\\n%s";\n' % as_text(file_of(tiny())))
+    for name in "crates/test_stages/src/fonts/tiny.rt", "crates/test_forms/src/tiny.rt":
+        with open(os.path.join(top, name), "w") as file:
+            file.write("//! The font that crates/fontshape/data/tiny-font.py makes: its bytes, 32 a row, by two digits each.\n\n")
+            file.write('pub const DIGITS: &str = "\\\n%s";\n' % as_text(file_of(tiny())))
 
 
 if __name__ == "__main__":

@@ -116,7 +116,7 @@ const SHAPING_CHOICES: [Choice; 15] = [
         "mode",
         ' ',
         Takes::Number(4),
-        "How texts are normalised (the shaper's)",
+        "How texts are normalised, 0 to 4 (the shaper's)",
     ),
     Choice(
         "utf8-clusters",

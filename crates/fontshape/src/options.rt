@@ -71,8 +71,8 @@ impl Options {
         Ok(Options {
             font: values::word_or(alloc, matches, "font", "")?,
             source: values::source(alloc, matches)?,
-            before: values::context(alloc, matches, "text-before", "unicodes-before")?,
-            after: values::context(alloc, matches, "text-after", "unicodes-after")?,
+            before: values::context(alloc, matches, "--text-before", "--unicodes-before")?,
+            after: values::context(alloc, matches, "--text-after", "--unicodes-after")?,
             features: values::features(alloc, matches)?,
             direction: values::direction(alloc, matches)?,
             script: values::script(alloc, matches)?,

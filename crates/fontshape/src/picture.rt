@@ -189,15 +189,20 @@ impl Picture {
         let bars = Bars::of(glyphs.direction(), self.em, drawing.bounds());
         drawing.begin_lines(self.em * 0.03125)?;
         draw_clusters(alloc, &mut drawing, glyphs, places, bars)?;
-        self.put(&drawing)?;
+        let least = if glyphs.direction().is_vertical() {
+            0.0
+        } else {
+            self.em * 0.75
+        };
+        self.put(&drawing, least)?;
         Ok(())
     }
 
-    /// Puts a drawing below all that is there, with a gap between them.
-    fn put(&mut self, drawing: &Drawing) -> Result<(), AllocError> {
+    /// Puts a drawing below all that is there, with a gap between them and at least so much room above its origin.
+    fn put(&mut self, drawing: &Drawing, least: f64) -> Result<(), AllocError> {
         let bounds = drawing.bounds();
         let gap = self.em * 0.125;
-        let base = self.low - gap - bounds.high.max(self.em * 0.75);
+        let base = self.low - gap - bounds.high.max(least);
         self.low = base + bounds.low - gap;
         self.left = self.left.min(bounds.left - gap);
         self.right = self.right.max(bounds.right + gap);

@@ -113,16 +113,17 @@ pub fn source(alloc: Global, matches: &ArgMatches) -> Result<Source, Failure> {
     }
 }
 
-/// What stands before or after each text, empty if nothing does.
+/// What stands before or after each text, by one of these two options; empty if neither is there.
 pub fn context(
     alloc: Global,
     matches: &ArgMatches,
     text: &str,
     list: &str,
 ) -> Result<String, Failure> {
-    match (matches.get_str(text), matches.get_str(list)) {
+    let name = list.trim_start_matches('-');
+    match (matches.get_str(text.trim_start_matches('-')), matches.get_str(name)) {
         (Some(_), Some(_)) => Err(Failure::both(alloc, text, list)),
-        (None, Some(value)) => numbers(alloc, list, value),
+        (None, Some(value)) => numbers(alloc, name, value),
         (Some(value), None) => Ok(String::from_str(alloc, value)?),
         (None, None) => Ok(String::new(alloc)),
     }
