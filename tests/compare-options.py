@@ -7,8 +7,8 @@ Each run has a font, a list of options and some lines, with marks, joiners, scri
 UTF-8, and no line at all. The fonts are two copies of DejaVu Sans without GSUB and GPOS: one with `kern`, one without.
 Lists differ in all that `fontshape` takes but `--mode`, `--no-layout`, `--svg` and `-v`, which `hb-shape` takes for
 `--ned`. A run differs if a byte of standard output does, or if one ends with status 0 and the other doesn't. A line in
-another size has no marks and doesn't run down, and one in a size that doesn't divide has no kerning: HarfBuzz halves
-and adds rounded numbers, and `fontshape` rounds what it has added. Variation selectors are left out: HarfBuzz 10 places
+another size has no marks, no kerning and doesn't run down: HarfBuzz halves and adds rounded numbers, and `fontshape`
+rounds what it has halved and added. One from right to left has a script: HarfBuzz has a native direction without one. Variation selectors are left out: HarfBuzz 10 places
 marks after them, and breaks lines beside them, otherwise than HarfBuzz 6 and the libraries.
 
 It needs Debian's fonts-dejavu-core and python3-fonttools (run it by /usr/bin/python3), and a program hb-shape of version
@@ -70,12 +70,12 @@ def word_of(chance, marks):
     return text_of(chance, False, marks).decode().replace("\r", "")
 
 
-def shaping_options(chance, font, sized):
+def shaping_options(chance, sized):
     options = []
     if chance.random() < 0.3:
         names = ["ltr", "rtl", "l", "RTL"] if sized else ["ltr", "rtl", "ttb", "btt", "l", "RTL"]
         options += chance.choice([["--direction=" + chance.choice(names)], ["--direction", "ltr"]])
-    if chance.random() < 0.3:
+    if options or chance.random() < 0.3:
         options.append("--script=" + chance.choice(["Latn", "latn", "Hebr", "Grek"]))
     if chance.random() < 0.2:
         options.append("--language=" + chance.choice(["en_US.UTF-8", "fa", "de-AT"]))
@@ -88,7 +88,7 @@ def shaping_options(chance, font, sized):
     if chance.random() < 0.2:
         options.append("--not-found-variation-selector-glyph=%d" % chance.choice([0, 5, 70000]))
     if sized:
-        options.append("--font-size=" + chance.choice(SIZES if font == "kern.ttf" else SIZES + ODD_SIZES))
+        options.append("--font-size=" + chance.choice(SIZES + ODD_SIZES))
     return options
 
 
@@ -129,12 +129,12 @@ def run(program, options, given, folder):
 
 
 def random_run(chance):
-    font = chance.choice(["kern.ttf", "plain.ttf"])
     sized = chance.random() < 0.25
+    font = "plain.ttf" if sized else chance.choice(["kern.ttf", "plain.ttf"])
     given = b"\n".join(text_of(chance, True, not sized) for _ in range(chance.randrange(4)))
     given += b"\n" if chance.random() < 0.7 else b""
     source, piped = source_options(chance, given, not sized)
-    options = shaping_options(chance, font, sized) + context_options(chance) + [switch for switch in SWITCHES if chance.random() < 0.12]
+    options = shaping_options(chance, sized) + context_options(chance) + [switch for switch in SWITCHES if chance.random() < 0.12]
     if chance.random() < 0.3:
         options += chance.choice([["--output-format=json"], ["--output-format=text"], ["-O", "json"]])
     if chance.random() < 0.1:
