@@ -1,14 +1,14 @@
 //! Outlines of a font file's glyphs: its table `glyf` (OpenType, "glyf", "loca").
 //!
 //! Any bytes are taken, and every call returns: what lies past the end of an outline reads as 0, a glyph is made of at
-//! most [`MOST_PARTS`](outlines::MOST_PARTS) others, the last of which begins after at most
+//! most [`MOST_COMPONENTS`](outlines::MOST_COMPONENTS) others, the last of which begins after at most
 //! [`MOST_POINTS`](outlines::MOST_POINTS) points, and an outline has at most as many segments as the caller asks for.
-//! [`outlines`] finds the parts of a glyph, [`contours`] reads the points of one, [`segments`] makes lines and curves
-//! of them, and [`frame`] says where a part stands.
+//! [`outlines`] finds the components of a glyph, [`contours`] reads the points of one, [`segments`] makes lines and curves
+//! of them, and [`frame`] says where a component stands.
 #![tactic(auto)]
 
-pub mod contours;
-pub mod frame;
+mod contours;
+mod frame;
 pub mod outlines;
 pub mod segments;
 

@@ -20,7 +20,7 @@ const LOCA: u32 = 0x6c6f_6361;
 const GLYF: u32 = 0x676c_7966;
 
 /// The most glyphs that one is drawn of.
-pub const MOST_PARTS: u32 = 256;
+pub const MOST_COMPONENTS: u32 = 256;
 
 /// The most points and contours after which another glyph is added to one. A few bytes can stand for 65,536 points.
 pub const MOST_POINTS: u32 = 65536;
@@ -33,9 +33,9 @@ pub struct Outlines<'a> {
     long: bool,
 }
 
-/// A part of a glyph that is still to be drawn.
+/// A component of a glyph that is still to be drawn.
 #[derive(Clone, Copy)]
-struct Part {
+struct Component {
     glyph: u16,
     frame: Frame,
 }
@@ -115,53 +115,57 @@ impl<'a> Outlines<'a> {
 
     /// Appends the outline of a glyph. Gives how many points and contours were read.
     fn append(&self, alloc: Global, path: &mut Path, glyph: u16) -> Result<u32, AllocError> {
-        let mut parts = Vec::new(alloc);
-        parts.push(Part {
+        let mut components = Vec::new(alloc);
+        components.push(Component {
             glyph,
             frame: Frame::still(),
         })?;
         let mut read: u32 = 0;
-        for _ in 0..MOST_PARTS {
-            let Some(part) = parts.pop() else {
+        for _ in 0..MOST_COMPONENTS {
+            let Some(component) = components.pop() else {
                 return Ok(read);
             };
-            let points = self.append_part(alloc, path, &mut parts, &part, read)?;
+            let points = self.append_component(alloc, path, &mut components, &component, read)?;
             read = read.saturating_add(points);
         }
         Ok(read)
     }
 
-    /// Appends the contours of a part, unless more than [`MOST_POINTS`] were read already; or adds the parts that it is
+    /// Appends the contours of a component, unless more than [`MOST_POINTS`] were read already; or adds the components that it is
     /// made of to those still to be drawn. Gives how many points and contours that took.
-    fn append_part(
+    fn append_component(
         &self,
         alloc: Global,
         path: &mut Path,
-        parts: &mut Vec<Part>,
-        part: &Part,
+        components: &mut Vec<Component>,
+        component: &Component,
         read: u32,
     ) -> Result<u32, AllocError> {
-        let outline = self.bytes(part.glyph);
+        let outline = self.bytes(component.glyph);
         if number(outline, 0) < 0 {
-            append_parts(parts, outline, &part.frame)?;
+            append_components(components, outline, &component.frame)?;
             Ok(0)
         } else if read <= MOST_POINTS {
-            append_contours(alloc, path, outline, &part.frame)
+            append_contours(alloc, path, outline, &component.frame)
         } else {
             Ok(0)
         }
     }
 }
 
-/// Appends the parts of a glyph that is made of others.
-fn append_parts(parts: &mut Vec<Part>, outline: &[u8], frame: &Frame) -> Result<(), AllocError> {
+/// Appends the components of a glyph that is made of others.
+fn append_components(
+    components: &mut Vec<Component>,
+    outline: &[u8],
+    frame: &Frame,
+) -> Result<(), AllocError> {
     let mut at: usize = 10;
-    for _ in 0..MOST_PARTS {
+    for _ in 0..MOST_COMPONENTS {
         let flags = natural(outline, at);
         let glyph = natural(outline, at.saturating_add(2));
         let words = flags & 1 != 0;
         let inner = inner_frame(outline, at.saturating_add(4), flags);
-        parts.push(Part {
+        components.push(Component {
             glyph,
             frame: frame.within(&inner),
         })?;
@@ -174,7 +178,7 @@ fn append_parts(parts: &mut Vec<Part>, outline: &[u8], frame: &Frame) -> Result<
     Ok(())
 }
 
-/// How many bytes the scale of a part takes.
+/// How many bytes the scale of a component takes.
 fn scale_len(flags: u16) -> usize {
     if flags & 8 != 0 {
         2
@@ -187,7 +191,7 @@ fn scale_len(flags: u16) -> usize {
     }
 }
 
-/// The frame of a part, whose offsets stand at `at`. A part that is placed by points is not moved.
+/// The frame of a component, whose offsets stand at `at`. A component that is placed by points is not moved.
 fn inner_frame(outline: &[u8], at: usize, flags: u16) -> Frame {
     let mut frame = Frame::still();
     let words = flags & 1 != 0;
