@@ -108,8 +108,22 @@ fn shaped_with<F: hb_font_t, M: hb_ot_layout_t<F>>(
     }
 }
 
-/// The glyphs of a line, kerned by the table `kern` of a font without GPOS. A font with GPOS has its kerning there, and
-/// no engine here reads it. Refuses as `shape` does.
+/// The glyphs of a buffer without tables of lookups, kerned by the table `kern` of a font without GPOS: a font with GPOS
+/// has its kerning there.
+fn shaped_without_layout(
+    alloc: Global,
+    options: &Options,
+    face: &FontFace,
+    buffer: UnicodeBuffer,
+) -> Result<GlyphBuffer, ShapeError> {
+    if face.tables().gpos {
+        shaped_with::<FontFace, NoLookups>(alloc, options, face, buffer)
+    } else {
+        shaped_with::<FontFace, KernTable>(alloc, options, face, buffer)
+    }
+}
+
+/// The glyphs of a line. Refuses as `shape` does.
 pub fn shaped(
     alloc: Global,
     options: &Options,
@@ -117,9 +131,5 @@ pub fn shaped(
     line: &Line,
 ) -> Result<GlyphBuffer, ShapeError> {
     let buffer = filled(alloc, options, line)?;
-    if face.tables().gpos {
-        shaped_with::<FontFace, NoLookups>(alloc, options, face, buffer)
-    } else {
-        shaped_with::<FontFace, KernTable>(alloc, options, face, buffer)
-    }
+    shaped_without_layout(alloc, options, face, buffer)
 }
