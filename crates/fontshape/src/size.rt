@@ -52,7 +52,10 @@ impl Factor {
             };
         }
         Factor {
-            fixed: i64::from(size) * 65536 / i64::from(units),
+            fixed: i64::from(size)
+                .wrapping_mul(65536)
+                .checked_div(i64::from(units))
+                .unwrap_or(0),
             real: nearest_i32_to_f32(size) / f32::from(units),
         }
     }
