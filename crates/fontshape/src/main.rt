@@ -27,6 +27,7 @@ use crate::written::written;
 use glyph_outlines::Outlines;
 use shape_font::FontFace;
 use shape_pipeline::hb_font_t;
+use shape_text_forms::SerializeFlags;
 use std::alloc::Global;
 use std::fs::File;
 use std::io::{BufRead, BufReader, BufWriter, Read, Write};
@@ -172,6 +173,19 @@ fn drawn<'a>(
     }
 }
 
+/// Says that boxes are asked for of a font that has none.
+fn warn_of_boxes(rt: &HostRuntime, options: &Options, bytes: &[u8]) -> Result<(), Failure> {
+    let asked = options.form().asks(SerializeFlags::GLYPH_EXTENTS);
+    if !asked || Outlines::from_slice(bytes, options.face_index()).is_some() {
+        return Ok(());
+    }
+    let name = options.font();
+    match eprintln!(rt; "warning: {name}: no boxes, since it has no table glyf") {
+        Ok(()) => Ok(()),
+        Err(error) => Err(Failure::io(rt.alloc(), "standard error", error)),
+    }
+}
+
 /// Shapes with the font of a file, for this writer.
 fn run_to<W: Write + Drop>(
     rt: &HostRuntime,
@@ -185,6 +199,7 @@ fn run_to<W: Write + Drop>(
         return Err(Failure::no_font(alloc, options.font(), index));
     };
     let outlines = drawn(alloc, options, bytes)?;
+    warn_of_boxes(rt, options, bytes)?;
     let Ok(writer) = BufWriter::new(alloc, writer) else {
         return Err(Failure::Memory);
     };
