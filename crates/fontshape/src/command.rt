@@ -28,7 +28,7 @@ enum Takes {
     Number(u64),
 }
 
-/// An option, or a letter for it; a space if it has no letter.
+/// An option: its name, a letter for it or a space, what it takes, and its help.
 #[derive(Clone, Copy)]
 struct Choice(&'static str, char, Takes, &'static str);
 

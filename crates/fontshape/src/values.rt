@@ -121,7 +121,10 @@ pub fn context(
     list: &str,
 ) -> Result<String, Failure> {
     let name = list.trim_start_matches('-');
-    match (matches.get_str(text.trim_start_matches('-')), matches.get_str(name)) {
+    match (
+        matches.get_str(text.trim_start_matches('-')),
+        matches.get_str(name),
+    ) {
         (Some(_), Some(_)) => Err(Failure::both(alloc, text, list)),
         (None, Some(value)) => numbers(alloc, name, value),
         (Some(value), None) => Ok(String::from_str(alloc, value)?),

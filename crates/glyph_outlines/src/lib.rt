@@ -3,8 +3,8 @@
 //! Any bytes are taken, and every call returns: what lies past the end of an outline reads as 0, a glyph is made of at
 //! most [`MOST_COMPONENTS`](outlines::MOST_COMPONENTS) others, the last of which begins after at most
 //! [`MOST_POINTS`](outlines::MOST_POINTS) points, and an outline has at most as many segments as the caller asks for.
-//! [`outlines`] finds the components of a glyph, [`contours`] reads the points of one, [`segments`] makes lines and curves
-//! of them, and [`frame`] says where a component stands.
+//! [`outlines`] finds the components of a glyph; its private neighbours read the points of one, make [`segments`] of
+//! them, and say where a component stands.
 #![tactic(auto)]
 
 mod contours;

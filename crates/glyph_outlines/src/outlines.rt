@@ -131,7 +131,7 @@ impl<'a> Outlines<'a> {
         Ok(read)
     }
 
-    /// Appends the contours of a component, unless more than [`MOST_POINTS`] were read already; or adds the components that it is
+    /// Appends the contours of a component, unless more than [`MOST_POINTS`] were read already; or adds those that it is
     /// made of to those still to be drawn. Gives how many points and contours that took.
     fn append_component(
         &self,

@@ -3,7 +3,9 @@ use crate::comparing::assert_that;
 use crate::tiny::DIGITS;
 use serde_json::Value;
 use shape_font::FontFace;
-use shape_pipeline::{DEFAULT_SHAPER, GlyphBuffer, NoLookups, UnicodeBuffer, hb_default_shaper_t, shape};
+use shape_pipeline::{
+    DEFAULT_SHAPER, GlyphBuffer, NoLookups, UnicodeBuffer, hb_default_shaper_t, shape,
+};
 use shape_text_forms::{SerializeFlags, serialize, serialize_json};
 use shape_unicode::UnicodeDatabase;
 use std::alloc::Global;
@@ -40,5 +42,8 @@ fn texts(rt: HostRuntime) {
         {\"g\":\"B\",\"cl\":1,\"dx\":0,\"dy\":0,\"ax\":640,\"ay\":0}]";
     assert_that(&rt, json.as_str() == wanted);
     let read = Value::from_str(alloc, json.as_str()).expect(&rt, "JSON");
-    assert_that(&rt, read.pointer("/1/ax").and_then(Value::as_u64) == Some(640));
+    assert_that(
+        &rt,
+        read.pointer("/1/ax").and_then(Value::as_u64) == Some(640),
+    );
 }
