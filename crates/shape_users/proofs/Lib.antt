@@ -1,4 +1,3 @@
-pub mod AuthorLemmas
 mod FoundRows
 mod HookLemmas
 mod LigatureLemmas

@@ -83,7 +83,7 @@ fn bring_before(buffer: &mut hb_buffer_t, ccc: u8, place: usize, from: usize, en
 }
 
 /// The modifier marks that begin the marks of a ccc step to the front of the run and get another ccc, once
-/// they are in one cluster with those that they move past. Answers how many they are.
+/// they are in one cluster with those that they move past. Returns how many they are.
 fn move_modifiers(buffer: &mut hb_buffer_t, ccc: u8, other: u8, start: usize, end: usize) -> usize
     requires ordered { start ≤ end }
     requires within { end ≤ length buffer.old.items }

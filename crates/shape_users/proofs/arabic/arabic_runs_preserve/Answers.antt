@@ -7,7 +7,7 @@ use Rattle.shape_users.proofs.arabic.arabic_runs_preserve.Goals as goal
 pub returns-clause-clusters : goal.returns-clause-clusters
 returns-clause-clusters g c = λ plan face keep.
     c.given_hooks_preserve.ensures.clusters plan face
-    (λ shaper. record { preprocess = inl refl; setup_masks = inl refl; postprocess = inl refl; pause = inl refl }) keep
+    (λ shaper. record { preprocess = inl refl; postprocess = inl refl; pause = inl refl }) keep
     (shaper-preserves modifiers_reordered modifiers_preserve_runs _ (λ shaper. refl) plan.shaper)
 
 pub returns-clause-flags : goal.returns-clause-flags
