@@ -97,6 +97,8 @@ pub record WorkedValues : Type 0 where
   pub other_format : is_read (0 ∷ 0 ∷ 0 ∷ 1 ∷ 0 ∷ 0 ∷ 0 ∷ 14 ∷ 3 ∷ 1 ∷ []) 4 true ≡ false
   pub parts : parts_of (table 3 1) ≡ 3
   pub other_version : parts_of (0 ∷ 1 ∷ 0 ∷ 0 ∷ 0 ∷ 0 ∷ 0 ∷ 1 ∷ []) ≡ 0
+  -- where a count would stand if the version were 0
+  pub count_of_another_version : parts_of (0 ∷ 1 ∷ 0 ∷ 3 ∷ []) ≡ 0
   pub minimum_too : is_read (table 1 3) 4 true ≡ true
   -- 65536 more than the right glyph of (2, 3) if the left one is 1
   pub right_past_all_glyphs : value_of (table 1 1) 4 1 65539 ≡ pos 0
@@ -118,6 +120,7 @@ worked_values = record {
   other_format = refl;
   parts = refl;
   other_version = refl;
+  count_of_another_version = refl;
   minimum_too = refl;
   right_past_all_glyphs = refl;
 }
