@@ -15,18 +15,18 @@ use Rattle.layout_matching.specs.Loops.{times}
 use Rattle.layout_matching.specs.Seeking.{fits}
 use Rattle.layout_matching.specs.Skipping.{shares, is_skipped}
 use Rattle.layout_matching.specs.declared.lookup.Lookup.{Lookup}
-use Rattle.layout_substitution.specs.Applied.{Applied, unapplied, put_one, single_applied, value_of, is_random, next_random, random_put, random_applied, alternate_applied, cluster_at, is_left_in, Handing, is_handed, handed_step, handed_back, left_to_neighbours, gone, Copying, copy_like, copy_put, copies_put, first_put, several_put, list_put, sequence_put, multiple_applied}
+use Rattle.layout_substitution.specs.Applied.{Applied, unapplied, put_one, single_applied, value_of, is_random, next_random, random_put, random_applied, alternate_applied, cluster_at, is_left_in, Handing, is_handed, handed_step, handed_back, left_to_neighbours, gone, Copying, copy_like, copy_put, first_put, several_put, list_put, sequence_put, multiple_applied}
 use Rattle.layout_substitution.specs.Edits.{item_at, is_inside, is_past, put_at, put_after, taken_out, merged, broken, parted}
-use Rattle.layout_substitution.specs.Kinds.{kind_applied, part_applied, or_else, or_next, parts_applied, lookup_applied}
+use Rattle.layout_substitution.specs.Kinds.{kind_applied, part_applied, or_else, parts_applied, lookup_applied}
 use Rattle.layout_substitution.specs.Ligatures.{Joined, between_stays, component_gone, looked_for, stays, join_step, follows, follow_step, followed, part_among, first_joined, joined, ligation_of, id_given, ligatures_reach, ligature_found, ligature_put, ligature_made, set_ligated, ligature_applied}
 use Rattle.layout_substitution.specs.Off.{off_glyphs, HasNoFlag}
-use Rattle.layout_substitution.specs.Replaced.{replaced, as_part, taken_apart, as_ligature}
+use Rattle.layout_substitution.specs.Replaced.{replaced, as_part}
 use Rattle.layout_substitution.specs.Substitutes.{single_of, set_of, alternate_of, listed_count, listed_at, ligature_glyph, component_count}
 use Rattle.layout_substitution.specs.declared.apply.Spot.{Spot}
 use Rattle.layout_substitution.specs.declared.ligature.Components.{Components}
 use Rattle.layout_substitution.specs.declared.ligature.Ligation.{Ligation}
 use Rattle.layout_substitution.proofs.AppliedLemmas.{like-replaced, like-apart, like-ligature}
-use Rattle.layout_substitution.proofs.OffLemmas.{bare, Same, Same-then, same-if, same-times, same-merged, same-broken, same-parted, same-put, bare-handed, on_at, same-off, same-on, put-off, put_after-off, taken_out-off, put-on, off-if}
+use Rattle.layout_substitution.proofs.OffLemmas.{Same, Same-then, same-if, same-times, same-merged, same-broken, same-parted, same-put, bare-handed, on_at, same-off, same-on, put-off, put_after-off, taken_out-off, put-on, off-if}
 
 -- the glyphs that are off stay, and if nothing was applied the lookup is still on at the place
 pub record Off (l : Lookup) (b : Buffer) (at : ℕ) (made : Applied) : Type 0 where

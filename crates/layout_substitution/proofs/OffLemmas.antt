@@ -1,16 +1,13 @@
 -- What lookups of kinds 1 to 4 leave of the glyphs for which they are off.
 use Prim.Native.Nat.{zero}
-use Rattle.std.proofs.Common.{◌≡◌, ℕ, suc, ◌+◌, ◌-◌, ◌<◌, ◌≤◌, ◌&&◌, ◌||◌, not, Bool, true, false, List, [], ◌∷◌, map, length, Option, Some, None, nat_lt, nat_le, nat_eq, refl, ap, sym, ◌∙◌, subst, arith, if◌then◌else◌, slice_set, slice_index_or, get_or}
+use Rattle.std.proofs.Common.{◌≡◌, ℕ, suc, ◌+◌, ◌≤◌, ◌&&◌, not, Bool, true, false, List, [], ◌∷◌, map, length, nat_lt, nat_le, nat_eq, refl, ap, sym, ◌∙◌, arith, if◌then◌else◌, slice_set, slice_index_or, get_or}
 use Rattle.std.proofs.lemmas.Bool.Decides.{nat_tests}
-use Rattle.std.proofs.lemmas.List.{length-map}
-use Rattle.std.proofs.lemmas.List.Edits.{get_or-insert_below, get_or-remove_below}
 use Rattle.std.proofs.lemmas.Nat.{and_assoc, and_comm, and_or_apart}
 use Rattle.std.proofs.Math.ListN.{get_or-map}
 use Rattle.std.proofs.Math.Seq.{map-set_same}
 use Rattle.std.specs.Int.Bits.{and_zero_r}
-use Rattle.std.specs.Int.RustNames.{bit_and, bit_or}
+use Rattle.std.specs.Int.RustNames.{bit_and}
 use Rattle.std.specs.List.{remove, insert}
-use Rattle.std.specs.Option.{option_map_or}
 use Rattle.shape_common.specs.Positions.{zero_position}
 use Rattle.shape_items.specs.Buffer.{Buffer}
 use Rattle.shape_items.specs.BufferClusters.{merge_clusters, unsafe_to_break, unsafe_to_concat, with_glyph_flags}

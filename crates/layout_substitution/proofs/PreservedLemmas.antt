@@ -1,12 +1,12 @@
 -- What edits of a buffer preserve: clusters are drawn from those there were, in order, flags are seen, and settings stay.
 use Prim.Native.Nat.{zero}
-use Rattle.std.proofs.Common.{◌≡◌, ℕ, suc, ◌+◌, ◌-◌, ◌<◌, ◌≤◌, ◌==◌, ◌||◌, ◌&&◌, Bool, true, false, List, [], ◌∷◌, ◌++◌, map, length, take, drop, nat_lt, nat_le, nat_eq, refl, ap, sym, ◌∙◌, inl, inr, subst, arith, if◌then◌else◌, slice_set, slice_index_or}
+use Rattle.std.proofs.Common.{◌≡◌, ℕ, suc, ◌+◌, ◌-◌, ◌<◌, ◌≤◌, ◌||◌, ◌&&◌, Bool, true, false, List, [], ◌∷◌, map, length, nat_lt, nat_le, refl, ap, sym, ◌∙◌, inl, inr, subst, arith, if◌then◌else◌, slice_set, slice_index_or}
 use Rattle.std.proofs.lemmas.Bool.Decides.{nat_tests}
 use Rattle.std.proofs.lemmas.Nat.{and_assoc, and_or_apart, or_comm}
 use Rattle.std.proofs.Math.Seq.{map-set_same}
-use Rattle.std.specs.Int.RustNames.{bit_and, bit_or}
+use Rattle.std.specs.Int.RustNames.{bit_and}
 use Rattle.std.specs.List.{list_any, remove, insert}
-use Rattle.shape_items.specs.Buffer.{Buffer, limit_of}
+use Rattle.shape_items.specs.Buffer.{Buffer}
 use Rattle.shape_items.specs.BufferClusters.{merge_clusters, unsafe_to_break, unsafe_to_concat, with_glyph_flags}
 use Rattle.shape_items.specs.Clusters.{clusters, map_range, mark_concat}
 use Rattle.shape_items.specs.Items.{Item, new_item, feature_bits}

@@ -1,5 +1,5 @@
 use Rattle.std.proofs.Common.{◌≡◌, ◌<◌, ◌≤◌, ◌+◌, ◌-◌, Some, None, sym, ap, subst, ◌∙◌, length, arith}
-use Rattle.shape_items.specs.Buffer.{Buffer, limit_of}
+use Rattle.shape_items.specs.Buffer.{limit_of}
 use Rattle.shape_buffer.specs.Outcome.{IsWithinLimit}
 use Rattle.layout_tables.specs.Lookups.{subtable_count_of}
 use Rattle.layout_substitution.specs.Applied.{Applied}
