@@ -1,6 +1,6 @@
 -- Rules tried one after the other, step by step.
 use Prim.Native.Nat.{zero}
-use Rattle.std.proofs.Common.{◌≡◌, ℕ, suc, ◌+◌, ◌-◌, ◌<◌, ◌≤◌, Bool, true, false, List, min, max, refl, ap, ◌∙◌, arith, if◌then◌else◌}
+use Rattle.std.proofs.Common.{◌≡◌, ℕ, suc, ◌+◌, ◌-◌, ◌<◌, ◌≤◌, true, false, min, max, refl, ap, ◌∙◌, arith}
 use Rattle.layout_matching.specs.Tried.{untried, joined_reach, until_matched}
 use Rattle.layout_matching.specs.declared.tried.Reach.{Reach}
 

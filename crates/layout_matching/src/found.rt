@@ -151,7 +151,13 @@ fn set_by_class(table: &[u8], is_chain: bool, start: usize, glyph: u32) -> Optio
 }
 
 /// The rules for a glyph with this number.
-pub(crate) fn set_for(table: &[u8], is_chain: bool, start: usize, glyph: u32, number: u32) -> Option<usize>
+pub(crate) fn set_for(
+    table: &[u8],
+    is_chain: bool,
+    start: usize,
+    glyph: u32,
+    number: u32,
+) -> Option<usize>
     requires { start < 2 ^ 35 }
     ensures value { result ≡ set_for_of table.now is_chain start glyph number }
     ensures near { IfSome result (λ s. s < 2 ^ 36) }

@@ -9,7 +9,9 @@ ghost use Rattle.layout_matching.specs.Tried.{set_reach as set_reach_of, number_
 ghost use Rattle.layout_matching.specs.Tried.{sets_reach as sets_reach_of, part_reach as part_reach_of};
 ghost use Rattle.layout_matching.specs.Tried.{reach_at_part, reach_of};
 
-use crate::found::{is_chained, is_context_part, is_first, number_in, part_at, rule_by, set_for, whole_rule};
+use crate::found::{
+    is_chained, is_context_part, is_first, number_in, part_at, rule_by, set_for, whole_rule,
+};
 use crate::input::match_input;
 use crate::lookup::Lookup;
 use crate::rules::{Rule, is_inside, rule_at};
@@ -61,7 +63,11 @@ fn after_reach(
     let n = u32::from(rule.after.count);
     match last_after(lookup, &seek, items, n, last) {
         Some(far) => before_reach(lookup, items, origin, rule, far + 1),
-        None => vain(origin.at, origin.at, after_end(lookup, &seek, items, n, last)),
+        None => vain(
+            origin.at,
+            origin.at,
+            after_end(lookup, &seek, items, n, last),
+        ),
     }
 }
 
@@ -234,12 +240,7 @@ fn part_reach(
 }
 
 /// How far the rules of part `i` looked.
-fn reach_by_part(
-    lookup: &Lookup<'_>,
-    items: &[hb_glyph_info_t],
-    origin: Origin,
-    i: u32,
-) -> Reach
+fn reach_by_part(lookup: &Lookup<'_>, items: &[hb_glyph_info_t], origin: Origin, i: u32) -> Reach
     requires near { lookup.now.place < 2 ^ 17 }
     requires few { i < 2 ^ 16 }
     requires inside { origin.at < length items.now }

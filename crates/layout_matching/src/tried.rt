@@ -100,10 +100,7 @@ fn stop_before(
     ensures { result ≡ stop_before_of lookup.now seek.now items.now k i }
 {
     match distance_back(lookup, seek, items, k, i) {
-        Some(d) => i
-            .saturating_sub(1)
-            .saturating_sub(d)
-            .saturating_sub(1),
+        Some(d) => i.saturating_sub(1).saturating_sub(d).saturating_sub(1),
         None => 0,
     }
 }

@@ -1,6 +1,6 @@
 -- Glyphs put in place of one, and a cluster handed back, step by step.
 use Prim.Native.Nat.{zero}
-use Rattle.std.proofs.Common.{◌≡◌, ℕ, suc, ◌+◌, ◌-◌, ◌<◌, ◌≤◌, Bool, true, false, length, nat_lt, slice_set, if◌then◌else◌, refl, sym, ap, ◌∙◌, arith, rules}
+use Rattle.std.proofs.Common.{◌≡◌, ℕ, suc, ◌+◌, ◌-◌, ◌<◌, ◌≤◌, true, false, length, slice_set, if◌then◌else◌, refl, ap, ◌∙◌, arith}
 use Rattle.std.proofs.lemmas.Bool.Decides.{nat_tests}
 use Rattle.std.proofs.lemmas.List.{length-set}
 use Rattle.std.proofs.lemmas.List.Edits.{length-insert}
@@ -10,7 +10,7 @@ use Rattle.shape_items.specs.Items.{Item}
 use Rattle.layout_matching.proofs.LoopLemmas.{times_stays}
 use Rattle.layout_substitution.specs.Edits.{item_at, is_inside, put_at, put_after}
 use Rattle.layout_matching.specs.Loops.{times}
-use Rattle.layout_substitution.specs.Applied.{Handing, is_handed, handed_step, Copying, copy_put, copies_put, first_put, several_put}
+use Rattle.layout_substitution.specs.Applied.{Handing, is_handed, handed_step, Copying, copy_put, first_put, several_put}
 use Rattle.layout_substitution.specs.Substitutes.{listed_count}
 use Rattle.layout_matching.specs.declared.lookup.Lookup.{Lookup}
 
@@ -54,8 +54,11 @@ length_several l list at b inside =
 -- ---- a cluster handed back
 
 pub handed_on : (cluster : ℕ) (s : Handing) → is_handed cluster s ≡ true
-    → handed_step cluster s ≡ record { buffer = put_at (s.at - 1)
-        (hand_over (item_at s.buffer s.at) (item_at s.buffer (s.at - 1))) s.buffer; at = s.at - 1 }
+    → handed_step cluster s ≡ record {
+      buffer = put_at (s.at - 1)
+          (hand_over (item_at s.buffer s.at) (item_at s.buffer (s.at - 1))) s.buffer;
+      at = s.at - 1;
+    }
 handed_on cluster s goes = rw goes refl
 
 pub handed_stops : (cluster n i : ℕ) (first s : Handing) → i ≤ n → s ≡ times (handed_step cluster) i first → is_handed cluster s ≡ false

@@ -1,8 +1,6 @@
 -- Marks leave as many items as there were, and the limit of the run.
-use Rattle.std.proofs.Common.{◌≡◌, ℕ, ◌≤◌, ◌<◌, ◌==◌, Bool, true, false, ◌&&◌, length, nat_le, nat_lt, refl, ap, arith, if◌then◌else◌}
+use Rattle.std.proofs.Common.{◌≡◌, ℕ, ◌≤◌, Bool, true, false, ◌&&◌, length, nat_le, nat_lt, refl, arith, if◌then◌else◌}
 use Rattle.std.proofs.lemmas.Bool.Decides.{nat_tests}
-use Rattle.std.specs.Int.RustNames.{bit_and}
-use Rattle.shape_common.specs.FlagNames.{PRODUCE_UNSAFE_TO_CONCAT}
 use Rattle.shape_items.specs.Buffer.{Buffer, limit_of}
 use Rattle.shape_items.specs.BufferClusters.{unsafe_to_break, unsafe_to_concat, with_glyph_flags}
 use Rattle.shape_items.specs.Clusters.{map_range, mark_concat}
@@ -56,6 +54,6 @@ parted_untried at b =
 pub parted_unasked : (r : Reach) (b : Buffer) → asks_for_concat b ≡ false → parted r b ≡ b
 parted_unasked r b unasked = elim (nat_lt r.from r.to && nat_le r.to (length b.items)) as
     (λ t. (if t then unsafe_to_concat r.from r.to b else b) ≡ b) [
-  | true ↦ rw unasked refl
-  | false ↦ refl
-]
+      | true ↦ rw unasked refl
+      | false ↦ refl
+    ]

@@ -1,8 +1,8 @@
 -- The parts of a lookup, one by one.
 use Prim.Native.Nat.{zero}
-use Rattle.std.proofs.Common.{◌≡◌, ℕ, suc, ◌+◌, ◌-◌, ◌<◌, ◌≤◌, Bool, true, false, List, Option, Some, None, length, nat_lt, nat_eq, refl, sym, ap, ◌∙◌, subst, arith, if◌then◌else◌, Result, Ok, Err}
+use Rattle.std.proofs.Common.{◌≡◌, ℕ, suc, ◌+◌, ◌-◌, ◌<◌, Bool, true, false, Option, Some, None, length, nat_eq, refl, sym, ap, subst, arith, if◌then◌else◌, Result, Ok, Err}
 use Rattle.std.proofs.lemmas.Bool.Decides.{nat_tests}
-use Rattle.std.specs.Option.{option_map_or, unwrap_or}
+use Rattle.std.specs.Option.{unwrap_or}
 use Rattle.std.specs.Prelude.{IsErrOf}
 use Rattle.shape_buffer.specs.Outcome.{IsWithinLimit}
 use Rattle.shape_buffer.specs.declared.buffer.error.ShapeError.{ShapeError}
@@ -10,10 +10,9 @@ use Rattle.shape_items.specs.Buffer.{Buffer, limit_of}
 use Rattle.layout_tables.specs.Lookups.{subtable_count_of, subtable_of}
 use Rattle.layout_tables.specs.declared.lookups.LookupSubtable.{LookupSubtable}
 use Rattle.layout_matching.specs.declared.lookup.Lookup.{Lookup}
-use Rattle.layout_substitution.specs.Applied.{Applied, unapplied, single_applied, multiple_applied, alternate_applied}
+use Rattle.layout_substitution.specs.Applied.{Applied, unapplied, multiple_applied}
 use Rattle.layout_substitution.specs.Edits.{is_past}
-use Rattle.layout_substitution.specs.Kinds.{kind_applied, part_applied, or_else, or_next, parts_applied, lookup_applied}
-use Rattle.layout_substitution.specs.Ligatures.{ligature_applied}
+use Rattle.layout_substitution.specs.Kinds.{kind_applied, part_applied, or_else, parts_applied, lookup_applied}
 use Rattle.layout_substitution.specs.declared.apply.Spot.{Spot}
 use Rattle.layout_substitution.proofs.AppliedLemmas.{single-preserves, multiple-preserves, alternate-preserves, ligature-preserves, or_unapplied, applied-if}
 use Rattle.layout_substitution.proofs.PreservedLemmas.{Preserves, Preserves-same, Preserves-then}
@@ -49,7 +48,7 @@ parts_found l spot n i b there more is =
     let e : n - i ≡ suc (n - (i + 1)) = omega (arith, more) in
     let P : Bool → Type 0 = λ t. (if t then part_applied l i spot b
     else or_else (parts_applied l spot (n - (i + 1)) (suc i)) (part_applied l i spot b)
-        (part_applied l i spot b).next) ≡ part_applied l i spot b in
+    (part_applied l i spot b).next) ≡ part_applied l i spot b in
     let cases : P (is_past (part_applied l i spot b).buffer) = elim (is_past (part_applied l i spot b).buffer) as P [
       | true ↦ refl
       | false ↦ ap (or_else (parts_applied l spot (n - (i + 1)) (suc i)) (part_applied l i spot b)) is

@@ -1,16 +1,13 @@
 -- What lookups of kinds 1 to 4 leave of the glyphs for which they are off.
 use Prim.Native.Nat.{zero}
-use Rattle.std.proofs.Common.{◌≡◌, ℕ, suc, ◌+◌, ◌-◌, ◌<◌, ◌≤◌, ◌&&◌, ◌||◌, not, Bool, true, false, List, [], ◌∷◌, map, length, Option, Some, None, nat_lt, nat_le, nat_eq, refl, ap, sym, ◌∙◌, subst, arith, if◌then◌else◌, slice_set, slice_index_or, get_or}
+use Rattle.std.proofs.Common.{◌≡◌, ℕ, suc, ◌+◌, ◌≤◌, ◌&&◌, not, Bool, true, false, List, [], ◌∷◌, map, length, nat_lt, nat_le, nat_eq, refl, ap, sym, ◌∙◌, arith, if◌then◌else◌, slice_set, slice_index_or, get_or}
 use Rattle.std.proofs.lemmas.Bool.Decides.{nat_tests}
-use Rattle.std.proofs.lemmas.List.{length-map}
-use Rattle.std.proofs.lemmas.List.Edits.{get_or-insert_below, get_or-remove_below}
 use Rattle.std.proofs.lemmas.Nat.{and_assoc, and_comm, and_or_apart}
 use Rattle.std.proofs.Math.ListN.{get_or-map}
 use Rattle.std.proofs.Math.Seq.{map-set_same}
 use Rattle.std.specs.Int.Bits.{and_zero_r}
-use Rattle.std.specs.Int.RustNames.{bit_and, bit_or}
+use Rattle.std.specs.Int.RustNames.{bit_and}
 use Rattle.std.specs.List.{remove, insert}
-use Rattle.std.specs.Option.{option_map_or}
 use Rattle.shape_common.specs.Positions.{zero_position}
 use Rattle.shape_items.specs.Buffer.{Buffer}
 use Rattle.shape_items.specs.BufferClusters.{merge_clusters, unsafe_to_break, unsafe_to_concat, with_glyph_flags}
@@ -67,7 +64,7 @@ same-times view f each (suc n) s = Same-then (view s) (view (times f n s)) (view
 pub same-merged : (start end : ℕ) (b : Buffer) → Same b (merged start end b)
 same-merged start end b =
     same-if (nat_le start end && nat_le end (length b.items)) b (merge_clusters start end b) b
-        (keys-merge_clusters bare IsKey-bare start end b) refl
+    (keys-merge_clusters bare IsKey-bare start end b) refl
 
 pub same-broken : (start end : ℕ) (b : Buffer) → Same b (broken start end b)
 same-broken start end b =
@@ -156,8 +153,11 @@ put-off l i item b like on = off-if l (is_inside i b) b (record b { items = slic
 pub put_after-off : (l : Lookup) (i : ℕ) (item : Item) (b : Buffer) → shares item.mask l.mask ≡ true
     → off_glyphs l (put_after i item b).items ≡ off_glyphs l b.items
 put_after-off l i item b on =
-    elim (is_inside i b) as (λ t. off_glyphs l (if t then record b { items = insert b.items (i + 1) item; positions =
-        insert b.positions (i + 1) zero_position } else b).items ≡ off_glyphs l b.items) [
+    elim (is_inside i b) as (λ t. off_glyphs l (if t then record b {
+      items = insert b.items (i + 1) item;
+      positions =
+          insert b.positions (i + 1) zero_position;
+    } else b).items ≡ off_glyphs l b.items) [
       | true ↦ insert-off l b.items (i + 1) item on
       | false ↦ refl
     ]
@@ -179,5 +179,5 @@ put-on l i j item b like on =
     ] in
     let same : (item_at put j).mask ≡ (item_at b j).mask =
     sym (get_or-map mask put.items j (new_item 0 0)) ∙ ap (λ (ms : List ℕ). get_or ms j 0) masks
-        ∙ get_or-map mask b.items j (new_item 0 0) in
+    ∙ get_or-map mask b.items j (new_item 0 0) in
     ap (λ m. shares m l.mask) same ∙ on

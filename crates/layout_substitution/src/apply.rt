@@ -38,7 +38,12 @@ pub fn put_glyph(lookup: &Lookup<'_>, buffer: &mut hb_buffer_t, at: usize, glyph
 }
 
 /// Puts another glyph at the place. Returns the next one.
-pub(crate) fn replace(lookup: &Lookup<'_>, buffer: &mut hb_buffer_t, spot: Spot, glyph: u32) -> Option<Spot>
+pub(crate) fn replace(
+    lookup: &Lookup<'_>,
+    buffer: &mut hb_buffer_t,
+    spot: Spot,
+    glyph: u32,
+) -> Option<Spot>
     requires { spot.at < length buffer.old.items }
     ensures made { buffer.new ≡ (put_one lookup.now spot buffer.old glyph).buffer }
     ensures next { result ≡ (put_one lookup.now spot buffer.old glyph).next }
@@ -331,12 +336,7 @@ fn ligate_first(
 }
 
 /// The same, after what was looked at in vain is marked.
-fn apply_set(
-    lookup: &Lookup<'_>,
-    buffer: &mut hb_buffer_t,
-    spot: Spot,
-    set: usize,
-) -> Option<Spot>
+fn apply_set(lookup: &Lookup<'_>, buffer: &mut hb_buffer_t, spot: Spot, set: usize) -> Option<Spot>
     requires near { set < 2 ^ 36 }
     requires inside { spot.at < length buffer.old.items }
     ensures made { buffer.new ≡ (set_ligated lookup.now spot buffer.old set).buffer }

@@ -79,7 +79,9 @@ pub fn break_span(buffer: &mut hb_buffer_t, start: usize, end: usize)
 pub fn asks_for_concat(buffer: &hb_buffer_t) -> bool
     ensures { result ≡ asks_for_concat_of buffer.now }
 {
-    buffer.flags().contains(BufferFlags::PRODUCE_UNSAFE_TO_CONCAT)
+    buffer
+        .flags()
+        .contains(BufferFlags::PRODUCE_UNSAFE_TO_CONCAT)
 }
 
 /// Marks what was looked at in vain unsafe to concat, if the buffer asks for that.

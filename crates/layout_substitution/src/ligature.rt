@@ -9,8 +9,8 @@ ghost use Rattle.layout_substitution.specs.Ligatures.{component_row as component
 ghost use Rattle.layout_substitution.specs.Applied.{with_as_many_after};
 
 use crate::apply::Spot;
-use crate::ligation::how_to_ligate;
 use crate::edits::{item, merge, next_place, put, take_out};
+use crate::ligation::how_to_ligate;
 use crate::replaced::{as_ligature, as_part, parts_of};
 use crate::substitutes::{components, count, has_components, ligature_at, ligature_glyph};
 use layout_matching::input::match_input;

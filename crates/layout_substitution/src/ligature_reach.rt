@@ -22,12 +22,7 @@ use shape_buffer::{hb_buffer_t, hb_glyph_info_t};
 use shape_font::bytes::u16_at;
 
 /// How far the search for the components of a ligature looked in vain.
-fn ligature_reach(
-    lookup: &Lookup<'_>,
-    buffer: &hb_buffer_t,
-    at: usize,
-    ligature: usize,
-) -> Reach
+fn ligature_reach(lookup: &Lookup<'_>, buffer: &hb_buffer_t, at: usize, ligature: usize) -> Reach
     requires near { ligature < 2 ^ 37 }
     requires inside { at < length buffer.now.items }
     ensures { result ≡ ligature_reach_of lookup.now buffer.now at ligature }
@@ -120,8 +115,7 @@ fn begins_otherwise(lookup: &Lookup<'_>, glyph: u32, ligature: usize) -> bool
     requires { ligature < 2 ^ 37 }
     ensures { result ≡ begins_otherwise_of lookup.now glyph ligature }
 {
-    1 < components(lookup.table, ligature)
-        && u32::from(u16_at(lookup.table, ligature + 4)) != glyph
+    1 < components(lookup.table, ligature) && u32::from(u16_at(lookup.table, ligature + 4)) != glyph
 }
 
 /// How far ligature `i` of a set looked, if its second component is the next glyph.

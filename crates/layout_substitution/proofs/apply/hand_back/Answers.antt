@@ -1,4 +1,4 @@
-use Rattle.std.proofs.Common.{◌≡◌, ◌≤◌, sym, ap, ◌∙◌, arith}
+use Rattle.std.proofs.Common.{◌≤◌, sym, ap, ◌∙◌, arith}
 use Rattle.layout_substitution.specs.Applied.{Handing}
 use Rattle.layout_substitution.proofs.CopyLemmas.{handed_stops}
 use Rattle.layout_substitution.proofs.apply.hand_back.Goals as goal

@@ -1,5 +1,5 @@
 use Rattle.std.proofs.Common.{◌≡◌, ◌<◌, ◌≤◌, ◌+◌, ◌-◌, Some, None, sym, ap, subst, ◌∙◌, length, arith}
-use Rattle.shape_items.specs.Buffer.{Buffer, limit_of}
+use Rattle.shape_items.specs.Buffer.{limit_of}
 use Rattle.shape_buffer.specs.Outcome.{IsWithinLimit}
 use Rattle.layout_tables.specs.Lookups.{subtable_count_of}
 use Rattle.layout_substitution.specs.Applied.{Applied}
@@ -54,7 +54,7 @@ loop-i-preserved c =
     let many : length d.items ≡ length b.items = c.in-Ok-None.ensures.as_many none in
     let limit : limit_of d ≡ limit_of b = c.in-Ok-None.ensures.limit none in
     let within : IsWithinLimit d = subst (λ k. length d.items ≤ k) (sym limit)
-        (subst (λ k. k ≤ limit_of b) (sym many) c.loop-i.invariant.within) in
+    (subst (λ k. k ≤ limit_of b) (sym many) c.loop-i.invariant.within) in
     let left : d ≡ (part_applied l i spot b).buffer = c.in-Ok-None.ensures.made in
     record {
       inside = subst (λ k. spot.at < k) (sym many) c.loop-i.invariant.inside;

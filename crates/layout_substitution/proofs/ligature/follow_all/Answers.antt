@@ -1,4 +1,4 @@
-use Rattle.std.proofs.Common.{◌≡◌, ◌≤◌, length, refl, sym, ◌∙◌, arith}
+use Rattle.std.proofs.Common.{◌≤◌, length, sym, ◌∙◌, arith}
 use Rattle.layout_substitution.specs.Ligatures.{Joined}
 use Rattle.layout_substitution.proofs.LigatureLemmas.{follow_stops}
 use Rattle.layout_substitution.proofs.ligature.follow_all.Goals as goal

@@ -1,5 +1,4 @@
-use Rattle.std.proofs.Common.{◌≡◌, Some, ap, ◌∙◌}
-use Rattle.shape_items.specs.Buffer.{Buffer}
+use Rattle.std.proofs.Common.{Some, ap, ◌∙◌}
 use Rattle.layout_substitution.specs.Applied.{with_as_many_after}
 use Rattle.layout_substitution.specs.Ligatures.{ligature_over}
 use Rattle.layout_substitution.specs.declared.apply.Spot.{Spot}

@@ -1,7 +1,6 @@
-use Rattle.std.proofs.Common.{◌≡◌, ◌+◌, ◌-◌, ap, ◌∙◌, length}
+use Rattle.std.proofs.Common.{◌+◌, ◌-◌, ap, ◌∙◌, length}
 use Rattle.shape_items.specs.Buffer.{Buffer}
-use Rattle.layout_substitution.specs.Applied.{Applied}
-use Rattle.layout_substitution.specs.Ligatures.{id_given, ligated, ligature_put}
+use Rattle.layout_substitution.specs.Ligatures.{id_given, ligated}
 use Rattle.layout_substitution.specs.declared.ligature.Ligation.{Ligation}
 use Rattle.layout_substitution.proofs.ligature.put_ligature.Goals as goal
 
