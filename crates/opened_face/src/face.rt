@@ -12,7 +12,7 @@ use std::marker::Model;
 /// A face over the bytes of a font file with tables beside it: it returns what the [`FontFace`] returns, and contracts
 /// see it as that face.
 ///
-/// The tables take 8,704 bytes, 1,024 for each page of 256 characters that `cmap` lists, of which at most 512 are stored,
+/// The tables take 8,704 bytes, 1,024 for each page of 256 characters that `cmap` lists (at most 512 pages),
 /// and four for each glyph: less than a megabyte for any font.
 #[derive(Drop)]
 pub struct OpenedFace<'a> {

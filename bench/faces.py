@@ -1,0 +1,63 @@
+#!/usr/bin/env python3
+"""Prints what look-ups, runs and openings of a face cost: faces.py FOLDER FONT PLAIN KERN.
+
+FOLDER has `faces`; over PLAIN, which is FONT without tables of lookups, and KERN, which has `kern` beside it, runs are measured.
+Where `faces` was built without runs, their columns are empty."""
+import re, subprocess, sys, tempfile
+from texts import KINDS
+
+FOLDER, FONT, PLAIN, KERN = sys.argv[1:5]
+SIZES = 5, 80, 2000
+# What a run is: guessing and shaping, without filling.
+OURS = "*run_kept*"
+# HarfBuzz has a shaper for Hebrew, and composes other marks in runs of more than 32.
+OTHERWISE = "hebrew", "marks33"
+RUNS = {"hbrun": "hb_run", "run": OURS, "runopened": OURS, "kern": OURS, "kernopened": OURS}
+
+
+def counted(engine, font, text, times, inside=None):
+    """Instructions of so many times, in all or inside of a function, and what is printed. None if there is no such engine."""
+    words = ["valgrind", "--tool=callgrind", "--callgrind-out-file=/dev/null"] + [f"--toggle-collect={inside}"] * bool(inside)
+    done = subprocess.run(words + [f"{FOLDER}/faces", engine, font, text, str(times)], capture_output=True, text=True)
+    if done.returncode == 2: return None
+    if done.returncode: raise SystemExit(done.stderr[-2000:])
+    return int(re.search(r"Collected : *(\d+)", done.stderr).group(1)), done.stdout
+
+
+def cost(engine, font, text, low=2, high=6, inside=None):
+    first, second = (counted(engine, font, text, n, inside) for n in (low, high))
+    return second and ((second[0] - first[0]) / (high - low), second[1])
+
+
+def written(folder, kind, size):
+    """A file with so many characters of a kind; words have no spaces."""
+    text = KINDS[kind]
+    if size <= 20: text = "".join(text.split())
+    path = f"{folder}/{kind}-{size}.txt"
+    open(path, "w", newline="").write((text * (size // len(text) + 1))[:size])
+    return path
+
+
+def row(folder, kind, size, engines, font):
+    """Instructions a character of each engine. All must print the same, but HarfBuzz where it shapes otherwise."""
+    found = {engine: cost(engine, font, written(folder, kind, size), inside=RUNS.get(engine)) for engine in engines}
+    same = {f[1] for engine, f in found.items() if f and not (engine == "hbrun" and kind in OTHERWISE)}
+    if len(same) > 1: raise SystemExit(f"{kind} {size}: {found}")
+    return [f"{f[0] / size:,.0f}" if f else "" for f in found.values()]
+
+
+with tempfile.TemporaryDirectory() as folder:
+    print("Glyph and advance of a character, 2,000 characters, instructions a character\n")
+    print("| text | HarfBuzz | `FontFace` | `OpenedFace` |\n|---|---|---|---|")
+    for kind in KINDS:
+        print(f"| {kind} | " + " | ".join(row(folder, kind, 2000, ("hblook", "look", "opened"), FONT)) + " |", flush=True)
+    for what, font, engines in ("without lookups", PLAIN, ("hbrun", "run", "runopened")), ("with `kern`", KERN, ("hbrun", "kern", "kernopened")):
+        for size in SIZES:
+            print(f"\nRuns {what}, plan kept, {size:,} characters, instructions a character\n")
+            print("| text | HarfBuzz | `FontFace` | `OpenedFace` |\n|---|---|---|---|")
+            for kind in KINDS:
+                print(f"| {kind} | " + " | ".join(row(folder, kind, size, engines, font)) + " |", flush=True)
+    print("\nOpening, instructions\n\n| | |\n|---|---|")
+    text = written(folder, "latin", 5)
+    for engine, what in (("hbopen", "HarfBuzz: a font, and one glyph of it"), ("open", "`FontFace::from_slice`"), ("openonce", "that and `OpenedFace::new`")):
+        print(f"| {what} | {cost(engine, FONT, text)[0]:,.0f} |", flush=True)

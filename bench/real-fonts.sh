@@ -1,0 +1,30 @@
+#!/bin/sh
+# Measures faces over a font file beside HarfBuzz's and prints the tables of real fonts of docs/SPEED.md:
+#
+#   bench/real-fonts.sh FOLDER [FONT [WORK]]
+#
+# FOLDER has HarfBuzz's source (`src/harfbuzz.cc` in it), FONT is DejaVu Sans if it is left out, WORK keeps what is built, else
+# a folder that is removed. It wants gcc, g++, valgrind and python3, and is run by hand. Instructions are counted by callgrind,
+# as the difference of two numbers of times, so they are exact. The crate's library is proved and built where it is not yet.
+set -e
+[ -f "$1/src/harfbuzz.cc" ] || { echo "usage: $0 FOLDER-WITH-HARFBUZZ [FONT [WORK]]" >&2; exit 2; }
+source=$(realpath "$1")
+font=${2:-/usr/share/fonts/truetype/dejavu/DejaVuSans.ttf}
+here=$(realpath "$(dirname "$0")")
+kit=$(dirname "$(dirname "$(realpath "$(command -v rt)")")")
+work=$3
+if [ -z "$work" ]; then
+    work=$(mktemp -d)
+    trap 'rm -rf "$work"' EXIT
+fi
+mkdir -p "$work"
+flags="-O2 -g -DNDEBUG"
+[ -f "$work/harfbuzz.o" ] || g++ $flags -fno-exceptions -fno-rtti -c "$source/src/harfbuzz.cc" -o "$work/harfbuzz.o"
+for crate in bench_face bench_font; do (cd "$here/../crates/$crate" && rt lib) >&2; done
+gcc $flags -DRUNS -Wall -I"$source/src" -o "$work/faces" "$here/faces.c" "$work/harfbuzz.o" \
+    "$here/../crates/bench_face/out/libbench_face.a" "$here/../crates/bench_font/out/libbench_font.a" "$kit/c/liblibc_c.a" \
+    -lstdc++ -lm -lpthread
+"$work/faces" check "$font"
+python3 "$here/fonts.py" "$font" "$work/plain.ttf" kern
+python3 "$here/fonts.py" "$font" "$work/kern.ttf"
+python3 "$here/faces.py" "$work" "$font" "$work/plain.ttf" "$work/kern.ttf"
