@@ -4,7 +4,7 @@ pub mod SettleLemmas
 pub mod WayLemmas
 pub mod TurnLemmas
 pub mod StepLemmas
-pub mod TrialLemmas
+pub mod SubtableLemmas
 pub mod NestedLemmas
 pub mod NestedSteps
 pub mod PreservationLemmas

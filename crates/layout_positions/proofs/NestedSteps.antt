@@ -11,7 +11,7 @@ use Rattle.layout_matching.specs.declared.lookup.Lookup.{Lookup}
 use Rattle.layout_matching.specs.declared.rules.Rule.{Rule}
 use Rattle.layout_positions.specs.Edits.{broken}
 use Rattle.layout_positions.specs.Nested.{named_place, named_lookup, Nest, skipped, record_at_place, record_for, record_step, rule_placed, level_placed, LEVELS, nested_placed}
-use Rattle.layout_positions.specs.Trial.{Placing, unplaced, lookup_placed}
+use Rattle.layout_positions.specs.Subtables.{Placing, unplaced, lookup_placed}
 use Rattle.layout_positions.specs.Walk.{Walk, lookup_step, Budgeted, first_walk, lookup_applied, budgeted, positioned}
 use Rattle.layout_positions.specs.declared.bases.BaseSeen.{BaseSeen}
 

@@ -19,7 +19,7 @@ use Rattle.layout_positions.specs.Lookups.{Applied, unapplied}
 use Rattle.layout_positions.specs.Marks.{mark_base_at, mark_base_applied, mark_ligature_at, mark_ligature_applied, mark_mark_at, mark_mark_applied}
 use Rattle.layout_positions.specs.Nested.{rule_placed, level_placed, nested_placed, LEVELS}
 use Rattle.layout_positions.specs.Pairs.{single_value, single_put, single_applied, pair_at_number, has_pairs, pair_applied}
-use Rattle.layout_positions.specs.Trial.{if_first_format, kind_applied, seen_at, Trial, part_tried, next_tried, trial_of, trial_step, Placing, unplaced, lookup_placed}
+use Rattle.layout_positions.specs.Subtables.{if_first_format, kind_applied, seen_at, Trial, part_tried, next_tried, trial_of, trial_step, Placing, unplaced, lookup_placed}
 use Rattle.layout_positions.specs.Uncovered.{is_listed_at, rule_lists, part_lists, IsUnlisted, IsUncovered}
 use Rattle.layout_positions.specs.Walk.{Walk, gone_on, lookup_step, Budgeted, first_walk, lookup_applied, budgeted, positioned}
 use Rattle.layout_positions.specs.declared.bases.BaseSeen.{BaseSeen}

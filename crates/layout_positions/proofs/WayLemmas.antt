@@ -21,7 +21,8 @@ use Rattle.layout_positions.specs.declared.ways.Pen.{Pen}
 over_none : (pen : Pen) (from end : ℕ) (ps : List GlyphPosition)
     → (if nat_lt from end then fold pen_on pen (slice_range ps from end) else pen) ≡ fold pen_on pen (slice_range ps from end)
 over_none pen from end ps =
-    elim (nat_lt from end) as (λ t. nat_lt from end ≡ t → (if t then fold pen_on pen (slice_range ps from end) else pen) ≡ fold pen_on pen (slice_range ps from end))
+    elim (nat_lt from end) as (λ t. nat_lt from end ≡ t
+    → (if t then fold pen_on pen (slice_range ps from end) else pen) ≡ fold pen_on pen (slice_range ps from end))
     [ true ↦ λ e. refl
     | false ↦ λ e. let none : end - from ≡ 0 = grind (arith, nat_tests, e) in ap (λ n. fold pen_on pen (take n (drop from ps))) (sym none) ]
     refl
@@ -63,7 +64,8 @@ advance p = record { x = p.x_advance; y = p.y_advance }
 abbrev pen_by : Pen → Pen → Pen
 pen_by pen a = record { x = pen.x +ʷ a.x; y = pen.y +ʷ a.y }
 
-way_by_advances : (b : Buffer) (from to : ℕ) → way b from to ≡ fold pen_by no_way (slice_range (map advance b.positions) from (min to (length b.items)))
+way_by_advances : (b : Buffer) (from to : ℕ)
+    → way b from to ≡ fold pen_by no_way (slice_range (map advance b.positions) from (min to (length b.items)))
 way_by_advances b from to =
     let end = min to (length b.items) in
     over_none no_way from end b.positions ∙ sym (fold-map pen_by advance no_way (slice_range b.positions from end))
@@ -73,12 +75,14 @@ way_by_advances b from to =
 put_advances : (i : ℕ) (p : GlyphPosition) (b : Buffer) → advance p ≡ advance (position_at b i)
     → map advance (position_put i p b).positions ≡ map advance b.positions
 put_advances i p b same =
-    elim (nat_lt i (length b.items)) as (λ t. map advance (if t then record b { positions = slice_set b.positions i p } else b).positions ≡ map advance b.positions)
+    elim (nat_lt i (length b.items)) as (λ t.
+    map advance (if t then record b { positions = slice_set b.positions i p } else b).positions ≡ map advance b.positions)
     [ true ↦ map-set_same advance b.positions i p zero_position same | false ↦ refl ]
 
 put_length : (i : ℕ) (p : GlyphPosition) (b : Buffer) → length (position_put i p b).items ≡ length b.items
 put_length i p b =
-    elim (nat_lt i (length b.items)) as (λ t. length (if t then record b { positions = slice_set b.positions i p } else b).items ≡ length b.items)
+    elim (nat_lt i (length b.items)) as (λ t.
+    length (if t then record b { positions = slice_set b.positions i p } else b).items ≡ length b.items)
     [ true ↦ refl | false ↦ refl ]
 
 measured_put : (i : ℕ) (p : GlyphPosition) (b : Buffer) (w : Measured) → advance p ≡ advance (position_at b i) → IsMeasured b w

@@ -8,7 +8,7 @@ pub mod Lookups
 pub mod Pairs
 pub mod Cursive
 pub mod Marks
-pub mod Trial
+pub mod Subtables
 pub mod Nested
 pub mod Walk
 pub mod Preserves

@@ -16,7 +16,7 @@ use Rattle.layout_matching.specs.declared.found.Found.{Found}
 use Rattle.layout_matching.specs.declared.lookup.Lookup.{Lookup}
 use Rattle.layout_matching.specs.declared.rules.Rule.{Rule}
 use Rattle.layout_positions.specs.Edits.{broken}
-use Rattle.layout_positions.specs.Trial.{Placing, unplaced, lookup_placed}
+use Rattle.layout_positions.specs.Subtables.{Placing, unplaced, lookup_placed}
 use Rattle.layout_positions.specs.declared.bases.BaseSeen.{BaseSeen}
 
 -- ---- what a record of a rule names

@@ -50,7 +50,8 @@ turn_step end s = option_map_or (turn_at s) (turn_next end s) s
 
 -- the chain from a glyph on turned round, up to the one that the glyph is to follow
 abbrev pub turned : ℕ → ℕ → Buffer → Buffer
-turned child end b = (times (turn_step end) (length b.items) (record { buffer = freed child b; at = child; was = position_at b child })).buffer
+turned child end b =
+    (times (turn_step end) (length b.items) (record { buffer = freed child b; at = child; was = position_at b child })).buffer
 
 -- two glyphs don't follow each other
 abbrev pub follows : ℕ → ℕ → Buffer → Bool

@@ -48,4 +48,5 @@ advance_along horizontal v = if horizontal then v.x_advance else v.y_advance
 
 -- whether an adjustment changes something
 abbrev pub has_effect : Bool → Adjustment → Bool
-has_effect horizontal v = not (int_eq v.x_placement (pos 0)) || not (int_eq v.y_placement (pos 0)) || not (int_eq (advance_along horizontal v) (pos 0))
+has_effect horizontal v = not (int_eq v.x_placement (pos 0)) || not (int_eq v.y_placement (pos 0))
+    || not (int_eq (advance_along horizontal v) (pos 0))

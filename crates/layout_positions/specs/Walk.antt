@@ -8,7 +8,7 @@ use Rattle.layout_matching.specs.Loops.{times}
 use Rattle.layout_matching.specs.Skipping.{nth, is_on}
 use Rattle.layout_matching.specs.declared.lookup.Lookup.{Lookup}
 use Rattle.layout_positions.specs.Nested.{LEVELS, most_named, nested_placed}
-use Rattle.layout_positions.specs.Trial.{Placing}
+use Rattle.layout_positions.specs.Subtables.{Placing}
 use Rattle.layout_positions.specs.declared.bases.BaseSeen.{BaseSeen}
 
 -- ---- before the first lookup: no glyph is attached to another one
@@ -39,7 +39,8 @@ gone_on at made = record { buffer = made.buffer; at = option_map_or (λ next. ne
 abbrev pub lookup_step : Lookup → Walk → Walk
 lookup_step l s =
     if nat_lt s.at (length s.buffer.items)
-    then (if is_on l (nth s.buffer.items s.at) then gone_on s.at (nested_placed LEVELS l s.at s.left s.seen s.buffer) else record s { at = s.at + 1 })
+    then (if is_on l (nth s.buffer.items s.at) then gone_on s.at (nested_placed LEVELS l s.at s.left s.seen s.buffer)
+    else record s { at = s.at + 1 })
     else s
 
 abbrev pub none_seen : BaseSeen

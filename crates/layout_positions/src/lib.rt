@@ -20,7 +20,7 @@ pub mod neighbours;
 pub mod nested;
 pub mod pairs;
 pub mod places;
-pub mod trial;
+pub mod subtables;
 pub mod turning;
 pub mod values;
 pub mod walk;

@@ -10,7 +10,7 @@ ghost use Rattle.layout_matching.specs.Loops.{times};
 
 use crate::edits::break_between;
 use crate::places::after;
-use crate::trial::{Carried, Outcome, apply_lookup};
+use crate::subtables::{Carried, Outcome, apply_lookup};
 use layout_matching::found::{Found, find, is_context};
 use layout_matching::input::seek_input;
 use layout_matching::lookup::Lookup;

@@ -5,7 +5,7 @@ ghost use Rattle.layout_positions.specs.Walk.{unattached as unattached_of, start
 
 use crate::bases::BaseSeen;
 use crate::nested::{apply_nested, most_named};
-use crate::trial::Carried;
+use crate::subtables::Carried;
 use layout_matching::lookup::Lookup;
 use layout_matching::skipping::{is_on, item_at};
 use shape_buffer::position_walks::update_positions;

@@ -59,7 +59,8 @@ pub record WorkedAttachment : Type 0 where
   pub mark_on_a_cursive_glyph : finished LeftToRight
       (at (pos 0) (pos 100) (pos 600) ∷ joins (pos 0) (pos 10) (negsuc 0) ∷ hangs (pos 290) (pos 5) (pos 0) (negsuc 0) ∷ [])
       ≡ (pos 0, pos 100) ∷ (pos 0, pos 110) ∷ (negsuc 309, pos 115) ∷ []
-  pub round : finished RightToLeft (joins (pos 0) (pos 1) (pos 1) ∷ joins (pos 0) (pos 10) (negsuc 0) ∷ []) ≡ (pos 0, pos 12) ∷ (pos 0, pos 11) ∷ []
+  pub round : finished RightToLeft (joins (pos 0) (pos 1) (pos 1) ∷ joins (pos 0) (pos 10) (negsuc 0) ∷ [])
+      ≡ (pos 0, pos 12) ∷ (pos 0, pos 11) ∷ []
   pub out_of_the_list : finished RightToLeft (joins (pos 0) (pos 1) (pos 9) ∷ []) ≡ (pos 0, pos 1) ∷ []
   pub no_more_attached : chains (offsets_finished (placed RightToLeft (joins (pos 0) (pos 1) (pos 1) ∷ at (pos 0) (pos 30) (pos 600) ∷ [])))
       ≡ pos 0 ∷ pos 0 ∷ []

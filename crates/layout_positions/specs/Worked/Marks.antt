@@ -36,7 +36,8 @@ on_mark l x y = mark_mark_applied l 0 1 (line LeftToRight (x ∷ y ∷ []))
 pub record WorkedMarks : Type 0 where
   pub anchors_meet : (l : Lookup) → IsLookup l on_bases 0
       → offsets (on_base l (base 2 0 ∷ mark 8 0 ∷ [])).buffer ≡ (pos 0, pos 0) ∷ (pos 290, pos 480) ∷ []
-  pub attached_to_the_base : (l : Lookup) → IsLookup l on_bases 0 → chains (on_base l (base 2 0 ∷ mark 8 0 ∷ [])).buffer ≡ pos 0 ∷ negsuc 0 ∷ []
+  pub attached_to_the_base : (l : Lookup) → IsLookup l on_bases 0
+      → chains (on_base l (base 2 0 ∷ mark 8 0 ∷ [])).buffer ≡ pos 0 ∷ negsuc 0 ∷ []
   pub goes_on : (l : Lookup) → IsLookup l on_bases 0 → (on_base l (base 2 0 ∷ mark 8 0 ∷ [])).next ≡ Some 2
   pub unsafe_between : (l : Lookup) → IsLookup l on_bases 0 → masks (on_base l (base 2 0 ∷ mark 8 1 ∷ [])).buffer ≡ 16 ∷ 19 ∷ []
   pub other_base : (l : Lookup) → IsLookup l on_bases 0 → (on_base l (base 3 0 ∷ mark 8 0 ∷ [])).next ≡ None
@@ -148,13 +149,19 @@ worked_parts = record {
 -- ---- components, and marks on marks
 
 pub record WorkedComponents : Type 0 where
-  pub first : (l : Lookup) → IsLookup l on_ligatures 0 → offsets (on_ligature l (mark_on 8 5 1 0)).buffer ≡ (pos 0, pos 0) ∷ (pos 90, pos 0) ∷ []
-  pub second : (l : Lookup) → IsLookup l on_ligatures 0 → offsets (on_ligature l (mark_on 8 5 2 0)).buffer ≡ (pos 0, pos 0) ∷ (pos 190, pos 0) ∷ []
-  pub third : (l : Lookup) → IsLookup l on_ligatures 0 → offsets (on_ligature l (mark_on 8 5 3 0)).buffer ≡ (pos 0, pos 0) ∷ (pos 290, pos 0) ∷ []
+  pub first : (l : Lookup) → IsLookup l on_ligatures 0
+      → offsets (on_ligature l (mark_on 8 5 1 0)).buffer ≡ (pos 0, pos 0) ∷ (pos 90, pos 0) ∷ []
+  pub second : (l : Lookup) → IsLookup l on_ligatures 0
+      → offsets (on_ligature l (mark_on 8 5 2 0)).buffer ≡ (pos 0, pos 0) ∷ (pos 190, pos 0) ∷ []
+  pub third : (l : Lookup) → IsLookup l on_ligatures 0
+      → offsets (on_ligature l (mark_on 8 5 3 0)).buffer ≡ (pos 0, pos 0) ∷ (pos 290, pos 0) ∷ []
   -- a mark past the components, of another ligature, or that came after, stands on the last one
-  pub past_them : (l : Lookup) → IsLookup l on_ligatures 0 → offsets (on_ligature l (mark_on 8 5 4 0)).buffer ≡ (pos 0, pos 0) ∷ (pos 290, pos 0) ∷ []
-  pub of_another : (l : Lookup) → IsLookup l on_ligatures 0 → offsets (on_ligature l (mark_on 8 6 1 0)).buffer ≡ (pos 0, pos 0) ∷ (pos 290, pos 0) ∷ []
-  pub after_it : (l : Lookup) → IsLookup l on_ligatures 0 → offsets (on_ligature l (mark 8 0)).buffer ≡ (pos 0, pos 0) ∷ (pos 290, pos 0) ∷ []
+  pub past_them : (l : Lookup) → IsLookup l on_ligatures 0
+      → offsets (on_ligature l (mark_on 8 5 4 0)).buffer ≡ (pos 0, pos 0) ∷ (pos 290, pos 0) ∷ []
+  pub of_another : (l : Lookup) → IsLookup l on_ligatures 0
+      → offsets (on_ligature l (mark_on 8 6 1 0)).buffer ≡ (pos 0, pos 0) ∷ (pos 290, pos 0) ∷ []
+  pub after_it : (l : Lookup) → IsLookup l on_ligatures 0
+      → offsets (on_ligature l (mark 8 0)).buffer ≡ (pos 0, pos 0) ∷ (pos 290, pos 0) ∷ []
   pub on_the_mark_before : (l : Lookup) → IsLookup l on_bases 0
       → offsets (on_mark l (mark 2 0) (mark 8 0)).buffer ≡ (pos 0, pos 0) ∷ (pos 290, pos 480) ∷ []
   pub not_on_a_base : (l : Lookup) → IsLookup l on_bases 0 → (on_mark l (base 2 0) (mark 8 0)).next ≡ None

@@ -8,11 +8,11 @@ returns-then-here-eq-CURSIVE_ATTACHED-clause-measured c =
 
 pub returns-then-is_short-clause-measured : goal.returns-then-is_short-clause-measured
 returns-then-is_short-clause-measured c =
-    measured_hung c.args.i c.is_forward.result c.way_between-measured.result.pen c.position-there.result c.position-here.result c.hung.result
-    c.args.buffer.now c.put-2.new.buffer c.args.last c.put-2.ensures.made c.hung.ensures c.position-here.ensures c.requires.last
+    measured_hung c.args.i c.is_forward.result c.way_between-measured.result.pen c.position-there.result c.position-here.result
+    c.hung.result c.args.buffer.now c.put-2.new.buffer c.args.last c.put-2.ensures.made c.hung.ensures c.position-here.ensures c.requires.last
 
 pub returns-else-is_short-clause-measured : goal.returns-else-is_short-clause-measured
 returns-else-is_short-clause-measured c =
-    measured_hung c.args.i c.is_forward.result c.way_between-measured.result.pen c.position-there.result c.position-here.result c.hung.result
-    c.args.buffer.now c.put-2.new.buffer c.way_between-measured.result c.put-2.ensures.made c.hung.ensures c.position-here.ensures
+    measured_hung c.args.i c.is_forward.result c.way_between-measured.result.pen c.position-there.result c.position-here.result
+    c.hung.result c.args.buffer.now c.put-2.new.buffer c.way_between-measured.result c.put-2.ensures.made c.hung.ensures c.position-here.ensures
     c.way_between-measured.ensures.measured

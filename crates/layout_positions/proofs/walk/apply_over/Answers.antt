@@ -7,7 +7,12 @@ use Rattle.layout_positions.proofs.walk.apply_over.Goals as goal
 pub loop-i-preserved : goal.loop-i-preserved
 loop-i-preserved c =
     let first : Walk = first_walk (record { buffer = c.args.buffer.now; left = c.args.left }) in
-    let here : Walk = record { buffer = c.loop-i.buffer; at = c.loop-i.spot.at; seen = c.loop-i.spot.carried.seen; left = c.loop-i.spot.carried.left } in
+    let here : Walk = record {
+      buffer = c.loop-i.buffer;
+      at = c.loop-i.spot.at;
+      seen = c.loop-i.spot.carried.seen;
+      left = c.loop-i.spot.carried.left;
+    } in
     let there : Walk = record {
       buffer = c.step_on-spot.new.buffer;
       at = c.step_on-spot.result.at;
