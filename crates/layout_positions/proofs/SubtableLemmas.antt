@@ -1,7 +1,7 @@
 -- a lookup preserves the number of items
 use Rattle.std.proofs.Common.{◌≡◌, ℕ, ◌∙◌, length, refl}
 use Rattle.layout_matching.specs.declared.lookup.Lookup.{Lookup}
-use Rattle.layout_positions.specs.Trial.{Trial, trial_step}
+use Rattle.layout_positions.specs.Subtables.{Trial, trial_step}
 use Rattle.layout_positions.proofs.CountLemmas.{length_broken, length_parted, length_put}
 use Rattle.layout_positions.proofs.StepLemmas.{step-trial}
 

@@ -1,5 +1,5 @@
 -- A lookup at a place: its first subtable that applies.
-use Rattle.std.specs.Prelude.{ℕ, Bool, Option, Some, None, ◌+◌, ◌&&◌, ◌||◌, is_some, nat_eq, if◌then◌else◌}
+use Rattle.std.specs.Prelude.{ℕ, Bool, Option, None, ◌+◌, ◌&&◌, ◌||◌, is_some, nat_eq, if◌then◌else◌}
 use Rattle.std.specs.Option.{option_map_or}
 use Rattle.shape_font.specs.Bytes.{u16_of}
 use Rattle.shape_items.specs.Buffer.{Buffer}
@@ -55,7 +55,8 @@ abbrev pub trial_step : Lookup → ℕ → Trial → Trial
 trial_step l i s = if is_some s.next then record s { part = s.part + 1 } else next_tried l i s
 
 abbrev pub lookup_tried : Lookup → ℕ → BaseSeen → Buffer → Trial
-lookup_tried l i seen b = times (trial_step l i) (subtable_count_of l.table.now l.place) (record { buffer = b; next = None; seen = seen; part = 0 })
+lookup_tried l i seen b = times (trial_step l i) (subtable_count_of l.table.now l.place)
+    (record { buffer = b; next = None; seen = seen; part = 0 })
 
 -- what a lookup leaves: where it goes on, the base that was seen last, and how many lookups rules may still name
 pub record Placing : Type 0 where

@@ -1,6 +1,6 @@
 //! A lookup at a place: its first subtable that applies.
 ghost use Rattle.std.specs.Prelude.{◌≡◌, ◌<◌, ◌≤◌, ◌+◌, ◌^◌, length};
-ghost use Rattle.layout_positions.specs.Trial.{kind_applied, looks_for_base as looks_for_base_of, seen_at as seen_at_of, trial_step, lookup_placed};
+ghost use Rattle.layout_positions.specs.Subtables.{kind_applied, looks_for_base as looks_for_base_of, seen_at as seen_at_of, trial_step, lookup_placed};
 
 use crate::adjustment::{apply_pair, apply_single};
 use crate::bases::{BaseSeen, base_seen};
@@ -143,7 +143,7 @@ fn try_part(
 }
 
 /// Applies a lookup that names no other to the glyph at place `i`: its first subtable that applies.
-#[tactic(auto, using(layout_matching::proofs::LoopLemmas::times_step, crate::proofs::TrialLemmas::length_tried))]
+#[tactic(auto, using(layout_matching::proofs::LoopLemmas::times_step, crate::proofs::SubtableLemmas::length_tried))]
 pub fn apply_lookup(
     lookup: &Lookup<'_>,
     buffer: &mut hb_buffer_t,

@@ -1,7 +1,7 @@
 use Rattle.std.proofs.Common.{◌≡◌, None, length}
 use Rattle.layout_matching.specs.Loops.{times}
-use Rattle.layout_positions.specs.Trial.{Trial, trial_step}
-use Rattle.layout_positions.proofs.trial.apply_lookup.Given as goal
+use Rattle.layout_positions.specs.Subtables.{Trial, trial_step}
+use Rattle.layout_positions.proofs.subtables.apply_lookup.Given as goal
 
 -- the subtables so far have been tried
 abbrev pub invariant-loop-k : goal.invariant-loop-k
