@@ -40,6 +40,7 @@ Shapes TEXT, or each line of standard input, with the font file FONT.
   --cluster-level N       0 graphemes, 1 characters, 2 never merged
   --mode N                how texts are normalised, 0 to 4 (the shaper's)
   --face-index N          the font of a collection (0)
+  --no-layout             apply no table of lookups (GSUB, GPOS)
   --utf8-clusters         clusters are bytes and not characters
   --bot, --eot            the text begins, ends a paragraph
   --preserve-default-ignorables, --remove-default-ignorables

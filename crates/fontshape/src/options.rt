@@ -24,6 +24,7 @@ pub struct Options {
     mode: Option<u32>,
     face_index: u32,
     utf8_clusters: bool,
+    no_layout: bool,
     help: bool,
     svg: bool,
     flags: u32,
@@ -45,6 +46,7 @@ impl Options {
             mode: None,
             face_index: 0,
             utf8_clusters: false,
+            no_layout: false,
             help: false,
             svg: false,
             flags: 0,
@@ -110,6 +112,11 @@ impl Options {
     /// Whether clusters are offsets of bytes, and not numbers of characters.
     pub fn utf8_clusters(&self) -> bool {
         self.utf8_clusters
+    }
+
+    /// Whether the font's tables of lookups are applied.
+    pub fn layout(&self) -> bool {
+        !self.no_layout
     }
 
     /// Whether help is asked for.
@@ -230,6 +237,7 @@ impl Options {
     fn turn_on(&mut self, switch: Switch) {
         match switch {
             Switch::Help => self.help = true,
+            Switch::NoLayout => self.no_layout = true,
             Switch::Svg => self.svg = true,
             Switch::Utf8Clusters => self.utf8_clusters = true,
             Switch::Run(flag) => self.flags |= flag,

@@ -21,6 +21,7 @@ pub enum Switch {
     Help,
     Svg,
     Utf8Clusters,
+    NoLayout,
     /// Adds a flag to those of a run.
     Run(u32),
     /// Adds flags to what is written of glyphs.
@@ -61,6 +62,7 @@ impl Switch {
     pub fn from_name(name: &str) -> Option<Switch> {
         match name {
             "help" => Some(Switch::Help),
+            "no-layout" => Some(Switch::NoLayout),
             "svg" => Some(Switch::Svg),
             "utf8-clusters" => Some(Switch::Utf8Clusters),
             "bot" => Some(Switch::Run(BufferFlags::BEGINNING_OF_TEXT.0)),

@@ -4,6 +4,7 @@ ghost use Rattle.std.specs.Prelude.{◌≡◌};
 use crate::failure::Failure;
 use crate::options::Options;
 use kern_table::KernTable;
+use opentype_layout::{OpenTypeFace, OpenTypeLayout};
 use shape_font::FontFace;
 use shape_pipeline::ot_shaper::{
     ComposedDiacritics, ComposedDiacriticsNoShortCircuit, Decomposed, Preference, Shortest,
@@ -107,8 +108,22 @@ fn shaped_with<F: hb_font_t, M: hb_ot_layout_t<F>>(
     }
 }
 
-/// The glyphs of a text, kerned by the table `kern` of a font without GPOS. A font with GPOS has its kerning there, and
-/// no engine here reads it. Refuses as `shape` does, and with `Length` a text of 4 GiB.
+/// The glyphs of a buffer without tables of lookups, kerned by the table `kern` of a font without GPOS.
+fn shaped_without_layout(
+    alloc: Global,
+    options: &Options,
+    face: &FontFace,
+    buffer: UnicodeBuffer,
+) -> Result<GlyphBuffer, Failure> {
+    if face.tables().gpos {
+        shaped_with::<FontFace, NoLookups>(alloc, options, face, buffer)
+    } else {
+        shaped_with::<FontFace, KernTable>(alloc, options, face, buffer)
+    }
+}
+
+/// The glyphs of a text, by the font's tables of lookups unless the options say not to. Refuses as `shape` does, and with
+/// `Length` a text of 4 GiB.
 pub fn shaped(
     alloc: Global,
     options: &Options,
@@ -116,9 +131,10 @@ pub fn shaped(
     text: &str,
 ) -> Result<GlyphBuffer, Failure> {
     let buffer = filled(alloc, options, text)?;
-    if face.tables().gpos {
-        shaped_with::<FontFace, NoLookups>(alloc, options, face, buffer)
+    if options.layout() {
+        let face = OpenTypeFace::new(*face);
+        shaped_with::<OpenTypeFace, OpenTypeLayout>(alloc, options, &face, buffer)
     } else {
-        shaped_with::<FontFace, KernTable>(alloc, options, face, buffer)
+        shaped_without_layout(alloc, options, face, buffer)
     }
 }

@@ -4,7 +4,7 @@ mod LigatureLemmas
 mod LineLemmas
 mod ModifierLemmas
 mod ParagraphLemmas
-mod PlainLemmas
+pub mod PlainLemmas
 mod PlainRows
 mod PointLemmas
 mod ShownRows
