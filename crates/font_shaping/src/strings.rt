@@ -1,5 +1,5 @@
 //! A string shaped with a font file.
-ghost use Rattle.std.specs.Prelude.{◌≡◌, ◌<◌, ◌≤◌, ◌*◌, ◌^◌, ◌⊎◌, ◌↔◌, ℕ, false, length, is_some, Contains, Err, IfOk, IfErr, MatchResult};
+ghost use Rattle.std.specs.Prelude.{◌≡◌, ◌<◌, ◌≤◌, ◌*◌, ◌^◌, ◌⊎◌, ◌↔◌, ℕ, false, length, is_some, Contains, Err, IfOk, IfErr, OnOk, OnErr, MatchResult};
 ghost use Rattle.std.specs.Str.{chars};
 ghost use Rattle.shape_items.specs.Buffer.{new_buffer};
 ghost use Rattle.shape_items.specs.ClusterOrder.{IsOrderedFor};
@@ -13,17 +13,16 @@ ghost use Rattle.shape_buffer.specs.Text.{text_items};
 ghost use Rattle.shape_font.specs.Bytes.{u16_of};
 ghost use Rattle.shape_font.specs.Directory.{bytes_of};
 ghost use Rattle.shape_pipeline.specs.Planned.{planned_for};
-ghost use Rattle.shape_users.specs.PlainGlyphs.{AreGlyphsOf, IsPlaceIn, StringPasses, string_text};
+ghost use Rattle.font_shaping.specs.Strings.{AreGlyphsOf, IsPlaceIn, IsTextOf, StringPasses, string_text};
 
 use crate::laws::opentype_runs_have_no_obligations;
 use opentype_layout::{OpenTypeFace, OpenTypeLayout};
 use shape_pipeline::ot_shaper::Runs;
 use shape_pipeline::{
-    DEFAULT_SHAPER, Feature, GlyphBuffer, ShapeError, ShapeFault, hb_default_shaper_t,
-    hb_unicode_funcs_t, shape,
+    DEFAULT_SHAPER, Feature, GlyphBuffer, ShapeError, ShapeFault, UnicodeBuffer,
+    hb_default_shaper_t, hb_unicode_funcs_t, shape,
 };
 use shape_plan::planner::Plans;
-use shape_users::plain_glyphs::text_of_str;
 use std::alloc::Global;
 
 /// Why a string was not shaped with the bytes of a font file.
@@ -48,6 +47,41 @@ impl FontError {
             ShapeError::Memory => FontError::Memory,
         }
     }
+}
+
+/// The text of a string: its characters in the clusters of their first bytes, by the settings of a
+/// new buffer. Refuses with `Length` a string of 2^32 bytes and more, since clusters are 32 bits, and
+/// with `Memory` if a growth was refused; the buffer that comes back is new.
+fn text_of_str(alloc: Global, string: &str) -> Result<UnicodeBuffer, ShapeFault>
+    ensures ok { IfOk result (λ text. IsTextOf string.now text) }
+    ensures text { IfOk result (λ text. text ≡ string_text string.now) }
+    ensures length { IfErr result (λ fault. fault.cause ≡ ShapeError.Length
+        → 2 ^ 32 ≤ length string.now) }
+    ensures bytes { 2 ^ 32 ≤ length string.now
+        → MatchResult result (λ _. ⊥) (λ fault. fault.cause ≡ ShapeError.Length) }
+    ensures refused { IfErr result (λ fault. fault.buffer ≡ new_buffer) }
+{
+    let mut buffer = UnicodeBuffer::new(alloc);
+    let appended = append(&mut buffer, string);
+    match appended {
+        Ok(()) => Ok(buffer),
+        Err(cause) => Err(ShapeFault { cause, buffer }),
+    }
+}
+
+/// Appends a string to a new buffer, if it has fewer than 2^32 bytes.
+#[tactic(auto, unfolding(crate::specs::Strings::string_text))]
+fn append(buffer: &mut UnicodeBuffer, string: &str) -> Result<(), ShapeError>
+    requires { buffer.old ≡ new_buffer }
+    ensures ok { OnOk result (IsTextOf string.now buffer.new) }
+    ensures text { OnOk result (buffer.new ≡ string_text string.now) }
+    ensures length { (result ≡ Err ShapeError.Length) ↔ (2 ^ 32 ≤ length string.now) }
+    ensures refused { OnErr result (buffer.new ≡ new_buffer) }
+{
+    if string.len() > u32::MAX as usize {
+        return Err(ShapeError::Length);
+    }
+    buffer.push_str(string)
 }
 
 /// The glyphs of a string with a font file, in the direction of its script: those that `shape` makes of its text with

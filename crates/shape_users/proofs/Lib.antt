@@ -4,7 +4,7 @@ mod LigatureLemmas
 mod LineLemmas
 mod ModifierLemmas
 mod ParagraphLemmas
-pub mod PlainLemmas
+mod PlainLemmas
 mod PlainRows
 mod PointLemmas
 mod ShownRows

@@ -207,7 +207,7 @@ where
 /// The text of a string: its characters in the clusters of their first bytes, by the settings of a
 /// new buffer. Refuses with `Length` a string of 2^32 bytes and more, since clusters are 32 bits, and
 /// with `Memory` if a growth was refused; the buffer that comes back is new.
-pub fn text_of_str(alloc: Global, string: &str) -> Result<UnicodeBuffer, ShapeFault>
+fn text_of_str(alloc: Global, string: &str) -> Result<UnicodeBuffer, ShapeFault>
     ensures ok { IfOk result (λ text. IsTextOf string.now text) }
     ensures text { IfOk result (λ text. text ≡ string_text string.now) }
     ensures length { IfErr result (λ fault. fault.cause ≡ ShapeError.Length

@@ -1,4 +1,4 @@
-use Rattle.shape_users.proofs.PlainLemmas.{if_ok-then}
+use Rattle.font_shaping.proofs.StringLemmas.{if_ok-then}
 use Rattle.font_shaping.proofs.PlanLemmas.{plan_of}
 use Rattle.font_shaping.proofs.shaping.shape_with_font.Goals as goal
 

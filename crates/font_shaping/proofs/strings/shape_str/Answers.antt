@@ -3,7 +3,7 @@ use Rattle.shape_items.specs.ClusterOrder.{IsOrderedFor}
 use Rattle.shape_items.specs.Clusters.{clusters}
 use Rattle.shape_common.specs.Direction.{is_backward}
 use Rattle.shape_common.specs.declared.text_types.Direction.{Direction}
-use Rattle.shape_users.proofs.PlainLemmas.{if_ok-then, if_ok-both, if_err-then, string-direction, string-come, string-without_concat, string-few, string-many, string-cleared}
+use Rattle.font_shaping.proofs.StringLemmas.{if_ok-then, if_ok-both, if_err-then, string-direction, string-come, string-without_concat, string-few, string-many, string-cleared}
 use Rattle.font_shaping.proofs.PlanLemmas.{plan_of}
 use Rattle.font_shaping.proofs.strings.shape_str.Goals as goal
 
