@@ -1,5 +1,5 @@
 -- Values of pairs of glyphs, by formats 0 and 2 of `kern`.
-use Rattle.std.specs.Prelude.{ℕ, ℤ, pos, List, Bool, Option, ◌+◌, ◌-◌, ◌*◌, ◌/◌, ◌&&◌, ◌||◌, nat_eq, nat_lt, nat_le, slice_index, if◌then◌else◌}
+use Rattle.std.specs.Prelude.{ℕ, ℤ, pos, List, Bool, Option, ◌+◌, ◌-◌, ◌*◌, ◌/◌, ◌&&◌, ◌||◌, not, nat_eq, nat_lt, nat_le, slice_index, if◌then◌else◌}
 use Rattle.std.specs.Option.{option_map_or}
 use Rattle.std.specs.declared.cmp.Ordering.{Ordering}
 use Rattle.shape_font.specs.Bytes.{u16_of, u32_of, i16_of, fitting}
@@ -22,12 +22,14 @@ listed_value t start left right = if nat_lt 0xFFFF left || nat_lt 0xFFFF right t
 -- ---- format 2: values by the class of the left glyph and that of the right one
 
 -- the classes of glyphs one after the other, from a first one on
+abbrev pub class_of : List ℕ → ℕ → ℕ → ℕ
+class_of t classes glyph = u16_of t (classes + 4 + 2 * (glyph - u16_of t classes))
+
+-- 1 is no class: it stands for a glyph out of bounds
 abbrev pub is_classed : List ℕ → ℕ → ℕ → Bool
 is_classed t classes glyph = nat_le (u16_of t classes) glyph
     && nat_lt (glyph - u16_of t classes) (fitting t (u16_of t (classes + 2)) (classes + 4) 2)
-
-abbrev pub class_of : List ℕ → ℕ → ℕ → ℕ
-class_of t classes glyph = u16_of t (classes + 4 + 2 * (glyph - u16_of t classes))
+    && not (nat_eq (class_of t classes glyph) 1)
 
 -- a class is a number of bytes: that of the left glyph leads from the start of the part to a row of the array, that of the right
 -- one along the row. What stands before the array is no value; from there on each has two bytes

@@ -40,14 +40,16 @@ fn listed_value(kern: &[u8], start: usize, left: u32, right: u32) -> i32
     }
 }
 
-/// Whether the classes at `classes` have the glyph.
+/// Whether the classes at `classes` have the glyph. Class 1 stands for a glyph out of bounds.
 fn is_classed(kern: &[u8], classes: usize, glyph: u32) -> bool
     requires { classes < 2 ^ 35 }
     ensures { result ≡ is_classed_of kern.now classes glyph }
 {
     let first = u32::from(u16_at(kern, classes));
     let said = u32::from(u16_at(kern, classes + 2));
-    first <= glyph && glyph - first < records(kern, said, classes + 4, 2)
+    first <= glyph
+        && glyph - first < records(kern, said, classes + 4, 2)
+        && class(kern, classes, glyph) != 1
 }
 
 /// The class of a glyph that the classes at `classes` have.

@@ -26,13 +26,17 @@ part len coverage said = 0 ∷ 0 ∷ 0 ∷ len ∷ 0 ∷ coverage ∷ 0 ∷ said
 abbrev pub table : ℕ → ℕ → List ℕ
 table count coverage = 0 ∷ 0 ∷ 0 ∷ count ∷ part 26 coverage 2
 
--- a part of format 2 whose rows for glyphs 2 and 3 stand so far from its start, 30 and 34 if they are in the array: by columns for
--- the right glyphs 2 and 3 the first row has 0 and -50, the second one -35 and 7
-abbrev pub classes : ℕ → ℕ → List ℕ
-classes row_of_2 row_of_3 = 0 ∷ 0 ∷ 0 ∷ 38 ∷ 2 ∷ 1 ∷ 0 ∷ 4 ∷ 0 ∷ 14 ∷ 0 ∷ 22 ∷ 0 ∷ 30
+-- a part of format 2 whose rows for glyphs 2 and 3 stand so far from its start, 30 and 34 if they are in the array; right glyph 2
+-- has the column at 0, right glyph 3 the one that is given
+abbrev pub classes_with : ℕ → ℕ → ℕ → List ℕ
+classes_with row_of_2 row_of_3 column_of_3 = 0 ∷ 0 ∷ 0 ∷ 38 ∷ 2 ∷ 1 ∷ 0 ∷ 4 ∷ 0 ∷ 14 ∷ 0 ∷ 22 ∷ 0 ∷ 30
     ∷ 0 ∷ 2 ∷ 0 ∷ 2 ∷ 0 ∷ row_of_2 ∷ 0 ∷ row_of_3
-    ∷ 0 ∷ 2 ∷ 0 ∷ 2 ∷ 0 ∷ 0 ∷ 0 ∷ 2
+    ∷ 0 ∷ 2 ∷ 0 ∷ 2 ∷ 0 ∷ 0 ∷ 0 ∷ column_of_3
     ∷ 0 ∷ 0 ∷ 0xFF ∷ 0xCE ∷ 0xFF ∷ 0xDD ∷ 0 ∷ 7 ∷ []
+
+-- the first row has 0 and -50, the second one -35 and 7
+abbrev pub classes : ℕ → ℕ → List ℕ
+classes row_of_2 row_of_3 = classes_with row_of_2 row_of_3 2
 
 abbrev pub class_table : ℕ → ℕ → List ℕ
 class_table row_of_2 row_of_3 = 0 ∷ 0 ∷ 0 ∷ 1 ∷ classes row_of_2 row_of_3
@@ -51,6 +55,8 @@ pub record WorkedClasses : Type 0 where
   pub before_the_array : value_of (class_table 27 34) 4 2 3 ≡ pos 0
   -- 33 bytes are one value and a half after 30
   pub odd : value_of (class_table 33 34) 4 2 2 ≡ negsuc 49
+  -- 35 bytes would be -35
+  pub class_1_is_none : value_of (0 ∷ 0 ∷ 0 ∷ 1 ∷ classes_with 30 34 1) 4 3 3 ≡ pos 0
   pub past_the_table : value_of (class_table 30 200) 4 3 3 ≡ pos 0
   pub of_this_line : is_read (class_table 30 34) 4 true ≡ true
   pub of_the_other_line : is_read (class_table 30 34) 4 false ≡ false
@@ -69,6 +75,7 @@ worked_classes = record {
   before_the_row = refl;
   before_the_array = refl;
   odd = refl;
+  class_1_is_none = refl;
   past_the_table = refl;
   of_this_line = refl;
   of_the_other_line = refl;

@@ -86,7 +86,7 @@ pub record WorkedAnchors : Type 0 where
   pub at_the_end : anchor_by (0 ∷ 2 ∷ anchor 1) 0 0 ≡ Some (record { x = pos 100; y = negsuc 4 })
   -- formats 2 and 3 have a point of the outline, or two devices, after the coordinates
   pub past_the_end : anchor_by (0 ∷ 2 ∷ anchor 2) 0 0 ≡ None
-  pub cut_short : anchor_by (0 ∷ 3 ∷ anchor 1) 0 0 ≡ None
+  pub cut_short : anchor_by (0 ∷ 2 ∷ 0 ∷ 1 ∷ 0 ∷ 100 ∷ 0xFF ∷ []) 0 0 ≡ None
   pub in_the_matrix : anchor_in matrix 2 1 1 0 ≡ Some (record { x = pos 7; y = pos 8 })
   pub none_for_the_class : anchor_in matrix 2 1 0 0 ≡ None
   pub past_the_rows : anchor_in matrix 2 2 0 0 ≡ None

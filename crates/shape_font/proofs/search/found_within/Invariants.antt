@@ -1,7 +1,7 @@
 use Rattle.std.proofs.Common.{◌≡◌, ℕ, ◌<◌, ◌≤◌, ◌-◌}
 use Rattle.std.specs.declared.cmp.Ordering.{Ordering}
 use Rattle.shape_font.specs.Search.{found_in, found_by}
-use Rattle.shape_font.proofs.search.found.Given as goal
+use Rattle.shape_font.proofs.search.found_within.Given as goal
 
 -- what is found from here on is what is found from the start
 abbrev pub invariant-loop-start : goal.invariant-loop-start
