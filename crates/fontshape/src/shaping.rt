@@ -1,7 +1,7 @@
 //! Shaping one text as the options ask.
 ghost use Rattle.std.specs.Prelude.{◌≡◌};
 
-use crate::failure::Failure;
+use crate::line::Line;
 use crate::options::Options;
 use kern_table::KernTable;
 use opentype_layout::{OpenTypeFace, OpenTypeLayout};
@@ -10,28 +10,29 @@ use shape_pipeline::ot_shaper::{
     ComposedDiacritics, ComposedDiacriticsNoShortCircuit, Decomposed, Preference, Shortest,
 };
 use shape_pipeline::{
-    DEFAULT_SHAPER, GlyphBuffer, NoLookups, Preferring, Script, UnicodeBuffer, hb_default_shaper_t,
-    hb_font_t, hb_ot_layout_t, hb_ot_shaper_t, shape,
+    DEFAULT_SHAPER, GlyphBuffer, NoLookups, Preferring, Script, ShapeError, UnicodeBuffer,
+    hb_default_shaper_t, hb_font_t, hb_ot_layout_t, hb_ot_shaper_t, shape,
 };
 use shape_unicode::UnicodeDatabase;
 use shape_users::hebrew::HebrewShaper;
 use std::alloc::Global;
 
-/// The text as a buffer with the settings that are asked for, script and direction guessed if they aren't.
-fn filled(alloc: Global, options: &Options, text: &str) -> Result<UnicodeBuffer, Failure> {
-    if u32::MAX as usize <= text.len() {
-        return Err(Failure::Length);
-    }
+/// A line as a buffer with the settings that are asked for, script and direction guessed if they aren't.
+pub fn filled(alloc: Global, options: &Options, line: &Line) -> Result<UnicodeBuffer, ShapeError> {
     let mut buffer = UnicodeBuffer::new(alloc);
-    buffer.push_str(text)?;
-    if !options.utf8_clusters() {
-        buffer.reset_clusters();
+    buffer.reserve(line.characters().len())?;
+    for character in line.characters() {
+        buffer.add(character.c, character.cluster)?;
     }
+    buffer.set_pre_context(options.before());
+    buffer.set_post_context(options.after());
     buffer.set_direction(options.direction());
     buffer.set_script(options.script());
     buffer.set_language(options.language(alloc)?);
     buffer.set_flags(options.flags());
     buffer.set_cluster_level(options.level());
+    buffer.set_invisible_glyph(options.invisible_glyph());
+    buffer.set_not_found_variation_selector_glyph(options.not_found_variation_selector_glyph());
     buffer.guess_segment_properties::<UnicodeDatabase>();
     Ok(buffer)
 }
@@ -43,7 +44,7 @@ fn shaped_by<F, M, S>(
     face: &F,
     shaper: &S,
     buffer: UnicodeBuffer,
-) -> Result<GlyphBuffer, Failure>
+) -> Result<GlyphBuffer, ShapeError>
 where
     F: hb_font_t,
     M: hb_ot_layout_t<F>,
@@ -52,7 +53,7 @@ where
     let features = options.features();
     match shape::<UnicodeDatabase, F, M, S>(alloc, face, shaper, features, buffer) {
         Ok(glyphs) => Ok(glyphs),
-        Err(fault) => Err(Failure::from(fault.cause)),
+        Err(fault) => Err(fault.cause),
     }
 }
 
@@ -62,7 +63,7 @@ fn shaped_preferring<P: Preference, F: hb_font_t, M: hb_ot_layout_t<F>>(
     options: &Options,
     face: &F,
     buffer: UnicodeBuffer,
-) -> Result<GlyphBuffer, Failure> {
+) -> Result<GlyphBuffer, ShapeError> {
     shaped_by::<F, M, Preferring<P>>(alloc, options, face, &Preferring::new(), buffer)
 }
 
@@ -72,7 +73,7 @@ fn shaped_hebrew<F: hb_font_t, M: hb_ot_layout_t<F>>(
     options: &Options,
     face: &F,
     buffer: UnicodeBuffer,
-) -> Result<GlyphBuffer, Failure> {
+) -> Result<GlyphBuffer, ShapeError> {
     shaped_by::<F, M, HebrewShaper>(alloc, options, face, &HebrewShaper, buffer)
 }
 
@@ -82,7 +83,7 @@ fn shaped_default<F: hb_font_t, M: hb_ot_layout_t<F>>(
     options: &Options,
     face: &F,
     buffer: UnicodeBuffer,
-) -> Result<GlyphBuffer, Failure> {
+) -> Result<GlyphBuffer, ShapeError> {
     shaped_by::<F, M, hb_default_shaper_t>(alloc, options, face, &DEFAULT_SHAPER, buffer)
 }
 
@@ -93,7 +94,7 @@ fn shaped_with<F: hb_font_t, M: hb_ot_layout_t<F>>(
     options: &Options,
     face: &F,
     buffer: UnicodeBuffer,
-) -> Result<GlyphBuffer, Failure> {
+) -> Result<GlyphBuffer, ShapeError> {
     match options.mode() {
         Some(0) => shaped_preferring::<Shortest, F, M>(alloc, options, face, buffer),
         Some(1) => shaped_preferring::<Decomposed, F, M>(alloc, options, face, buffer),
@@ -108,13 +109,14 @@ fn shaped_with<F: hb_font_t, M: hb_ot_layout_t<F>>(
     }
 }
 
-/// The glyphs of a buffer without tables of lookups, kerned by the table `kern` of a font without GPOS.
+/// The glyphs of a buffer without tables of lookups, kerned by the table `kern` of a font without GPOS: a font with GPOS
+/// has its kerning there.
 fn shaped_without_layout(
     alloc: Global,
     options: &Options,
     face: &FontFace,
     buffer: UnicodeBuffer,
-) -> Result<GlyphBuffer, Failure> {
+) -> Result<GlyphBuffer, ShapeError> {
     if face.tables().gpos {
         shaped_with::<FontFace, NoLookups>(alloc, options, face, buffer)
     } else {
@@ -122,15 +124,14 @@ fn shaped_without_layout(
     }
 }
 
-/// The glyphs of a text, by the font's tables of lookups unless the options say not to. Refuses as `shape` does, and with
-/// `Length` a text of 4 GiB.
+/// The glyphs of a line, by the font's tables of lookups unless the options say not to. Refuses as `shape` does.
 pub fn shaped(
     alloc: Global,
     options: &Options,
     face: &FontFace,
-    text: &str,
-) -> Result<GlyphBuffer, Failure> {
-    let buffer = filled(alloc, options, text)?;
+    line: &Line,
+) -> Result<GlyphBuffer, ShapeError> {
+    let buffer = filled(alloc, options, line)?;
     if options.layout() {
         let face = OpenTypeFace::new(*face);
         shaped_with::<OpenTypeFace, OpenTypeLayout>(alloc, options, &face, buffer)
