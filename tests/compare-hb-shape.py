@@ -9,13 +9,18 @@ without `kern` and without names of glyphs, one with both. Each line is compared
 offsets, advances, flags, boxes. `--texts N` asks for N texts a script in one form of lines, `--options LISTS` for so
 many random lists of options (levels, directions, features, forms of lines).
 
+After that whole fonts are compared, with all their tables of lookups: `--fonts N` of the installed DejaVu and Noto
+fonts (fonts-noto-core), drawn at random, `--lists N` lists of options for each, over 20 texts of a script of the font
+that needs no shaper, and of any of its characters as Latin; features are drawn from those of the font, too.
+
 `--broken FONTS` runs `fontshape` alone, over so many broken copies of the font: bytes changed at random, and prefixes.
 Each run ends within a second of processor time, never by a signal, and in one of two ways: with status 0, or with
-status 1 and the line that says that it is no font, or has no outlines. The font's table GPOS is taken out of its directory, so that
-its table `kern` is read; every second run draws.
+status 1 and the line that says that it is no font, or has no outlines. In every third font the table GPOS is taken
+out of its directory, so that its table `kern` is read; every second run draws.
 """
 import argparse
 import collections
+import glob
 import importlib.util
 import os
 import random
@@ -69,9 +74,20 @@ FEATURES = ["kern", "+kern", "-kern", "kern=0", "kern[3:5]", "kern[3]=0", "kern[
             "kern=0,kern[:3]=1,kern[5:]=2", "vkrn,-vert", "aalt[3:5]=2"]
 LANGUAGES = ["en_US.UTF-8", "fa", "x-hbot", "de-AT"]
 
+# the installed fonts that are compared whole, and scripts for which HarfBuzz has a shaper of its own
+INSTALLED = ["/usr/share/fonts/truetype/dejavu/*.ttf", "/usr/share/fonts/truetype/noto/*.ttf"]
+SHAPED = set("""Adlm Ahom Arab Bali Batk Beng Bhks Brah Bugi Buhd Cakm Cham Chrs Cpmn Deva Diak Dogr Dupl Egyp Elym Gong Gonm Gran
+    Gujr Guru Hang Hano Hebr Hmng Hmnp Java Kali Kawi Khar Khmr Khoj Kits Knda Kthi Lana Laoo Lepc Limb Mahj Maka Mand Mani Marc
+    Medf Mero Merc Mlym Modi Mong Mroo Mtei Mult Mymr Nagm Nand Newa Nkoo Orya Ougr Phag Phlp Plrd Qaag Rjng Rohg Saur Shrd Sidd
+    Sind Sinh Sogd Sogo Soyo Sund Sylo Syrc Tagb Takr Tale Talu Taml Tavt Telu Tfng Tglg Thai Tibt Tirh Tnsa Toto Vith Wcho Yezi
+    Zanb""".split())
+COMMON = {"Zyyy", "Zinh", "Zzzz"}
+ASKED = ["", "", "", "kern=0", "-liga", "smcp", "frac", "salt[1:3]=2", "aalt=2", "-mark,-mkmk", "onum,pnum", "-ccmp", "-calt", "locl=0", "sups"]
+SYSTEMS = ["", "", "", "tr", "ro", "sr", "nl", "vi", "bg", "ca", "el-polyton", "sah"]
+
 # what is shaped over broken fonts, the tables that are broken, and what `fontshape` says where there is no font
 BROKEN_TEXT = "AVATo \u00c5\u0308\u0301e\u0323\u0302 fi\u00df \u05e9\u05c1\u05b8\u05dc \u4e00\u2003x\ufe00\U0001f600 \u1f84"
-READ = [b"cmap", b"head", b"hhea", b"hmtx", b"maxp", b"loca", b"glyf", b"post", b"kern", b"OS/2"]
+READ = [b"GDEF", b"GSUB", b"GPOS", b"cmap", b"head", b"hhea", b"hmtx", b"maxp", b"loca", b"glyf", b"post", b"kern", b"OS/2"]
 NO_FONT = (b": not a font file\n", b": no outlines to draw, since it has no table glyf\n")
 
 
@@ -168,7 +184,7 @@ class Comparison:
     def tell(self):
         """A line for each script, with its texts and differences by kind of font."""
         kinds = sorted({kind for kind, _ in self.texts}, reverse=True)
-        for script in SCRIPTS:
+        for script in list(SCRIPTS) + sorted({script for kind, script in self.texts if kind == "whole"}):
             parts = ["%s %d texts, %d glyphs, %d differ" % (kind, self.texts[kind, script], self.glyphs[kind, script], self.differ[kind, script])
                      for kind in kinds if self.texts[kind, script]]
             if parts:
@@ -188,6 +204,58 @@ def compare_font(comparison, chance, kind, font, known, count, lists):
         options = random_options(chance, script)
         texts = [random_text(chance, named, have, marks) for _ in range(20)] + PAIRS
         comparison.compare(kind, script, font, options, texts)
+
+
+class WholeFont:
+    """An installed font: its characters by script, those of no script, marks, and the features that it has."""
+
+    def __init__(self, path):
+        from fontTools.ttLib import TTFont
+        from fontTools.unicodedata import script
+        self.path, font = path, TTFont(path, lazy=True)
+        self.known = [c for c in sorted(font.getBestCmap() or {}) if unicodedata.category(chr(c)) not in ("Cn", "Cc", "Cs", "Zl", "Zp")]
+        self.by_script = collections.defaultdict(list)
+        for c in self.known:
+            self.by_script[script(chr(c))].append(c)
+        self.scripts = sorted(tag for tag in self.by_script if tag not in SHAPED | COMMON)
+        self.features = sorted({record.FeatureTag for tag in ("GSUB", "GPOS") if tag in font and font[tag].table.FeatureList
+                                for record in font[tag].table.FeatureList.FeatureRecord})
+
+    def text(self, chance, letters):
+        marks = [c for c in letters if unicodedata.category(chr(c))[0] == "M"] + self.by_script["Zinh"]
+        text = ""
+        for _ in range(chance.randint(1, 10)):
+            draw = chance.random()
+            if draw < 0.2 and marks:
+                text += chr(chance.choice(marks))
+            elif draw < 0.26 and self.by_script["Zyyy"]:
+                text += chr(chance.choice(self.by_script["Zyyy"]))
+            elif draw < 0.34:
+                text += chance.choice(BETWEEN + ["fi", "ffl", "AV", "To", " "])
+            else:
+                text += chr(chance.choice(letters))
+        return text.strip(" ") or "a"
+
+    def options(self, chance, tag):
+        asked = [chance.choice(ASKED)]
+        if self.features and chance.random() < 0.3:
+            asked.append(chance.choice(self.features) + chance.choice(["", "=2", "=0", "[1:4]", "[0:2]=2"]))
+        language, direction = chance.choice(SYSTEMS), chance.choice(["", "", "", "ltr", "rtl"])
+        return (["--script=" + tag, "--show-flags"] + chance.choice([[], ["--no-glyph-names"]])
+                + ["--features=" + ",".join(filter(None, asked))] * any(asked)
+                + ["--language=" + language] * bool(language) + ["--direction=" + direction] * bool(direction))
+
+
+def compare_whole(comparison, chance, count, lists):
+    """`count` of the installed fonts with all their tables, `lists` lists of options for each."""
+    paths = sorted(path for pattern in INSTALLED for path in glob.glob(pattern) if "Emoji" not in path)
+    for path in chance.sample(paths, min(count, len(paths))):
+        font = WholeFont(path)
+        for _ in range(lists if font.known else 0):
+            tag = chance.choice(font.scripts + ["Latn"])
+            letters = font.by_script[tag] if tag in font.scripts and chance.random() < 0.8 else font.known
+            tag = tag if letters is not font.known else "Latn"
+            comparison.compare("whole", os.path.basename(path), path, font.options(chance, tag), [font.text(chance, letters) for _ in range(20)])
 
 
 def spans(data):
@@ -225,13 +293,14 @@ def shape_broken(program, count, seed):
     """Runs the program over broken copies of the font, and ends at the first run that doesn't end as it should."""
     chance = random.Random(seed)
     with open(FONT, "rb") as file:
-        data = file.read().replace(b"GPOS", b"GPOT", 1)
-    places = spans(data)
+        whole = file.read()
+    places = spans(whole)
     shaped, refused, longest = 0, 0, 0.0
     with tempfile.TemporaryDirectory() as folder:
         path = os.path.join(folder, "font.ttf")
         for i in range(count):
             prefix = i % 4 == 3
+            data = whole.replace(b"GPOS", b"GPOT", 1) if i % 3 == 0 else whole
             broken = data[:chance.randrange(len(data))] if prefix else changed(chance, data, places)
             with open(path, "wb") as file:
                 file.write(broken)
@@ -284,6 +353,8 @@ def main():
     asked.add_argument("--texts", type=int, default=1000, help="texts a script in one form of lines")
     asked.add_argument("--seed", type=int, default=7)
     asked.add_argument("--options", type=int, default=300, metavar="LISTS", help="random lists of options, each over some 20 texts")
+    asked.add_argument("--fonts", type=int, default=40, metavar="N", help="installed fonts that are compared whole")
+    asked.add_argument("--lists", type=int, default=10, metavar="N", help="lists of options for each of these")
     asked.add_argument("--broken", type=int, default=0, metavar="FONTS", help="broken copies of the font, in place of the comparison")
     asked.add_argument("--examples", type=int, default=20, help="how many differences are shown")
     asked.add_argument("--program", default=os.path.join(crate, "out/fontshape"))
@@ -300,6 +371,7 @@ def main():
         for kind in ("plain", "kern"):
             font, known = copies(folder, kind == "kern")
             compare_font(comparison, random.Random(args.seed), kind, font, known, args.texts, args.options)
+    compare_whole(comparison, random.Random(args.seed), args.fonts, args.lists)
     comparison.tell()
     texts, differ = sum(comparison.texts.values()), sum(comparison.differ.values())
     print("%d texts compared with hb-shape, %d differ" % (texts, differ))

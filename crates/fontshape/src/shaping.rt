@@ -4,6 +4,7 @@ ghost use Rattle.std.specs.Prelude.{◌≡◌};
 use crate::line::Line;
 use crate::options::Options;
 use kern_table::KernTable;
+use opentype_layout::{OpenTypeFace, OpenTypeLayout};
 use shape_font::FontFace;
 use shape_pipeline::ot_shaper::{
     ComposedDiacritics, ComposedDiacriticsNoShortCircuit, Decomposed, Preference, Shortest,
@@ -123,7 +124,7 @@ fn shaped_without_layout(
     }
 }
 
-/// The glyphs of a line. Refuses as `shape` does.
+/// The glyphs of a line, by the font's tables of lookups unless the options say not to. Refuses as `shape` does.
 pub fn shaped(
     alloc: Global,
     options: &Options,
@@ -131,5 +132,10 @@ pub fn shaped(
     line: &Line,
 ) -> Result<GlyphBuffer, ShapeError> {
     let buffer = filled(alloc, options, line)?;
-    shaped_without_layout(alloc, options, face, buffer)
+    if options.layout() {
+        let face = OpenTypeFace::new(*face);
+        shaped_with::<OpenTypeFace, OpenTypeLayout>(alloc, options, &face, buffer)
+    } else {
+        shaped_without_layout(alloc, options, face, buffer)
+    }
 }

@@ -1,0 +1,60 @@
+-- what the engine returns of a face, and what it makes of a buffer
+use Rattle.std.specs.Prelude.{ℕ, List, Bool, true, false, not, nat_eq}
+use Rattle.shape_items.specs.Buffer.{Buffer}
+use Rattle.shape_buffer.specs.Layout.{LayoutMeaning, LookupMeaning}
+use Rattle.shape_buffer.specs.MapBuilder.{Builder}
+use Rattle.shape_buffer.specs.declared.interfaces.map_request.TableIndex.{TableIndex}
+use Rattle.shape_buffer.specs.declared.interfaces.map_request.TableIndex.TheVariants.{GSUB, GPOS}
+use Rattle.kern_table.specs.Tables.{parts_of, table_kerned}
+use Rattle.layout_context.specs.Stages.{substituted}
+use Rattle.layout_map.specs.Map.{OtMap, compiled}
+use Rattle.layout_map.specs.Stages as stages
+use Rattle.layout_positions.specs.Attachment.{offsets_finished}
+use Rattle.layout_positions.specs.Walk.{started, positioned}
+use Rattle.layout_tables.specs.Gdef.{has_glyph_classes}
+use Rattle.opentype_layout.specs.Chosen.{script_in, chosen_in}
+use Rattle.opentype_layout.specs.Classes.{glyphs_begun}
+use Rattle.opentype_layout.specs.Lookups.{lookups_of}
+use Rattle.opentype_layout.specs.declared.face.OpenTypeFace.{OpenTypeFace}
+use Rattle.opentype_layout.specs.declared.lookups.LookupTables.{LookupTables}
+
+abbrev pub table_of : OpenTypeFace → TableIndex → List ℕ
+table_of f GSUB = f.gsub.now
+table_of f GPOS = f.gpos.now
+
+abbrev pub gsub_tables : OpenTypeFace → LookupTables
+gsub_tables f = record { table = f.gsub; gdef = f.gdef; positioning = false }
+
+abbrev pub gpos_tables : OpenTypeFace → LookupTables
+gpos_tables f = record { table = f.gpos; gdef = f.gdef; positioning = true }
+
+-- requests, compiled for the scripts that were chosen and the language of the text
+abbrev pub map_of : OpenTypeFace → Builder → OtMap
+map_of f builder = compiled (chosen_in f.gsub.now builder.gsub_script builder.language)
+    (chosen_in f.gpos.now builder.gpos_script builder.language) builder.requests
+
+abbrev pub opentype_layout : OpenTypeFace → LayoutMeaning OtMap
+opentype_layout f = record {
+  chosen_script = λ script language table. script_in (table_of f table) script language;
+  compiled = map_of f;
+  has_glyph_classes = has_glyph_classes f.gdef.now;
+  has_kerning = not (nat_eq (parts_of f.font.kern.now) 0);
+  has_machine_kerning = false;
+  has_cross_kerning = false;
+}
+
+-- nothing is done for `morx` and `kerx`
+abbrev pub opentype_lookups : OtMap → OpenTypeFace → LookupMeaning
+opentype_lookups m f = record {
+  substitute_start = glyphs_begun f.gdef.now;
+  stage = λ i. substituted (lookups_of (gsub_tables f) (stages.lookups_of m.gsub i));
+  aat_substitute = λ _ b. b;
+  aat_remove_deleted = λ b. b;
+  aat_zero_width_deleted = λ b. b;
+  position_start = started;
+  position = positioned (lookups_of (gpos_tables f) m.gpos);
+  position_finish_advances = λ b. b;
+  position_finish_offsets = offsets_finished;
+  aat_position = λ _ b. b;
+  kern = table_kerned f.font.kern.now;
+}

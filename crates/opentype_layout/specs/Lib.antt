@@ -1,0 +1,7 @@
+pub mod Face
+pub mod Chosen
+pub mod Lookups
+pub mod Classes
+pub mod Engine
+pub mod EngineLaws
+pub mod Worked

@@ -1,0 +1,38 @@
+-- the lookups of a plan, ready to be applied
+use Rattle.std.specs.Prelude.{ℕ, List, [], ◌∷◌, ◌++◌, Option, ◌^◌, nat_eq, fold, if◌then◌else◌}
+use Rattle.std.specs.Option.{option_map, option_map_or}
+use Rattle.std.specs.Int.{w32, trailing_zeros}
+use Rattle.layout_tables.specs.Lookups as tables
+use Rattle.layout_map.specs.declared.lookups.LookupMap.{LookupMap}
+use Rattle.layout_matching.specs.declared.lookup.Lookup.{Lookup}
+use Rattle.opentype_layout.specs.declared.lookups.LookupTables.{LookupTables}
+
+abbrev pub least_bit : ℕ → ℕ
+least_bit mask = if nat_eq mask 0 then 0 else 2 ^ trailing_zeros w32 mask
+
+-- a lookup that stands at a place of its table, used as a plan says
+abbrev pub lookup_at : LookupTables → LookupMap → ℕ → Lookup
+lookup_at t m place = record {
+  table = t.table;
+  gdef = t.gdef;
+  place = place;
+  flags = tables.lookup_flag_of t.table.now place;
+  mark_set = tables.mark_filtering_set_of t.table.now place;
+  mask = m.mask;
+  unit = least_bit m.mask;
+  auto_zwnj = m.auto_zwnj;
+  auto_zwj = m.auto_zwj;
+  per_syllable = m.per_syllable;
+  random = m.random;
+  positioning = t.positioning;
+}
+
+-- none if the table has no lookup with this index
+abbrev pub lookup_of : LookupTables → LookupMap → Option Lookup
+lookup_of t m = option_map (lookup_at t m) (tables.lookup_of t.table.now m.index)
+
+abbrev pub with_lookup : LookupTables → List Lookup → LookupMap → List Lookup
+with_lookup t lookups m = option_map_or (λ l. lookups ++ l ∷ []) (lookup_of t m) lookups
+
+abbrev pub lookups_of : LookupTables → List LookupMap → List Lookup
+lookups_of t maps = fold (with_lookup t) [] maps

@@ -1,0 +1,120 @@
+-- What the engine takes of the tables of a small font, read by hand.
+use Rattle.std.specs.Prelude.{◌≡◌, ℕ, List, [], ◌∷◌, Some, None, Bool, true, false, map, refl}
+use Rattle.shape_items.specs.Items.{Item, new_item, new_properties}
+use Rattle.shape_buffer.specs.MapBuilder.{Builder}
+use Rattle.shape_buffer.specs.declared.interfaces.map_request.MapRequest.TheVariants.{Feature}
+use Rattle.shape_buffer.specs.declared.interfaces.map_request.TableIndex.TheVariants.{GSUB, GPOS}
+use Rattle.shape_common.specs.declared.text_types.hb_tag_t.{hb_tag_t}
+use Rattle.shape_common.specs.declared.text_types.Script.{Script}
+use Rattle.layout_map.specs.declared.lookups.LookupMap.{LookupMap}
+use Rattle.layout_matching.specs.declared.lookup.Lookup.{Lookup}
+use Rattle.opentype_layout.specs.Chosen.{script_in, chosen_in}
+use Rattle.opentype_layout.specs.Classes.{begun}
+use Rattle.opentype_layout.specs.Engine.{gsub_tables, gpos_tables, map_of, opentype_layout}
+use Rattle.opentype_layout.specs.Face.{tables_of}
+use Rattle.opentype_layout.specs.Lookups.{least_bit, lookups_of}
+use Rattle.opentype_layout.specs.Worked.Fonts.{words, gsub, gdef, kern}
+use Rattle.opentype_layout.specs.declared.face.OpenTypeFace.{OpenTypeFace}
+
+abbrev pub tag : ℕ → hb_tag_t
+tag n = record { 0 = n }
+
+-- `Latn`, `Grek`, `latn`
+abbrev pub latin : Script
+latin = record { 0 = tag 0x4C61746E }
+
+abbrev pub greek : Script
+greek = record { 0 = tag 0x4772656B }
+
+abbrev pub latn : hb_tag_t
+latn = tag 0x6C61746E
+
+-- a lookup that is on for bits 4 and 5
+abbrev pub use_of : ℕ → LookupMap
+use_of index = record { index = index; mask = 0x30; auto_zwnj = true; auto_zwj = false; random = true; per_syllable = false }
+
+-- where a lookup stands, its flags and set of marks, its mask and the least bit of it
+abbrev pub seen : Lookup → List ℕ
+seen l = l.place ∷ l.flags ∷ l.mark_set ∷ l.mask ∷ l.unit ∷ []
+
+abbrev pub turned_on : Lookup → List Bool
+turned_on l = l.auto_zwnj ∷ l.auto_zwj ∷ l.random ∷ l.per_syllable ∷ l.positioning ∷ []
+
+-- `liga` asked for everywhere, in a text of script `latn`
+abbrev pub asked : Builder
+asked = record { requests = Feature (tag 0x6C696761) 1 1 ∷ []; is_simple = true; language = None; gsub_script = Some latn; gpos_script = None }
+
+-- glyph `n` of a ligature
+abbrev pub ligated : ℕ → Item
+ligated n = record (new_item 0x41 0) {
+  glyph_id = n;
+  properties = record new_properties { substituted = true; ligated = true; ligature_id = 3; ligature_component = 1; number_of_components = 2 };
+}
+
+abbrev pub classes_of : Item → List ℕ
+classes_of item = item.properties.glyph_class.0 ∷ item.properties.mark_attachment_class ∷ item.properties.ligature_id
+    ∷ item.properties.ligature_component ∷ item.properties.number_of_components ∷ []
+
+pub record WorkedEngine : Type 0 where
+  -- the script of the text, one that stands for others, none
+  pub script : script_in gsub (Some latin) None ≡ Some latn
+  pub other_script : script_in gsub (Some greek) None ≡ Some latn
+  pub no_script : script_in [] (Some latin) None ≡ None
+  pub lang_sys : (chosen_in gsub (Some latn) None).lang_sys ≡ Some 22
+  -- tables are read if they are of version 1
+  pub read : (f : OpenTypeFace) → f.gsub.now ≡ gsub → (tables_of f).gsub ≡ true
+  pub not_read : (f : OpenTypeFace) → f.gpos.now ≡ words (2 ∷ 0 ∷ []) → (tables_of f).gpos ≡ false
+  pub no_table : (f : OpenTypeFace) → f.gpos.now ≡ [] → (tables_of f).gpos ≡ false
+  -- masks
+  pub no_bit : least_bit 0 ≡ 0
+  pub bit : least_bit 0x30 ≡ 0x10
+  pub last_bit : least_bit 0x80000000 ≡ 0x80000000
+  -- the lookup that the table has, and not the one that it lacks
+  pub lookups : (f : OpenTypeFace) → f.gsub.now ≡ gsub
+      → map seen (lookups_of (gsub_tables f) (use_of 1 ∷ use_of 0 ∷ [])) ≡ (48 ∷ 8 ∷ 7 ∷ 0x30 ∷ 0x10 ∷ []) ∷ []
+  pub uses : (f : OpenTypeFace) → f.gpos.now ≡ gsub
+      → map turned_on (lookups_of (gpos_tables f) (use_of 0 ∷ [])) ≡ (true ∷ false ∷ true ∷ false ∷ true ∷ []) ∷ []
+  -- what is asked for, compiled: lookup 0, on everywhere
+  pub compiled : (f : OpenTypeFace) → f.gsub.now ≡ gsub → f.gpos.now ≡ []
+      → map (λ (m : LookupMap). m.index) ((opentype_layout f).compiled asked).gsub.lookups ≡ 0 ∷ []
+  pub in_gsub : (f : OpenTypeFace) → f.gsub.now ≡ gsub → f.gpos.now ≡ []
+      → (opentype_layout f).chosen_script (Some latin) None GSUB ≡ Some latn
+  pub in_gpos : (f : OpenTypeFace) → f.gsub.now ≡ gsub → f.gpos.now ≡ []
+      → (opentype_layout f).chosen_script (Some latin) None GPOS ≡ None
+  pub classes : (f : OpenTypeFace) → f.gdef.now ≡ gdef → (opentype_layout f).has_glyph_classes ≡ true
+  pub kerns : (f : OpenTypeFace) → f.font.kern.now ≡ kern → (opentype_layout f).has_kerning ≡ true
+  pub no_kern : (f : OpenTypeFace) → f.font.kern.now ≡ [] → (opentype_layout f).has_kerning ≡ false
+  -- a base, a mark, a glyph of no class, of no ligature any more
+  pub base : classes_of (begun gdef (ligated 5)) ≡ 2 ∷ 0 ∷ 0 ∷ 0 ∷ 1 ∷ []
+  pub mark : classes_of (begun gdef (ligated 6)) ≡ 8 ∷ 2 ∷ 0 ∷ 0 ∷ 1 ∷ []
+  pub other : classes_of (begun gdef (ligated 7)) ≡ 0 ∷ 0 ∷ 0 ∷ 0 ∷ 1 ∷ []
+  pub not_made : (begun gdef (ligated 5)).properties.substituted ≡ false
+  pub no_ligature : (begun gdef (ligated 5)).properties.ligated ≡ false
+
+pub worked_engine : WorkedEngine
+unfolding lib.Count.count_trailing_zeros
+worked_engine = record {
+  script = refl;
+  other_script = refl;
+  no_script = refl;
+  lang_sys = refl;
+  read = λ f e. rw e refl;
+  not_read = λ f e. rw e refl;
+  no_table = λ f e. rw e refl;
+  no_bit = refl;
+  bit = refl;
+  last_bit = refl;
+  lookups = λ f e. rw e refl;
+  uses = λ f e. rw e refl;
+  compiled = λ f e none. rw e refl;
+  in_gsub = λ f e none. rw e refl;
+  in_gpos = λ f e none. rw none refl;
+  classes = λ f e. rw e refl;
+  kerns = λ f e. rw e refl;
+  no_kern = λ f e. rw e refl;
+  base = refl;
+  mark = refl;
+  other = refl;
+  not_made = refl;
+  no_ligature = refl;
+}

@@ -1,0 +1,22 @@
+-- Tables of a small font, as the standard lays them out.
+use Rattle.std.specs.Prelude.{ℕ, ◌/◌, ◌%◌, List, [], ◌∷◌, ◌++◌}
+
+abbrev pub words : List ℕ → List ℕ
+words [] = []
+words (w ∷ ws) = w / 256 ∷ w % 256 ∷ words ws
+
+-- script `latn`, whose default language system lists the feature `liga` with lookup 0, which is of type 1, skips marks, has no
+-- subtable and stands at byte 48; the word after it would be its set of marks
+abbrev pub gsub : List ℕ
+gsub = words (1 ∷ 0 ∷ 10 ∷ 30 ∷ 44 ∷ [])
+    ++ words (1 ∷ 0x6C61 ∷ 0x746E ∷ 8 ∷ 4 ∷ 0 ∷ 0 ∷ 0xFFFF ∷ 1 ∷ 0 ∷ [])
+    ++ words (1 ∷ 0x6C69 ∷ 0x6761 ∷ 8 ∷ 0 ∷ 1 ∷ 0 ∷ [])
+    ++ words (1 ∷ 4 ∷ 1 ∷ 8 ∷ 0 ∷ 7 ∷ [])
+
+-- glyph 5 is a base, glyph 6 a mark of attachment class 2
+abbrev pub gdef : List ℕ
+gdef = words (1 ∷ 0 ∷ 12 ∷ 0 ∷ 0 ∷ 22 ∷ 1 ∷ 5 ∷ 2 ∷ 1 ∷ 3 ∷ 1 ∷ 6 ∷ 1 ∷ 2 ∷ [])
+
+-- one part, of a format that isn't read
+abbrev pub kern : List ℕ
+kern = words (0 ∷ 1 ∷ 0 ∷ 6 ∷ 0x0100 ∷ [])

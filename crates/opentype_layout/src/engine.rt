@@ -1,0 +1,261 @@
+//! The engine.
+ghost use Rattle.std.specs.Prelude.{◌≡◌};
+ghost use Rattle.shape_buffer.specs.Outcome.{IsWithinLimit, Made, Outcome, step};
+ghost use Rattle.layout_context.specs.Stages.{substituted};
+ghost use Rattle.layout_positions.specs.Walk.{positioned};
+ghost use Rattle.opentype_layout.specs.Lookups.{lookups_of};
+ghost use Rattle.layout_map.specs.Map.{OtMap, map_meaning};
+ghost use Rattle.opentype_layout.specs.declared.face.OpenTypeFace.{OpenTypeFace as Face};
+ghost use Rattle.opentype_layout.specs.Engine.{table_of as table_of_face, gsub_tables as gsub_tables_of, gpos_tables as gpos_tables_of, opentype_layout, opentype_lookups};
+ghost use Rattle.opentype_layout.specs.EngineLaws.{opentype_lookups-lawful};
+ghost use Rattle.layout_map.proofs.LawfulLemmas.{map_meaning-lawful};
+
+use crate::chosen::{chosen_for, script_in};
+use crate::classes::begin_glyphs;
+use crate::face::OpenTypeFace;
+use crate::lookups::{LookupTables, lookups};
+use kern_table::tables::{kern_table, parts};
+use layout_context::stages::substitute;
+use layout_map::lookups::LookupMap;
+use layout_map::map::hb_ot_map_t;
+use layout_positions::attachment::finish_offsets;
+use layout_positions::walk;
+use layout_tables::gdef;
+use shape_buffer::buffer::{
+    Feature, Language, Script, ShapeError, hb_buffer_t, hb_mask_t, hb_tag_t,
+};
+use shape_buffer::interfaces::{TableIndex, hb_ot_layout_t, hb_ot_map_builder_t};
+use std::alloc::Global;
+
+/// The engine of OpenType layout: `GDEF`, `GSUB` and `GPOS`, and `kern` in texts that `GPOS` doesn't kern.
+pub struct OpenTypeLayout;
+
+/// A table of lookups.
+fn table_of<'a>(face: &OpenTypeFace<'a>, table: TableIndex) -> &'a [u8]
+    ensures { result.now ≡ table_of_face face.now table }
+{
+    match table {
+        TableIndex::GSUB => face.gsub(),
+        TableIndex::GPOS => face.gpos(),
+    }
+}
+
+/// The tables that lookups of substitution read.
+fn gsub_tables<'a>(face: &OpenTypeFace<'a>) -> LookupTables<'a>
+    ensures { result ≡ gsub_tables_of face.now }
+{
+    LookupTables {
+        table: face.gsub(),
+        gdef: face.gdef(),
+        positioning: false,
+    }
+}
+
+/// The tables that lookups of positioning read.
+fn gpos_tables<'a>(face: &OpenTypeFace<'a>) -> LookupTables<'a>
+    ensures { result ≡ gpos_tables_of face.now }
+{
+    LookupTables {
+        table: face.gpos(),
+        gdef: face.gdef(),
+        positioning: true,
+    }
+}
+
+/// Applies the lookups of a stage of substitution.
+fn substitute_by(
+    alloc: Global,
+    tables: LookupTables<'_>,
+    maps: &[LookupMap],
+    buffer: &mut hb_buffer_t,
+) -> Result<(), ShapeError>
+    requires { IsWithinLimit buffer.old }
+    ensures { Outcome (step (substituted (lookups_of tables.entry maps.now)))
+        buffer.old buffer.new result }
+{
+    match lookups(alloc, tables, maps) {
+        Ok(lookups) => substitute(alloc, lookups.as_slice(), buffer),
+        Err(_) => Err(ShapeError::Memory),
+    }
+}
+
+/// Applies the lookups of positioning.
+fn position_by(
+    alloc: Global,
+    tables: LookupTables<'_>,
+    maps: &[LookupMap],
+    buffer: &mut hb_buffer_t,
+) -> Result<(), ShapeError>
+    requires { IsWithinLimit buffer.old }
+    ensures { Outcome (step (positioned (lookups_of tables.entry maps.now)))
+        buffer.old buffer.new result }
+{
+    match lookups(alloc, tables, maps) {
+        Ok(lookups) => {
+            walk::position(lookups.as_slice(), buffer);
+            Ok(())
+        }
+        Err(_) => Err(ShapeError::Memory),
+    }
+}
+
+impl<'a> hb_ot_layout_t<OpenTypeFace<'a>> for OpenTypeLayout {
+    type Map = hb_ot_map_t;
+
+    ghost layout = { opentype_layout };
+
+    ghost masks = { map_meaning };
+
+    ghost lookups = { opentype_lookups };
+
+    fn chosen_script(
+        face: &OpenTypeFace<'a>,
+        script: Option<Script>,
+        language: Option<&Language>,
+        table: TableIndex,
+    ) -> Option<hb_tag_t> {
+        script_in(table_of(face, table), script, language)
+    }
+
+    fn compile(
+        alloc: Global,
+        face: &OpenTypeFace<'a>,
+        builder: &hb_ot_map_builder_t,
+    ) -> Result<hb_ot_map_t, ShapeError> {
+        let gsub = chosen_for(face.gsub(), TableIndex::GSUB, builder);
+        let gpos = chosen_for(face.gpos(), TableIndex::GPOS, builder);
+        match hb_ot_map_t::compile(alloc, &gsub, &gpos, builder.requests()) {
+            Ok(map) => Ok(map),
+            Err(_) => Err(ShapeError::Memory),
+        }
+    }
+
+    fn has_glyph_classes(face: &OpenTypeFace<'a>) -> bool {
+        gdef::has_glyph_classes(face.gdef())
+    }
+
+    fn has_kerning(face: &OpenTypeFace<'a>) -> bool {
+        parts(face.kern()) != 0
+    }
+
+    fn has_machine_kerning(_face: &OpenTypeFace<'a>) -> bool {
+        false
+    }
+
+    fn has_cross_kerning(_face: &OpenTypeFace<'a>) -> bool {
+        false
+    }
+
+    fn global_mask(map: &hb_ot_map_t) -> hb_mask_t
+        ensures { result ≡ (map_meaning map.now).global_mask }
+    {
+        map.global_mask()
+    }
+
+    fn get_1_mask(map: &hb_ot_map_t, tag: hb_tag_t) -> hb_mask_t
+        ensures { result ≡ (map_meaning map.now).one_mask tag }
+    {
+        map.one_mask(tag)
+    }
+
+    fn get_mask(map: &hb_ot_map_t, tag: hb_tag_t) -> (hb_mask_t, u32)
+        ensures { result ≡ (map_meaning map.now).mask tag }
+    {
+        map.mask(tag)
+    }
+
+    fn get_feature_index(map: &hb_ot_map_t, table: TableIndex, tag: hb_tag_t) -> Option<u16>
+        ensures { result ≡ (map_meaning map.now).feature_index table tag }
+    {
+        map.feature_index(table, tag)
+    }
+
+    fn substitute_start(face: &OpenTypeFace<'a>, buffer: &mut hb_buffer_t) {
+        begin_glyphs(face.gdef(), buffer);
+    }
+
+    fn stages(map: &hb_ot_map_t) -> usize
+        ensures { result ≡ (map_meaning map.now).stages }
+    {
+        map.stages()
+    }
+
+    fn substitute_stage(
+        alloc: Global,
+        map: &hb_ot_map_t,
+        i: usize,
+        face: &OpenTypeFace<'a>,
+        buffer: &mut hb_buffer_t,
+    ) -> Result<(), ShapeError> {
+        substitute_by(alloc, gsub_tables(face), map.gsub_lookups(i), buffer)
+    }
+
+    fn pause_after(map: &hb_ot_map_t, i: usize) -> Option<u32>
+        ensures { result ≡ (map_meaning map.now).pause_after i }
+    {
+        map.pause_after(i)
+    }
+
+    fn aat_substitute(
+        _alloc: Global,
+        _map: &hb_ot_map_t,
+        _user_features: &[Feature],
+        _face: &OpenTypeFace<'a>,
+        _buffer: &mut hb_buffer_t,
+    ) -> Result<(), ShapeError> {
+        Ok(())
+    }
+
+    fn aat_remove_deleted(buffer: &mut hb_buffer_t)
+        ensures { (map : OtMap) (face : Face)
+            → Made (opentype_lookups map face).aat_remove_deleted buffer.old buffer.new }
+    {}
+
+    fn aat_zero_width_deleted(buffer: &mut hb_buffer_t)
+        ensures { (map : OtMap) (face : Face)
+            → Made (opentype_lookups map face).aat_zero_width_deleted buffer.old buffer.new }
+    {}
+
+    fn position_start(_face: &OpenTypeFace<'a>, buffer: &mut hb_buffer_t) {
+        walk::position_start(buffer);
+    }
+
+    fn position(
+        alloc: Global,
+        map: &hb_ot_map_t,
+        face: &OpenTypeFace<'a>,
+        buffer: &mut hb_buffer_t,
+    ) -> Result<(), ShapeError> {
+        position_by(alloc, gpos_tables(face), map.gpos_lookups(), buffer)
+    }
+
+    fn position_finish_advances(_face: &OpenTypeFace<'a>, _buffer: &mut hb_buffer_t) {}
+
+    fn position_finish_offsets(_face: &OpenTypeFace<'a>, buffer: &mut hb_buffer_t) {
+        finish_offsets(buffer);
+    }
+
+    fn aat_position(
+        _alloc: Global,
+        _map: &hb_ot_map_t,
+        _kern_mask: hb_mask_t,
+        _face: &OpenTypeFace<'a>,
+        _buffer: &mut hb_buffer_t,
+    ) -> Result<(), ShapeError> {
+        Ok(())
+    }
+
+    fn kern(
+        _alloc: Global,
+        kern_mask: hb_mask_t,
+        face: &OpenTypeFace<'a>,
+        buffer: &mut hb_buffer_t,
+    ) -> Result<(), ShapeError> {
+        kern_table(face.kern(), kern_mask, buffer);
+        Ok(())
+    }
+
+    ghost lawful_masks = { map_meaning-lawful };
+
+    ghost lawful_lookups = { opentype_lookups-lawful };
+}

@@ -1,0 +1,149 @@
+//! The face that the engine is over.
+ghost use Rattle.std.specs.Prelude.{◌≡◌, is_some, nat_lt};
+ghost use Rattle.shape_font.specs.Bytes.{u16_of};
+ghost use Rattle.shape_font.specs.Directory.{bytes_of};
+ghost use Rattle.opentype_layout.specs.Face.{is_read as is_read_of, tables_of, opentype_face};
+
+use shape_buffer::{GlyphId, hb_font_t, hb_glyph_extents_t, hb_tables_t};
+use shape_font::FontFace;
+use shape_font::bytes::u16_at;
+
+const HEAD: u32 = 0x6865_6164;
+
+/// A font file as OpenType layout sees it: a [`FontFace`] without tables that this engine doesn't read. So no plan
+/// leaves kerning or marks to a table (`morx`, `kerx`, `trak`, or tables of lookups of a version to come) that nobody
+/// reads.
+#[derive(Clone, Copy)]
+pub struct OpenTypeFace<'a> {
+    font: FontFace<'a>,
+    gdef: &'a [u8],
+    gsub: &'a [u8],
+    gpos: &'a [u8],
+}
+
+/// Whether a table of lookups is read: it is of major version 1.
+fn is_read(table: &[u8]) -> bool
+    ensures { result ≡ is_read_of table.now }
+{
+    u16_at(table, 0) == 1
+}
+
+impl<'a> OpenTypeFace<'a> {
+    /// The face over a font.
+    pub fn new(font: FontFace<'a>) -> Self
+        ensures font { result.font ≡ font.entry }
+        ensures gdef { result.gdef.now ≡ font.entry.gdef.now }
+        ensures gsub { result.gsub.now ≡ font.entry.gsub.now }
+        ensures gpos { result.gpos.now ≡ font.entry.gpos.now }
+    {
+        OpenTypeFace {
+            font,
+            gdef: font.gdef_table(),
+            gsub: font.gsub_table(),
+            gpos: font.gpos_table(),
+        }
+    }
+
+    /// The font with this number in a collection, or number 0, the one of a file of one font. None if the file has no
+    /// such font, or its em square is empty.
+    pub fn from_slice(bytes: &'a [u8], index: u32) -> Option<Self>
+        ensures { is_some result ≡ nat_lt 0 (u16_of (bytes_of bytes.now index HEAD) 18) }
+    {
+        match FontFace::from_slice(bytes, index) {
+            Some(font) => Some(OpenTypeFace::new(font)),
+            None => None,
+        }
+    }
+
+    /// The font.
+    pub fn font(&self) -> FontFace<'a>
+        ensures { result ≡ self.now.font }
+    {
+        self.font
+    }
+
+    /// The table `GDEF`.
+    pub(crate) fn gdef(&self) -> &'a [u8]
+        ensures { result ≡ self.now.gdef }
+    {
+        self.gdef
+    }
+
+    /// The table `GSUB`.
+    pub(crate) fn gsub(&self) -> &'a [u8]
+        ensures { result ≡ self.now.gsub }
+    {
+        self.gsub
+    }
+
+    /// The table `GPOS`.
+    pub(crate) fn gpos(&self) -> &'a [u8]
+        ensures { result ≡ self.now.gpos }
+    {
+        self.gpos
+    }
+
+    /// The table `kern`.
+    pub(crate) fn kern(&self) -> &'a [u8]
+        ensures { result.now ≡ self.now.font.kern.now }
+    {
+        self.font.kern_table()
+    }
+
+    /// The tables of lookups that the engine reads.
+    fn read_tables(&self) -> hb_tables_t
+        ensures { result ≡ tables_of self.now }
+    {
+        hb_tables_t {
+            gsub: is_read(self.gsub),
+            gpos: is_read(self.gpos),
+            morx: false,
+            kerx: false,
+            trak: false,
+        }
+    }
+}
+
+impl<'a> hb_font_t for OpenTypeFace<'a> {
+    ghost face = { opentype_face };
+
+    fn get_nominal_glyph(&self, c: char) -> Option<GlyphId> {
+        self.font.get_nominal_glyph(c)
+    }
+
+    fn has_glyph(&self, c: char) -> bool {
+        self.font.has_glyph(c)
+    }
+
+    fn glyph_variation_index(&self, c: char, selector: char) -> Option<GlyphId> {
+        self.font.glyph_variation_index(c, selector)
+    }
+
+    fn glyph_h_advance(&self, glyph: GlyphId) -> i32 {
+        self.font.glyph_h_advance(glyph)
+    }
+
+    fn glyph_v_advance(&self, glyph: GlyphId) -> i32 {
+        self.font.glyph_v_advance(glyph)
+    }
+
+    fn glyph_h_origin(&self, glyph: GlyphId) -> i32 {
+        self.font.glyph_h_origin(glyph)
+    }
+
+    fn glyph_v_origin(&self, glyph: GlyphId) -> i32 {
+        self.font.glyph_v_origin(glyph)
+    }
+
+    fn glyph_extents(&self, glyph: GlyphId) -> Option<hb_glyph_extents_t> {
+        self.font.glyph_extents(glyph)
+    }
+
+    fn units_per_em(&self) -> u16 {
+        self.font.units_per_em()
+    }
+
+    fn tables(&self) -> hb_tables_t {
+        self.read_tables()
+    }
+}

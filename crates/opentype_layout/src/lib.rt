@@ -1,0 +1,20 @@
+//! OpenType layout whole: [`OpenTypeLayout`], the engine over `GDEF`, `GSUB`, `GPOS` and `kern` of a font file, for
+//! [`OpenTypeFace`].
+//!
+//! The crates below it read tables, compile requests and apply lookups. [`chosen`] chooses script and language system
+//! for a text, [`lookups`] makes the lookups of a plan ready, [`classes`] gives glyphs their classes, and [`engine`]
+//! puts them together. Any bytes are taken: [`laws`] has what holds of the engine whatever the font is. [`worked`] has
+//! the definitions computed by hand.
+#![tactic(auto)]
+#![allow(non_camel_case_types)]
+
+pub mod chosen;
+pub mod classes;
+pub mod engine;
+pub mod face;
+pub mod laws;
+pub mod lookups;
+pub mod worked;
+
+pub use engine::OpenTypeLayout;
+pub use face::OpenTypeFace;
