@@ -1,0 +1,14 @@
+use Rattle.std.proofs.Common.{refl, inl, inr}
+use Rattle.script_shapers.proofs.ThaiLemmas.{sara_am_preserves_clusters, sara_am_preserves_flags}
+use Rattle.script_shapers.proofs.thai.thai_runs_preserve.Goals as goal
+
+pub returns-clause-clusters : goal.returns-clause-clusters
+returns-clause-clusters g c = λ plan face keep.
+    c.given_hooks_preserve.ensures.clusters plan face
+    (λ shaper. record { preprocess = inr sara_am_preserves_clusters; setup_masks = inl refl; postprocess = inl refl; pause = inl refl }) keep
+    (λ reorder given. cc)
+
+pub returns-clause-flags : goal.returns-clause-flags
+returns-clause-flags g c = λ plan face.
+    c.given_hooks_preserve.ensures.flags plan face
+    (λ shaper. record { preprocess = inr sara_am_preserves_flags; setup_masks = inl refl; postprocess = inl refl; pause = inl refl })
