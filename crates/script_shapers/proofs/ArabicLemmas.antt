@@ -1,20 +1,20 @@
 -- Masks of the forms of letters preserve the flags of glyphs.
 use Rattle.std.proofs.Common.{◌≡◌, ℕ, zero, suc, ◌+◌, ◌==◌, ◌&&◌, ◌||◌, Bool, true, false, if◌then◌else◌, Option, None, Some, is_some, length, refl, inl, inr, bit_and}
 use Rattle.std.proofs.lemmas.Bool.{cases_Bool}
-use Rattle.shape_items.specs.BufferClusters.{unsafe_to_break, unsafe_to_concat}
+use Rattle.shape_items.specs.BufferClusters.{unsafe_to_concat}
 use Rattle.script_shapers.specs.Joining.{kind_of}
-use Rattle.script_shapers.specs.ArabicFlags.{joins_back, may_change, changes, tatweel, marked_pair, start_of, marked_by, marked_at, marked_to, marked_end, begun_walk, marked, joined}
+use Rattle.script_shapers.specs.ArabicFlags.{joins_back, may_change, changes, marked_pair, start_of, marked_by, marked_at, marked_to, marked_end, begun_walk, marked, joined}
 use Rattle.script_shapers.specs.declared.arabic.flags.Walk.{Walk}
 use Rattle.std.proofs.Math.Seq.{map-set_same}
 use Rattle.shape_common.specs.declared.text_types.hb_tag_t.{hb_tag_t}
 use Rattle.shape_items.specs.Buffer.{Buffer}
 use Rattle.shape_items.specs.Items.{Item, new_item}
 use Rattle.shape_items.specs.PreservesFlags.{PreservesFlags, has_flag}
-use Rattle.shape_items.proofs.Flags.FlagLemmas.{PreservesFlags-same, PreservesFlags-then, glyph_flags_set, unsafe_to_break_preserves}
+use Rattle.shape_items.proofs.Flags.FlagLemmas.{PreservesFlags-same, PreservesFlags-then, glyph_flags_set, safe_to_insert_tatweel_preserves}
 use Rattle.shape_buffer.specs.Preservation.{IsFlagPreserving}
 use Rattle.shape_buffer.specs.Layout.{HasNoDefinedFlag}
 use Rattle.script_shapers.specs.ArabicForms.{form_mask, masks_by, kind_after, kind_before, begun, form_at, item_at, masked_by, formed_at, formed_to, formed}
-use Rattle.script_shapers.specs.declared.arabic.TheConstants.{ISOL, FINA, FIN2, FIN3, MEDI, MED2, INIT}
+use Rattle.script_shapers.specs.declared.arabic.requests.TheConstants.{ISOL, FINA, FIN2, FIN3, MEDI, MED2, INIT}
 use Rattle.script_shapers.specs.declared.arabic.joining.Kind.{Kind}
 use Rattle.script_shapers.specs.declared.arabic.joining.Form.{Form}
 use Rattle.script_shapers.specs.declared.arabic.joining.Form.TheVariants as form
@@ -59,15 +59,8 @@ flags-concat start end b = elim (cases_Bool (bit_and b.flags.0 64 == 64)) [
   | inr unasked ↦ rw unasked (PreservesFlags-same b)
 ]
 
-flags-tatweel : (start end : ℕ) → IsFlagPreserving (tatweel start end)
-flags-tatweel start end b =
-    elim (bit_and b.flags.0 128 == 0) as (λ t. PreservesFlags b (if t then unsafe_to_break start end b else b)) [
-      | true ↦ unsafe_to_break_preserves start end b
-      | false ↦ PreservesFlags-same b
-    ]
-
 flags-pair : (both apart : Bool) (start end : ℕ) → IsFlagPreserving (marked_pair both apart start end)
-flags-pair true apart start end b = flags-tatweel start end b
+flags-pair true apart start end b = safe_to_insert_tatweel_preserves start end b
 flags-pair false true start end b = flags-concat start end b
 flags-pair false false start end b = PreservesFlags-same b
 

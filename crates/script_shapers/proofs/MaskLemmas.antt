@@ -1,4 +1,4 @@
--- What setting masks of features keeps.
+-- What setting masks of features preserves.
 use Rattle.std.proofs.Common.{◌≡◌, ℕ, ◌||◌, Bool, true, false, nat_lt, List, [], ◌∷◌, map, refl, ap, ap₂, sym, ◌∙◌, bit_and, bit_or}
 use Rattle.std.proofs.lemmas.Nat.{and_assoc, and_comm, and_or_apart}
 use Rattle.std.specs.Int.Bits.{and_zero_r}

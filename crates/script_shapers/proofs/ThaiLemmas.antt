@@ -16,21 +16,21 @@ use Rattle.shape_items.proofs.Order.DrawsInOrder.{DrawsInOrder, DrawsInOrder-sam
 use Rattle.shape_buffer.specs.Preservation.{IsClusterPreserving, IsFlagPreserving}
 use Rattle.shape_buffer.proofs.Steps.PreservationLemmas.{PreservesOrder-then}
 use Rattle.script_shapers.specs.Thai.{is_sara_am, is_base, same, if_sara_am, sara_am_after, nikhahit_before, own_part, is_above_item, brought, both, parted, merge_start, item_at, merged_at, merged, sara_am_parted, sara_aa_of}
-use Rattle.script_shapers.proofs.KeepLemmas.{PreservesAll, PreservesAll-same, PreservesAll-then, PreservesAll-merge_out, order-replaced, flags-replaced, BringsNone, found_has, found-in}
+use Rattle.script_shapers.proofs.PreservationLemmas.{PreservesAll, PreservesAll-same, PreservesAll-then, PreservesAll-merge_out, order-replaced, flags-replaced, BringsNone, found_has, found-in}
 
-keeps_at : (i : ℕ) (b : Buffer) → i < length b.items → PreservesAll b (merged_at i b)
-keeps_at i b within =
+preserves_at : (i : ℕ) (b : Buffer) → i < length b.items → PreservesAll b (merged_at i b)
+preserves_at i b within =
     let start = merge_start b.cluster_level b.items i in
     elim (is_sara_am (item_at b.items i).codepoint) as (λ t. PreservesAll b (if t then merge_out_clusters start (i + 1) b else b)) [
       | true ↦ PreservesAll-merge_out start (i + 1) b (omega (arith, within))
       | false ↦ PreservesAll-same b
     ]
 
-pub keeps_to : (n : ℕ) (b : Buffer) → n ≤ length b.items → PreservesAll b (merged n b)
-keeps_to zero b within = PreservesAll-same b
-keeps_to (suc i) b within =
-    let first = keeps_to i b (omega (arith, within)) in
-    PreservesAll-then b (merged i b) _ first (keeps_at i (merged i b) (omega (arith, within, first.count)))
+pub preserves_to : (n : ℕ) (b : Buffer) → n ≤ length b.items → PreservesAll b (merged n b)
+preserves_to zero b within = PreservesAll-same b
+preserves_to (suc i) b within =
+    let first = preserves_to i b (omega (arith, within)) in
+    PreservesAll-then b (merged i b) _ first (preserves_at i (merged i b) (omega (arith, within, first.count)))
 
 own_part-same : (x : Item) → ((own_part x).cluster ≡ x.cluster) × ((own_part x).mask ≡ x.mask)
 own_part-same x =
@@ -70,7 +70,7 @@ parted_draws level monotone after (x ∷ xs) =
 pub sara_am_preserves_clusters : IsClusterPreserving sara_am_parted
 sara_am_preserves_clusters b monotone =
     let mid = merged (length b.items) b in
-    let first = keeps_to (length b.items) b (omega arith) in
+    let first = preserves_to (length b.items) b (omega arith) in
     let level : IsMonotoneLevel mid.cluster_level = subst IsMonotoneLevel (sym first.order.level) monotone in
     PreservesOrder-then b mid _ first.order (order-replaced mid _ (parted_draws mid.cluster_level level false mid.items))
 
@@ -127,5 +127,5 @@ parted_brings level after (x ∷ xs) flag =
 pub sara_am_preserves_flags : IsFlagPreserving sara_am_parted
 sara_am_preserves_flags b =
     let mid = merged (length b.items) b in
-    let first = keeps_to (length b.items) b (omega arith) in
+    let first = preserves_to (length b.items) b (omega arith) in
     PreservesFlags-then b mid _ first.flags (flags-replaced mid _ (parted_brings mid.cluster_level false mid.items))

@@ -8,6 +8,7 @@ ghost use Rattle.shape_buffer.specs.Preservation.{LookupsPreserveClusters, Looku
 ghost use Rattle.shape_plan.specs.Preservation.{RunPreservesFlags};
 ghost use Rattle.shape_plan.specs.Plan.{Plan};
 ghost use Rattle.shape_pipeline.specs.Order.{RunPreservesClusters};
+ghost use Rattle.script_shapers.specs.Worked.Thai.{WorkedThai};
 ghost use Rattle.script_shapers.specs.Thai.{sara_am_parted};
 ghost use Rattle.script_shapers.specs.declared.thai.ThaiShaper.{ThaiShaper as AnyShaper};
 
@@ -109,3 +110,8 @@ pub fn thai_runs_preserve<U: hb_unicode_funcs_t, F: hb_font_t, M: hb_ot_layout_t
 {
     given_hooks_preserve::<U, F, M, ThaiShaper>();
 }
+
+/// SARA AM after letters and marks, at each level of clusters.
+pub fn sara_am_meets_worked_cases()
+    ensures { WorkedThai }
+{}

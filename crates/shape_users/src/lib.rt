@@ -10,13 +10,10 @@
 #![tactic(auto)]
 #![allow(non_camel_case_types)]
 
-pub mod arabic;
 pub mod breaking;
 pub mod capitals;
-pub mod hebrew;
 pub mod ligatures;
 pub mod lines;
-mod marks;
 pub mod paragraph;
 pub mod plain_glyphs;
 pub mod words;

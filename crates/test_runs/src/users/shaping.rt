@@ -9,9 +9,9 @@ use shape_pipeline::{
     hb_tag_t, shape,
 };
 use shape_unicode::UnicodeDatabase;
-use shape_users::arabic::ArabicShaper;
+use script_shapers::arabic::ArabicShaper;
 use shape_users::capitals::CapitalsShaper;
-use shape_users::hebrew::HebrewShaper;
+use script_shapers::hebrew::HebrewShaper;
 use shape_users::ligatures::Ligatures;
 use std::alloc::Global;
 use std::process::Abort;

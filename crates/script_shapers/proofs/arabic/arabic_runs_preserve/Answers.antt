@@ -1,7 +1,7 @@
 use Rattle.std.proofs.Common.{refl, inl, inr}
-use Rattle.shape_users.specs.Arabic.{modifiers_reordered}
-use Rattle.shape_users.proofs.HookLemmas.{shaper-preserves}
-use Rattle.shape_users.proofs.ModifierLemmas.{modifiers_preserve_runs}
+use Rattle.script_shapers.specs.Modifiers.{modifiers_reordered}
+use Rattle.script_shapers.proofs.HookLemmas.{shaper-preserves}
+use Rattle.script_shapers.proofs.ModifierLemmas.{modifiers_preserve_runs}
 use Rattle.script_shapers.specs.ArabicForms.{masks_by}
 use Rattle.script_shapers.specs.ArabicFlags.{joined, joined-alone}
 use Rattle.script_shapers.specs.ArabicRequests.{is_mongolian}
@@ -10,7 +10,7 @@ use Rattle.script_shapers.proofs.ArabicLemmas.{flags-joined}
 use Rattle.script_shapers.proofs.arabic.arabic_runs_preserve.Goals as goal
 
 pub returns-clause-clusters : goal.returns-clause-clusters
-returns-clause-clusters g c = λ plan face keep.
+returns-clause-clusters g c = λ plan face preserve.
     let mask = (g.M.hb_ot_layout_t.masks plan.ot_map).one_mask in
     c.given_hooks_preserve.ensures.clusters plan face
     (λ shaper. record {
@@ -19,7 +19,7 @@ returns-clause-clusters g c = λ plan face keep.
           (joined-alone (masks_by mask) (is_mongolian plan.script)));
       postprocess = inl refl;
       pause = inl refl;
-    }) keep (shaper-preserves modifiers_reordered modifiers_preserve_runs _ (λ shaper. refl) plan.shaper)
+    }) preserve (shaper-preserves modifiers_reordered modifiers_preserve_runs _ (λ shaper. refl) plan.shaper)
 
 pub returns-clause-flags : goal.returns-clause-flags
 returns-clause-flags g c = λ plan face.

@@ -3,9 +3,9 @@ use Rattle.script_shapers.proofs.ThaiLemmas.{sara_am_preserves_clusters, sara_am
 use Rattle.script_shapers.proofs.thai.thai_runs_preserve.Goals as goal
 
 pub returns-clause-clusters : goal.returns-clause-clusters
-returns-clause-clusters g c = λ plan face keep.
+returns-clause-clusters g c = λ plan face preserve.
     c.given_hooks_preserve.ensures.clusters plan face
-    (λ shaper. record { preprocess = inr sara_am_preserves_clusters; setup_masks = inl refl; postprocess = inl refl; pause = inl refl }) keep
+    (λ shaper. record { preprocess = inr sara_am_preserves_clusters; setup_masks = inl refl; postprocess = inl refl; pause = inl refl }) preserve
     (λ reorder given. cc)
 
 pub returns-clause-flags : goal.returns-clause-flags

@@ -1,7 +1,7 @@
 use Rattle.std.proofs.Common.{refl, inl, inr}
 use Rattle.shape_users.specs.Capitals.{capitals_marked, capitals_marked-alone}
 use Rattle.shape_users.specs.declared.capitals.TheConstants.{C2SC}
-use Rattle.shape_users.proofs.AuthorLemmas.{preserving-masks_alone}
+use Rattle.script_shapers.proofs.AuthorLemmas.{preserving-masks_alone}
 use Rattle.shape_users.proofs.capitals.capitals_preserve_clusters.Goals as goal
 
 pub returns : goal.returns
