@@ -2,6 +2,7 @@
 -- glyphs, and so do the masks of jamo.
 use Rattle.std.proofs.Common.{◌≡◌, ℕ, zero, suc, ◌+◌, ◌-◌, ◌<◌, ◌≤◌, ◌==◌, ◌||◌, not, Bool, true, false, if◌then◌else◌, List, [], ◌∷◌, ◌++◌, Option, None, Some, length, min, drop, refl, ap, sym, subst, ◌∙◌, inl, inr, arith}
 use Rattle.std.specs.Prelude.{slice_get}
+use Rattle.std.proofs.Math.Dec.{eqb-suc-zero}
 use Rattle.std.proofs.lemmas.Bool.{or_right, or_cases}
 use Rattle.std.proofs.lemmas.List.{append_assoc, length-drop, drop_min}
 use Rattle.std.proofs.lemmas.Option.{slice_get_within}
@@ -96,7 +97,9 @@ joined_here unicode face i b within =
 joined_on : (unicode : UnicodeMeaning) (face : FaceMeaning) (i skip : ℕ) (b : Buffer) → i < length b.items
     → PreservesAll b (joined_next unicode face i (b, skip)).0
 joined_on unicode face i skip b within =
-    elim (skip == 0) as (λ t. PreservesAll b (if not t then (b, skip - 1) else (joined_at unicode face i b, taken_at unicode face (drop i b.items) - 1)).0) [
+    let taken = taken_at unicode face (drop i b.items) - 1 in
+    elim (skip == 0)
+    as (λ t. let next : Buffer × ℕ = if not t then (b, skip - 1) else (joined_at unicode face i b, taken) in PreservesAll b next.0) [
       | true ↦ joined_here unicode face i b within
       | false ↦ PreservesAll-same b
     ]
@@ -202,6 +205,14 @@ module _ (level : BufferClusterLevel) (monotone : IsMonotoneLevel level) (x : It
       tone_draws (is_zero_width face t.codepoint) t (is t refl)
       (subst (λ k. DrawsInOrder (clusters (drop k (x ∷ xs))) (clusters rest)) count draws)
 
+-- an item that belongs to what began before it brings nothing
+built-skip : (unicode : UnicodeMeaning) (face : FaceMeaning) (level : BufferClusterLevel) (circle : Bool) (skip : ℕ) (x : Item) (xs : List Item)
+    → built unicode face level circle (suc skip) (x ∷ xs) ≡ built unicode face level circle skip xs
+built-skip unicode face level circle skip x xs =
+    let some : (suc skip == 0) ≡ false = eqb-suc-zero skip in
+    let less : suc skip - 1 ≡ skip = omega arith in
+    rw (some, less) refl
+
 module _ (unicode : UnicodeMeaning) (face : FaceMeaning) (level : BufferClusterLevel) (circle : Bool) where
   -- at least one item is taken
   taken-some : (s : Syllable) → 0 < taken_of s
@@ -220,7 +231,7 @@ module _ (unicode : UnicodeMeaning) (face : FaceMeaning) (level : BufferClusterL
 
   drop-next : (n : ℕ) (x : Item) (xs : List Item) → 0 < n → drop n (x ∷ xs) ≡ drop (n - 1) xs
   drop-next zero x xs some = absurd (omega arith)
-  drop-next (suc n) x xs some = refl
+  drop-next (suc n) x xs some = let less : n ≡ suc n - 1 = omega arith in ap (λ k. drop k xs) less
 
   here_draws : (x : Item) (xs rest : List Item) → IsMonotoneLevel level
       → DrawsInOrder (clusters (drop (block_taken unicode face x (x ∷ xs) - 1) xs)) (clusters rest)
@@ -246,7 +257,9 @@ module _ (unicode : UnicodeMeaning) (face : FaceMeaning) (level : BufferClusterL
       → DrawsInOrder (clusters (drop skip xs)) (clusters (built unicode face level circle skip xs))
   built_draws monotone zero [] = DrawsInOrder-same []
   built_draws monotone (suc skip) [] = DrawsInOrder-same []
-  built_draws monotone (suc skip) (x ∷ xs) = built_draws monotone skip xs
+  built_draws monotone (suc skip) (x ∷ xs) =
+      subst (λ ys. DrawsInOrder (clusters (drop skip xs)) (clusters ys)) (sym (built-skip unicode face level circle skip x xs))
+      (built_draws monotone skip xs)
   built_draws monotone zero (x ∷ xs) =
       let next = block_taken unicode face x (x ∷ xs) - 1 in
       here_draws x xs (built unicode face level circle next xs) monotone (built_draws monotone next xs)
@@ -352,7 +365,9 @@ module _ (flag : ℕ) where
 built_brings : (unicode : UnicodeMeaning) (face : FaceMeaning) (level : BufferClusterLevel) (circle : Bool) (skip : ℕ) (xs : List Item)
     → BringsNone xs (built unicode face level circle skip xs)
 built_brings unicode face level circle skip [] flag = λ some. cc
-built_brings unicode face level circle (suc skip) (x ∷ xs) flag = λ some. after flag x xs (built_brings unicode face level circle skip xs flag some)
+built_brings unicode face level circle (suc skip) (x ∷ xs) flag = λ some.
+    after flag x xs
+    (built_brings unicode face level circle skip xs flag (ap (some_has flag) (sym (built-skip unicode face level circle skip x xs)) ∙ some))
 built_brings unicode face level circle zero (x ∷ xs) flag =
     let items = x ∷ xs in
     let s = syllable_at unicode face items in

@@ -1,22 +1,26 @@
 //! The script shaper for Thai and Lao: SARA AM is taken apart into NIKHAHIT and SARA AA, and the first of them
 //! stands before the marks above the base, in one cluster with what it steps over.
 //!
-//! The shaper gives one hook. The forms that old fonts have at private characters are left out; they belong at
-//! the end of `preprocess_text`.
-ghost use Rattle.std.specs.Prelude.{true, false, None, pos, refl};
+//! The shaper gives one hook. Fonts of Thai without `GSUB` may have forms of marks and letters at private characters: the
+//! same hook puts these in.
+ghost use Rattle.std.specs.Prelude.{◌≡◌, true, false, None, pos, refl};
 ghost use Rattle.shape_buffer.specs.Preservation.{LookupsPreserveClusters, LookupsPreserveFlags};
 ghost use Rattle.shape_plan.specs.Preservation.{RunPreservesFlags};
 ghost use Rattle.shape_plan.specs.Plan.{Plan};
 ghost use Rattle.shape_pipeline.specs.Order.{RunPreservesClusters};
 ghost use Rattle.script_shapers.specs.Worked.Thai.{WorkedThai};
-ghost use Rattle.script_shapers.specs.Thai.{sara_am_parted};
+ghost use Rattle.shape_buffer.specs.Outcome.{Outcome, step};
+ghost use Rattle.shape_buffer.specs.declared.interfaces.map_request.TableIndex.TheVariants.{GSUB};
+ghost use Rattle.script_shapers.specs.ThaiForms.{is_own, is_thai, forms_due, thai_text};
 ghost use Rattle.script_shapers.specs.declared.thai.ThaiShaper.{ThaiShaper as AnyShaper};
 
+pub mod forms;
 mod sara_am;
 
+use forms::form_all;
 use sara_am::part_sara_am;
-use shape_buffer::buffer::{ShapeError, hb_buffer_t, hb_tag_t};
-use shape_buffer::interfaces::{hb_font_t, hb_ot_layout_t, hb_unicode_funcs_t};
+use shape_buffer::buffer::{Script, ShapeError, hb_buffer_t, hb_tag_t};
+use shape_buffer::interfaces::{TableIndex, hb_font_t, hb_ot_layout_t, hb_unicode_funcs_t};
 use shape_pipeline::laws::given_hooks_preserve;
 use shape_pipeline::ot_shape_normalize::HB_OT_SHAPE_NORMALIZATION_MODE_AUTO;
 use shape_pipeline::ot_shape_plan::hb_ot_shape_plan_t;
@@ -79,9 +83,57 @@ impl<U: hb_unicode_funcs_t, F: hb_font_t, M: hb_ot_layout_t<F>> script_shaper<U,
     ghost lawful_zero_width = { refl };
 }
 
-impl<U: hb_unicode_funcs_t, F, M: hb_ot_layout_t<F>> preprocess_text_hook<ThaiShaper, (), U, F, M>
-    for ThaiShaper {
-    ghost preprocessed = { λ _ _ _. sara_am_parted };
+/// Whether a script of `GSUB` is one of Thai, and not one that stands for any script.
+fn is_own(chosen: Option<hb_tag_t>) -> bool
+    ensures { result ≡ is_own chosen }
+{
+    match chosen {
+        Some(tag) => !(tag.0 == 0x4446_4C54 || tag.0 == 0x6466_6C74 || tag.0 == 0x6C61_746E),
+        None => false,
+    }
+}
+
+fn is_thai(script: Option<Script>) -> bool
+    ensures { result ≡ is_thai script }
+{
+    match script {
+        Some(script) => script.0.0 == 0x5468_6169,
+        None => false,
+    }
+}
+
+/// Whether a text gets forms of private characters: in Thai, if the font has no `GSUB` for it.
+fn forms_due(script: Option<Script>, chosen: Option<hb_tag_t>) -> bool
+    ensures { result ≡ forms_due script chosen }
+{
+    is_thai(script) && !is_own(chosen)
+}
+
+/// Takes each SARA AM of a text apart, and puts marks and letters in their forms if these are due.
+fn shape_text<F: hb_font_t>(
+    alloc: Global,
+    face: &F,
+    due: bool,
+    buffer: &mut hb_buffer_t,
+) -> Result<(), ShapeError>
+    ensures { Outcome (step (thai_text due (F.face face.now))) buffer.old buffer.new result }
+{
+    part_sara_am(alloc, buffer)?;
+    if due {
+        form_all(face, buffer);
+    }
+    Ok(())
+}
+
+impl<U: hb_unicode_funcs_t, F: hb_font_t, M: hb_ot_layout_t<F>> preprocess_text_hook<
+    ThaiShaper,
+    (),
+    U,
+    F,
+    M,
+> for ThaiShaper {
+    ghost preprocessed = { λ _ plan face. thai_text
+        (forms_due plan.script ((M.layout face).chosen_script plan.script None GSUB)) (F.face face) };
 
     ghost GIVEN = { true };
 
@@ -90,11 +142,13 @@ impl<U: hb_unicode_funcs_t, F, M: hb_ot_layout_t<F>> preprocess_text_hook<ThaiSh
     fn preprocess_text(
         _shaper: &ThaiShaper,
         alloc: Global,
-        _plan: &hb_ot_shape_plan_t<'_, ThaiShaper, M::Map, ()>,
-        _face: &F,
+        plan: &hb_ot_shape_plan_t<'_, ThaiShaper, M::Map, ()>,
+        face: &F,
         buffer: &mut hb_buffer_t,
     ) -> Result<(), ShapeError> {
-        part_sara_am(alloc, buffer)
+        let script = plan.script();
+        let chosen = M::chosen_script(face, script, None, TableIndex::GSUB);
+        shape_text(alloc, face, forms_due(script, chosen), buffer)
     }
 }
 

@@ -1,5 +1,6 @@
 pub mod Capitals
 pub mod Found
+pub mod Ligatures
 pub mod Plain
 pub mod Shown
 pub mod Words

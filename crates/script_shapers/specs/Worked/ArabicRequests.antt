@@ -12,7 +12,7 @@ abbrev pub Shown : Type 0
 Shown = ℕ × ℕ × ℕ
 
 abbrev pub shown : MapRequest → Shown
-shown (Feature tag flags value) = (tag.0, flags.0, value)
+shown (Feature tag flags value) = (tag.0, flags, value)
 shown (Pause number) = (0, 0, 0)
 
 abbrev pub script : ℕ → Script

@@ -1,16 +1,11 @@
--- How points below a letter are reordered, and what a small engine substitutes, on lists whose answers are worked out
--- by hand.
-use Rattle.std.specs.Prelude.{◌≡◌, ℕ, Bool, true, false, List, [], ◌∷◌, length, map, replicate, Option, Some, None, refl}
+-- How points below a letter are reordered, on lists worked out by hand.
+use Rattle.std.specs.Prelude.{◌≡◌, ℕ, Bool, true, false, List, [], ◌∷◌, map, Option, Some, None, refl}
 use Rattle.shape_items.specs.Buffer.{Buffer, new_buffer}
 use Rattle.shape_items.specs.Clusters.{merge}
 use Rattle.shape_items.specs.Items.{new_item}
-use Rattle.shape_common.specs.Positions.{zero_position}
 use Rattle.shape_common.specs.declared.text_types.BufferClusterLevel.TheVariants.{Characters}
 use Rattle.shape_plan.specs.Reorder.{with_ccc}
-use Rattle.script_shapers.specs.Ligatures.{with_glyph, substituted}
 use Rattle.script_shapers.specs.HebrewPoints.{is_triple, third_place, points_reordered}
-
--- ---- points
 
 abbrev pub are_triple : ℕ × ℕ × ℕ → Bool
 are_triple ccc = is_triple ccc.0 ccc.1 ccc.2
@@ -87,57 +82,9 @@ worked_reorderings = record {
   ended_after = refl;
 }
 
--- ---- substitution
-
--- glyphs with their clusters
-abbrev pub glyphs_of : List (ℕ × ℕ) → Buffer
-glyphs_of glyphs = record new_buffer {
-  items = map (λ glyph. with_glyph glyph.0 (new_item 0x61 glyph.1)) glyphs;
-  positions = replicate (length glyphs) zero_position;
-}
-
-abbrev pub shown_glyphs : Buffer → List (ℕ × ℕ)
-shown_glyphs b = map (λ item. (item.glyph_id, item.cluster)) b.items
-
--- 11 stands for 1, and 23 for 2 and 3 side by side
-pub record WorkedSubstitutions : Type 0 where
-  pub single : shown_glyphs (substituted (glyphs_of ((1, 0) ∷ (2, 1) ∷ (1, 2) ∷ (11, 3) ∷ [])))
-      ≡ (11, 0) ∷ (2, 1) ∷ (11, 2) ∷ (11, 3) ∷ []
-  pub pair : substituted (glyphs_of ((2, 0) ∷ (3, 1) ∷ [])) ≡ glyphs_of ((23, 0) ∷ [])
-  pub backward : substituted (glyphs_of ((2, 1) ∷ (3, 0) ∷ [])) ≡ glyphs_of ((23, 0) ∷ [])
-  pub two_pairs : shown_glyphs (substituted (glyphs_of ((5, 0) ∷ (2, 1) ∷ (3, 2) ∷ (2, 3) ∷ (3, 4) ∷ (1, 5) ∷ [])))
-      ≡ (5, 0) ∷ (23, 1) ∷ (23, 3) ∷ (11, 5) ∷ []
-  -- the rest of a cluster goes with its glyph
-  pub longer_cluster : shown_glyphs (substituted (glyphs_of ((2, 0) ∷ (3, 1) ∷ (7, 1) ∷ (8, 2) ∷ []))) ≡ (23, 0) ∷ (7, 0) ∷ (8, 2) ∷ []
-  pub apart : shown_glyphs (substituted (glyphs_of ((2, 0) ∷ (4, 1) ∷ (3, 2) ∷ (2, 3) ∷ [])))
-      ≡ (2, 0) ∷ (4, 1) ∷ (3, 2) ∷ (2, 3) ∷ []
-  pub reversed : shown_glyphs (substituted (glyphs_of ((3, 0) ∷ (2, 1) ∷ []))) ≡ (3, 0) ∷ (2, 1) ∷ []
-  pub by_character : shown_glyphs (substituted (record (glyphs_of ((2, 1) ∷ (3, 0) ∷ [])) { cluster_level = Characters })) ≡ (23, 1) ∷ []
-  pub none : substituted (glyphs_of []) ≡ glyphs_of []
-
-worked_substitutions : WorkedSubstitutions
-unfolding merge
-worked_substitutions = record {
-  single = refl;
-  pair = refl;
-  backward = refl;
-  two_pairs = refl;
-  longer_cluster = refl;
-  apart = refl;
-  reversed = refl;
-  by_character = refl;
-  none = refl;
-}
-
 pub record WorkedPoints : Type 0 where
   pub triples : WorkedTriples
   pub reorderings : WorkedReorderings
 
 pub worked_points : WorkedPoints
 worked_points = record { triples = worked_triples; reorderings = worked_reorderings }
-
-pub record WorkedLigatures : Type 0 where
-  pub substitutions : WorkedSubstitutions
-
-pub worked_ligatures : WorkedLigatures
-worked_ligatures = record { substitutions = worked_substitutions }

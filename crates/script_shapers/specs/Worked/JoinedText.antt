@@ -2,6 +2,9 @@
 use Rattle.std.specs.Prelude.{◌≡◌, ℕ, suc, Bool, true, false, List, [], ◌∷◌, map, refl}
 use Rattle.ucd_bidi.specs.JoiningType.{joining_type}
 use Rattle.ucd_bidi.specs.JoiningGroup.{joining_group}
+use Rattle.ucd_bidi.specs.JoiningTypeRows.{joining_type_rows}
+use Rattle.ucd_bidi.specs.JoiningGroupRows.{joining_group_rows}
+use Rattle.ucd_table.specs.Rows.{value_in}
 use Rattle.shape_common.specs.declared.flags.BufferFlags.{BufferFlags}
 use Rattle.shape_items.specs.Buffer.{Buffer, new_buffer}
 use Rattle.shape_items.specs.Items.{Item, new_item}
@@ -96,7 +99,7 @@ pub record WorkedForms : Type 0 where
   pub no_selector : forms false (text (0x1828 ∷ 0x180B ∷ 0x1828 ∷ [])) ≡ init ∷ 0 ∷ fina ∷ []
 
 pub worked_forms : WorkedForms
-unfolding joining_type joining_group
+unfolding joining_type joining_group value_in joining_type_rows joining_group_rows
 worked_forms = record {
   alone = refl;
   three = refl;
@@ -144,7 +147,7 @@ pub record WorkedJoiningFlags : Type 0 where
   pub no_letter : flags concat (between [] (0x64B ∷ []) (0x628 ∷ [])) ≡ 0 ∷ []
 
 pub worked_flags : WorkedJoiningFlags
-unfolding joining_type joining_group
+unfolding joining_type joining_group value_in joining_type_rows joining_group_rows
 worked_flags = record {
   joined = refl;
   over_a_mark = refl;
