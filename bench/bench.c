@@ -36,7 +36,7 @@ static uint32_t *text, *clusters;
 static size_t made, size, given;
 static void put(uint32_t c) { if (made < size) text[made++] = c; }
 
-/* Makes a bit of a text of this kind; answers whether there is such a kind. */
+/* Makes a bit of a text of this kind; returns whether there is such a kind. */
 static int
 make_bit(const char *kind)
 {

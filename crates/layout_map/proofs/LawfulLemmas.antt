@@ -1,4 +1,4 @@
--- What a map answers is lawful.
+-- What a map returns is lawful.
 use Rattle.std.proofs.Common.{◌<◌, Option, Some, None, refl, arith}
 use Rattle.std.specs.Option.{option_map_or}
 use Rattle.shape_buffer.specs.Layout.{HasNoDefinedFlag, LawfulMasks}

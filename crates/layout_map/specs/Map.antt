@@ -1,4 +1,4 @@
--- A compiled map, and what the pipeline is answered of it.
+-- A compiled map, and what it returns to the pipeline.
 use Rattle.std.specs.Prelude.{ℕ, Bool, false, List, Option, length}
 use Rattle.std.specs.Option.{option_map_or, option_and_then}
 use Rattle.shape_buffer.specs.Layout.{MapMeaning}

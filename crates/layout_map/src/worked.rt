@@ -10,7 +10,7 @@ pub fn features_meet_worked_cases()
     ensures allotment { WorkedAllotment }
 {}
 
-/// Lookups, stages, and what a map answers.
+/// Lookups, stages, and what a map returns.
 pub fn maps_meet_worked_cases()
     ensures lookups { WorkedLookups }
     ensures stages { WorkedStages }

@@ -6,7 +6,7 @@ use Rattle.std.specs.Int.RustNames.{bit_and}
 use Rattle.shape_common.specs.declared.text_types.hb_tag_t.{hb_tag_t}
 use Rattle.shape_common.specs.declared.text_types.Script.{Script}
 use Rattle.opentype_tags.specs.Script.{tag, tags_of_script}
-use Rattle.opentype_tags.specs.Subtags.{first_subtag, after_first, registered_part, has_subtag, begins_with, is_letter}
+use Rattle.opentype_tags.specs.Subtags.{first_subtag, after_first, registered_subtags, has_subtag, begins_with, is_letter}
 use Rattle.opentype_tags.specs.PrivateUse.{private_tag}
 use Rattle.opentype_tags.specs.Rows.{rows_of}
 
@@ -139,12 +139,12 @@ long_variant_tag name = if nat_le 7 (length name) then variant_tag name else Non
 
 -- by a variant, as a whole, by script and place, by the rows
 abbrev pub registered_tags : List ℕ → List ℕ → List hb_tag_t
-registered_tags name part =
-    one_or (long_variant_tag part)
-    (unwrap_or (tags_of_whole name) (unwrap_or (regional_tags part) (listed_tags part)))
+registered_tags name subtags =
+    one_or (long_variant_tag subtags)
+    (unwrap_or (tags_of_whole name) (unwrap_or (regional_tags subtags) (listed_tags subtags)))
 
 abbrev pub name_tags : List ℕ → List hb_tag_t
-name_tags name = one_or (private_language_tag name) (registered_tags name (registered_part name))
+name_tags name = one_or (private_language_tag name) (registered_tags name (registered_subtags name))
 
 abbrev pub language_tags : Option (List ℕ) → List hb_tag_t
 language_tags None = []

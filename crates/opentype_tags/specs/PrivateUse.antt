@@ -4,7 +4,7 @@ use Rattle.std.specs.List.{prefix_len}
 use Rattle.std.specs.Option.{option_map, option_and_then}
 use Rattle.std.specs.Int.RustNames.{bit_and, bit_xor}
 use Rattle.shape_font.specs.Search.{first_at}
-use Rattle.opentype_tags.specs.Subtags.{begins_at, private_part, is_alphanumeric, is_digit}
+use Rattle.opentype_tags.specs.Subtags.{begins_at, private_subtags, is_alphanumeric, is_digit}
 
 -- the value of a hexadecimal digit
 abbrev pub hex_value : ℕ → Option ℕ
@@ -53,12 +53,12 @@ tag_after small bytes = option_map default_in_case (written_tag small bytes)
 
 -- the tag after a place of a key
 abbrev pub tag_at : Bool → List ℕ → Option ℕ → Option ℕ
-tag_at small part None = None
-tag_at small part (Some at) = tag_after small (drop (at + 5) part)
+tag_at small subtags None = None
+tag_at small subtags (Some at) = tag_after small (drop (at + 5) subtags)
 
 -- the tag after the first place of the key
 abbrev pub tag_in : Bool → List ℕ → List ℕ → Option ℕ
-tag_in small key part = tag_at small part (first_at (begins_at part key) (length part) 0)
+tag_in small key subtags = tag_at small subtags (first_at (begins_at subtags key) (length subtags) 0)
 
 abbrev pub private_tag : Bool → List ℕ → List ℕ → Option ℕ
-private_tag small key name = tag_in small key (private_part name)
+private_tag small key name = tag_in small key (private_subtags name)

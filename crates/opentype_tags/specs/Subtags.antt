@@ -18,7 +18,7 @@ is_no_hyphen byte = not (byte == 45)
 
 -- the bytes from a place on begin with those given
 abbrev pub begins_at : List ℕ → List ℕ → ℕ → Bool
-begins_at name part at = starts_with nat_eq (drop at name) part
+begins_at name subtags at = starts_with nat_eq (drop at name) subtags
 
 -- how long the subtag is that a name begins with
 abbrev pub first_length : List ℕ → ℕ
@@ -42,19 +42,19 @@ is_before_private name at = is_before_singleton name at && slice_index name (at 
 abbrev pub is_all_private : List ℕ → Bool
 is_all_private name = starts_with nat_eq name (codes "x-")
 
--- the registered part: what comes before the first extension
-abbrev pub registered_part : List ℕ → List ℕ
-registered_part name =
+-- the registered subtags: what comes before the first extension
+abbrev pub registered_subtags : List ℕ → List ℕ
+registered_subtags name =
     if is_all_private name then []
     else take (unwrap_or (first_at (is_before_singleton name) (length name) 0) (length name)) name
 
--- the part of private use, from its x on
+-- the subtags of private use, from its x on
 abbrev pub private_from : List ℕ → Option ℕ → List ℕ
 private_from name None = []
 private_from name (Some at) = drop (at + 1) name
 
-abbrev pub private_part : List ℕ → List ℕ
-private_part name =
+abbrev pub private_subtags : List ℕ → List ℕ
+private_subtags name =
     if is_all_private name then name
     else private_from name (first_at (is_before_private name) (length name) 0)
 
@@ -68,6 +68,6 @@ has_subtag name subtag = is_some (first_at (is_subtag_at name subtag) (length na
 
 -- a name begins with these subtags
 abbrev pub begins_with : List ℕ → List ℕ → Bool
-begins_with name part =
-    begins_at name part 0
-    && (slice_index name (length part) == 0 || slice_index name (length part) == 45)
+begins_with name subtags =
+    begins_at name subtags 0
+    && (slice_index name (length subtags) == 0 || slice_index name (length subtags) == 45)

@@ -19,7 +19,7 @@ ghost use Rattle.opentype_tags.specs.Language.{language_tags as language_tags_of
 
 use crate::private_use::private_language_tag;
 use crate::rows::rows_of;
-use crate::subtags::{after_first, begins_with, first_subtag, has_subtag, registered_part};
+use crate::subtags::{after_first, begins_with, first_subtag, has_subtag, registered_subtags};
 use crate::tag_list::TagList;
 use shape_common::{Language, hb_tag_t};
 use shape_font::bytes::u8_at;
@@ -249,19 +249,19 @@ fn listed_tags(name: &[u8]) -> TagList
     row_tags(first).unwrap_or(capital_tag(first))
 }
 
-/// The tags of a name whose registered part is `part`.
-fn registered_tags(name: &[u8], part: &[u8]) -> TagList
-    ensures { result ≡ registered_tags_of name.now part.now }
+/// The tags of a name whose registered subtags are `subtags`.
+fn registered_tags(name: &[u8], subtags: &[u8]) -> TagList
+    ensures { result ≡ registered_tags_of name.now subtags.now }
 {
-    if let Some(tag) = long_variant_tag(part) {
+    if let Some(tag) = long_variant_tag(subtags) {
         return TagList::one(tag);
     }
     if let Some(tags) = tags_of_whole(name) {
         return tags;
     }
-    match regional_tags(part) {
+    match regional_tags(subtags) {
         Some(tags) => tags,
-        None => listed_tags(part),
+        None => listed_tags(subtags),
     }
 }
 
@@ -270,7 +270,7 @@ fn name_tags(name: &[u8]) -> TagList
 {
     match private_language_tag(name) {
         Some(tag) => TagList::one(tag),
-        None => registered_tags(name, registered_part(name)),
+        None => registered_tags(name, registered_subtags(name)),
     }
 }
 

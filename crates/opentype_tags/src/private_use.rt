@@ -16,7 +16,7 @@ ghost use Rattle.opentype_tags.specs.PrivateUse.{tag_after as tag_after_of, tag_
 ghost use Rattle.opentype_tags.specs.Language.{private_script_tag as private_script_tag_of};
 ghost use Rattle.opentype_tags.specs.Language.{private_language_tag as private_language_tag_of};
 
-use crate::subtags::{begins_at, bytes_from, is_alphanumeric, private_part};
+use crate::subtags::{begins_at, bytes_from, is_alphanumeric, private_subtags};
 use shape_common::Language;
 use shape_font::bytes::u8_at;
 
@@ -140,12 +140,12 @@ fn tag_after(small: bool, bytes: &[u8]) -> Option<u32>
 
 /// The first place where the bytes of a key stand.
 #[tactic(auto, using(shape_font::proofs::SearchLemmas::first_at_next, shape_font::proofs::SearchLemmas::first_at_found, shape_font::proofs::SearchLemmas::first_at_end))]
-fn key_place(part: &[u8], key: &[u8]) -> Option<usize>
-    ensures value { result ≡ first_at (begins_at_of part.now key.now) (length part.now) 0 }
-    ensures within { IfSome result (λ at. at < length part.now) }
+fn key_place(subtags: &[u8], key: &[u8]) -> Option<usize>
+    ensures value { result ≡ first_at (begins_at_of subtags.now key.now) (length subtags.now) 0 }
+    ensures within { IfSome result (λ at. at < length subtags.now) }
 {
-    for at in 0..part.len() {
-        if begins_at(part, key, at) {
+    for at in 0..subtags.len() {
+        if begins_at(subtags, key, at) {
             return Some(at);
         }
     }
@@ -153,19 +153,19 @@ fn key_place(part: &[u8], key: &[u8]) -> Option<usize>
 }
 
 /// The tag after a place of a key, of five bytes.
-fn tag_from(small: bool, part: &[u8], at: usize) -> Option<u32>
-    requires { at < length part.now }
-    ensures { result ≡ tag_after_of small (drop (at + 5) part.now) }
+fn tag_from(small: bool, subtags: &[u8], at: usize) -> Option<u32>
+    requires { at < length subtags.now }
+    ensures { result ≡ tag_after_of small (drop (at + 5) subtags.now) }
 {
-    tag_after(small, bytes_from(part, at + 5))
+    tag_after(small, bytes_from(subtags, at + 5))
 }
 
-/// The tag after the first place of a key in a part of private use.
-fn tag_in(small: bool, key: &[u8], part: &[u8]) -> Option<u32>
-    ensures { result ≡ tag_in_of small key.now part.now }
+/// The tag after the first place of a key in subtags of private use.
+fn tag_in(small: bool, key: &[u8], subtags: &[u8]) -> Option<u32>
+    ensures { result ≡ tag_in_of small key.now subtags.now }
 {
-    match key_place(part, key) {
-        Some(at) => tag_from(small, part, at),
+    match key_place(subtags, key) {
+        Some(at) => tag_from(small, subtags, at),
         None => None,
     }
 }
@@ -174,7 +174,7 @@ fn tag_in(small: bool, key: &[u8], part: &[u8]) -> Option<u32>
 fn private_tag(small: bool, key: &[u8], name: &[u8]) -> Option<u32>
     ensures { result ≡ private_tag_of small key.now name.now }
 {
-    tag_in(small, key, private_part(name))
+    tag_in(small, key, private_subtags(name))
 }
 
 /// The tag of a script that a language names.

@@ -1,7 +1,7 @@
 //! A language's name as BCP 47 cuts it up: subtags between hyphens (RFC 5646, 2.1 and 2.2).
 //!
 //! A subtag of one byte begins an extension, and `x` begins private use; what comes before the first of them is the
-//! registered part. The name is given in HarfBuzz's spelling: small letters, digits and hyphens.
+//! registered subtags. The name is given in HarfBuzz's spelling: small letters, digits and hyphens.
 ghost use Rattle.std.specs.Prelude.{◌≡◌, ◌≤◌, ◌<◌, ◌^◌, length, drop, slice_index, IfSome};
 ghost use Rattle.shape_font.specs.Search.{first_at};
 ghost use Rattle.opentype_tags.specs.Subtags.{begins_at as begins_at_of};
@@ -10,8 +10,8 @@ ghost use Rattle.opentype_tags.specs.Subtags.{is_before_singleton as is_before_s
 ghost use Rattle.opentype_tags.specs.Subtags.{is_before_private as is_before_private_of};
 ghost use Rattle.opentype_tags.specs.Subtags.{first_length as first_length_of};
 ghost use Rattle.opentype_tags.specs.Subtags.{is_all_private as is_all_private_of};
-ghost use Rattle.opentype_tags.specs.Subtags.{registered_part as registered_part_of};
-ghost use Rattle.opentype_tags.specs.Subtags.{private_part as private_part_of};
+ghost use Rattle.opentype_tags.specs.Subtags.{registered_subtags as registered_subtags_of};
+ghost use Rattle.opentype_tags.specs.Subtags.{private_subtags as private_subtags_of};
 ghost use Rattle.opentype_tags.specs.Subtags.{is_subtag_at as is_subtag_at_of, has_subtag as has_subtag_of};
 ghost use Rattle.opentype_tags.specs.Subtags.{begins_with as begins_with_of};
 ghost use Rattle.opentype_tags.specs.Subtags.{is_alphanumeric as is_alphanumeric_of};
@@ -33,10 +33,10 @@ pub(crate) fn bytes_from(bytes: &[u8], at: usize) -> &[u8]
 }
 
 /// Whether the bytes from a place on begin with those given.
-pub(crate) fn begins_at(name: &[u8], part: &[u8], at: usize) -> bool
-    ensures { result ≡ begins_at_of name.now part.now at }
+pub(crate) fn begins_at(name: &[u8], subtags: &[u8], at: usize) -> bool
+    ensures { result ≡ begins_at_of name.now subtags.now at }
 {
-    bytes_from(name, at).starts_with(part)
+    bytes_from(name, at).starts_with(subtags)
 }
 
 /// How long the subtag is that a name begins with.
@@ -112,8 +112,8 @@ fn is_all_private(name: &[u8]) -> bool
 }
 
 /// What comes before the first extension.
-pub(crate) fn registered_part(name: &[u8]) -> &[u8]
-    ensures { result.now ≡ registered_part_of name.now }
+pub(crate) fn registered_subtags(name: &[u8]) -> &[u8]
+    ensures { result.now ≡ registered_subtags_of name.now }
 {
     if is_all_private(name) {
         return &[];
@@ -124,9 +124,9 @@ pub(crate) fn registered_part(name: &[u8]) -> &[u8]
     }
 }
 
-/// The part of private use, from its `x` on; empty if there is none.
-pub(crate) fn private_part(name: &[u8]) -> &[u8]
-    ensures { result.now ≡ private_part_of name.now }
+/// The subtags of private use, from its `x` on; empty if there is none.
+pub(crate) fn private_subtags(name: &[u8]) -> &[u8]
+    ensures { result.now ≡ private_subtags_of name.now }
 {
     if is_all_private(name) {
         return name;
@@ -166,8 +166,8 @@ pub(crate) fn has_subtag(name: &[u8], subtag: &[u8]) -> bool
 }
 
 /// Whether a name begins with whole subtags, given with the hyphens between them.
-pub(crate) fn begins_with(name: &[u8], part: &[u8]) -> bool
-    ensures { result ≡ begins_with_of name.now part.now }
+pub(crate) fn begins_with(name: &[u8], subtags: &[u8]) -> bool
+    ensures { result ≡ begins_with_of name.now subtags.now }
 {
-    begins_at(name, part, 0) && matches!(u8_at(name, part.len()), 0 | b'-')
+    begins_at(name, subtags, 0) && matches!(u8_at(name, subtags.len()), 0 | b'-')
 }

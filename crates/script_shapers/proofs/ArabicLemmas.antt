@@ -1,7 +1,5 @@
 -- Masks of the forms of letters preserve the flags of glyphs.
 use Rattle.std.proofs.Common.{◌≡◌, ℕ, zero, suc, ◌+◌, ◌==◌, ◌&&◌, ◌||◌, Bool, true, false, if◌then◌else◌, Option, None, Some, is_some, length, refl, inl, inr, bit_and}
-use Rattle.std.proofs.lemmas.Bool.{cases_Bool}
-use Rattle.shape_items.specs.BufferClusters.{unsafe_to_concat}
 use Rattle.script_shapers.specs.Joining.{kind_of}
 use Rattle.script_shapers.specs.ArabicFlags.{joins_back, may_change, changes, marked_pair, start_of, marked_by, marked_at, marked_to, marked_end, begun_walk, marked, joined}
 use Rattle.script_shapers.specs.declared.arabic.flags.Walk.{Walk}
@@ -10,8 +8,9 @@ use Rattle.shape_common.specs.declared.text_types.hb_tag_t.{hb_tag_t}
 use Rattle.shape_items.specs.Buffer.{Buffer}
 use Rattle.shape_items.specs.Items.{Item, new_item}
 use Rattle.shape_items.specs.PreservesFlags.{PreservesFlags, has_flag}
-use Rattle.shape_items.proofs.Flags.FlagLemmas.{PreservesFlags-same, PreservesFlags-then, glyph_flags_set, safe_to_insert_tatweel_preserves}
+use Rattle.shape_items.proofs.Flags.FlagLemmas.{PreservesFlags-same, PreservesFlags-then, safe_to_insert_tatweel_preserves}
 use Rattle.shape_buffer.specs.Preservation.{IsFlagPreserving}
+use Rattle.shape_buffer.proofs.Steps.PreservationLemmas.{flags-unsafe_to_concat}
 use Rattle.shape_buffer.specs.Layout.{HasNoDefinedFlag}
 use Rattle.script_shapers.specs.ArabicForms.{form_mask, masks_by, kind_after, kind_before, begun, form_at, item_at, masked_by, formed_at, formed_to, formed}
 use Rattle.script_shapers.specs.declared.arabic.requests.TheConstants.{ISOL, FINA, FIN2, FIN3, MEDI, MED2, INIT}
@@ -49,19 +48,9 @@ pub flags-formed : (mask : hb_tag_t → ℕ) → ((tag : hb_tag_t) → HasNoDefi
 flags-formed mask none mongolian b =
     flags_to mask none mongolian (kind_after b.post_context) (begun (kind_before b.pre_context)) (length b.items) b
 
-flags-concat : (start end : ℕ) → IsFlagPreserving (unsafe_to_concat start end)
-flags-concat start end b = elim (cases_Bool (bit_and b.flags.0 64 == 64)) [
-  | inl asked ↦ rw asked (record {
-    flags = refl;
-    stays_set = λ set. glyph_flags_set b;
-    none_new = λ flag defined some. inr (glyph_flags_set b);
-  })
-  | inr unasked ↦ rw unasked (PreservesFlags-same b)
-]
-
 flags-pair : (both apart : Bool) (start end : ℕ) → IsFlagPreserving (marked_pair both apart start end)
 flags-pair true apart start end b = safe_to_insert_tatweel_preserves start end b
-flags-pair false true start end b = flags-concat start end b
+flags-pair false true start end b = flags-unsafe_to_concat start end b
 flags-pair false false start end b = PreservesFlags-same b
 
 flags-by : (walk : Walk) (k : Option Kind) (i : ℕ) → IsFlagPreserving (marked_by walk k i)

@@ -7,3 +7,4 @@ pub mod JoinedText
 pub mod Joining
 pub mod Modifiers
 pub mod Thai
+pub mod ThaiForms

@@ -9,6 +9,7 @@ ghost use Rattle.shape_plan.specs.Preservation.{RunPreservesFlags};
 ghost use Rattle.shape_plan.specs.Plan.{Plan};
 ghost use Rattle.shape_pipeline.specs.Order.{RunPreservesClusters};
 ghost use Rattle.script_shapers.specs.Worked.Thai.{WorkedThai};
+ghost use Rattle.script_shapers.specs.Worked.ThaiForms.{WorkedThaiForms};
 ghost use Rattle.shape_buffer.specs.Outcome.{Outcome, step};
 ghost use Rattle.shape_buffer.specs.declared.interfaces.map_request.TableIndex.TheVariants.{GSUB};
 ghost use Rattle.script_shapers.specs.ThaiForms.{is_own, is_thai, forms_due, thai_text};
@@ -168,4 +169,9 @@ pub fn thai_runs_preserve<U: hb_unicode_funcs_t, F: hb_font_t, M: hb_ot_layout_t
 /// SARA AM after letters and marks, at each level of clusters.
 pub fn sara_am_meets_worked_cases()
     ensures { WorkedThai }
+{}
+
+/// Marks and letters in their private forms, and when these are due.
+pub fn forms_meet_worked_cases()
+    ensures { WorkedThaiForms }
 {}

@@ -1,2 +1,3 @@
 -- The flags of glyphs over a whole run.
 pub mod HonestLemmas
+pub mod FeatureBitLemmas

@@ -20,7 +20,7 @@ script_or None other = other
 abbrev pub guessed_script : UnicodeMeaning → Buffer → Option Script
 guessed_script unicode b = script_or b.script (first_script unicode b.items)
 
--- the direction of an answer, left to right if it is none or Invalid
+-- the direction that was found, left to right if it is none or Invalid
 abbrev pub known_or_ltr : Option Direction → Direction
 known_or_ltr None = LeftToRight
 known_or_ltr (Some Invalid) = LeftToRight

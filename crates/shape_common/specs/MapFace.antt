@@ -1,4 +1,4 @@
--- What a face that is given glyph by glyph answers.
+-- What a face that is given glyph by glyph returns.
 use Rattle.std.specs.Prelude.{ℤ, pos, neg_ℤ, int_div, false, None, Option}
 use Rattle.std.specs.BTreeMap.{get}
 use Rattle.std.specs.Option.{option_map_or}

@@ -14,7 +14,7 @@ use Rattle.shape_fallback.specs.Extents.{Extents}
 use Rattle.shape_fallback.specs.MarkState.{component_of, place_of, component_extents, moved_past, moved}
 use Rattle.shape_fallback.specs.Marks.{base_of, first_state, zeroed_position}
 use Rattle.shape_fallback.specs.OneMark.{mark_x_offset, is_double, is_left, is_right, is_attached, agree, hung, piled, lowered, raised}
-use Rattle.shape_fallback.specs.Spaces.{em_part, em_advance}
+use Rattle.shape_fallback.specs.Spaces.{em_fraction, em_advance}
 use Rattle.shape_fallback.specs.declared.ot_shape_fallback.mark_state.Base.{Base}
 use Rattle.shape_fallback.specs.declared.ot_shape_fallback.mark_state.MarkState.{MarkState}
 use Rattle.shape_fallback.specs.declared.ot_shape_fallback.marks.MarkFrame.{MarkFrame}
@@ -263,9 +263,9 @@ round-exact = record {
 -- ---- spaces
 
 -- a part of the em square is no more than the square and half of the type's number
-em_part-small : (u t : ℕ) → u < 65536 → t < 256 → em_part u t < 65792
-unfolding em_part
-em_part-small u t units type =
+em_fraction-small : (u t : ℕ) → u < 65536 → t < 256 → em_fraction u t < 65792
+unfolding em_fraction
+em_fraction-small u t units type =
     let rounded : (u + t / 2) / t ≤ u + t / 2 = div-le_self (u + t / 2) t in
     let half : t / 2 ≤ t = div-le_self t 2 in
     elim (cases_Bool (t == 17)) [
@@ -273,11 +273,11 @@ em_part-small u t units type =
       | inr other ↦ rw other (omega arith)
     ]
 
-pub down-exact : (u t : ℕ) → u < 65536 → t < 256 → em_advance false (em_part u t) ≡ neg_ℤ (pos (em_part u t))
+pub down-exact : (u t : ℕ) → u < 65536 → t < 256 → em_advance false (em_fraction u t) ≡ neg_ℤ (pos (em_fraction u t))
 unfolding em_advance
 down-exact u t units type =
-    let small = em_part-small u t units type in
-    neg_w-exact (pos (em_part u t)) (omega (arith, ints))
+    let small = em_fraction-small u t units type in
+    neg_w-exact (pos (em_fraction u t)) (omega (arith, ints))
 
 pub spaces-exact : ExactSpaces
 spaces-exact = record { down = down-exact }

@@ -6,12 +6,12 @@ use Rattle.std.proofs.lemmas.Bool.Decides.{nat_tests}
 use Rattle.std.proofs.lemmas.List.{drop_more, drop_all}
 use Rattle.shape_common.specs.Face.{FaceMeaning}
 use Rattle.shape_common.specs.declared.text_types.GlyphId.{GlyphId}
-use Rattle.shape_fallback.specs.Spaces.{first_glyph, is_em_part}
+use Rattle.shape_fallback.specs.Spaces.{first_glyph, is_em_fraction}
 
 -- a part of the em square is named by a number that isn't 0
-pub em_part-positive : (t : ℕ) → is_em_part t ≡ true → 0 < t
-unfolding is_em_part
-em_part-positive t part = grind (arith, nat_tests)
+pub em_fraction-positive : (t : ℕ) → is_em_fraction t ≡ true → 0 < t
+unfolding is_em_fraction
+em_fraction-positive t part = grind (arith, nat_tests)
 
 -- the first of some characters from place i on
 first-from : (face : FaceMeaning) (cs : List ℕ) (i c : ℕ) → i < length cs → c ≡ get_or cs i c

@@ -8,7 +8,7 @@ use Rattle.shape_fallback.specs.Extents.{Extents}
 use Rattle.shape_fallback.specs.MarkState.{component_of, place_of, component_extents, moved_past, moved}
 use Rattle.shape_fallback.specs.Marks.{base_of, first_state, zeroed_position}
 use Rattle.shape_fallback.specs.OneMark.{mark_x_offset, is_double, is_left, is_right, is_attached, agree, hung, piled, lowered, raised}
-use Rattle.shape_fallback.specs.Spaces.{em_part, em_advance}
+use Rattle.shape_fallback.specs.Spaces.{em_fraction, em_advance}
 use Rattle.shape_fallback.specs.declared.ot_shape_fallback.mark_state.Base.{Base}
 use Rattle.shape_fallback.specs.declared.ot_shape_fallback.mark_state.MarkState.{MarkState}
 use Rattle.shape_fallback.specs.declared.ot_shape_fallback.marks.MarkFrame.{MarkFrame}
@@ -124,4 +124,4 @@ pub record ExactMarks : Type 0 where
 
 -- a space's part of the em square always fits: down a line it is the exact negative
 pub record ExactSpaces : Type 0 where
-  pub down : (u t : ℕ) → u < 65536 → t < 256 → em_advance false (em_part u t) ≡ neg_ℤ (pos (em_part u t))
+  pub down : (u t : ℕ) → u < 65536 → t < 256 → em_advance false (em_fraction u t) ≡ neg_ℤ (pos (em_fraction u t))

@@ -13,12 +13,12 @@ use Rattle.shape_common.specs.declared.text_types.GlyphId.{GlyphId}
 use Rattle.shape_common.specs.declared.space_types.TheConstants.{SPACE_EM, SPACE_EM_6, SPACE_EM_16, SPACE_4_EM_18, SPACE_FIGURE, SPACE_PUNCTUATION, SPACE_NARROW}
 
 -- the types that are a part of the em square
-unfoldable pub is_em_part : ℕ → Bool
-is_em_part t = (nat_le SPACE_EM t && nat_le t SPACE_EM_6) || t == SPACE_EM_16 || t == SPACE_4_EM_18
+unfoldable pub is_em_fraction : ℕ → Bool
+is_em_fraction t = (nat_le SPACE_EM t && nat_le t SPACE_EM_6) || t == SPACE_EM_16 || t == SPACE_4_EM_18
 
 -- how much of an em square of side u: four eighteenths, or the part that the type names, rounded
-unfoldable pub em_part : ℕ → ℕ → ℕ
-em_part u t = if t == SPACE_4_EM_18 then u * 4 / 18 else (u + t / 2) / t
+unfoldable pub em_fraction : ℕ → ℕ → ℕ
+em_fraction u t = if t == SPACE_4_EM_18 then u * 4 / 18 else (u + t / 2) / t
 
 -- vertical lines go down, so an advance along them is negative
 unfoldable pub em_advance : Bool → ℕ → ℤ
@@ -47,7 +47,7 @@ as_wide_as face horizontal cs before = option_map_or (advance_along face horizon
 -- the advance of a space of a type: a narrow one takes half of what it was, and other types keep theirs
 unfoldable pub space_advance : FaceMeaning → Bool → ℕ → ℤ → ℤ
 space_advance face horizontal t before =
-    if is_em_part t then em_advance horizontal (em_part face.units_per_em t)
+    if is_em_fraction t then em_advance horizontal (em_fraction face.units_per_em t)
     else if t == SPACE_FIGURE then as_wide_as face horizontal figures before
     else if t == SPACE_PUNCTUATION then as_wide_as face horizontal stops before
     else if t == SPACE_NARROW then int_div before (pos 2)

@@ -11,12 +11,12 @@ font_start bytes index = if nat_eq (u32_of bytes 0) 0x74746366
     else (if nat_eq index 0 then Some 0 else None)
 
 -- the bytes from `at` on, `len` of them, if there are so many
-abbrev pub part_of : List ℕ → ℕ → ℕ → Option (List ℕ)
-part_of bytes at len = if nat_le (at + len) (length bytes) then Some (slice_range bytes at (at + len)) else None
+abbrev pub slice_of : List ℕ → ℕ → ℕ → Option (List ℕ)
+slice_of bytes at len = if nat_le (at + len) (length bytes) then Some (slice_range bytes at (at + len)) else None
 
 -- the table of the first record with this tag, of the font that begins at `start`
 abbrev pub table_at : List ℕ → ℕ → ℕ → Option (List ℕ)
-table_at bytes start tag = option_and_then (λ i. part_of bytes (u32_of bytes (start + 20 + 16 * i)) (u32_of bytes (start + 24 + 16 * i)))
+table_at bytes start tag = option_and_then (λ i. slice_of bytes (u32_of bytes (start + 20 + 16 * i)) (u32_of bytes (start + 24 + 16 * i)))
     (first_at (λ i. nat_eq (u32_of bytes (start + 12 + 16 * i)) tag) (fitting bytes (u16_of bytes (start + 4)) (start + 12) 16) 0)
 
 -- the table with this tag, of the font with this number

@@ -20,8 +20,8 @@ abbrev pub selector_of : List ℕ → ℕ → Option ℕ
 selector_of t selector = found_by (side_of_selector t selector) (fitting t (u32_of t 6) 10 11)
 
 -- what stands at the place that a record names, counted from the start of the table; 0 names none
-abbrev pub part_of_sequences : List ℕ → ℕ → List ℕ
-part_of_sequences t at = let there = u32_of t at in (if nat_eq there 0 then [] else tail_of t there)
+abbrev pub sequences_from : List ℕ → ℕ → List ℕ
+sequences_from t at = let there = u32_of t at in (if nat_eq there 0 then [] else tail_of t there)
 
 -- ranges of 4 bytes: the first character, and how many follow it
 abbrev pub side_of_range : List ℕ → ℕ → ℕ → Ordering
@@ -41,8 +41,8 @@ own_glyph t c = option_map_or (λ i. u16_of t (7 + 5 * i)) (found_by (side_of_ma
 
 -- what the record of the selector says of the character: the ranges first, whose characters look as they do alone
 abbrev pub variation_at : List ℕ → ℕ → ℕ → GlyphVariant
-variation_at t c i = if is_default (part_of_sequences t (13 + 11 * i)) c then Default
-    else (let glyph = own_glyph (part_of_sequences t (17 + 11 * i)) c in (if nat_eq glyph 0 then Missing else Own glyph))
+variation_at t c i = if is_default (sequences_from t (13 + 11 * i)) c then Default
+    else (let glyph = own_glyph (sequences_from t (17 + 11 * i)) c in (if nat_eq glyph 0 then Missing else Own glyph))
 
 -- a selector without a record says nothing
 abbrev pub variation_of : List ℕ → ℕ → ℕ → GlyphVariant

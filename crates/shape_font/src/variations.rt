@@ -3,7 +3,7 @@
 //! For each selector a font says which characters look under it as they do alone, and which have a glyph of their
 //! own. Another character has no glyph under it.
 ghost use Rattle.std.specs.Prelude.{◌≡◌, ◌<◌, ◌^◌};
-ghost use Rattle.shape_font.specs.Variations.{sequences_of, side_of_selector, selector_of, part_of_sequences, side_of_range, is_default as is_default_of, side_of_mapping, own_glyph as own_glyph_of, variation_of};
+ghost use Rattle.shape_font.specs.Variations.{sequences_of, side_of_selector, selector_of, sequences_from, side_of_range, is_default as is_default_of, side_of_mapping, own_glyph as own_glyph_of, variation_of};
 
 use crate::bytes::{records, u8_at, u16_at, u24_at, u32_at};
 use crate::search::{found, side};
@@ -51,9 +51,9 @@ fn record(table: &[u8], selector: u32) -> Option<u32>
 }
 
 /// What stands in the table from the place on that the number at `at` names; nothing if that is 0.
-fn part(table: &[u8], at: usize) -> &[u8]
+fn sequences_from(table: &[u8], at: usize) -> &[u8]
     requires { at < 2 ^ 40 }
-    ensures { result.now ≡ part_of_sequences table.now at }
+    ensures { result.now ≡ sequences_from table.now at }
 {
     match u32_at(table, at) {
         0 => &[],
@@ -105,10 +105,10 @@ pub fn variation(table: &[u8], c: u32, selector: u32) -> GlyphVariant
         return GlyphVariant::Missing;
     };
     let at = 13 + 11 * i as usize;
-    if is_default(part(table, at), c) {
+    if is_default(sequences_from(table, at), c) {
         return GlyphVariant::Default;
     }
-    match own_glyph(part(table, at + 4), c) {
+    match own_glyph(sequences_from(table, at + 4), c) {
         0 => GlyphVariant::Missing,
         glyph => GlyphVariant::Own(glyph),
     }

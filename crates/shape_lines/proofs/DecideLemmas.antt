@@ -9,15 +9,15 @@ use Rattle.shape_items.specs.Buffer.{Buffer}
 use Rattle.shape_items.specs.Clusters.{clusters}
 use Rattle.shape_items.specs.Items.{Item}
 use Rattle.shape_lines.specs.CanCut.{CanCut, IsMonotone}
-use Rattle.shape_lines.specs.Parts.{parts_of, is_end, width_between, MayEnd, IsLineEnd, AreLines}
+use Rattle.shape_lines.specs.Pieces.{pieces_of, is_end, width_between, MayEnd, IsLineEnd, AreLines}
 use Rattle.shape_lines.specs.RightLines.{AreRightLines}
 use Rattle.shape_lines.specs.Walked.{line_of}
 use Rattle.shape_lines.specs.declared.cutting.Line.{Line}
-use Rattle.shape_lines.specs.declared.reading.Part.{Part}
+use Rattle.shape_lines.specs.declared.reading.Piece.{Piece}
 use Rattle.shape_lines.proofs.NeighbourLemmas.{EachPair, rises_to, falls_to, rises-pairs, falls-pairs, shares_flags, flags-pairs, below_end}
 use Rattle.shape_lines.proofs.RightLineLemmas.{right_from}
 
-module _ (ps : List Part) (width : ℤ) (start : ℕ) where
+module _ (ps : List Piece) (width : ℤ) (start : ℕ) where
   abbrev is_wide : ℕ → Bool
   is_wide end = int_lt width (width_between ps start end)
 
@@ -35,13 +35,13 @@ module _ (ps : List Part) (width : ℤ) (start : ℕ) where
       → width <ℤ width_between ps start k
   none_fits-at from zero e k le lt is = absurd (omega arith)
   none_fits-at from (suc n) e k le lt is =
-      let parts = and_parts (not (is_end ps from) || is_wide from) (none_fits (suc from) n) e in
+      let pieces = and_parts (not (is_end ps from) || is_wide from) (none_fits (suc from) n) e in
       elim (cases_lt from k) [
-        | inl later ↦ none_fits-at (suc from) n parts.1 k (omega arith) (omega arith) is
+        | inl later ↦ none_fits-at (suc from) n pieces.1 k (omega arith) (omega arith) is
         | inr same ↦
             let here : k ≡ from = omega arith in
             let end : is_end ps from ≡ true = ap (is_end ps) (sym here) ∙ is in
-            let wide : is_wide from ≡ true = sym (ap (λ t. not t || is_wide from) end) ∙ parts.0 in
+            let wide : is_wide from ≡ true = sym (ap (λ t. not t || is_wide from) end) ∙ pieces.0 in
             subst (λ n. width <ℤ width_between ps start n) (sym here) (too_wide _ wide)
       ]
     where
@@ -51,13 +51,13 @@ module _ (ps : List Part) (width : ℤ) (start : ℕ) where
   none_ends-at : (from n : ℕ) → none_ends from n ≡ true → (k : ℕ) → from ≤ k → k < from + n → is_end ps k ≡ true → ⊥
   none_ends-at from zero e k le lt is = absurd (omega arith)
   none_ends-at from (suc n) e k le lt is =
-      let parts = and_parts (not (is_end ps from)) (none_ends (suc from) n) e in
+      let pieces = and_parts (not (is_end ps from)) (none_ends (suc from) n) e in
       elim (cases_lt from k) [
-        | inl later ↦ none_ends-at (suc from) n parts.1 k (omega arith) (omega arith) is
+        | inl later ↦ none_ends-at (suc from) n pieces.1 k (omega arith) (omega arith) is
         | inr same ↦
             let here : k ≡ from = omega arith in
             let end : is_end ps from ≡ true = ap (is_end ps) (sym here) ∙ is in
-            false≢true (sym (ap not end) ∙ parts.0)
+            false≢true (sym (ap not end) ∙ pieces.0)
       ]
 
   abbrev is_longest : ℕ → Bool
@@ -117,7 +117,7 @@ module _ (ps : List Part) (width : ℤ) (start : ℕ) where
 
 -- ---- lines by their ends
 
-abbrev pub are_ends : List Part → ℤ → ℕ → List ℕ → Bool
+abbrev pub are_ends : List Piece → ℤ → ℕ → List ℕ → Bool
 are_ends ps width start [] = nat_le (length ps) start && nat_le start (length ps)
 are_ends ps width start (end ∷ ends) = is_line_end ps width start end && are_ends ps width end ends
 
@@ -125,7 +125,7 @@ abbrev pub lines_by : (ℕ → ℕ → Line) → ℕ → List ℕ → List Line
 lines_by line start [] = []
 lines_by line start (end ∷ ends) = line start end ∷ lines_by line end ends
 
-lines_from : (ps : List Part) (width : ℤ) (line : ℕ → ℕ → Line) (start : ℕ) (ends : List ℕ) → are_ends ps width start ends ≡ true
+lines_from : (ps : List Piece) (width : ℤ) (line : ℕ → ℕ → Line) (start : ℕ) (ends : List ℕ) → are_ends ps width start ends ≡ true
     → AreLines ps width line start (lines_by line start ends)
 lines_from ps width line start [] e =
     let both = and_parts (nat_le (length ps) start) (nat_le start (length ps)) e in
@@ -154,7 +154,7 @@ each_pair-passes test (x ∷ y ∷ items) e (suc k) d lt =
 
 -- right lines of glyphs whose clusters rise, or fall
 module _ (b : Buffer) (text_end : ℕ) (width : ℤ) (ends : List ℕ) (flags : each_pair shares_flags b.items ≡ true)
-    (below : list_all (λ (item : Item). nat_lt item.cluster text_end) b.items ≡ true) (are : are_ends (parts_of b) width 0 ends ≡ true) where
+    (below : list_all (λ (item : Item). nat_lt item.cluster text_end) b.items ≡ true) (are : are_ends (pieces_of b) width 0 ends ≡ true) where
   right_by : IsMonotone (clusters b.items) → AreRightLines b text_end width (lines_by (line_of b text_end) 0 ends)
   right_by monotone =
       let can : CanCut b text_end = record {
@@ -162,7 +162,7 @@ module _ (b : Buffer) (text_end : ℕ) (width : ℤ) (ends : List ℕ) (flags : 
         one_set = (flags-pairs b.items).0 (each_pair-passes shares_flags b.items flags);
         below = (below_end b.items text_end).0 below;
       } in
-      right_from b text_end can width 0 (lines_by (line_of b text_end) 0 ends) (lines_from (parts_of b) width (line_of b text_end) 0 ends are)
+      right_from b text_end can width 0 (lines_by (line_of b text_end) 0 ends) (lines_from (pieces_of b) width (line_of b text_end) 0 ends are)
 
   pub right_rising : each_pair rises_to b.items ≡ true → AreRightLines b text_end width (lines_by (line_of b text_end) 0 ends)
   right_rising rise = right_by (inl ((rises-pairs b.items).0 (each_pair-passes rises_to b.items rise)))

@@ -1,7 +1,7 @@
 pub mod NeighbourLemmas
 pub mod TextOrderLemmas
 pub mod PlaceLemmas
-pub mod PartLemmas
+pub mod PieceLemmas
 pub mod TotalLemmas
 pub mod LeastLemmas
 pub mod WalkedLemmas

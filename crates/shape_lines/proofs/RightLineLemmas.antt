@@ -7,40 +7,40 @@ use Rattle.std.specs.Prelude.{nat_lt, if◌then◌else◌}
 use Rattle.shape_items.specs.Buffer.{Buffer}
 use Rattle.shape_items.specs.Clusters.{clusters}
 use Rattle.shape_lines.specs.CanCut.{CanCut}
-use Rattle.shape_lines.specs.Parts.{parts_from, parts_of, is_end, width_between, MayEnd, IsLineEnd, AreLines}
+use Rattle.shape_lines.specs.Pieces.{pieces_from, pieces_of, is_end, width_between, MayEnd, IsLineEnd, AreLines}
 use Rattle.shape_lines.specs.Places.{cluster_at, lacks_break_at, IsPlaceOfCut, BeginsSafely}
 use Rattle.shape_lines.specs.RightLines.{MayEndAt, width_from, IsLongest, IsShortestAsNoneFits, IsLeastCluster, end_place, IsRightLine, next_text, AreRightFrom, AreRightLines}
 use Rattle.shape_lines.specs.TextOrder.{Glyph, falls, text_order}
 use Rattle.shape_lines.specs.Walked.{text_at, line_of}
 use Rattle.shape_lines.specs.declared.cutting.Line.{Line}
-use Rattle.shape_lines.proofs.PartLemmas.{length-parts, length-parts_of, is_end-parts, widths-alike}
+use Rattle.shape_lines.proofs.PieceLemmas.{length-pieces, length-pieces_of, is_end-pieces, widths-alike}
 use Rattle.shape_lines.proofs.PlaceLemmas.{place_from_begin, begin_from_place}
 use Rattle.shape_lines.proofs.TextOrderLemmas.{ClustersRise, HasOneFlag, rises-text, one_flag-text, length-text}
 use Rattle.shape_lines.proofs.TotalLemmas.{is_end-last}
 
-begins_from_test : (gs : List Glyph) (place : ℕ) → place < length gs → is_end (parts_from gs) place ≡ true → BeginsSafely gs place
+begins_from_test : (gs : List Glyph) (place : ℕ) → place < length gs → is_end (pieces_from gs) place ≡ true → BeginsSafely gs place
 begins_from_test gs place lt is =
     let here = cluster_at gs place in
     let before = cluster_at gs (place - 1) in
-    let parts = and_parts (not (here == before)) (lacks_break_at gs place) (sym (is_end-parts gs place lt) ∙ is) in
-    record { differ = apart here before parts.0; lacks = parts.1 }
+    let pieces = and_parts (not (here == before)) (lacks_break_at gs place) (sym (is_end-pieces gs place lt) ∙ is) in
+    record { differ = apart here before pieces.0; lacks = pieces.1 }
   where
     apart : (a b : ℕ) → not (a == b) ≡ true → b ≢ a
     apart a b test e = grind (arith, nat_tests, test, e)
 
-test_from_begins : (gs : List Glyph) (place : ℕ) → place < length gs → BeginsSafely gs place → is_end (parts_from gs) place ≡ true
+test_from_begins : (gs : List Glyph) (place : ℕ) → place < length gs → BeginsSafely gs place → is_end (pieces_from gs) place ≡ true
 test_from_begins gs place lt begins =
     let here = cluster_at gs place in
     let before = cluster_at gs (place - 1) in
-    is_end-parts gs place lt
+    is_end-pieces gs place lt
     ∙ and_from (not (here == before)) (lacks_break_at gs place) (ap not (ne_eqb here before (λ e. begins.differ (sym e)))) begins.lacks
 
 module _ (gs : List Glyph) (rise : ClustersRise gs) (one : HasOneFlag gs) where
-  may_end_to : (start end : ℕ) → MayEnd (parts_from gs) start end → MayEndAt gs start end
+  may_end_to : (start end : ℕ) → MayEnd (pieces_from gs) start end → MayEndAt gs start end
   may_end_to start end h =
       let after = h.after in
       let within = h.within in
-      let long = length-parts (cluster_at gs 0) gs in
+      let long = length-pieces (cluster_at gs 0) gs in
       record {
         after = h.after;
         is = elim (cases_lt end (length gs)) [
@@ -49,14 +49,14 @@ module _ (gs : List Glyph) (rise : ClustersRise gs) (one : HasOneFlag gs) where
         ];
       }
 
-  may_end_from : (start end : ℕ) → MayEndAt gs start end → MayEnd (parts_from gs) start end
+  may_end_from : (start end : ℕ) → MayEndAt gs start end → MayEnd (pieces_from gs) start end
   may_end_from start end h =
-      let long = length-parts (cluster_at gs 0) gs in
+      let long = length-pieces (cluster_at gs 0) gs in
       elim h.is [
         | inl all ↦ record {
           after = h.after;
           within = omega arith;
-          is = ap (is_end (parts_from gs)) (all ∙ sym long) ∙ is_end-last (parts_from gs);
+          is = ap (is_end (pieces_from gs)) (all ∙ sym long) ∙ is_end-last (pieces_from gs);
         }
         | inr place ↦ record {
           after = h.after;
@@ -66,10 +66,10 @@ module _ (gs : List Glyph) (rise : ClustersRise gs) (one : HasOneFlag gs) where
       ]
 
   module _ (width : ℤ) where
-    wide_to : (start end : ℕ) → width <ℤ width_between (parts_from gs) start end → width <ℤ width_from gs start end
+    wide_to : (start end : ℕ) → width <ℤ width_between (pieces_from gs) start end → width <ℤ width_from gs start end
     wide_to start end wide = subst (λ w. width <ℤ w) (widths-alike gs start end) wide
 
-    pub line_end_to : (start end : ℕ) → IsLineEnd (parts_from gs) width start end
+    pub line_end_to : (start end : ℕ) → IsLineEnd (pieces_from gs) width start end
         → IsLongest gs width start end ⊎ IsShortestAsNoneFits gs width start end
     line_end_to start end h =
         elim h [
@@ -87,9 +87,9 @@ module _ (gs : List Glyph) (rise : ClustersRise gs) (one : HasOneFlag gs) where
 
 -- ---- the line of two places
 
-line_ends_within : (b : Buffer) (width : ℤ) (start end : ℕ) → IsLineEnd (parts_of b) width start end → (start < end) × (end ≤ length b.items)
+line_ends_within : (b : Buffer) (width : ℤ) (start end : ℕ) → IsLineEnd (pieces_of b) width start end → (start < end) × (end ≤ length b.items)
 line_ends_within b width start end h =
-    let long = length-parts_of b in
+    let long = length-pieces_of b in
     elim h [
       | inl longest ↦
           let within = longest.may_end.within in
@@ -135,7 +135,7 @@ module _ (b : Buffer) (text_end : ℕ) (can : CanCut b text_end) (width : ℤ) w
             omega (arith, at);
       }
 
-  right_line : (start end : ℕ) → IsLineEnd (parts_of b) width start end → IsRightLine b width start (line_of b text_end start end)
+  right_line : (start end : ℕ) → IsLineEnd (pieces_of b) width start end → IsRightLine b width start (line_of b text_end start end)
   right_line start end h =
       let both = line_ends_within b width start end h in
       let some = both.0 in
@@ -151,14 +151,14 @@ module _ (b : Buffer) (text_end : ℕ) (can : CanCut b text_end) (width : ℤ) w
         text_start = subst (λ e. IsLeastCluster (text_order b) start e (text_at b text_end start)) there (first_is_least start end some le);
       }
 
-  next_begins : (end : ℕ) (lines : List Line) → AreLines (parts_of b) width (line_of b text_end) end lines
+  next_begins : (end : ℕ) (lines : List Line) → AreLines (pieces_of b) width (line_of b text_end) end lines
       → text_at b text_end end ≡ next_text text_end lines
-  next_begins end [] all = text-past b text_end end (all ∙ length-parts_of b)
+  next_begins end [] all = text-past b text_end end (all ∙ length-pieces_of b)
   next_begins end (line ∷ lines) h = sym (ap (λ (l : Line). l.text_start) h.2)
 
-  pub right_from : (start : ℕ) (lines : List Line) → AreLines (parts_of b) width (line_of b text_end) start lines
+  pub right_from : (start : ℕ) (lines : List Line) → AreLines (pieces_of b) width (line_of b text_end) start lines
       → AreRightFrom b text_end width start lines
-  right_from start [] all = all ∙ length-parts_of b
+  right_from start [] all = all ∙ length-pieces_of b
   right_from start (line ∷ lines) h =
       let end = h.0 in
       let is = h.2 in

@@ -1,17 +1,17 @@
--- The walk of the cutter: what an end does to a line, and what each part adds.
+-- The walk of the cutter: what an end does to a line, and what each piece adds.
 use Rattle.std.proofs.Common.{◌≡◌, ℕ, zero, suc, ◌+◌, ◌-◌, ◌<◌, ◌≤◌, true, false, ℤ, pos, ◌+ℤ◌, ◌≤ℤ◌, ◌<ℤ◌, List, [], ◌∷◌, ◌++◌, length, take, drop, ◌^◌, get_or, refl, sym, ap, subst, ◌∙◌, arith, inl, inr, append_assoc}
 use Rattle.std.proofs.lemmas.Bool.{false≢true, cases_lt}
 use Rattle.std.proofs.lemmas.Int.{ints, by_lt_z}
 use Rattle.std.proofs.lemmas.List.{length-take, length-drop}
 use Rattle.shape_lines.specs.declared.cutting.Line.{Line}
-use Rattle.shape_lines.specs.declared.reading.Part.{Part}
-use Rattle.shape_lines.specs.Parts.{width_between, is_end, MayEnd, Fits, IsLineEnd, AreLines, AreNarrow, IsNarrow}
+use Rattle.shape_lines.specs.declared.reading.Piece.{Piece}
+use Rattle.shape_lines.specs.Pieces.{width_between, is_end, MayEnd, Fits, IsLineEnd, AreLines, AreNarrow, IsNarrow}
 use Rattle.shape_lines.specs.Walked.{least, IsSmall, IsTaken, IsWalked}
 use Rattle.shape_lines.proofs.TotalLemmas.{IsWithin-total, narrow-take, narrow-drop, width-split, width-none, width-more}
 use Rattle.shape_lines.proofs.LeastLemmas.{least_at-below, least_at-reached}
 
-module _ (ps : List Part) (width : ℤ) (cut : ℕ → ℕ → Line) where
-  -- if no longer part fits, the line ends where it was taken to
+module _ (ps : List Piece) (width : ℤ) (cut : ℕ → ℕ → Line) where
+  -- if no longer piece fits, the line ends where it was taken to
   taken_ends : (start taken : ℕ) → IsTaken ps width start taken
       → ((later : ℕ) → taken < later → MayEnd ps start later → width <ℤ width_between ps start later)
       → IsLineEnd ps width start taken
@@ -67,7 +67,7 @@ module _ (ps : List Part) (width : ℤ) (cut : ℕ → ℕ → Line) where
     none_new : (end : ℕ) → place < end → end < place + 1 → is_end ps end ≡ false
     none_new end after before = absurd (omega arith)
 
-    -- if some part fits that ends here or later, the line is taken up to here
+    -- if some piece fits that ends here or later, the line is taken up to here
     pub IsWalked-taken : (so_far +ℤ least (drop place ps)) ≤ℤ width → IsWalked ps width cut lines start place so_far (pos 0) place (place + 1)
     IsWalked-taken fit =
         let at = least_at-reached ps place within in
@@ -170,8 +170,8 @@ module _ (ps : List Part) (width : ℤ) (cut : ℕ → ℕ → Line) where
         line = h.line;
       }
 
-  -- one part more
-  pub IsWalked-more : (lines : List Line) (start taken : ℕ) (so_far beyond : ℤ) (place : ℕ) (p : Part) → place < length ps
+  -- one piece more
+  pub IsWalked-more : (lines : List Line) (start taken : ℕ) (so_far beyond : ℤ) (place : ℕ) (p : Piece) → place < length ps
       → p ≡ get_or ps place p → IsWalked ps width cut lines start taken so_far beyond place (place + 1)
       → IsWalked ps width cut lines start taken (so_far +ℤ p.width) (beyond +ℤ p.width) (place + 1) (place + 1)
   IsWalked-more lines start taken so_far beyond place p lt is h =
@@ -229,13 +229,13 @@ module _ (ps : List Part) (width : ℤ) (cut : ℕ → ℕ → Line) where
             )
       ]
 
-pub narrow-at : (ps : List Part) (k : ℕ) (d : Part) → AreNarrow ps → k < length ps → IsNarrow (get_or ps k d).width
+pub narrow-at : (ps : List Piece) (k : ℕ) (d : Piece) → AreNarrow ps → k < length ps → IsNarrow (get_or ps k d).width
 narrow-at [] k d narrow lt = absurd (omega arith)
 narrow-at (p ∷ ps) zero d narrow lt = narrow.0
 narrow-at (p ∷ ps) (suc k) d narrow lt = narrow-at ps k d narrow.1 (omega arith)
 
--- the sums are those of few enough parts
-pub small_sums : (ps : List Part) (a b : ℕ) → length ps < 2 ^ 64 → AreNarrow ps → IsSmall (width_between ps a b)
+-- the sums are those of few enough pieces
+pub small_sums : (ps : List Piece) (a b : ℕ) → length ps < 2 ^ 64 → AreNarrow ps → IsSmall (width_between ps a b)
 small_sums ps a b short narrow =
     let both = IsWithin-total (take (b - a) (drop a ps)) (narrow-take (b - a) (drop a ps) (narrow-drop a ps narrow)) in
     let low = both.0 in

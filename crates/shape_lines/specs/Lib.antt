@@ -2,6 +2,6 @@ pub mod CanCut
 pub mod TextOrder
 pub mod Places
 pub mod RightLines
-pub mod Parts
+pub mod Pieces
 pub mod Walked
 pub mod Worked

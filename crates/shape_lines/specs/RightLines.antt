@@ -1,4 +1,4 @@
--- Lines of a shaped text: each the longest part from its start that fits, and if none fits the shortest one.
+-- Lines of a shaped text: each the longest piece from its start that fits, and if none fits the shortest one.
 use Rattle.std.specs.Prelude.{◌≡◌, ◌⊎◌, ℕ, ◌-◌, ◌<◌, ◌≤◌, ℤ, pos, ◌+ℤ◌, ◌≤ℤ◌, ◌<ℤ◌, List, [], ◌∷◌, length, slice_range, if◌then◌else◌}
 use Rattle.shape_items.specs.Buffer.{Buffer}
 use Rattle.shape_items.specs.Clusters.{clusters}
@@ -20,13 +20,13 @@ total_width (glyph ∷ glyphs) = glyph.width +ℤ total_width glyphs
 abbrev pub width_from : List Glyph → ℕ → ℕ → ℤ
 width_from glyphs start end = total_width (slice_range glyphs start end)
 
--- the longest part from its start that fits
+-- the longest piece from its start that fits
 pub record IsLongest (glyphs : List Glyph) (width : ℤ) (start end : ℕ) : Type 0 where
   pub may_end : MayEndAt glyphs start end
   pub fits : width_from glyphs start end ≤ℤ width
   pub none_longer : (later : ℕ) → end < later → MayEndAt glyphs start later → width <ℤ width_from glyphs start later
 
--- the shortest part, if none fits
+-- the shortest piece, if none fits
 pub record IsShortestAsNoneFits (glyphs : List Glyph) (width : ℤ) (start end : ℕ) : Type 0 where
   pub may_end : MayEndAt glyphs start end
   pub none_fits : (other : ℕ) → MayEndAt glyphs start other → width <ℤ width_from glyphs start other

@@ -1,17 +1,17 @@
 //! The lines of a shaped text.
 //!
-//! Each line is the longest part from its start that fits. Widths may be negative, so a longer part may fit
+//! Each line is the longest piece from its start that fits. Widths may be negative, so a longer piece may fit
 //! again after one that does not. Each place where a line may end is therefore asked whether this end or a later
 //! one fits, by the least width from it to an end at it or after it. These are summed once, from the end of
 //! the text, and the walk comes to each place once.
 ghost use Rattle.std.specs.Prelude.{◌≡◌, ◌<◌, ◌≤◌, ◌+◌, ◌+ℤ◌, pos, true, [], length, get_or, IfOk, OnOk, IsOk, IsOkUnless, if◌then◌else◌};
 ghost use Rattle.std.specs.Int.{int_min};
 ghost use Rattle.shape_lines.specs.CanCut.{CanCut};
-ghost use Rattle.shape_lines.specs.Parts.{is_end, parts_of, AreLines, AreSummable, IsNarrow};
+ghost use Rattle.shape_lines.specs.Pieces.{is_end, pieces_of, AreLines, AreSummable, IsNarrow};
 ghost use Rattle.shape_lines.specs.RightLines.{AreRightLines};
 ghost use Rattle.shape_lines.specs.Walked.{leasts, least_from, line_of, text_at as text_of, IsSmall, HasWalked};
 
-use crate::reading::{Part, cluster_at, part_at, runs_back};
+use crate::reading::{Piece, cluster_at, piece_at, runs_back};
 use shape_buffer::buffer::{GlyphBuffer, ShapeError};
 use std::alloc::{AllocError, Global};
 
@@ -42,7 +42,7 @@ struct Walk {
 
 /// The lines of a shaped text that ends at this cluster, in the order of the text, so from the end of the list
 /// if clusters fall. A line's width is the exact sum of its glyphs' advances, downwards if the direction
-/// is vertical. Each line is the longest part from its start to a place of a cut, or to the end of the text,
+/// is vertical. Each line is the longest piece from its start to a place of a cut, or to the end of the text,
 /// that is at most this wide; if none is, it is the shortest one. No glyphs make no line, and take no
 /// memory. Refuses with `Memory` if a growth was refused. Asks that `can_cut` is true.
 pub fn cut_lines(
@@ -71,7 +71,7 @@ fn walked_lines(
     width: u32,
 ) -> Result<Vec<Line>, AllocError>
     requires { 0 < length glyphs.now.items }
-    ensures { IfOk result (λ lines. AreLines (parts_of glyphs.now) (pos width)
+    ensures { IfOk result (λ lines. AreLines (pieces_of glyphs.now) (pos width)
         (line_of glyphs.now text_end) 0 lines.items) }
 {
     let least = least_widths(alloc, glyphs)?;
@@ -84,7 +84,7 @@ fn walked_lines(
     };
     walk.add(glyphs, text_end, width, 0);
     for place in 1..glyphs.len() {
-        if part_at(glyphs, place).cut {
+        if piece_at(glyphs, place).cut {
             walk.meet_end(glyphs, text_end, width, place, least[place])?;
         }
         walk.add(glyphs, text_end, width, place);
@@ -97,28 +97,28 @@ fn walked_lines(
 
 /// The least width from each place of the text to an end at it or after it.
 fn least_widths(alloc: Global, glyphs: &GlyphBuffer) -> Result<Vec<i128>, AllocError>
-    ensures least { IfOk result (λ widths. widths.items ≡ leasts (parts_of glyphs.now)) }
+    ensures least { IfOk result (λ widths. widths.items ≡ leasts (pieces_of glyphs.now)) }
     ensures summable { IfOk result (λ _. AreSummable glyphs.now) }
 {
     let mut widths: Vec<i128> = Vec::with_capacity(alloc, glyphs.len())?;
     let mut on: i128 = 0;
     for place in (0..glyphs.len()).rev() {
-        on = least_on(part_at(glyphs, place), on);
+        on = least_on(piece_at(glyphs, place), on);
         widths.push(on)?;
     }
     widths.reverse();
     Ok(widths)
 }
 
-/// The least width from a part on, given the least width after it.
-fn least_on(part: Part, beyond: i128) -> i128
-    requires narrow { IsNarrow part.width }
+/// The least width from a piece on, given the least width after it.
+fn least_on(piece: Piece, beyond: i128) -> i128
+    requires narrow { IsNarrow piece.width }
     requires small { IsSmall beyond }
     ensures { result
-        ≡ let on = part.width +ℤ beyond in if part.cut then int_min (pos 0) on else on }
+        ≡ let on = piece.width +ℤ beyond in if piece.cut then int_min (pos 0) on else on }
 {
-    let on = i128::from(part.width) + beyond;
-    if part.cut && on > 0 {
+    let on = i128::from(piece.width) + beyond;
+    if piece.cut && on > 0 {
         return 0;
     }
     on
@@ -163,9 +163,9 @@ impl Walk {
         least: i128,
     ) -> Result<(), AllocError>
         requires summable { AreSummable glyphs.now }
-        requires may_end { is_end (parts_of glyphs.now) place ≡ true }
+        requires may_end { is_end (pieces_of glyphs.now) place ≡ true }
         requires within { place ≤ length glyphs.now.items }
-        requires least { least ≡ least_from (parts_of glyphs.now) place }
+        requires least { least ≡ least_from (pieces_of glyphs.now) place }
         requires walked { HasWalked glyphs.now text_end (pos width) place place self.old }
         ensures taken { OnOk result (self.new.taken ≡ place) }
         ensures some { OnOk result (self.new.start < place) }
@@ -190,7 +190,7 @@ impl Walk {
         requires walked { HasWalked glyphs.now text_end (pos width) place (place + 1) self.old }
         ensures { HasWalked glyphs.now text_end (pos width) (place + 1) (place + 1) self.new }
     {
-        let width = i128::from(part_at(glyphs, place).width);
+        let width = i128::from(piece_at(glyphs, place).width);
         self.so_far += width;
         self.beyond += width;
     }

@@ -2,7 +2,7 @@
 ghost use Rattle.std.specs.Prelude.{◌≡◌, ◌<◌, ◌-◌, ◌==◌, length, get_or, not};
 ghost use Rattle.shape_items.specs.Clusters.{clusters};
 ghost use Rattle.shape_common.specs.Positions.{zero_position};
-ghost use Rattle.shape_lines.specs.Parts.{parts_of, IsNarrow};
+ghost use Rattle.shape_lines.specs.Pieces.{pieces_of, IsNarrow};
 ghost use Rattle.shape_lines.specs.Places.{cluster_at as cluster_of};
 ghost use Rattle.shape_lines.specs.TextOrder.{falls, text_order, place_in, width_of};
 
@@ -10,7 +10,7 @@ use shape_buffer::buffer::{GlyphBuffer, hb_glyph_info_t};
 
 /// A glyph as the cutter sees it: its width, and whether a line may end before it.
 #[derive(Clone, Copy, Debug)]
-pub(super) struct Part {
+pub(super) struct Piece {
     pub(super) width: i64,
     pub(super) cut: bool,
 }
@@ -46,14 +46,14 @@ pub(super) fn cluster_at(glyphs: &GlyphBuffer, place: usize) -> u32
 
 /// The glyph at a place of the text. A line may end before it if its cluster isn't that of the
 /// glyph before it, and it lacks `UNSAFE_TO_BREAK`.
-pub(super) fn part_at(glyphs: &GlyphBuffer, place: usize) -> Part
+pub(super) fn piece_at(glyphs: &GlyphBuffer, place: usize) -> Piece
     requires { place < length glyphs.now.items }
-    ensures value { result ≡ get_or (parts_of glyphs.now) place result }
+    ensures value { result ≡ get_or (pieces_of glyphs.now) place result }
     ensures narrow { IsNarrow result.width }
 {
     let infos = glyphs.glyph_infos();
     let at = listed(infos, place);
-    Part {
+    Piece {
         width: width_at(glyphs, at),
         cut: begins_cluster(glyphs, place) && !infos[at].unsafe_to_break(),
     }

@@ -10,7 +10,7 @@ pub mod RunClusterLemmas
 pub mod OrderedClusterLemmas
 pub mod CgjLemmas
 pub mod ByClusterLemmas
-pub mod PartLemmas
+pub mod StretchLemmas
 pub mod MergeFirstLemmas
 pub mod SpanOrderLemmas
 pub mod MovedSpanLemmas

@@ -18,7 +18,7 @@ use Rattle.shape_normalize.specs.RoundOne.{item_glyph, expanded_item, variant_it
 use Rattle.shape_normalize.specs.RoundTwo.{max_run, has_mark_past_first, unhidden, has_seen_cgj}
 use Rattle.shape_normalize.specs.RoundThree.{Absorbed, Placed, recomposed_items}
 
--- the item at a place of a list; which item is answered past its end doesn't matter
+-- the item at a place of a list; which item is returned past its end doesn't matter
 abbrev pub item_at : List Item → ℕ → Item
 item_at items place = get_or items place (new_item 0 0)
 

@@ -28,8 +28,8 @@ use Rattle.shape_prepare.proofs.Preservation.StepPreservation.{begun-preserves_f
 use Rattle.shape_prepare.proofs.Preservation.PreservationLemmas.{preparing_preserves_flags}
 use Rattle.shape_substitute.proofs.ListPreservation.{substitution-preserves_flags}
 use Rattle.shape_pipeline.specs.Headline.{HasFlagsByCluster}
-use Rattle.shape_pipeline.specs.Shaped.{normalising, glyph_part, place_part, shaped_steps, all_steps, entered, finished, run_made}
-use Rattle.shape_pipeline.proofs.PartLemmas.{Leads, Leads-then, EachStep-glyph_part, EachStep-place_part}
+use Rattle.shape_pipeline.specs.Shaped.{normalising, glyph_phase, place_phase, shaped_steps, all_steps, entered, finished, run_made}
+use Rattle.shape_pipeline.proofs.PhaseLemmas.{Leads, Leads-then, EachStep-glyph_phase, EachStep-place_phase}
 
 -- the buffer's flags are the caller's
 abbrev HasFlags : BufferFlags → Buffer → Type 0
@@ -72,14 +72,14 @@ module _ (run : Run) (target : Direction) (flags : BufferFlags) (lawful : Lawful
   seen-normalised : Leads (IsSeen flags) (normalising run.rules ∷ []) (IsSeen flags)
   seen-normalised = seen-run flags (normalising run.rules ∷ []) (PreservesFlags-normalized run.rules lawful, tt)
 
-  seen-glyphs : Leads (IsSeen flags) (glyph_part run) (IsSeen flags)
-  seen-glyphs = seen-run flags (glyph_part run)
-      (EachStep-glyph_part IsFlagPreserving run (fallback-preserves_flags run.unicode run.face run.direction run.script run.decisions)
+  seen-glyphs : Leads (IsSeen flags) (glyph_phase run) (IsSeen flags)
+  seen-glyphs = seen-run flags (glyph_phase run)
+      (EachStep-glyph_phase IsFlagPreserving run (fallback-preserves_flags run.unicode run.face run.direction run.script run.decisions)
       (substitution-preserves_flags run masks (record { frac = features.frac; numr = features.numr; dnom = features.dnom }) preserves))
 
-  seen-placed : Leads (IsSeen flags) (place_part run) (IsSeen flags)
-  seen-placed = seen-run flags (place_part run)
-      (EachStep-place_part IsFlagPreserving run (fallback-preserves_flags run.unicode run.face run.direction run.script run.decisions)
+  seen-placed : Leads (IsSeen flags) (place_phase run) (IsSeen flags)
+  seen-placed = seen-run flags (place_phase run)
+      (EachStep-place_phase IsFlagPreserving run (fallback-preserves_flags run.unicode run.face run.direction run.script run.decisions)
       (steps_preserve_flags.advances run) (steps_preserve_flags.tables run preserves))
 
   flagged-last : Leads (IsSeen flags) (step flags_propagated ∷ []) (IsFlagged flags)
@@ -100,8 +100,8 @@ module _ (run : Run) (target : Direction) (flags : BufferFlags) (lawful : Lawful
       flagged-last
 
   flagged-shaped : Leads (IsSeen flags) (shaped_steps run) (IsFlagged flags)
-  flagged-shaped = Leads-then {steps = glyph_part run} {more = place_part run ++ finish_steps run} seen-glyphs
-      (Leads-then {steps = place_part run} {more = finish_steps run} seen-placed flagged-finished)
+  flagged-shaped = Leads-then {steps = glyph_phase run} {more = place_phase run ++ finish_steps run} seen-glyphs
+      (Leads-then {steps = place_phase run} {more = finish_steps run} seen-placed flagged-finished)
 
   flagged-all : Leads (HasFlags flags) (all_steps run target) (IsFlagged flags)
   flagged-all = Leads-then {steps = prepare_steps run target} {more = normalising run.rules ∷ shaped_steps run} seen-prepared

@@ -1,7 +1,7 @@
 mod CanonicalLemmas
 mod FlagRunLemmas
 mod OrderLemmas
-mod PartLemmas
+mod PhaseLemmas
 mod PremiseLemmas
 mod RunLemmas
 mod WorkedObligationLemmas

@@ -32,8 +32,8 @@ use Rattle.shape_prepare.proofs.Preservation.PreservationLemmas.{preparing_prese
 use Rattle.shape_substitute.proofs.ListPreservation.{substitution-preserves_clusters}
 use Rattle.shape_pipeline.specs.Headline.{target_of}
 use Rattle.shape_pipeline.specs.Order.{RunPreservesClusters, ComesInOrder, ClustersComeInOrder, grapheme_clusters}
-use Rattle.shape_pipeline.specs.Shaped.{normalising, glyph_part, place_part, shaped_steps, all_steps, entered, finished, run_made}
-use Rattle.shape_pipeline.proofs.PartLemmas.{Leads, Leads-then, EachStep-glyph_part, EachStep-place_part}
+use Rattle.shape_pipeline.specs.Shaped.{normalising, glyph_phase, place_phase, shaped_steps, all_steps, entered, finished, run_made}
+use Rattle.shape_pipeline.proofs.PhaseLemmas.{Leads, Leads-then, EachStep-glyph_phase, EachStep-place_phase}
 
 -- ---- states of a run, where each cluster is one of `From`
 
@@ -148,14 +148,14 @@ module _ (run : Run) (target : Direction) (valid : target ≢ Invalid) (From : �
   facing-normalised = Leads-preserving (IsPreserved-facing From target) (normalising run.rules ∷ [])
       (PreservesOrder-normalized run.rules lawful preserves.reordering, tt)
 
-  facing-glyphs : Leads (IsFacing From target) (glyph_part run) (IsFacing From target)
-  facing-glyphs = Leads-preserving (IsPreserved-facing From target) (glyph_part run)
-      (EachStep-glyph_part IsClusterPreserving run (fallback-preserves_clusters run.unicode run.face run.direction run.script run.decisions)
+  facing-glyphs : Leads (IsFacing From target) (glyph_phase run) (IsFacing From target)
+  facing-glyphs = Leads-preserving (IsPreserved-facing From target) (glyph_phase run)
+      (EachStep-glyph_phase IsClusterPreserving run (fallback-preserves_clusters run.unicode run.face run.direction run.script run.decisions)
       (substitution-preserves_clusters run preserves.calls))
 
-  facing-placed : Leads (IsFacing From target) (place_part run) (IsFacing From target)
-  facing-placed = Leads-preserving (IsPreserved-facing From target) (place_part run)
-      (EachStep-place_part IsClusterPreserving run (fallback-preserves_clusters run.unicode run.face run.direction run.script run.decisions)
+  facing-placed : Leads (IsFacing From target) (place_phase run) (IsFacing From target)
+  facing-placed = Leads-preserving (IsPreserved-facing From target) (place_phase run)
+      (EachStep-place_phase IsClusterPreserving run (fallback-preserves_clusters run.unicode run.face run.direction run.script run.decisions)
       (steps_preserve_clusters.advances run) (steps_preserve_clusters.tables run preserves.calls))
 
   shown-finished : Leads (IsFacing From target) (finish_steps run) (IsShown From target)
@@ -169,8 +169,8 @@ module _ (run : Run) (target : Direction) (valid : target ≢ Invalid) (From : �
 
   shown-normalised : Leads (IsFacing From target) (normalising run.rules ∷ shaped_steps run) (IsShown From target)
   shown-normalised = Leads-then {steps = normalising run.rules ∷ []} {more = shaped_steps run} facing-normalised
-      (Leads-then {steps = glyph_part run} {more = place_part run ++ finish_steps run} facing-glyphs
-      (Leads-then {steps = place_part run} {more = finish_steps run} facing-placed shown-finished))
+      (Leads-then {steps = glyph_phase run} {more = place_phase run ++ finish_steps run} facing-glyphs
+      (Leads-then {steps = place_phase run} {more = finish_steps run} facing-placed shown-finished))
 
   -- a whole run, from what is known of the text as it is prepared
   shown-all : (b : Buffer) → b.direction ≡ target → IsMonotoneLevel b.cluster_level → IsNonDecreasing (clusters b.items)

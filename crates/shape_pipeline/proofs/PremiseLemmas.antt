@@ -19,14 +19,15 @@ use Rattle.shape_plan.specs.Preservation.{EachHook, EachCall, RunPreservesFlags,
 use Rattle.shape_plan.specs.Plan.{Plan, hooks_of}
 use Rattle.shape_plan.specs.Rules.{Rules, rules_of, used_decompositions, used_compose}
 use Rattle.shape_plan.specs.Run.{Run, run_of}
-use Rattle.shape_plan.specs.Shaper.{HookMeaning, ShaperConstants}
+use Rattle.shape_plan.specs.Shaper.{HookMeaning, HookObligations, ShaperConstants}
 use Rattle.shape_plan.specs.Shapers.{no_hooks}
 use Rattle.shape_plan.proofs.PreservationLemmas.{called}
+use Rattle.shape_plan.proofs.MaskLemmas.{preserving-masks_alone}
 use Rattle.shape_pipeline.specs.Canonical.{RunPreservesEquivalence}
 use Rattle.shape_pipeline.specs.Headline.{prepared_text}
 use Rattle.shape_pipeline.specs.Headline.{target_of}
 use Rattle.shape_pipeline.specs.Order.{RunPreservesClusters}
-use Rattle.shape_pipeline.specs.Premises.{LeavesBuffers, HookByHook, HasNoObligations}
+use Rattle.shape_pipeline.specs.Premises.{LeavesBuffers, OrderByHook, FlagsByHook, HasNoObligations}
 use Rattle.shape_pipeline.specs.Shaped.{entered}
 use Rattle.shape_pipeline.proofs.RunLemmas.{prepared_text-cases}
 use Rattle.shape_normalize.proofs.Hooks.LawfulLemmas.{lawful-unasked, reorder-unasked}
@@ -105,9 +106,17 @@ given-preserves : {Obligations : Type 0} (given : Bool) → (given ≡ false) �
 given-preserves given (inl not_given) is = absurd (let e : true ≡ false = sym is ∙ not_given in cc)
 given-preserves given (inr preserves) is = preserves
 
-EachHook-by_hook : (Preserves : (Buffer → Buffer) → Type 0) (run : Run) (hooks : HookMeaning)
-    → HookByHook Preserves run hooks → EachHook Preserves run hooks
-EachHook-by_hook Preserves run hooks each = record {
+given-order : (run : Run) (hooks : HookMeaning) → HookObligations hooks → OrderByHook run hooks
+    → EachHook IsClusterPreserving run hooks
+given-order run hooks lawful each = record {
+  preprocess = given-preserves run.constants.has_preprocess_text each.preprocess;
+  setup_masks = λ given. preserving-masks_alone hooks.setup_masks lawful.masks_alone;
+  postprocess = given-preserves run.constants.has_postprocess_glyphs each.postprocess;
+  pause = given-preserves run.constants.has_pause each.pause;
+}
+
+given-flags : (run : Run) (hooks : HookMeaning) → FlagsByHook run hooks → EachHook IsFlagPreserving run hooks
+given-flags run hooks each = record {
   preprocess = given-preserves run.constants.has_preprocess_text each.preprocess;
   setup_masks = given-preserves run.constants.has_setup_masks each.setup_masks;
   postprocess = given-preserves run.constants.has_postprocess_glyphs each.postprocess;
@@ -188,22 +197,25 @@ module _ {S P D F : Type 0} (unicode : UnicodeMeaning) (masks : P → MapMeaning
         (λ s. EachHook-left Preserves left this_run (hooks s plan face) (leaves s)) plan.shaper;
   }
 
-  calls-by_hook : (Preserves : (Buffer → Buffer) → Type 0) → ((s : S) → HookByHook Preserves this_run (hooks s plan face))
+  -- what holds of each hook that is given, and of each lookup, holds of each call
+  calls-by_hook : (Preserves : (Buffer → Buffer) → Type 0) → ((s : S) → EachHook Preserves this_run (hooks s plan face))
       → EachLookup Preserves (lookups plan.ot_map face) → EachCall Preserves this_run
   calls-by_hook Preserves each keep = record {
     lookups = called Preserves this_run keep;
-    hooks = of_kept (λ s. hooks s plan face) (EachHook Preserves this_run)
-        (λ s. EachHook-by_hook Preserves this_run (hooks s plan face) (each s)) plan.shaper;
+    hooks = of_kept (λ s. hooks s plan face) (EachHook Preserves this_run) each plan.shaper;
   }
 
-  pub flags-by_hook : ((s : S) → HookByHook IsFlagPreserving this_run (hooks s plan face)) → LookupsPreserveFlags (lookups plan.ot_map face)
+  pub flags-by_hook : ((s : S) → FlagsByHook this_run (hooks s plan face)) → LookupsPreserveFlags (lookups plan.ot_map face)
       → RunPreservesFlags this_run
-  flags-by_hook = calls-by_hook IsFlagPreserving
+  flags-by_hook each = calls-by_hook IsFlagPreserving (λ s. given-flags this_run (hooks s plan face) (each s))
 
-  pub clusters-by_hook : ((s : S) → HookByHook IsClusterPreserving this_run (hooks s plan face))
+  pub clusters-by_hook : ((s : S) → HookObligations (hooks s plan face)) → ((s : S) → OrderByHook this_run (hooks s plan face))
       → LookupsPreserveClusters (lookups plan.ot_map face) → HookPreservesClusters (rules_of unicode constants hooks faces plan face)
       → RunPreservesClusters this_run
-  clusters-by_hook each keep reordering = record { calls = calls-by_hook IsClusterPreserving each keep; reordering = reordering }
+  clusters-by_hook lawful each keep reordering = record {
+    calls = calls-by_hook IsClusterPreserving (λ s. given-order this_run (hooks s plan face) (lawful s) (each s)) keep;
+    reordering = reordering;
+  }
 
   pub equivalence-by_hook : LawfulUnicode unicode → constants.has_decompose ≡ false → constants.has_compose ≡ false
       → constants.has_reorder_marks ≡ false

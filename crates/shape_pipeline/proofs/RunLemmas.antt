@@ -164,7 +164,7 @@ normal_form rules lawful unicode b = record {
   recomposed = normalized_recomposes rules b (normalized rules b) refl;
 }
 
--- what holds always holds of an answer
+-- what holds always holds of a result
 pub if_ok_always : {T E : Type 0} {P : Type 0} (result : Result T E) → P → IfOk result (λ _. P)
 if_ok_always (Ok value) holds = holds
 if_ok_always (Err error) holds = tt

@@ -3,6 +3,7 @@ use Rattle.std.specs.Prelude.{◌≡◌, ◌⊎◌, false, None}
 use Rattle.shape_items.specs.Buffer.{Buffer}
 use Rattle.shape_items.specs.Prepared.{IsPrepared}
 use Rattle.shape_normalize.specs.CanonicalForm.{text_of, HasLawfulHooks, CanonicalTextPremises, EquivalencePremises, CanonicalFormPremises, PlainPremises}
+use Rattle.shape_buffer.specs.Preservation.{IsClusterPreserving, IsFlagPreserving}
 use Rattle.shape_plan.specs.Preservation.{RunPreservesFlags, EachCalledPause}
 use Rattle.shape_plan.specs.Run.{Run}
 use Rattle.shape_plan.specs.Shaper.{HookMeaning}
@@ -17,13 +18,19 @@ pub record LeavesBuffers (hooks : HookMeaning) : Type 0 where
   pub postprocess : hooks.postprocess ≡ (λ b. b)
   pub pause : hooks.pause ≡ (λ n b. b)
 
--- hook by hook: each of the four that change a buffer isn't given, or keeps what is asked of it; of pauses, those that
--- the run calls
-pub record HookByHook (Preserves : (Buffer → Buffer) → Type 0) (run : Run) (hooks : HookMeaning) : Type 0 where
-  pub preprocess : (run.constants.has_preprocess_text ≡ false) ⊎ Preserves hooks.preprocess
-  pub setup_masks : (run.constants.has_setup_masks ≡ false) ⊎ Preserves hooks.setup_masks
-  pub postprocess : (run.constants.has_postprocess_glyphs ≡ false) ⊎ Preserves hooks.postprocess
-  pub pause : (run.constants.has_pause ≡ false) ⊎ EachCalledPause Preserves run hooks
+-- hook by hook: each of the three that may change clusters isn't given, or preserves them; of pauses, those that the run
+-- calls. A hook `setup_masks` changes masks alone
+pub record OrderByHook (run : Run) (hooks : HookMeaning) : Type 0 where
+  pub preprocess : (run.constants.has_preprocess_text ≡ false) ⊎ IsClusterPreserving hooks.preprocess
+  pub postprocess : (run.constants.has_postprocess_glyphs ≡ false) ⊎ IsClusterPreserving hooks.postprocess
+  pub pause : (run.constants.has_pause ≡ false) ⊎ EachCalledPause IsClusterPreserving run hooks
+
+-- and of the four that may change flags
+pub record FlagsByHook (run : Run) (hooks : HookMeaning) : Type 0 where
+  pub preprocess : (run.constants.has_preprocess_text ≡ false) ⊎ IsFlagPreserving hooks.preprocess
+  pub setup_masks : (run.constants.has_setup_masks ≡ false) ⊎ IsFlagPreserving hooks.setup_masks
+  pub postprocess : (run.constants.has_postprocess_glyphs ≡ false) ⊎ IsFlagPreserving hooks.postprocess
+  pub pause : (run.constants.has_pause ≡ false) ⊎ EachCalledPause IsFlagPreserving run hooks
 
 -- the cluster premises, the flag premises, the equivalence premises on hooks, and what normalising by itself asks
 -- besides: it finds each text prepared, so what is left to ask is asked of the text alone

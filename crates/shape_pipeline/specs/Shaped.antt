@@ -22,21 +22,21 @@ abbrev pub glyph_start : Run → List Step
 glyph_start run = mask_steps run ++ (step (recategorize_step run.decisions) ∷ glyph_steps run)
 
 -- from characters to glyphs
-abbrev pub glyph_part : Run → List Step
-glyph_part run = glyph_start run ++ substitute_steps run
+abbrev pub glyph_phase : Run → List Step
+glyph_phase run = glyph_start run ++ substitute_steps run
 
 -- what the face alone says of positions: advances, origins and spaces
 abbrev pub place_start : Run → List Step
 place_start run = advance_steps run ++ (step (spaces_step run.face) ∷ [])
 
 -- from glyphs to positions: the face, tables, and marks that no table places
-abbrev pub place_part : Run → List Step
-place_part run =
+abbrev pub place_phase : Run → List Step
+place_phase run =
     place_start run ++ (table_steps run ++ (step (marks_step run.unicode run.face run.direction run.script run.decisions) ∷ []))
 
 -- what is made of a normalised list
 abbrev pub shaped_steps : Run → List Step
-shaped_steps run = glyph_part run ++ (place_part run ++ finish_steps run)
+shaped_steps run = glyph_phase run ++ (place_phase run ++ finish_steps run)
 
 -- a whole run, in its order
 abbrev pub all_steps : Run → Direction → List Step

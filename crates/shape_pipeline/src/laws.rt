@@ -11,7 +11,6 @@ ghost use Rattle.shape_items.specs.Buffer.{Buffer};
 ghost use Rattle.shape_items.specs.ClusterOrder.{IsMonotoneLevel};
 ghost use Rattle.shape_items.specs.Clusters.{clusters};
 ghost use Rattle.shape_buffer.specs.Guess.{guessed};
-ghost use Rattle.shape_buffer.specs.Preservation.{IsClusterPreserving, IsFlagPreserving};
 ghost use Rattle.shape_buffer.specs.Preservation.{LookupsPreserveClusters, LookupsPreserveFlags};
 ghost use Rattle.shape_buffer.specs.NoLookups.{no_lookups};
 ghost use Rattle.shape_common.specs.declared.text_types.Direction.{Direction};
@@ -29,7 +28,7 @@ ghost use Rattle.shape_pipeline.specs.Canonical.{ListIsCanonical, RunPreservesEq
 ghost use Rattle.shape_pipeline.specs.Canonical.{LeavesText, SpellingsMeet, prepared_characters};
 ghost use Rattle.shape_pipeline.specs.Order.{RunPreservesClusters, ClustersComeInOrder};
 ghost use Rattle.shape_pipeline.specs.Shaped.{run_made};
-ghost use Rattle.shape_pipeline.specs.Premises.{LeavesBuffers, HookByHook, HasNoObligations};
+ghost use Rattle.shape_pipeline.specs.Premises.{LeavesBuffers, OrderByHook, FlagsByHook, HasNoObligations};
 
 use shape_buffer::interfaces::{NoLookups, hb_font_t, hb_ot_layout_t, hb_unicode_funcs_t};
 pub use shape_normalize::laws::{hooks_not_given_are_lawful, reordering_permutes_the_run};
@@ -67,7 +66,8 @@ where
 
 /// Hook by hook: a shaper that gives one hook must provide what that one does, and nothing of the others. A run preserves
 /// clusters, or flags, if each of its hooks that is given does and its engine's lookups do; for clusters
-/// its hook that reorders marks must preserve them too. It preserves equivalence if none splits, composes or reorders,
+/// its hook that reorders marks must preserve them too, and nothing is asked of `setup_masks`, which changes
+/// masks alone. It preserves equivalence if none splits, composes or reorders,
 /// and a given `preprocess_text` leaves prepared items prepared.
 pub fn given_hooks_preserve<U, F, M, S>()
 where
@@ -77,11 +77,11 @@ where
     S: hb_ot_shaper_t<U, F, M>,
     ensures clusters { (plan : Plan S M.Map S.Data) (face : F)
         → let run = ⟦<S as Runs<U, F, M>>⟧.run plan face in
-        ((shaper : S) → HookByHook IsClusterPreserving run (S.hooks shaper plan face))
+        ((shaper : S) → OrderByHook run (S.hooks shaper plan face))
         → LookupsPreserveClusters run.lookups → HookPreservesClusters run.rules → RunPreservesClusters run }
     ensures flags { (plan : Plan S M.Map S.Data) (face : F)
         → let run = ⟦<S as Runs<U, F, M>>⟧.run plan face in
-        ((shaper : S) → HookByHook IsFlagPreserving run (S.hooks shaper plan face))
+        ((shaper : S) → FlagsByHook run (S.hooks shaper plan face))
         → LookupsPreserveFlags run.lookups → RunPreservesFlags run }
     ensures equivalence { (plan : Plan S M.Map S.Data) (face : F)
         → let run = ⟦<S as Runs<U, F, M>>⟧.run plan face in

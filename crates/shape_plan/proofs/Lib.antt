@@ -1,3 +1,5 @@
 mod DecisionLemmas
 pub mod PreservationLemmas
 pub mod PlannedLemmas
+pub mod MaskLemmas
+pub mod AuthorLemmas

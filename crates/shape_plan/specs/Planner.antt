@@ -31,7 +31,7 @@ pub record Planner (F S : Type 0) : Type 0 where
   -- if it is used
   pub shaper : Option S
 
--- what planning depends on: the answers of faces and engine, the shaper's constants and those of its hooks that make a
+-- what planning depends on: what faces and engine return, the shaper's constants and those of its hooks that make a
 -- plan
 pub record Planning (F S P D : Type 0) : Type 0 where
   pub faces : F → FaceMeaning

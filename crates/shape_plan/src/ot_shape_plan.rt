@@ -79,7 +79,7 @@ fn data_of<T: ShapingTypes>(
 
 /// A plan of these parts, with what the shaper makes for it, last, when all else is decided. Refuses
 /// with `Memory` alone.
-pub(crate) fn with_parts<'a, T: ShapingTypes>(
+pub(crate) fn assembled<'a, T: ShapingTypes>(
     alloc: Global,
     direction: Direction,
     script: Option<Script>,

@@ -23,7 +23,7 @@ mod requests;
 mod tags;
 
 use crate::decisions::PlanFacts;
-use crate::ot_shape_plan::{ChosenShaper, hb_ot_shape_plan_t, with_parts};
+use crate::ot_shape_plan::{ChosenShaper, assembled, hb_ot_shape_plan_t};
 use crate::ot_shaper::{HB_OT_SHAPE_ZERO_WIDTH_MARKS_NONE, hb_ot_shaper_t};
 use crate::shaping_types::TypesOf;
 use shape_buffer::buffer::{Direction, Feature, Language, Script, ShapeError};
@@ -201,7 +201,7 @@ impl<'a, 't, F, S> hb_ot_shape_planner_t<'a, 't, F, S> {
     {
         let ot_map = M::compile(alloc, self.face, &self.ot_map)?;
         let facts = decide::facts::<TypesOf<U, F, M, S>>(&self, &ot_map);
-        with_parts::<TypesOf<U, F, M, S>>(
+        assembled::<TypesOf<U, F, M, S>>(
             alloc,
             self.direction,
             self.script,

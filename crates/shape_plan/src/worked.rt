@@ -18,7 +18,7 @@ pub fn requests_meet_worked_cases()
     ensures texts { TextsOfHooks }
 {}
 
-/// Who positions and what is done for marks, by tables and answers of faces.
+/// Who positions and what is done for marks, by tables and what faces return.
 pub fn decisions_meet_worked_cases()
     ensures faces { ChoicesOfFaces }
     ensures marks { ChoicesForMarks }

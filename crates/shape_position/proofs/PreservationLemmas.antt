@@ -1,10 +1,9 @@
 -- Steps that preserve the order of clusters, the flags of glyphs and the number of positions.
-use Rattle.std.proofs.Common.{◌≡◌, ℕ, List, [], ◌∷◌, map, refl, sym, ◌∙◌, inl}
+use Rattle.std.proofs.Common.{◌≡◌, ℕ, List, [], ◌∷◌, map, refl, inl}
 use Rattle.shape_items.specs.Items.{Item}
 use Rattle.shape_buffer.specs.Preservation.{IsClusterPreserving, IsFlagPreserving}
 use Rattle.shape_items.specs.PreservesFlags.{some_has}
 use Rattle.shape_buffer.specs.PositionWalks.{positions_mapped}
-use Rattle.shape_buffer.specs.Walks.{items_mapped}
 use Rattle.shape_common.specs.declared.positions.GlyphPosition.{GlyphPosition}
 use Rattle.shape_buffer.proofs.Loops.PositionWalkLemmas.{length-positions_over}
 use Rattle.shape_buffer.proofs.Steps.PreservationLemmas.{PreservesClusters-equal}
@@ -22,11 +21,6 @@ unfolding positions_mapped
 order-positions_mapped f b monotone = record { clusters = PreservesClusters-equal _ _ refl; direction = refl; flags = refl; level = refl }
 
 -- ---- flags
-
-pub flags-items_mapped : (f : Item → Item) → ((x : Item) → (f x).mask ≡ x.mask) → IsFlagPreserving (items_mapped f)
-unfolding items_mapped
-flags-items_mapped f same b =
-    record { flags = refl; stays_set = λ set. set; none_new = λ flag defined some. inl (sym (some_has-map f same flag b.items) ∙ some) }
 
 pub flags-positions_mapped : (f : Item → GlyphPosition → GlyphPosition) → IsFlagPreserving (positions_mapped f)
 unfolding positions_mapped

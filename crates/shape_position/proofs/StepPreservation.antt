@@ -22,7 +22,7 @@ use Rattle.shape_items.proofs.Flags.ClusterRunLemmas.{flagged-runs}
 use Rattle.shape_items.proofs.Deletion.DeletePreserves.{deleted_preserves_clusters, deleted_preserves_flags}
 use Rattle.shape_items.proofs.Flags.FlagLemmas.{PreservesFlags-same}
 use Rattle.shape_buffer.proofs.Loops.PositionWalkLemmas.{length-positions_over}
-use Rattle.shape_buffer.proofs.Steps.PreservationLemmas.{EachStep-append, PreservesClusters-equal, PreservesOrder-same, clusters-map, order-items_mapped}
+use Rattle.shape_buffer.proofs.Steps.PreservationLemmas.{EachStep-append, PreservesClusters-equal, PreservesOrder-same, clusters-map, order-items_mapped, flags-items_mapped}
 use Rattle.shape_plan.specs.Preservation.{EachCall}
 use Rattle.shape_plan.specs.Run.{Run, step_if}
 use Rattle.shape_position.specs.Advances.{advanced, advanced_position}
@@ -35,7 +35,7 @@ use Rattle.shape_position.specs.Tables.{table_positioned}
 use Rattle.shape_position.specs.Zeroing.{marks_zeroed, zeroed_mark, zeroed_at, zero_width_time}
 use Rattle.shape_position.proofs.CountLemmas.{as_many-hidden, as_many-flags}
 use Rattle.shape_position.proofs.DeletionLemmas.{settings-deleted}
-use Rattle.shape_position.proofs.PreservationLemmas.{some_has-map, order-positions_mapped, flags-items_mapped, flags-positions_mapped, as_many-positions_mapped}
+use Rattle.shape_position.proofs.PreservationLemmas.{some_has-map, order-positions_mapped, flags-positions_mapped, as_many-positions_mapped}
 use Rattle.shape_position.proofs.ReversalLemmas.{reversal-reverses, flags-reversed, as_many-reversed}
 use Rattle.shape_plan.proofs.PreservationLemmas.{preserving-hook, preserving-step_if, preserving-step_due}
 

@@ -44,7 +44,7 @@ abbrev pub takes_memory : Option Command → Bool
 takes_memory (Some Glyph) = true
 takes_memory _ = false
 
--- whether it asks for an answer
+-- whether something is printed for it
 abbrev pub asks_for_answer : Option Command → Bool
 asks_for_answer (Some Text) = true
 asks_for_answer (Some Same) = true
@@ -67,7 +67,7 @@ IsLine line = IsUtf8 line × IsWellFormed (line_words line)
 
 -- what was done with a line about a command: malformed exactly when it isn't as it should be, and then the state stays;
 -- else the state is the one that it asks for. Only a line that takes memory is refused it, and then all stays except
--- the metrics of glyphs; only if a line asks for an answer can a write fail
+-- the metrics of glyphs; only if something is printed for a line can a write fail
 abbrev pub IsObeyed : Option Command → Type 0 → State → State → Outcome → State → Type 0
 IsObeyed command Good old asked Malformed new = (¬ Good) × (new ≡ old)
 IsObeyed command Good old asked OutOfMemory new =
@@ -75,8 +75,8 @@ IsObeyed command Good old asked OutOfMemory new =
 IsObeyed command Good old asked Done new = Good × (new ≡ asked)
 IsObeyed command Good old asked WriteFailed new = Good × (asks_for_answer command ≡ true) × (new ≡ asked)
 
--- of a line that asks for an answer alone: malformed exactly when it isn't as it should be, and never out of memory,
--- since that too is an answer
+-- of a line that prints alone: malformed exactly when it isn't as it should be, and never out of memory,
+-- since that too is printed
 abbrev pub IsAnswered : Type 0 → Outcome → Type 0
 IsAnswered Good Malformed = ¬ Good
 IsAnswered Good OutOfMemory = ⊥

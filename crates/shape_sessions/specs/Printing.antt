@@ -1,4 +1,4 @@
--- The lines that a text is answered with, as bytes.
+-- The lines that are printed for a text, as bytes.
 use Rattle.std.specs.Prelude.{ℕ, ℤ, List, [], ◌∷◌, ◌++◌, ◌^◌, ◌-◌, true, false, codes}
 use Rattle.std.specs.Fmt.{decimal, signed_decimal, digits, format_spec, padded_integral}
 use Rattle.std.specs.Int.RustNames.{bit_and}

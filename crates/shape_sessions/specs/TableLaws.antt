@@ -257,7 +257,7 @@ plain_of c plain =
     let both = and_parts (not (is_marked c)) (not (is_space_category (category_of c))) plain in
     record { no_mark = not_false (is_marked c) both.0; no_space = not_false (is_space_category (category_of c)) both.1 }
 
--- a form is only answered for a plain character, and is a plain one
+-- only a plain character has a form, and is a plain one
 forms_are_plain : (form : ℕ → Option ℕ) → FormsArePlain unicode_tables (λ c. plain_form c (form c))
 forms_are_plain form c d found =
     let P : Option ℕ → Type 0 = λ v. plain_form c v ≡ Some d → (is_plain c ≡ true) × (is_plain d ≡ true) in

@@ -8,6 +8,6 @@ pub enum Outcome {
     Malformed,
     /// Memory for the glyph that it sets was refused; all but the metrics of glyphs is as it was.
     OutOfMemory,
-    /// The answer that it asks for couldn't be written.
+    /// What it prints couldn't be written.
     WriteFailed,
 }

@@ -3,6 +3,5 @@ mod MaskLemmas
 mod SlashLemmas
 mod StageRuns
 mod FeatureBitLemmas
-mod PreservationLemmas
 mod StepPreservation
 pub mod ListPreservation

@@ -1,60 +1,21 @@
--- Steps that change masks and scratch flags alone.
-use Rattle.std.proofs.Common.{◌≡◌, ℕ, ◌+◌, ◌≤◌, ◌==◌, true, false, nat_lt, List, [], ◌∷◌, length, get_or, map, refl, ap, sym, ◌∙◌, arith, inl, inr, bit_and}
+-- Steps of fractions change masks and scratch flags alone.
+use Rattle.std.proofs.Common.{◌≡◌, ℕ, ◌+◌, ◌≤◌, true, false, nat_lt, List, [], ◌∷◌, get_or, refl, ap, sym, ◌∙◌, arith, inl, inr}
 use Rattle.std.proofs.lemmas.Bool.{cases_Bool}
-use Rattle.std.proofs.lemmas.List.{length-map}
 use Rattle.std.proofs.Math.ListN.{get_or-map}
-use Rattle.shape_items.specs.Buffer.{Buffer, limit_of}
+use Rattle.shape_items.specs.Buffer.{Buffer}
 use Rattle.shape_items.specs.BufferClusters.{unsafe_to_break, unsafe_to_concat}
-use Rattle.shape_items.specs.Clusters.{mark_concat}
 use Rattle.shape_items.specs.Items.{Item}
-use Rattle.shape_buffer.specs.Outcome.{Made}
 use Rattle.shape_plan.specs.Shaper.{without_mask}
+use Rattle.shape_plan.proofs.MaskLemmas.{MasksAlone, MasksAlone-same, MasksAlone-then, alone-unsafe_to_break, alone-unsafe_to_concat}
 use Rattle.shape_substitute.specs.Fractions.{features_added, with_features, is_slash, slash_masked, has_whole, whole_start, whole_end, next_place, slashes_masked, slash_places, fraction_masks, may_have_fractions, fractions_masked}
 use Rattle.shape_plan.specs.declared.decisions.Decisions.{Decisions}
 use Rattle.shape_substitute.specs.declared.fractions.FractionMasks.{FractionMasks}
-use Rattle.shape_items.proofs.Merging.ClusterLemmas.{unsafe_to_break-cases}
-use Rattle.shape_items.proofs.Merging.KeyLemmas.{keys-map_range, keys-unsafe_to_break}
-
-pub record MasksAlone (before after : Buffer) : Type 0 where
-  pub items : map without_mask after.items ≡ map without_mask before.items
-  pub rest : record after { items = before.items; scratch_flags = before.scratch_flags } ≡ before
-
-pub MasksAlone-same : (b : Buffer) → MasksAlone b b
-MasksAlone-same b = record { items = refl; rest = refl }
-
-pub MasksAlone-then : {a b c : Buffer} → MasksAlone a b → MasksAlone b c → MasksAlone a c
-MasksAlone-then {a} {b} {c} first second = record {
-  items = second.items ∙ first.items;
-  rest = ap (λ (x : Buffer). record x { items = a.items; scratch_flags = a.scratch_flags }) second.rest ∙ first.rest;
-}
-
-pub length-masks : {old new : Buffer} → MasksAlone old new → length new.items ≡ length old.items
-length-masks {old} {new} alone = sym (length-map new.items without_mask) ∙ ap length alone.items ∙ length-map old.items without_mask
-
--- such a step is made
-pub Made-masks : (f : Buffer → Buffer) {old new : Buffer} → new ≡ f old → MasksAlone old (f old) → Made f old new
-Made-masks f {old} {new} made alone = record {
-  made = made;
-  no_longer = let same = ap (λ (b : Buffer). length b.items) made ∙ length-masks alone in omega (arith, same);
-  same_limit = ap limit_of made ∙ ap limit_of alone.rest;
-}
+use Rattle.shape_items.proofs.Merging.KeyLemmas.{keys-map_range}
 
 pub alone-features_added : (mask start end : ℕ) (b : Buffer) → start ≤ end → MasksAlone b (features_added mask start end b)
 unfolding features_added
 alone-features_added mask start end b le =
     record { items = keys-map_range without_mask (with_features mask) (λ item. refl) start end b.items le; rest = refl }
-
-pub alone-unsafe_to_break : (start end : ℕ) (b : Buffer) → MasksAlone b (unsafe_to_break start end b)
-alone-unsafe_to_break start end b = record {
-  items = keys-unsafe_to_break without_mask (λ item. refl) start end b;
-  rest = unsafe_to_break-cases (λ c. record c { items = b.items; scratch_flags = b.scratch_flags } ≡ b) start end b (λ long. refl) refl;
-}
-
-pub alone-unsafe_to_concat : (start end : ℕ) (b : Buffer) → start ≤ end → MasksAlone b (unsafe_to_concat start end b)
-alone-unsafe_to_concat start end b le = elim (cases_Bool (bit_and b.flags.0 64 == 64)) [
-  | inl asked ↦ rw asked (record { items = keys-map_range without_mask mark_concat (λ item. refl) start end b.items le; rest = refl })
-  | inr unasked ↦ rw unasked (MasksAlone-same b)
-]
 
 -- the two cases of a slash
 pub slash_masked-alone : (masks : FractionMasks) (slash : ℕ) (b : Buffer) → has_whole b.items slash ≡ false

@@ -1,21 +1,20 @@
 -- What each step of masks and substitution keeps.
-use Rattle.std.proofs.Common.{◌≡◌, ◌==◌, ◌&&◌, ◌+◌, ℕ, true, false, nat_le, nat_lt, List, [], ◌∷◌, map, refl, ap, sym, ◌∙◌, inl, inr, arith, bit_and, fold}
+use Rattle.std.proofs.Common.{◌≡◌, ◌&&◌, ◌+◌, ℕ, true, false, nat_le, nat_lt, List, [], ◌∷◌, map, refl, ap, sym, ◌∙◌, inl, inr, arith, fold}
 use Rattle.std.proofs.lemmas.Bool.{cases_Bool}
 use Rattle.std.proofs.lemmas.Bool.Decides.{nat_tests}
 use Rattle.shape_items.specs.Buffer.{Buffer}
-use Rattle.shape_items.specs.BufferClusters.{unsafe_to_concat}
 use Rattle.shape_common.specs.Direction.{is_forward}
 use Rattle.shape_items.specs.Items.{Item}
 use Rattle.shape_buffer.specs.Preservation.{IsClusterPreserving, IsFlagPreserving}
 use Rattle.shape_items.specs.PreservesFlags.{IsDefinedFlag, has_flag, PreservesFlags}
 use Rattle.shape_buffer.specs.Layout.{MapMeaning, LawfulMasks, HasNoDefinedFlag}
-use Rattle.shape_buffer.specs.Walks.{items_mapped}
 use Rattle.shape_common.specs.declared.text_types.Direction.{Direction}
 use Rattle.shape_common.specs.declared.text_types.Feature.{Feature}
-use Rattle.shape_items.proofs.Flags.FlagLemmas.{glyph_flags_set, the_first, range_brings, unsafe_to_break_preserves, PreservesFlags-items, PreservesFlags-same, PreservesFlags-then}
-use Rattle.shape_buffer.proofs.Steps.PreservationLemmas.{order-items_mapped}
-use Rattle.shape_items.proofs.Merging.KeyLemmas.{keys-map}
+use Rattle.shape_items.proofs.Flags.FlagLemmas.{the_first, range_brings, unsafe_to_break_preserves, PreservesFlags-items, PreservesFlags-same, PreservesFlags-then}
+use Rattle.shape_buffer.proofs.Steps.PreservationLemmas.{order-items_mapped, flags-none_brought, flags-items_mapped, flags-unsafe_to_concat}
+use Rattle.shape_buffer.proofs.Flags.FeatureBitLemmas.{feature-or, added_brings_none}
 use Rattle.shape_plan.specs.Shaper.{without_mask}
+use Rattle.shape_plan.proofs.MaskLemmas.{MasksAlone, MasksAlone-same, MasksAlone-then, alone-items_mapped, order-masks}
 use Rattle.shape_plan.specs.declared.decisions.Decisions.{Decisions}
 use Rattle.shape_substitute.specs.Classes.{glyphs_mapped, classes_synthesised, with_nominal_glyph, with_class}
 use Rattle.shape_substitute.specs.Fractions.{with_features, features_added, has_whole, whole_start, whole_end, slash_masked, slash_places, next_place, slashes_masked, fraction_masks, may_have_fractions, fractions_masked}
@@ -23,9 +22,8 @@ use Rattle.shape_substitute.specs.Preservation.{FractionsAreFeatures}
 use Rattle.shape_plan.specs.Requests.{is_global}
 use Rattle.shape_substitute.specs.Ranges.{shifted, with_feature, range_masked, ranges_masked}
 use Rattle.shape_substitute.specs.declared.fractions.FractionMasks.{FractionMasks}
-use Rattle.shape_substitute.proofs.FeatureBitLemmas.{feature-or, added_brings_none, value_brings_none}
-use Rattle.shape_substitute.proofs.PreservationLemmas.{order-masks, flags-items_mapped}
-use Rattle.shape_substitute.proofs.MaskLemmas.{MasksAlone, MasksAlone-same, MasksAlone-then, alone-fractions_masked, slash_masked-alone, slash_masked-whole}
+use Rattle.shape_substitute.proofs.FeatureBitLemmas.{value_brings_none}
+use Rattle.shape_substitute.proofs.MaskLemmas.{alone-fractions_masked, slash_masked-alone, slash_masked-whole}
 
 -- ---- fractions
 
@@ -37,17 +35,6 @@ unfolding features_added
 flags-features_added mask start end none b = PreservesFlags-items b _ (λ flag defined some. the_first _
     (range_brings (with_features mask) (has_flag flag) false
     (λ x has. inl (ap (nat_lt 0) (sym (added_brings_none mask x.mask flag none defined)) ∙ has)) start end b.items some))
-
-flags-unsafe_to_concat : (start end : ℕ) → IsFlagPreserving (unsafe_to_concat start end)
-flags-unsafe_to_concat start end b = elim (cases_Bool (bit_and b.flags.0 64 == 64)) [
-  | inl asked ↦ rw asked (record {
-    flags = refl;
-    stays_set = λ set. glyph_flags_set b;
-    none_new = λ flag defined some. inr
-        (glyph_flags_set b);
-  })
-  | inr unasked ↦ rw unasked (PreservesFlags-same b)
-]
 
 -- the masks of the parts of a fraction are features
 record PlainParts (masks : FractionMasks) : Type 0 where
@@ -100,11 +87,6 @@ feature-alone feature place item = elim (cases_Bool (nat_le feature.start item.c
   | inr without ↦ rw without refl
 ]
 
-alone-items_mapped : (f : Item → Item) → ((item : Item) → without_mask (f item) ≡ without_mask item) → (b : Buffer)
-    → MasksAlone b (items_mapped f b)
-unfolding items_mapped
-alone-items_mapped f alone b = record { items = keys-map without_mask f alone b.items; rest = refl }
-
 alone-range_masked : (map : MapMeaning) (feature : Feature) (b : Buffer) → MasksAlone b (range_masked map b feature)
 alone-range_masked map feature b = elim (cases_Bool (is_global feature)) [
   | inl global ↦ rw global (MasksAlone-same b)
@@ -132,7 +114,7 @@ feature_brings_none feature place none flag defined item =
 flags-range_masked : (map : MapMeaning) → LawfulMasks map → (feature : Feature) (b : Buffer) → PreservesFlags b (range_masked map b feature)
 flags-range_masked map lawful feature b = elim (cases_Bool (is_global feature)) [
   | inl global ↦ rw global (PreservesFlags-same b)
-  | inr part ↦ rw part (flags-items_mapped (with_feature feature (map.mask feature.tag))
+  | inr part ↦ rw part (flags-none_brought (with_feature feature (map.mask feature.tag))
       (feature_brings_none feature (map.mask feature.tag) (lawful.mask feature.tag)) b)
 ]
 
@@ -154,7 +136,7 @@ order-glyphs_mapped = order-items_mapped with_nominal_glyph (λ item. refl)
 
 pub flags-glyphs_mapped : IsFlagPreserving glyphs_mapped
 unfolding glyphs_mapped
-flags-glyphs_mapped = flags-items_mapped with_nominal_glyph (λ flag defined item has. has)
+flags-glyphs_mapped = flags-items_mapped with_nominal_glyph (λ item. refl)
 
 pub order-classes_synthesised : IsClusterPreserving classes_synthesised
 unfolding classes_synthesised
@@ -162,4 +144,4 @@ order-classes_synthesised = order-items_mapped with_class (λ item. refl)
 
 pub flags-classes_synthesised : IsFlagPreserving classes_synthesised
 unfolding classes_synthesised
-flags-classes_synthesised = flags-items_mapped with_class (λ flag defined item has. has)
+flags-classes_synthesised = flags-items_mapped with_class (λ item. refl)

@@ -133,7 +133,7 @@ fn add_features(buffer: &mut hb_buffer_t, mask: hb_mask_t, start: usize, end: us
     }
 }
 
-/// Masks the whole round a slash, or marks a slash without digits on one side unsafe to concat. Answers
+/// Masks the whole round a slash, or marks a slash without digits on one side unsafe to concat. Returns
 /// where the walk goes on.
 fn mask_slash(buffer: &mut hb_buffer_t, masks: FractionMasks, slash: usize) -> usize
     requires { slash < length buffer.old.items }

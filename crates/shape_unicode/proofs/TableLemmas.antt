@@ -120,7 +120,7 @@ abbrev is_single : List ℕ → Bool
 is_single (x ∷ []) = true
 is_single _ = false
 
--- an entry of the table answers d
+-- an entry of the table has d
 abbrev is_form : ℕ → Bool
 is_form d = list_any (λ form. answers (vertical_of form.0) d) VERTICAL_FORMS
 

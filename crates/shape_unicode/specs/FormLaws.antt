@@ -27,7 +27,7 @@ found_passes p test (y ∷ ys) x all found =
     ] in
     cases refl found
 
--- an entry of a table that a look-up of c answered d by
+-- an entry of a table by which a look-up of c returned d
 pub record IsFound {X : Type 0} (key test : X → Bool) (form : X → ℕ) (d : ℕ) : Type 0 where
   pub entry : X
   pub is_key : key entry ≡ true

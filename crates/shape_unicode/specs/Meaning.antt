@@ -13,7 +13,7 @@ use Rattle.shape_unicode.specs.Hidden.{is_ignorable, is_selector}
 use Rattle.shape_unicode.specs.Script.{script_from}
 use Rattle.shape_unicode.specs.ScriptDirection.{direction_of}
 
--- each answer by its own definition
+-- each result by its own definition
 abbrev pub unicode_database : UnicodeMeaning
 unicode_database =
     record {

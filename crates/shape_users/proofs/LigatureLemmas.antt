@@ -18,7 +18,7 @@ use Rattle.shape_items.proofs.Flags.FlagLemmas.{PreservesFlags-same, PreservesFl
 use Rattle.shape_buffer.proofs.Steps.PreservationLemmas.{PreservesClusters-equal, PreservesClusters-then, PreservesOrder-same, PreservesOrder-then, clusters-map}
 use Rattle.shape_users.specs.Ligatures.{with_glyph, single, singled, nth_item, is_pair, glyph_put, taken_out, ligated_at, ligated, substituted, ligature_lookups}
 use Rattle.shape_users.specs.declared.ligatures.substitution.TheConstants.{SINGLE, LIGATURE}
-use Rattle.script_shapers.proofs.AuthorLemmas.{flags-same_masks, EachLookup-one_stage}
+use Rattle.shape_plan.proofs.AuthorLemmas.{flags-same_masks, EachLookup-one_stage}
 
 -- ---- an item taken out
 

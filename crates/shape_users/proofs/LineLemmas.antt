@@ -1,4 +1,4 @@
--- Whether a line may end before a cluster is answered by each of its glyphs alike, if clusters are in order and
+-- Whether a line may end before a cluster is decided by each of its glyphs alike, if clusters are in order and
 -- neighbours have one set of flags.
 use Rattle.std.proofs.Common.{◌≡◌, ℕ, zero, suc, ◌<◌, ◌≤◌, ◌==◌, Bool, true, false, cond, List, [], ◌∷◌, length, get_or, Some, refl, ap, sym, ◌∙◌, arith}
 use Rattle.std.proofs.lemmas.List.{get_or-map, length-map}
@@ -65,14 +65,14 @@ one_rest : (x : Item) (xs : List Item) → HasOneSetOfFlags (x ∷ xs) → HasOn
 one_rest x [] one = tt
 one_rest x (y ∷ xs) one = one.1
 
--- each glyph of the rest answers the same with one more at the front, if that is of another cluster
+-- each glyph of the rest says the same with one more at the front, if that is of another cluster
 later : (cluster : ℕ) (x : Item) (xs : List Item) → All (λ glyph. glyph.cluster ≡ cluster → lacks_break glyph ≡ cut_at cluster xs) xs
     → (k : ℕ) (d : Item) → k < length (x ∷ xs) → (get_or (x ∷ xs) k d).cluster ≡ cluster → (x.cluster ≡ cluster → ⊥)
     → lacks_break (get_or (x ∷ xs) k d) ≡ cut_at cluster xs
 later cluster x xs all zero d within is other = absurd (other is)
 later cluster x xs all (suc k) d within is other = all k d (omega arith) is
 
--- each glyph of a cluster answers as the first one does
+-- each glyph of a cluster says what the first one does
 pub each_answers : (backward : Bool) (cluster : ℕ) (xs : List Item) → IsOrderedFor backward (clusters xs) → HasOneSetOfFlags xs
     → All (λ glyph. glyph.cluster ≡ cluster → lacks_break glyph ≡ cut_at cluster xs) xs
 each_answers backward cluster [] ordered one = λ k d within. absurd (omega arith)

@@ -2,7 +2,7 @@
 //!
 //! [`capitals`] is a script shaper that requests a feature and sets its masks.
 //! [`ligatures`] is a small engine with single and ligature substitutions, which preserves clusters and flags.
-//! [`breaking`] goes from a string to its lines, and [`lines`] answers a line breaker: may the text be
+//! [`breaking`] goes from a string to its lines, and [`lines`] tells a line breaker: may the text be
 //! cut here? [`paragraph`] leads from glyphs to the text that they show, and back. [`plain_glyphs`] says
 //! what is known of glyphs without hooks and lookups.
 //! [`words`] keeps shaped words, and finds each under each spelling with the same normalised characters.

@@ -21,7 +21,7 @@ use shape_buffer::{GlyphBuffer, UNSAFE_TO_BREAK, hb_glyph_info_t};
 
 /// Whether a line may end before the character of a cluster: glyphs of that cluster are there, and the
 /// first of them in the list lacks `UNSAFE_TO_BREAK`. If the clusters stand in the order of the text's
-/// direction, and each has one set of flags, as `shape` promises, each glyph of the cluster answers the
+/// direction, and each has one set of flags, as `shape` promises, each glyph of the cluster says the
 /// same. A number inside a character is the cluster of no glyph: no line may end there.
 pub fn may_cut(glyphs: &GlyphBuffer, cluster: u32) -> bool
     ensures answer { result ≡ cut_at cluster glyphs.now.items }

@@ -1,6 +1,6 @@
 //! The program over any reader and writer: a line sets something or asks for something.
 //!
-//! Nothing is kept of a line but what it sets, and what a line answers is written before the next one is
+//! Nothing is kept of a line but what it sets, and what a line prints is written before the next one is
 //! read. The first line that can't be obeyed ends the program's run, with a status that says why.
 //!
 //! Lines are counted in a loop over all u128 numbers, which ends later than any input: a loop

@@ -3,5 +3,4 @@ mod OutcomeRows
 mod PartRows
 mod PromiseRows
 mod PremiseRows
-pub mod ReplaceLemmas
 mod RuleLemmas

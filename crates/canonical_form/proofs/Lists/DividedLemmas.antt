@@ -91,7 +91,7 @@ module _ {A : Type 0} (belongs : A → Bool) where
   pub lengths-divided : (xs : List A) → sum_by length (divided belongs xs) ≡ length xs
   lengths-divided xs = sym (length-flat_map (λ part. part) (divided belongs xs)) ∙ ap length (whole-divided xs)
 
-  -- the test may be asked of each item first: its answers are divided as the items are
+  -- the test may be asked of each item first: its results are divided as the items are
   bits-divided : (xs : List A) → divided (λ b. b) (map belongs xs) ≡ map (map belongs) (divided belongs xs)
   bits-divided [] = refl
   bits-divided (x ∷ []) = refl
@@ -107,7 +107,7 @@ module _ {A : Type 0} (belongs : A → Bool) where
       bits-put_first x [] = refl
       bits-put_first x (part ∷ parts) = refl
 
-  -- so how long the parts are depends on the answers alone
+  -- so how long the parts are depends on the results alone
   pub sizes-bits : (xs : List A) → map length (divided belongs xs) ≡ map length (divided (λ b. b) (map belongs xs))
   sizes-bits xs = same (divided belongs xs) ∙ sym (ap (map length) (bits-divided xs))
     where

@@ -1,10 +1,15 @@
 -- What preserves the order of clusters and the flags of glyphs, step by step.
-use Rattle.std.proofs.Common.{◌≡◌, ℕ, List, [], ◌∷◌, ◌++◌, refl, ap, ◌∙◌}
+use Rattle.std.proofs.Common.{◌≡◌, ◌==◌, ◌||◌, ℕ, Bool, true, nat_lt, List, [], ◌∷◌, ◌++◌, map, refl, ap, sym, ◌∙◌, inl, inr, bit_and}
+use Rattle.std.proofs.lemmas.Bool.{cases_Bool, or_cases, or_right}
+use Rattle.std.specs.List.{list_any}
 use Rattle.shape_items.specs.Buffer.{Buffer}
-use Rattle.shape_items.specs.BufferClusters.{unsafe_to_break, safe_to_insert_tatweel}
+use Rattle.shape_items.specs.BufferClusters.{unsafe_to_break, unsafe_to_concat, safe_to_insert_tatweel}
 use Rattle.shape_items.specs.Clusters.{clusters}
 use Rattle.shape_items.specs.Items.{Item}
-use Rattle.shape_buffer.specs.Preservation.{PreservesOrder, IsClusterPreserving, EachStep}
+use Rattle.shape_items.specs.PreservesFlags.{IsDefinedFlag, has_flag, some_has, PreservesFlags}
+use Rattle.shape_items.proofs.Flags.FlagLemmas.{glyph_flags_set, PreservesFlags-items, PreservesFlags-same}
+use Rattle.shape_buffer.specs.NoLookups.{no_lookups}
+use Rattle.shape_buffer.specs.Preservation.{PreservesOrder, IsClusterPreserving, IsFlagPreserving, EachLookup, EachStep}
 use Rattle.shape_buffer.specs.Outcome.{Step}
 use Rattle.shape_buffer.specs.Walks.{items_mapped}
 pub use Rattle.shape_items.proofs.Order.PreservesClusterLemmas.{PreservesClusters-same, PreservesClusters-equal, PreservesClusters-then, clusters-map}
@@ -52,6 +57,70 @@ order-safe_to_insert_tatweel start end b =
       flags = ap (λ c. c.flags) rest;
       level = ap (λ c. c.cluster_level) rest;
     }
+
+-- ---- flags
+
+-- if no item gets a flag that it lacks, no list does
+some_has-map : (f : Item → Item) (flag : ℕ) → ((x : Item) → has_flag flag (f x) ≡ true → has_flag flag x ≡ true) → (xs : List Item)
+    → some_has flag (map f xs) ≡ true → some_has flag xs ≡ true
+some_has-map f flag brings [] some = some
+some_has-map f flag brings (x ∷ xs) some = elim (or_cases (has_flag flag (f x)) (some_has flag (map f xs)) some) [
+  | inl here ↦ rw (brings x here) refl
+  | inr later ↦ or_right (has_flag flag x) _ (some_has-map f flag brings xs later)
+]
+
+pub flags-none_brought : (f : Item → Item)
+    → ((flag : ℕ) → IsDefinedFlag flag → (x : Item) → has_flag flag (f x) ≡ true → has_flag flag x ≡ true) → IsFlagPreserving (items_mapped f)
+unfolding items_mapped
+flags-none_brought f brings b =
+    PreservesFlags-items b (map f b.items) (λ flag defined some. some_has-map f flag (brings flag defined) b.items some)
+
+pub flags-items_mapped : (f : Item → Item) → ((x : Item) → (f x).mask ≡ x.mask) → IsFlagPreserving (items_mapped f)
+flags-items_mapped f same =
+    flags-none_brought f (λ flag defined x has. ap (λ (m : ℕ). nat_lt 0 (bit_and m flag)) (sym (same x)) ∙ has)
+
+-- other items with the same masks, in order
+some_has-masks : (flag : ℕ) (xs ys : List Item) → map (λ (x : Item). x.mask) ys ≡ map (λ (x : Item). x.mask) xs → some_has flag ys ≡ true
+    → some_has flag xs ≡ true
+some_has-masks flag xs ys same some =
+    sym (by_masks xs) ∙ ap (λ (ms : List ℕ). list_any (λ m. nat_lt 0 (bit_and m flag)) ms) (sym same) ∙ by_masks ys ∙ some
+  where
+    by_masks : (zs : List Item) → list_any (λ m. nat_lt 0 (bit_and m flag)) (map (λ (x : Item). x.mask) zs) ≡ some_has flag zs
+    by_masks [] = refl
+    by_masks (z ∷ zs) = ap (λ (b : Bool). nat_lt 0 (bit_and z.mask flag) || b) (by_masks zs)
+
+pub flags-same_masks : (b : Buffer) (ys : List Item) → map (λ (x : Item). x.mask) ys ≡ map (λ (x : Item). x.mask) b.items
+    → PreservesFlags b (record b { items = ys })
+flags-same_masks b ys same = PreservesFlags-items b ys (λ flag defined some. some_has-masks flag b.items ys same some)
+
+pub flags-unsafe_to_concat : (start end : ℕ) → IsFlagPreserving (unsafe_to_concat start end)
+flags-unsafe_to_concat start end b = elim (cases_Bool (bit_and b.flags.0 64 == 64)) [
+  | inl asked ↦ rw asked (record {
+    flags = refl;
+    stays_set = λ set. glyph_flags_set b;
+    none_new = λ flag defined some. inr
+        (glyph_flags_set b);
+  })
+  | inr unasked ↦ rw unasked (PreservesFlags-same b)
+]
+
+-- ---- an engine of one stage, or of several that do alike
+
+pub EachLookup-one_stage : (Preserves : (Buffer → Buffer) → Type 0) (stage : ℕ → Buffer → Buffer) → Preserves (λ b. b)
+    → ((i : ℕ) → Preserves (stage i)) → EachLookup Preserves (record no_lookups { stage = stage })
+EachLookup-one_stage Preserves stage left preserves = record {
+  substitute_start = left;
+  stage = preserves;
+  aat_substitute = λ features. left;
+  aat_remove_deleted = left;
+  aat_zero_width_deleted = left;
+  position_start = left;
+  position = left;
+  position_finish_advances = left;
+  position_finish_offsets = left;
+  aat_position = λ mask. left;
+  kern = λ mask. left;
+}
 
 -- ---- lists of steps
 

@@ -23,7 +23,7 @@ pub trait hb_ot_layout_t<F> {
     /// What the engine returns of a face.
     ghost layout: { F → LayoutMeaning Self.Map };
 
-    /// What it answers of compiled requests.
+    /// What it returns of compiled requests.
     ghost masks: { Self.Map → MapMeaning };
 
     /// What its lookups make of a buffer.

@@ -14,7 +14,7 @@ use Rattle.shape_common.specs.declared.text_types.Direction.{Direction}
 use Rattle.shape_common.specs.declared.text_types.Direction.TheVariants.{LeftToRight, RightToLeft, TopToBottom, BottomToTop}
 use Rattle.shape_fallback.specs.Bases.{frame_of}
 use Rattle.shape_fallback.specs.MarkState.{place_mark, moved_past}
-use Rattle.shape_fallback.specs.Spaces.{spaces_placed, item_spaced, is_lone_space, space_positioned, space_advance, is_em_part, em_part, em_advance}
+use Rattle.shape_fallback.specs.Spaces.{spaces_placed, item_spaced, is_lone_space, space_positioned, space_advance, is_em_fraction, em_fraction, em_advance}
 use Rattle.shape_fallback.specs.DueSteps.{spaces_step}
 use Rattle.shape_fallback.specs.Worked.Marks.{worked_base, component_mark, at, running}
 use Rattle.shape_fallback.specs.declared.ot_shape_fallback.mark_state.Base.{Base}
@@ -79,7 +79,7 @@ pub record FlagOfSpaces : Type 0 where
   pub unseen : (face : FaceMeaning) → (spaces_step (record face { units_per_em = 1000 }) (em_space 59)).positions ≡ zero_position ∷ []
 
 flag_of_spaces : FlagOfSpaces
-unfolding spaces_step spaces_placed positions_mapped item_spaced is_lone_space space_positioned space_advance is_em_part em_part em_advance
+unfolding spaces_step spaces_placed positions_mapped item_spaced is_lone_space space_positioned space_advance is_em_fraction em_fraction em_advance
 flag_of_spaces = record { seen = λ face. refl; unseen = λ face. refl }
 
 pub record WorkedDirections : Type 0 where

@@ -13,20 +13,20 @@ use Rattle.shape_common.specs.declared.positions.GlyphPosition.{GlyphPosition}
 use Rattle.shape_common.specs.declared.text_types.Direction.{Direction}
 use Rattle.shape_common.specs.declared.text_types.Direction.TheVariants.{Invalid, LeftToRight, RightToLeft, TopToBottom}
 use Rattle.shape_plan.specs.Worked.Faces.{bare_face}
-use Rattle.shape_fallback.specs.Spaces.{is_em_part, em_part, em_advance, first_glyph, figures, stops, as_wide_as, space_advance, space_positioned, is_lone_space, item_spaced, spaces_placed}
+use Rattle.shape_fallback.specs.Spaces.{is_em_fraction, em_fraction, em_advance, first_glyph, figures, stops, as_wide_as, space_advance, space_positioned, is_lone_space, item_spaced, spaces_placed}
 use Rattle.shape_fallback.specs.DueSteps.{spaces_step}
 
 -- parts of an em square of 1000 units: EM to EM_6, EM_16, 4_EM_18, and the greatest and least squares
 pub record EmParts : Type 0 where
-  pub of_1000 : map (em_part 1000) (1 ∷ 2 ∷ 3 ∷ 4 ∷ 5 ∷ 6 ∷ 16 ∷ 17 ∷ []) ≡ 1000 ∷ 500 ∷ 333 ∷ 250 ∷ 200 ∷ 167 ∷ 63 ∷ 222 ∷ []
-  pub of_1 : map (em_part 1) (1 ∷ 2 ∷ 3 ∷ 16 ∷ 17 ∷ []) ≡ 1 ∷ 1 ∷ 0 ∷ 0 ∷ 0 ∷ []
-  pub of_8 : map (em_part 8) (16 ∷ 17 ∷ []) ≡ 1 ∷ 1 ∷ []
-  pub of_65535 : map (em_part 65535) (1 ∷ 2 ∷ 16 ∷ 17 ∷ []) ≡ 65535 ∷ 32768 ∷ 4096 ∷ 14563 ∷ []
-  pub named : map is_em_part (0 ∷ 1 ∷ 6 ∷ 7 ∷ 15 ∷ 16 ∷ 17 ∷ 18 ∷ 255 ∷ [])
+  pub of_1000 : map (em_fraction 1000) (1 ∷ 2 ∷ 3 ∷ 4 ∷ 5 ∷ 6 ∷ 16 ∷ 17 ∷ []) ≡ 1000 ∷ 500 ∷ 333 ∷ 250 ∷ 200 ∷ 167 ∷ 63 ∷ 222 ∷ []
+  pub of_1 : map (em_fraction 1) (1 ∷ 2 ∷ 3 ∷ 16 ∷ 17 ∷ []) ≡ 1 ∷ 1 ∷ 0 ∷ 0 ∷ 0 ∷ []
+  pub of_8 : map (em_fraction 8) (16 ∷ 17 ∷ []) ≡ 1 ∷ 1 ∷ []
+  pub of_65535 : map (em_fraction 65535) (1 ∷ 2 ∷ 16 ∷ 17 ∷ []) ≡ 65535 ∷ 32768 ∷ 4096 ∷ 14563 ∷ []
+  pub named : map is_em_fraction (0 ∷ 1 ∷ 6 ∷ 7 ∷ 15 ∷ 16 ∷ 17 ∷ 18 ∷ 255 ∷ [])
       ≡ false ∷ true ∷ true ∷ false ∷ false ∷ true ∷ true ∷ false ∷ false ∷ []
 
 em_parts : EmParts
-unfolding em_part is_em_part
+unfolding em_fraction is_em_fraction
 em_parts = record { of_1000 = refl; of_1 = refl; of_8 = refl; of_65535 = refl; named = refl }
 
 -- a face of 1000 units in which some characters have the glyph of their own number, as wide as that
@@ -79,7 +79,7 @@ pub record SpaceAdvances : Type 0 where
       ≡ pos 251 ∷ pos 251 ∷ pos 251 ∷ pos 251 ∷ pos 251 ∷ pos 251 ∷ []
 
 space_advances : SpaceAdvances
-unfolding space_advance is_em_part em_part em_advance as_wide_as first_glyph neg_w int_wrap
+unfolding space_advance is_em_fraction em_fraction em_advance as_wide_as first_glyph neg_w int_wrap
 space_advances =
     record {
       em_spaces = refl;
@@ -137,7 +137,7 @@ pub record SpacesOfBuffers : Type 0 where
       ≡ worked_spaces LeftToRight 59 (worked_position (pos 251) (pos 7) ∷ worked_position (pos 251) (pos 7) ∷ [])
 
 spaces_of_buffers : SpacesOfBuffers
-unfolding spaces_step spaces_placed positions_mapped item_spaced is_lone_space space_positioned space_advance is_em_part em_part
+unfolding spaces_step spaces_placed positions_mapped item_spaced is_lone_space space_positioned space_advance is_em_fraction em_fraction
     em_advance neg_w int_wrap
 spaces_of_buffers =
     record { line_separator = refl; ligated = refl; to_the_left = refl; down = refl; no_direction = refl; due = refl; not_due = refl }

@@ -61,7 +61,7 @@ fn is_mark_at(infos: &[hb_glyph_info_t], i: usize) -> bool
     infos[i]._hb_glyph_info_is_unicode_mark()
 }
 
-/// Places the marks of the base at a place, if there is one with marks, and answers up to which place all is done:
+/// Places the marks of the base at a place, if there is one with marks, and returns up to which place all is done:
 /// up to the end of these marks, else of the item.
 fn position_at<F: hb_font_t>(
     face: &F,
@@ -86,7 +86,7 @@ fn position_at<F: hb_font_t>(
 }
 
 /// Places the marks of the base before a place, if a mark stands there that isn't placed yet; those before place `done`
-/// are. Answers up to which place all is done then.
+/// are. Returns up to which place all is done then.
 fn position_before<F: hb_font_t>(
     face: &F,
     frame: MarkFrame,

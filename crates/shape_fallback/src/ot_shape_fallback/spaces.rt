@@ -6,9 +6,9 @@
 ghost use Rattle.std.specs.Prelude.{◌≡◌, ◌<◌, false, neg_ℤ, pos};
 ghost use Rattle.shape_buffer.specs.Outcome.{Made};
 ghost use Rattle.shape_fallback.specs.Spaces.{as_wide_as as as_wide_as_of};
-ghost use Rattle.shape_fallback.specs.Spaces.{em_advance as em_advance_of, em_part as em_part_of};
+ghost use Rattle.shape_fallback.specs.Spaces.{em_advance as em_advance_of, em_fraction as em_fraction_of};
 ghost use Rattle.shape_fallback.specs.Spaces.{first_glyph as first_glyph_of};
-ghost use Rattle.shape_fallback.specs.Spaces.{is_em_part as is_em_part_of};
+ghost use Rattle.shape_fallback.specs.Spaces.{is_em_fraction as is_em_fraction_of};
 ghost use Rattle.shape_fallback.specs.Spaces.{is_lone_space as is_lone_space_of, item_spaced};
 ghost use Rattle.shape_fallback.specs.Spaces.{space_advance as space_advance_of, space_positioned};
 ghost use Rattle.shape_fallback.specs.Spaces.{spaces_placed};
@@ -31,9 +31,9 @@ const FIGURES: [char; 10] = ['0', '1', '2', '3', '4', '5', '6', '7', '8', '9'];
 const STOPS: [char; 2] = ['.', ','];
 
 /// Whether a type of space is a part of the em square.
-#[tactic(auto, unfolding(crate::specs::Spaces::is_em_part))]
-fn is_em_part(space_type: space_t) -> bool
-    ensures { result ≡ is_em_part_of space_type }
+#[tactic(auto, unfolding(crate::specs::Spaces::is_em_fraction))]
+fn is_em_fraction(space_type: space_t) -> bool
+    ensures { result ≡ is_em_fraction_of space_type }
 {
     matches!(
         space_type,
@@ -50,10 +50,10 @@ fn is_em_part(space_type: space_t) -> bool
 
 /// How much of the em square such a space takes: four eighteenths, or the part that its type names,
 /// rounded.
-#[tactic(auto, unfolding(crate::specs::Spaces::em_part))]
-fn em_part(units_per_em: u16, space_type: space_t) -> i32
+#[tactic(auto, unfolding(crate::specs::Spaces::em_fraction))]
+fn em_fraction(units_per_em: u16, space_type: space_t) -> i32
     requires { 0 < space_type }
-    ensures { result ≡ pos (em_part_of units_per_em space_type) }
+    ensures { result ≡ pos (em_fraction_of units_per_em space_type) }
 {
     let units = u32::from(units_per_em);
     let part = u32::from(space_type);
@@ -67,10 +67,10 @@ fn em_part(units_per_em: u16, space_type: space_t) -> i32
 #[tactic(auto, using(shape_common::proofs::WrappingLemmas::kept_bits), unfolding(crate::specs::Spaces::em_advance))]
 fn em_advance(horizontal: bool, units_per_em: u16, space_type: space_t) -> i32
     requires { 0 < space_type }
-    ensures value { result ≡ em_advance_of horizontal (em_part_of units_per_em space_type) }
-    ensures exact { horizontal ≡ false → result ≡ neg_ℤ (pos (em_part_of units_per_em space_type)) }
+    ensures value { result ≡ em_advance_of horizontal (em_fraction_of units_per_em space_type) }
+    ensures exact { horizontal ≡ false → result ≡ neg_ℤ (pos (em_fraction_of units_per_em space_type)) }
 {
-    let length = em_part(units_per_em, space_type);
+    let length = em_fraction(units_per_em, space_type);
     if horizontal {
         return length;
     }
@@ -108,7 +108,7 @@ fn as_wide_as<F: hb_font_t>(face: &F, horizontal: bool, characters: &[char], bef
 fn space_advance<F: hb_font_t>(face: &F, horizontal: bool, space_type: space_t, before: i32) -> i32
     ensures { result ≡ space_advance_of (F.face face.now) horizontal space_type before }
 {
-    if is_em_part(space_type) {
+    if is_em_fraction(space_type) {
         return em_advance(horizontal, face.units_per_em(), space_type);
     }
     match space_type {

@@ -87,8 +87,8 @@ pub record WorkedVariations : Type 0 where
   pub sequences : sequences_of (one_table 5 14) ≡ 0 ∷ 14 ∷ []
   pub other_format : sequences_of (one_table 5 12) ≡ []
   pub other_encoding : sequences_of (one_table 4 14) ≡ []
-  -- an offset of 0 is no part, not the beginning of the table
-  pub no_part : variation_of (0 ∷ 14 ∷ 0 ∷ 0 ∷ 0 ∷ 0 ∷ 0 ∷ 0 ∷ 0 ∷ 1 ∷ 0 ∷ 0xFE ∷ 0 ∷ 0 ∷ 0 ∷ 0 ∷ 0 ∷ 0 ∷ 0 ∷ 0 ∷ 0 ∷ []) 0 0xFE00
+  -- an offset of 0 leads to none, not the beginning of the table
+  pub no_sequences : variation_of (0 ∷ 14 ∷ 0 ∷ 0 ∷ 0 ∷ 0 ∷ 0 ∷ 0 ∷ 0 ∷ 1 ∷ 0 ∷ 0xFE ∷ 0 ∷ 0 ∷ 0 ∷ 0 ∷ 0 ∷ 0 ∷ 0 ∷ 0 ∷ 0 ∷ []) 0 0xFE00
       ≡ Missing
   pub fewer_selectors : variation_of (stated_selectors 1 3) 0x41 0xFE01 ≡ Missing
   pub fewer_rows : variation_of (stated_selectors 3 2) 0x1F600 0xFE01 ≡ Missing
@@ -110,7 +110,7 @@ worked_variations = record {
   sequences = refl;
   other_format = refl;
   other_encoding = refl;
-  no_part = refl;
+  no_sequences = refl;
   fewer_selectors = refl;
   fewer_rows = refl;
 }

@@ -1,7 +1,7 @@
 -- Numbers and tables, on bytes that were read by hand.
 use Rattle.std.specs.Prelude.{◌≡◌, ℕ, pos, negsuc, List, [], ◌∷◌, ◌++◌, Some, None, true, false, codes, refl}
 use Rattle.shape_font.specs.Bytes.{u16_of, u32_of, i16_of, fitting}
-use Rattle.shape_font.specs.Directory.{font_start, part_of, table_at, table_of, has_table, bytes_of}
+use Rattle.shape_font.specs.Directory.{font_start, slice_of, table_at, table_of, has_table, bytes_of}
 use Rattle.shape_font.specs.Subtables.{subtable_of, chosen_subtable, symbols_of}
 use Rattle.shape_font.specs.declared.face.TheConstants.{HEAD, HHEA, MAXP, HMTX, VHEA, VMTX, VORG, OS2, CMAP, LOCA, GLYF, GSUB, GPOS, MORX, KERX, TRAK, KERN, POST}
 
@@ -54,7 +54,7 @@ pub record WorkedDirectory : Type 0 where
   pub not_there : has_table (two_tables 2) 0 0x43432020 ≡ false
   pub as_it_is : bytes_of (two_tables 2) 0 0x41412020 ≡ 11 ∷ 12 ∷ []
   pub empty : bytes_of (two_tables 2) 0 0x43432020 ≡ []
-  pub whole : part_of (11 ∷ 12 ∷ []) 0 2 ≡ Some (11 ∷ 12 ∷ [])
+  pub whole : slice_of (11 ∷ 12 ∷ []) 0 2 ≡ Some (11 ∷ 12 ∷ [])
   pub cut_off : table_of (header 1 ++ 65 ∷ 65 ∷ 32 ∷ 32 ∷ []) 0 0x41412020 ≡ None
 
 pub worked_directory : WorkedDirectory

@@ -33,7 +33,7 @@ pub found_within : (found : Option (Part × ℕ)) (n : ℕ) → IfSome found (λ
 found_within None n within = tt
 found_within (Some f) n within = within
 
--- a part that was answered, and none
+-- a part that was returned, and none
 pub part_is : (p q : Part) (t : Bool) → Some p ≡ (if t then Some q else None) → (true ≡ t) × (p ≡ q)
 part_is p q true e = (refl, ap (λ o. unwrap_or o q) e)
 part_is p q false e = absurd (cc)

@@ -87,7 +87,7 @@ pub record LongRunsWorked : Type 0 where
   pub by_last_same : chars_by_last (item 0x61 0 ∷ item 0x308 0 ∷ item 0x301 0 ∷ []) ≡ 0x61 ∷ 0x308 ∷ 0x301 ∷ []
   -- and past one that a hook has brought before a smaller ccc
   pub by_last_swapped : chars_by_last (item 0x61 0 ∷ item 0x308 0 ∷ item 0x323 0 ∷ item 0x301 0 ∷ []) ≡ 0xE1 ∷ 0x308 ∷ 0x323 ∷ []
-  -- in order, it answers the same
+  -- in order, it returns the same
   pub by_last_thirty_two : chars_by_last (item 0x61 0 ∷ replicate 30 (item 0x323 0) ++ item 0x308 0 ∷ item 0x301 0 ∷ [])
       ≡ 0x61 ∷ replicate 30 0x323 ++ 0x308 ∷ 0x301 ∷ []
 

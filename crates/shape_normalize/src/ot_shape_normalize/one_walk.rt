@@ -33,7 +33,7 @@ fn stands_with_marks_at(infos: &[hb_glyph_info_t], i: usize) -> bool
 }
 
 /// Gives each item its glyph, up to the first that expands, and follows the runs, if `follows` says so.
-/// Answers the place of that one, or the length.
+/// Returns the place of that one, or the length.
 #[inline(always)]
 fn place_glyphs<T: ShapingTypes>(
     plan: &PlanOf<'_, T>,

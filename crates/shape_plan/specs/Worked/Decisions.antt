@@ -9,7 +9,7 @@ use Rattle.shape_plan.specs.declared.decisions.PlanFacts.{PlanFacts}
 abbrev pub no_tables : hb_tables_t
 no_tables = record { gsub = false; gpos = false; morx = false; kerx = false; trak = false }
 
--- no masks, no tables and no answers; the shaper prefers both for marks
+-- no masks, no tables and no results; the shaper prefers both for marks
 abbrev pub nothing_known : PlanFacts
 nothing_known = record {
   frac_mask = 0;

@@ -1,4 +1,4 @@
--- The lines that answer a text, written by hand from what each part of them says.
+-- The lines that are printed for a text, written by hand from what each part of them says.
 use Rattle.std.specs.Prelude.{◌≡◌, ℕ, ℤ, pos, negsuc, List, [], ◌∷◌, ◌++◌, codes, refl}
 use Rattle.std.specs.Fmt.{digits, padded_integral, char_count}
 use Rattle.shape_items.specs.Items.{Item, new_item}

@@ -50,7 +50,7 @@ pub fn answer<W: Write>(
     }
 }
 
-/// The lines that answer a text, which ends at this cluster.
+/// The lines that are printed for a text, which ends at this cluster.
 fn lines(
     alloc: Global,
     face: &MapFace,

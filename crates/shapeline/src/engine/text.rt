@@ -25,7 +25,7 @@ use std::alloc::Global;
 use std::io;
 use std::io::Write;
 
-/// Shapes a text and writes its answer, or the number of the refusal. Malformed if a word is no
+/// Shapes a text and writes what is printed for it, or the number of the refusal. Malformed if a word is no
 /// character, or if 32 bits can't count the bytes in UTF-8.
 pub fn answer<W: Write>(
     alloc: Global,
@@ -102,7 +102,7 @@ pub(super) fn filled(
     Ok(buffer)
 }
 
-/// The lines that answer a text.
+/// The lines that are printed for a text.
 fn lines(
     alloc: Global,
     face: &MapFace,

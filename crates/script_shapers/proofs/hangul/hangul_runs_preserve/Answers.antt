@@ -1,17 +1,12 @@
 use Rattle.std.proofs.Common.{refl, inl, inr}
-use Rattle.shape_buffer.specs.Walks.{items_mapped}
-use Rattle.script_shapers.specs.Hangul.{jamo_masks, jamo_masked, jamo_masked-alone}
 use Rattle.script_shapers.proofs.HangulLemmas.{composing_preserves_clusters, composing_preserves_flags, flags-jamo}
-use Rattle.script_shapers.proofs.MaskLemmas.{order-masks}
 use Rattle.script_shapers.proofs.hangul.hangul_runs_preserve.Goals as goal
 
 pub returns-clause-clusters : goal.returns-clause-clusters
 returns-clause-clusters g c = λ plan face preserve.
-    let masks = jamo_masks (g.M.hb_ot_layout_t.masks plan.ot_map).one_mask in
     c.given_hooks_preserve.ensures.clusters plan face
     (λ shaper. record {
       preprocess = inr (composing_preserves_clusters g.U.hb_unicode_funcs_t.unicode (g.F.hb_font_t.face face));
-      setup_masks = inr (order-masks (items_mapped (jamo_masked masks)) (jamo_masked-alone masks));
       postprocess = inl refl;
       pause = inl refl;
     }) preserve (λ reorder given. cc)

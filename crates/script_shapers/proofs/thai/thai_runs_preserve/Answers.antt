@@ -10,7 +10,6 @@ returns-clause-clusters g c = λ plan face preserve.
     c.given_hooks_preserve.ensures.clusters plan face
     (λ shaper. record {
       preprocess = inr (thai_text-clusters due (g.F.hb_font_t.face face));
-      setup_masks = inl refl;
       postprocess = inl refl;
       pause = inl refl;
     }) preserve (λ reorder given. cc)

@@ -2,7 +2,7 @@ use Rattle.std.proofs.Common.{◌≡◌, ◌∙◌, ap, length, get_or}
 use Rattle.shape_items.specs.Clusters.{clusters}
 use Rattle.shape_items.specs.Items.{Item}
 use Rattle.shape_lines.specs.TextOrder.{falls, place_in}
-use Rattle.shape_lines.proofs.PartLemmas.{cluster-listed}
+use Rattle.shape_lines.proofs.PieceLemmas.{cluster-listed}
 use Rattle.shape_lines.proofs.reading.cluster_at.Goals as goal
 
 pub returns : goal.returns

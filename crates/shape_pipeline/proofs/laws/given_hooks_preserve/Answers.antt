@@ -6,6 +6,7 @@ returns-clause-clusters g c = λ plan face.
     let shaper = g.S.hb_ot_shaper_t in
     let layout = g.M.hb_ot_layout_t in
     clusters-by_hook g.U.hb_unicode_funcs_t.unicode layout.masks layout.lookups shaper.constants shaper.hooks g.F.hb_font_t.face plan face
+    (λ s. g.met.S.hb_ot_shaper_t.lawful_hooks s plan face)
 
 pub returns-clause-flags : goal.returns-clause-flags
 returns-clause-flags g c = λ plan face.

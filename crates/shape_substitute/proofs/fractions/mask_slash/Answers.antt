@@ -2,7 +2,8 @@ use Rattle.std.proofs.Common.{◌≡◌, ◌+◌, ◌&&◌, nat_lt, true, false,
 use Rattle.shape_items.specs.BufferClusters.{unsafe_to_break}
 use Rattle.shape_items.specs.Items.{Item}
 use Rattle.shape_substitute.specs.Fractions.{features_added, slash_masked, has_whole, whole_start, whole_end}
-use Rattle.shape_substitute.proofs.MaskLemmas.{Made-masks, alone-slash_masked, slash_masked-alone, slash_masked-whole}
+use Rattle.shape_plan.proofs.MaskLemmas.{Made-masks}
+use Rattle.shape_substitute.proofs.MaskLemmas.{alone-slash_masked, slash_masked-alone, slash_masked-whole}
 use Rattle.shape_substitute.proofs.fractions.mask_slash.Goals as goal
 
 pub returns-then-not-has_both_sides-clause-masked : goal.returns-then-not-has_both_sides-clause-masked

@@ -4,7 +4,8 @@ use Rattle.std.proofs.lemmas.List.{drop_more}
 use Rattle.shape_items.specs.Buffer.{Buffer}
 use Rattle.shape_items.specs.Items.{Item}
 use Rattle.shape_substitute.specs.Fractions.{is_slash, slash_places, slashes_masked}
-use Rattle.shape_substitute.proofs.MaskLemmas.{MasksAlone-then, alone-slash_masked, same_slash}
+use Rattle.shape_plan.proofs.MaskLemmas.{MasksAlone-then}
+use Rattle.shape_substitute.proofs.MaskLemmas.{alone-slash_masked, same_slash}
 use Rattle.shape_substitute.proofs.SlashLemmas.{slashes-reached, slashes-skipped, slashes-other}
 use Rattle.shape_substitute.proofs.fractions.mask_slashes.Goals as goal
 use Rattle.shape_substitute.proofs.fractions.mask_slashes.Goals.{then-is_slash+then-next-i, else-is_slash, else-is_slash-via-then-is_slash+else-next-i, else-is_slash-via-else-is_slash}

@@ -1,6 +1,6 @@
 use Rattle.std.proofs.Common.{◌≡◌, drop, length}
 use Rattle.shape_substitute.specs.Fractions.{slash_places, slashes_masked}
-use Rattle.shape_substitute.proofs.MaskLemmas.{MasksAlone}
+use Rattle.shape_plan.proofs.MaskLemmas.{MasksAlone}
 use Rattle.shape_substitute.proofs.fractions.mask_slashes.Given as goal
 
 -- what is left of the slashes makes of the buffer what all of them do

@@ -1,7 +1,8 @@
 use Rattle.std.proofs.Common.{◌≡◌, true, false, refl, ap, ◌∙◌, rules}
 use Rattle.shape_substitute.specs.Fractions.{fraction_masks, slashes_masked, slash_places, may_have_fractions, fractions_masked}
 use Rattle.shape_substitute.specs.declared.fractions.FractionMasks.{FractionMasks}
-use Rattle.shape_substitute.proofs.MaskLemmas.{Made-masks, alone-fractions_masked}
+use Rattle.shape_plan.proofs.MaskLemmas.{Made-masks}
+use Rattle.shape_substitute.proofs.MaskLemmas.{alone-fractions_masked}
 use Rattle.shape_substitute.proofs.fractions.setup_masks_fraction.Goals as goal
 
 pub returns-then-may_have_fractions : goal.returns-then-may_have_fractions

@@ -1,7 +1,8 @@
 use Rattle.std.proofs.Common.{rules, ◌≡◌, length, vec_len, ap, sym, ◌∙◌}
 use Rattle.shape_items.specs.Buffer.{Buffer}
 use Rattle.script_shapers.specs.Hangul.{composed_text, joined_to, built, wants_circle, with_items}
-use Rattle.script_shapers.proofs.ReplaceLemmas.{Outcome-replaced, Outcome-refused}
+use Rattle.shape_buffer.proofs.Steps.ReplaceLemmas.{Outcome-refused}
+use Rattle.script_shapers.proofs.ReplaceLemmas.{Outcome-replaced}
 use Rattle.script_shapers.proofs.hangul.building.compose_text.Goals as goal
 
 pub returns-in_err-items : goal.returns-in_err-items

@@ -1,6 +1,6 @@
 use Rattle.std.proofs.Common.{◌≡◌, Bool, true, false, ◌∙◌, ap, sym, arith}
 use Rattle.shape_common.proofs.WrappingLemmas.{kept_bits}
-use Rattle.shape_fallback.specs.Spaces.{em_advance, em_part}
+use Rattle.shape_fallback.specs.Spaces.{em_advance, em_fraction}
 use Rattle.shape_fallback.proofs.ExactLemmas.{down-exact}
 use Rattle.shape_fallback.proofs.ot_shape_fallback.spaces.em_advance.Goals as goal
 
@@ -14,5 +14,5 @@ returns-clause-value c = grind (arith, kept_bits)
 pub returns-clause-exact : goal.returns-clause-exact
 returns-clause-exact c = λ down.
     returns-clause-value c
-    ∙ ap (λ (horizontal : Bool). em_advance horizontal (em_part c.args.units_per_em c.args.space_type)) down
+    ∙ ap (λ (horizontal : Bool). em_advance horizontal (em_fraction c.args.units_per_em c.args.space_type)) down
     ∙ down-exact c.args.units_per_em c.args.space_type c.ranges.units_per_em.fits c.ranges.space_type.fits

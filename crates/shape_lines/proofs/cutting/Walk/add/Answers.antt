@@ -1,19 +1,19 @@
 use Rattle.std.proofs.Common.{◌≡◌, ◌+ℤ◌, pos, to_z, of_z, sym, ap, ◌∙◌, arith}
 use Rattle.std.proofs.lemmas.Int.{ints}
-use Rattle.shape_lines.specs.Parts.{parts_of}
+use Rattle.shape_lines.specs.Pieces.{pieces_of}
 use Rattle.shape_lines.specs.Walked.{line_of}
-use Rattle.shape_lines.proofs.PartLemmas.{length-parts_of}
+use Rattle.shape_lines.proofs.PieceLemmas.{length-pieces_of}
 use Rattle.shape_lines.proofs.WalkedLemmas.{IsWalked-more, small_sums}
 use Rattle.shape_lines.proofs.cutting.Walk.add.Goals as goal
 use mir.Syntax.{w128}
 
 pub overflow_add-self : goal.overflow_add-self
 overflow_add-self c =
-    let ps = parts_of c.args.glyphs.now in
-    let long = length-parts_of c.args.glyphs.now in
+    let ps = pieces_of c.args.glyphs.now in
+    let long = length-pieces_of c.args.glyphs.now in
     let few = c.requires.summable.few in
-    let above = c.part_at.ensures.narrow.above in
-    let below = c.part_at.ensures.narrow.below in
+    let above = c.piece_at.ensures.narrow.above in
+    let below = c.piece_at.ensures.narrow.below in
     let is = c.from-width.ensures in
     let small = small_sums ps c.args.self.now.start c.args.place (omega arith) c.requires.summable.narrow in
     let low = small.above in
@@ -23,11 +23,11 @@ overflow_add-self c =
 
 pub overflow_add-self-2 : goal.overflow_add-self-2
 overflow_add-self-2 c =
-    let ps = parts_of c.args.glyphs.now in
-    let long = length-parts_of c.args.glyphs.now in
+    let ps = pieces_of c.args.glyphs.now in
+    let long = length-pieces_of c.args.glyphs.now in
     let few = c.requires.summable.few in
-    let above = c.part_at.ensures.narrow.above in
-    let below = c.part_at.ensures.narrow.below in
+    let above = c.piece_at.ensures.narrow.above in
+    let below = c.piece_at.ensures.narrow.below in
     let is = c.from-width.ensures in
     let small = small_sums ps c.args.self.now.taken c.args.place (omega arith) c.requires.summable.narrow in
     let low = small.above in
@@ -38,12 +38,12 @@ overflow_add-self-2 c =
 pub returns : goal.returns
 returns c =
     let b = c.args.glyphs.now in
-    let ps = parts_of b in
-    let long = length-parts_of b in
+    let ps = pieces_of b in
+    let long = length-pieces_of b in
     let few = c.requires.summable.few in
-    let p = c.part_at.result in
-    let above = c.part_at.ensures.narrow.above in
-    let below = c.part_at.ensures.narrow.below in
+    let p = c.piece_at.result in
+    let above = c.piece_at.ensures.narrow.above in
+    let below = c.piece_at.ensures.narrow.below in
     let is = c.from-width.ensures in
     let small = small_sums ps c.args.self.now.start c.args.place (omega arith) c.requires.summable.narrow in
     let low = small.above in
@@ -59,4 +59,4 @@ returns c =
     ≡ c.args.self.now.beyond +ℤ p.width = omega (arith, ints) in
     rw (so_far, beyond)
     (IsWalked-more ps (pos c.args.width) (line_of b c.args.text_end) _ _ _ _ _ c.args.place p (omega (arith, long, c.requires.within))
-    c.part_at.ensures.value c.requires.walked)
+    c.piece_at.ensures.value c.requires.walked)

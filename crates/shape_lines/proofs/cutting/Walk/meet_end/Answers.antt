@@ -1,8 +1,8 @@
 use Rattle.std.proofs.Common.{◌≡◌, ◌≤◌, length, pos, to_z, of_z, arith, rules, false}
 use Rattle.std.proofs.lemmas.Int.{ints}
-use Rattle.shape_lines.specs.Parts.{parts_of}
+use Rattle.shape_lines.specs.Pieces.{pieces_of}
 use Rattle.shape_lines.specs.Walked.{line_of}
-use Rattle.shape_lines.proofs.PartLemmas.{length-parts_of}
+use Rattle.shape_lines.proofs.PieceLemmas.{length-pieces_of}
 use Rattle.shape_lines.proofs.LeastLemmas.{IsSmall-least}
 use Rattle.shape_lines.proofs.WalkedLemmas.{IsWalked-preserved, IsWalked-ended, small_sums}
 use Rattle.shape_lines.proofs.cutting.Walk.meet_end.Goals as goal
@@ -11,8 +11,8 @@ use mir.Syntax.{w128}
 
 pub overflow_add-self : goal.overflow_add-self
 overflow_add-self c =
-    let ps = parts_of c.args.glyphs.now in
-    let long = length-parts_of c.args.glyphs.now in
+    let ps = pieces_of c.args.glyphs.now in
+    let long = length-pieces_of c.args.glyphs.now in
     let few = c.requires.summable.few in
     let small = small_sums ps c.args.self.now.start c.args.place (omega arith) c.requires.summable.narrow in
     let low = small.above in
@@ -27,8 +27,8 @@ overflow_add-self c =
 pub returns-clause-walked : goal.returns-clause-walked
 returns-clause-walked c =
     let b = c.args.glyphs.now in
-    let ps = parts_of b in
-    let long = length-parts_of b in
+    let ps = pieces_of b in
+    let long = length-pieces_of b in
     let few = c.requires.summable.few in
     let small = small_sums ps c.args.self.now.start c.args.place (omega arith) c.requires.summable.narrow in
     let low = small.above in

@@ -2,7 +2,7 @@ use Rattle.std.proofs.Common.{◌≡◌, take, ap, ◌∙◌, refl, arith}
 use Rattle.std.proofs.lemmas.List.{take_all}
 use Rattle.std.specs.List.{flat_map}
 use Rattle.test_programs.specs.Changes.{copies, times}
-use Rattle.test_fixtures.proofs.ReplaceLemmas.{Outcome-replaced, Outcome-refused}
+use Rattle.shape_buffer.proofs.Steps.ReplaceLemmas.{Outcome-replaced, Outcome-refused}
 use Rattle.test_programs.proofs.search.change.repeat.Goals as goal
 
 pub returns-in_err-append : goal.returns-in_err-append

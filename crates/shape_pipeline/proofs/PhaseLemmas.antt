@@ -11,7 +11,7 @@ use Rattle.shape_plan.specs.Run.{Run}
 use Rattle.shape_position.specs.Steps.{advance_steps, table_steps}
 use Rattle.shape_substitute.specs.Preservation.{EachSubstitutionStep}
 use Rattle.shape_substitute.specs.Substitution.{mask_steps, glyph_steps, substitute_steps}
-use Rattle.shape_pipeline.specs.Shaped.{glyph_start, glyph_part, place_start, place_part}
+use Rattle.shape_pipeline.specs.Shaped.{glyph_start, glyph_phase, place_start, place_phase}
 
 -- steps take one state to another
 pub record Leads (Before : Buffer → Type 0) (steps : List Step) (After : Buffer → Type 0) : Type 0 where
@@ -25,15 +25,15 @@ Leads-then {After = After} {steps = steps} {more = more} first second = record {
 
 module _ (Preserves : (Buffer → Buffer) → Type 0) (run : Run)
     (fallback : EachFallback Preserves run.unicode run.face run.direction run.script run.decisions) where
-  pub EachStep-glyph_part : EachSubstitutionStep Preserves run → EachStep Preserves (glyph_part run)
-  EachStep-glyph_part each =
+  pub EachStep-glyph_phase : EachSubstitutionStep Preserves run → EachStep Preserves (glyph_phase run)
+  EachStep-glyph_phase each =
       let behind : EachStep Preserves (step (recategorize_step run.decisions) ∷ glyph_steps run) = (fallback.recategorize, each.glyphs) in
       EachStep-append Preserves (glyph_start run) (substitute_steps run)
       (EachStep-append Preserves (mask_steps run) (step (recategorize_step run.decisions) ∷ glyph_steps run) each.masks behind)
       each.lookups
 
-  pub EachStep-place_part : EachStep Preserves (advance_steps run) → EachStep Preserves (table_steps run) → EachStep Preserves (place_part run)
-  EachStep-place_part advances tables =
+  pub EachStep-place_phase : EachStep Preserves (advance_steps run) → EachStep Preserves (table_steps run) → EachStep Preserves (place_phase run)
+  EachStep-place_phase advances tables =
       let spaces : EachStep Preserves (step (spaces_step run.face) ∷ []) = (fallback.spaces, tt) in
       let placing : List Step = step (marks_step run.unicode run.face run.direction run.script run.decisions) ∷ [] in
       let marks : EachStep Preserves placing = (fallback.marks, tt) in

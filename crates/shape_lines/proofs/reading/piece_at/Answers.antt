@@ -5,8 +5,8 @@ use Rattle.shape_items.specs.Items.{new_item}
 use Rattle.shape_items.specs.PreservesFlags.{has_flag}
 use Rattle.shape_lines.specs.Places.{cluster_at}
 use Rattle.shape_lines.specs.TextOrder.{falls, place_in, text_order, width_of}
-use Rattle.shape_lines.proofs.PartLemmas.{part, part-listed}
-use Rattle.shape_lines.proofs.reading.part_at.Goals as goal
+use Rattle.shape_lines.proofs.PieceLemmas.{piece, piece-listed}
+use Rattle.shape_lines.proofs.reading.piece_at.Goals as goal
 use mir.Syntax.{w64}
 
 pub returns-then-begins_cluster-clause-value : goal.returns-then-begins_cluster-clause-value
@@ -20,7 +20,7 @@ returns-then-begins_cluster-clause-value c =
     let is_safe : not c.unsafe_to_break.result ≡ safe =
     ap not c.unsafe_to_break.ensures
     ∙ ap (λ y. not (has_flag UNSAFE_TO_BREAK y)) (c.index-infos-at.is ∙ ap (λ l. get_or l c.listed-at.result x) items) in
-    part-listed b c.args.place c.listed-at.result x _ _ _ _ c.width_at.ensures.as_many c.requires at
+    piece-listed b c.args.place c.listed-at.result x _ _ _ _ c.width_at.ensures.as_many c.requires at
     (wide ∙ c.width_at.ensures.value)
     (is_safe ∙ ap (λ t. t && safe) (sym c.if-begins_cluster.true ∙ c.begins_cluster.ensures))
 
@@ -31,6 +31,6 @@ returns-else-begins_cluster-clause-value c =
     let wide : to_z w64 (of_z w64 c.width_at.result) ≡ c.width_at.result = search rules in
     let at = c.listed-at.ensures ∙ ap (λ l. place_in (falls (clusters l)) (length l) c.args.place) items in
     let safe = not (has_flag UNSAFE_TO_BREAK (get_or b.items c.listed-at.result (new_item 0 0))) in
-    part-listed b c.args.place c.listed-at.result (new_item 0 0) _ _ _ _ c.width_at.ensures.as_many c.requires at
+    piece-listed b c.args.place c.listed-at.result (new_item 0 0) _ _ _ _ c.width_at.ensures.as_many c.requires at
     (wide ∙ c.width_at.ensures.value)
     (c.if-begins_cluster.false ∙ ap (λ t. t && safe) (sym c.if-begins_cluster.false ∙ c.begins_cluster.ensures))
