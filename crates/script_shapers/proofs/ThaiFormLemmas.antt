@@ -1,5 +1,5 @@
 -- Forms at private characters preserve clusters, flags and the number of items.
-use Rattle.std.proofs.Common.{◌≡◌, ℕ, zero, suc, ◌≤◌, Bool, true, false, if◌then◌else◌, Option, None, Some, length, min, drop, refl, ap}
+use Rattle.std.proofs.Common.{◌≡◌, ℕ, zero, suc, ◌≤◌, Bool, true, false, if◌then◌else◌, Option, None, Some, [], ◌∷◌, length, min, drop, refl, ap}
 use Rattle.std.proofs.Math.Seq.{map-set_same}
 use Rattle.std.proofs.lemmas.List.{length-set}
 use Rattle.shape_common.specs.Face.{FaceMeaning}
@@ -9,6 +9,8 @@ use Rattle.shape_items.specs.Items.{Item, new_item}
 use Rattle.shape_items.specs.PreservesFlags.{has_flag}
 use Rattle.shape_items.proofs.Flags.FlagLemmas.{PreservesFlags-then}
 use Rattle.shape_buffer.specs.Preservation.{IsClusterPreserving, IsFlagPreserving}
+use Rattle.shape_buffer.specs.Outcome.{Refused, step}
+use Rattle.shape_buffer.specs.declared.buffer.error.ShapeError.{ShapeError}
 use Rattle.shape_buffer.proofs.Steps.PreservationLemmas.{PreservesClusters-equal, PreservesOrder-then}
 use Rattle.script_shapers.specs.Thai.{sara_am_parted}
 use Rattle.script_shapers.specs.ThaiForms.{item_at, item_formed, char_formed, ends_marks, marks_spanned, mark_formed, action_of, place_of, mark_of, formed_by, formed_to, forms_put, thai_text}
@@ -17,6 +19,7 @@ use Rattle.script_shapers.specs.declared.thai.forms.Mark.{Mark}
 use Rattle.script_shapers.specs.declared.thai.forms.Walk.{Walk}
 use Rattle.script_shapers.proofs.MaskLemmas.{flags-same}
 use Rattle.script_shapers.proofs.PreservationLemmas.{PreservesAll, PreservesAll-same, PreservesAll-then, PreservesAll-unsafe_to_break}
+use Rattle.script_shapers.proofs.ReplaceLemmas.{Refused-then_made}
 use Rattle.script_shapers.proofs.ThaiLemmas.{sara_am_preserves_clusters, sara_am_preserves_flags}
 
 char_formed-preserves : (face : FaceMeaning) (a : Action) (place : ℕ) (b : Buffer) → PreservesAll b (char_formed face a place b)
@@ -58,11 +61,19 @@ pub forms-preserve : (face : FaceMeaning) (b : Buffer) → PreservesAll b (forms
 forms-preserve face b = to-preserves face (length b.items) b
 
 pub thai_text-clusters : (due : Bool) (face : FaceMeaning) → IsClusterPreserving (thai_text due face)
-thai_text-clusters false face = sara_am_preserves_clusters
+thai_text-clusters false face b monotone = sara_am_preserves_clusters b monotone
 thai_text-clusters true face b monotone =
     PreservesOrder-then b (sara_am_parted b) _ (sara_am_preserves_clusters b monotone) (forms-preserve face (sara_am_parted b)).order
 
 pub thai_text-flags : (due : Bool) (face : FaceMeaning) → IsFlagPreserving (thai_text due face)
-thai_text-flags false face = sara_am_preserves_flags
+thai_text-flags false face b = sara_am_preserves_flags b
 thai_text-flags true face b =
     PreservesFlags-then b (sara_am_parted b) _ (sara_am_preserves_flags b) (forms-preserve face (sara_am_parted b)).flags
+
+-- ---- refusals and steps
+
+pub thai_text-refused : (due : Bool) (face : FaceMeaning) (old : Buffer) (error : ShapeError) → Refused (step sara_am_parted ∷ []) old error
+    → Refused (step (thai_text due face) ∷ []) old error
+thai_text-refused false face old error refused = refused
+thai_text-refused true face old error refused =
+    Refused-then_made sara_am_parted (forms_put face) (λ b. (forms-preserve face b).count) old error refused
