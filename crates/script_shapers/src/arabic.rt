@@ -1,10 +1,10 @@
-//! The script shaper for Arabic and the scripts that join as it does. Letters get the forms that their neighbours
-//! ask for, and modifier marks step to the front of their letter's marks.
+//! The script shaper for Arabic and Syriac. Letters get the forms that their neighbours ask for, and modifier marks
+//! step to the front of their letter's marks.
 //!
-//! The shaper gives three hooks. Two things are left out. Stretching (`stch`) belongs into the first pause, which
-//! would have a number, and into `postprocess_glyphs`; the forms of fonts without `GSUB` belong into the pause
-//! after `rlig`.
-ghost use Rattle.std.specs.Prelude.{◌≡◌, ◌∷◌, [], true, false, None, pos, refl, OnOk, IfErr};
+//! The shaper gives three hooks. Two things of HarfBuzz are left out: stretching (`stch`), which belongs into the
+//! first pause and into `postprocess_glyphs`, and the forms of fonts without `GSUB`, which belong into the pause after
+//! `rlig`.
+ghost use Rattle.std.specs.Prelude.{◌≡◌, true, false, None, pos, refl};
 ghost use Rattle.shape_buffer.specs.Preservation.{LookupsPreserveClusters, LookupsPreserveFlags};
 ghost use Rattle.shape_plan.specs.Preservation.{RunPreservesFlags};
 ghost use Rattle.shape_plan.specs.Plan.{Plan};
@@ -21,11 +21,11 @@ ghost use Rattle.script_shapers.specs.Worked.Modifiers.{WorkedModifiers};
 ghost use Rattle.script_shapers.specs.ArabicRequests.{arabic_requests, is_mongolian};
 ghost use Rattle.shape_buffer.specs.Outcome.{Made};
 
-pub mod flags;
-pub mod forms;
+mod flags;
+mod forms;
 pub mod joining;
 mod modifiers;
-mod requests;
+pub(crate) mod requests;
 
 use flags::mark_all;
 use forms::{FormMasks, form_all};
@@ -36,8 +36,7 @@ use requests::{
 };
 use shape_buffer::buffer::{Direction, Script, ShapeError, hb_buffer_t, hb_tag_t};
 use shape_buffer::interfaces::{
-    F_HAS_FALLBACK, F_MANUAL_ZWJ, F_NONE, hb_font_t, hb_ot_layout_t, hb_ot_map_builder_t,
-    hb_ot_map_feature_flags_t, hb_unicode_funcs_t,
+    hb_font_t, hb_ot_layout_t, hb_ot_map_builder_t, hb_unicode_funcs_t,
 };
 use shape_pipeline::laws::given_hooks_preserve;
 use shape_pipeline::ot_shape_normalize::HB_OT_SHAPE_NORMALIZATION_MODE_AUTO;
@@ -52,7 +51,11 @@ use std::alloc::Global;
 
 /// The shaper of texts in Arabic script, or one that joins as it does.
 #[derive(Clone, Copy, Debug)]
-pub struct ArabicShaper;
+pub struct ArabicShaper {
+    /// Whether the font has required contextual alternates (`rclt`) for the text: contextual ones are then applied
+    /// together with the ligatures that come after them. `choice::arabic_for` asks the engine.
+    pub has_rclt: bool,
+}
 
 impl<U: hb_unicode_funcs_t, F: hb_font_t, M: hb_ot_layout_t<F>> script_shaper<U, F, M>
     for ArabicShaper {
@@ -104,14 +107,14 @@ impl<U: hb_unicode_funcs_t, F: hb_font_t, M: hb_ot_layout_t<F>> script_shaper<U,
 }
 
 impl collect_features_hook<ArabicShaper> for ArabicShaper {
-    ghost collected = { λ _ _ _ script. arabic_requests script };
+    ghost collected = { λ shaper _ _ script. arabic_requests shaper.has_rclt script };
 
     ghost GIVEN = { true };
 
     const GIVEN: bool = true;
 
     fn collect_features(
-        _shaper: &ArabicShaper,
+        shaper: &ArabicShaper,
         _alloc: Global,
         builder: &mut hb_ot_map_builder_t,
         _direction: Direction,
@@ -121,7 +124,7 @@ impl collect_features_hook<ArabicShaper> for ArabicShaper {
         ask_first(builder)?;
         ask_final_forms(builder, fallback)?;
         ask_other_forms(builder, fallback)?;
-        ask_last(builder, script)
+        ask_last(builder, shaper.has_rclt, script)
     }
 }
 

@@ -15,7 +15,7 @@ ghost use Rattle.shape_buffer.specs.declared.interfaces.map_request.TableIndex.T
 ghost use Rattle.script_shapers.specs.ThaiForms.{is_own, is_thai, forms_due, thai_text};
 ghost use Rattle.script_shapers.specs.declared.thai.ThaiShaper.{ThaiShaper as AnyShaper};
 
-pub mod forms;
+mod forms;
 mod sara_am;
 
 use forms::form_all;

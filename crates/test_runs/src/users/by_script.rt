@@ -1,12 +1,18 @@
 //! Texts of five scripts, each by the shaper that its script asks for, over faces that have a glyph for these characters
 //! alone. Lines are compared from the left.
 use crate::users::rows::{Asked, assert_rows};
-use crate::users::shaping::{Shaper, assert_that};
+use crate::users::shaping::{Shaper, assert_that, by_graphemes, face_of, print_glyphs, text_of};
 use script_shapers::arabic::joining::{
     Form, Kind, State, form_before, is_selector, kind_of, next_state, own_form, settled,
 };
-use script_shapers::choice::{Category, category_of};
-use shape_pipeline::{Direction, Script, hb_tag_t};
+use script_shapers::choice::{Category, arabic_for, category_of};
+use script_shapers::{
+    HangulShaper, HebrewShaper, ScriptShapers, ThaiShaper, plan_by_script, shape_with_script_plan,
+};
+use shape_pipeline::{DEFAULT_SHAPER, Direction, MapFace, NoLookups, Script, hb_tag_t};
+use shape_unicode::UnicodeDatabase;
+use std::alloc::Global;
+use std::process::Abort;
 
 /// A hamza goes before a fatha, a point joins its letter, jamo make a syllable, SARA AM is taken apart; Latin text is
 /// shaped as it stands.
@@ -51,4 +57,46 @@ fn syriac_is_plain_by_default(rt: HostRuntime) {
         &rt,
         joined == Category::Arabic && plain == Category::Default,
     );
+}
+
+/// The glyphs of a text in Hangul by a plan for its script.
+fn print_planned(rt: &impl Abort, alloc: Global, printed: &mut String, face: &MapFace, text: &str) {
+    let hangul = Some(Script(hb_tag_t::from_bytes(b"Hang")));
+    let shapers = ScriptShapers {
+        default: DEFAULT_SHAPER,
+        arabic: arabic_for::<MapFace, NoLookups>(alloc, face, hangul, None).expect(rt, "memory"),
+        hangul: HangulShaper,
+        hebrew: HebrewShaper,
+        thai: ThaiShaper,
+    };
+    let plan = plan_by_script::<UnicodeDatabase, MapFace, NoLookups>(
+        alloc,
+        face,
+        &shapers,
+        Direction::LeftToRight,
+        hangul,
+        None,
+        &[],
+    )
+    .expect(rt, "memory");
+    let text = text_of(rt, alloc, by_graphemes(face, Shaper::ByScript), text);
+    assert!(rt; plan.fits::<UnicodeDatabase>(&text));
+    let glyphs = shape_with_script_plan::<UnicodeDatabase, MapFace, NoLookups>(
+        alloc, face, &plan, text,
+    ).expect(rt, "glyphs");
+    print_glyphs(rt, printed, &glyphs, (0, glyphs.len()));
+}
+
+#[test]
+fn a_plan_is_made_by_script(rt: HostRuntime) {
+    let face = face_of(&rt, rt.alloc(), "\u{AC00}\u{302E}");
+    let mut printed = String::new(rt.alloc());
+    print_planned(
+        &rt,
+        rt.alloc(),
+        &mut printed,
+        &face,
+        "\u{1100}\u{1161}\u{302E}",
+    );
+    assert_that(&rt, printed.as_str() == " 2@0 1@0");
 }
