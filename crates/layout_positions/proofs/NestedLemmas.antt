@@ -4,7 +4,7 @@ use Rattle.std.proofs.Common.{◌≡◌, ℕ, suc, ◌-◌, ◌<◌, true, false
 use Rattle.shape_items.specs.Buffer.{Buffer}
 use Rattle.layout_matching.specs.declared.lookup.Lookup.{Lookup}
 use Rattle.layout_positions.specs.Nested.{level_placed, nested_placed}
-use Rattle.layout_positions.specs.Trial.{unplaced}
+use Rattle.layout_positions.specs.Subtables.{unplaced}
 use Rattle.layout_positions.specs.declared.bases.BaseSeen.{BaseSeen}
 
 pub nested_none : (l : Lookup) (i left : ℕ) (seen : BaseSeen) (b : Buffer) (level : ℕ) → level ≡ 0

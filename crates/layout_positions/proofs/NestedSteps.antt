@@ -1,6 +1,6 @@
 -- what a lookup that names no other keeps, nested lookups and whole walks keep
 use Prim.Native.Nat.{zero}
-use Rattle.std.proofs.Common.{◌≡◌, ℕ, suc, ◌+◌, ◌-◌, Bool, true, false, List, [], ◌∷◌, Option, Some, None, length, nat_eq, nat_lt, if◌then◌else◌}
+use Rattle.std.proofs.Common.{ℕ, suc, ◌+◌, ◌-◌, Bool, true, false, List, [], ◌∷◌, Option, Some, None, fold, length, nat_eq, nat_lt, if◌then◌else◌}
 use Rattle.std.specs.Option.{option_map_or}
 use Rattle.shape_items.specs.Buffer.{Buffer}
 use Rattle.layout_matching.specs.Found.{found_of, is_context}
@@ -10,9 +10,9 @@ use Rattle.layout_matching.specs.declared.found.Found.{Found}
 use Rattle.layout_matching.specs.declared.lookup.Lookup.{Lookup}
 use Rattle.layout_matching.specs.declared.rules.Rule.{Rule}
 use Rattle.layout_positions.specs.Edits.{broken}
-use Rattle.layout_positions.specs.Nested.{named_place, named_lookup, Nest, skipped, record_at_place, record_for, record_step, rule_placed, level_placed, LEVELS, most_named, nested_placed}
-use Rattle.layout_positions.specs.Trial.{Placing, unplaced, lookup_placed}
-use Rattle.layout_positions.specs.Walk.{Walk, lookup_step, none_seen, lookup_applied, positioned}
+use Rattle.layout_positions.specs.Nested.{named_place, named_lookup, Nest, skipped, record_at_place, record_for, record_step, rule_placed, level_placed, LEVELS, nested_placed}
+use Rattle.layout_positions.specs.Subtables.{Placing, unplaced, lookup_placed}
+use Rattle.layout_positions.specs.Walk.{Walk, lookup_step, Budgeted, first_walk, lookup_applied, budgeted, positioned}
 use Rattle.layout_positions.specs.declared.bases.BaseSeen.{BaseSeen}
 
 module _ (P : Buffer → Buffer → Type 0) (same : (b : Buffer) → P b b) (after : (a b c : Buffer) → P a b → P b c → P a c)
@@ -42,8 +42,7 @@ module _ (P : Buffer → Buffer → Type 0) (same : (b : Buffer) → P b b) (aft
 
   step-place : (next : Lookup → ℕ → ℕ → BaseSeen → Buffer → Placing) → Preserves next → (s : Nest) (other : Lookup) (place : ℕ)
       → P s.buffer (record_at_place next s other place).buffer
-  step-place next preserves s other place =
-      nest-if (nat_eq s.left 0) s.buffer (skipped s) _ (same s.buffer) (preserves other place (s.left - 1) s.seen s.buffer)
+  step-place next preserves s other place = preserves other place (s.left - 1) s.seen s.buffer
 
   step-for : (next : Lookup → ℕ → ℕ → BaseSeen → Buffer → Placing) → Preserves next → (s : Nest) (other : Lookup) (o : Option ℕ)
       → P s.buffer (option_map_or (record_at_place next s other) o (skipped s)).buffer
@@ -55,13 +54,18 @@ module _ (P : Buffer → Buffer → Type 0) (same : (b : Buffer) → P b b) (aft
   step-named next preserves l at rule s None = same s.buffer
   step-named next preserves l at rule s (Some other) = step-for next preserves s other (named_place l s.buffer.items at rule s.r)
 
+  step-record : (next : Lookup → ℕ → ℕ → BaseSeen → Buffer → Placing) → Preserves next → (l : Lookup) (at : ℕ) (rule : Rule) (s : Nest)
+      → P s.buffer (record_step next l at rule s).buffer
+  step-record next preserves l at rule s =
+      nest-if (nat_eq s.left 0) s.buffer (skipped s) _ (same s.buffer) (step-named next preserves l at rule s (named_lookup l rule s.r))
+
   step-rule : (next : Lookup → ℕ → ℕ → BaseSeen → Buffer → Placing) → Preserves next → (l : Lookup) (i left : ℕ) (seen : BaseSeen) (b : Buffer)
       (found : Found) → P b (rule_placed next l i left seen b found).buffer
   step-rule next preserves l i left seen b found =
       let marked = broken found.span.start found.span.end b in
       after b marked (rule_placed next l i left seen b found).buffer (by_break found.span.start found.span.end b)
       (times-step (λ (s : Nest). s.buffer) (record_step next l i found.rule)
-      (λ s. step-named next preserves l i found.rule s (named_lookup l found.rule s.r)) found.rule.count
+      (step-record next preserves l i found.rule) found.rule.count
       (record { buffer = marked; seen = seen; left = left; r = 0 }))
 
   step-found : (next : Lookup → ℕ → ℕ → BaseSeen → Buffer → Placing) → Preserves next → (l : Lookup) (i left : ℕ) (seen : BaseSeen) (b : Buffer)
@@ -88,12 +92,14 @@ module _ (P : Buffer → Buffer → Type 0) (same : (b : Buffer) → P b b) (aft
       (step-nested LEVELS l s.at s.left s.seen s.buffer) (same s.buffer))
       (same s.buffer)
 
-  pub step-lookup : (l : Lookup) (b : Buffer) → P b (lookup_applied b l)
-  step-lookup l b =
-      times-step (λ (s : Walk). s.buffer) (lookup_step l) (step-walk l) (length b.items)
-      (record { buffer = b; at = 0; seen = none_seen; left = most_named (length b.items) })
+  step-lookup : (l : Lookup) (s : Budgeted) → P s.buffer (lookup_applied s l).buffer
+  step-lookup l s = times-step (λ (w : Walk). w.buffer) (lookup_step l) (step-walk l) (length s.buffer.items) (first_walk s)
+
+  step-lookups : (lookups : List Lookup) (s : Budgeted) → P s.buffer (fold lookup_applied s lookups).buffer
+  step-lookups [] s = same s.buffer
+  step-lookups (l ∷ lookups) s =
+      let here = lookup_applied s l in
+      after s.buffer here.buffer (fold lookup_applied here lookups).buffer (step-lookup l s) (step-lookups lookups here)
 
   pub step-positioned : (lookups : List Lookup) (b : Buffer) → P b (positioned lookups b)
-  step-positioned [] b = same b
-  step-positioned (l ∷ lookups) b =
-      after b (lookup_applied b l) (positioned lookups (lookup_applied b l)) (step-lookup l b) (step-positioned lookups (lookup_applied b l))
+  step-positioned lookups b = step-lookups lookups (budgeted b)

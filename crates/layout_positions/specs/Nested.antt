@@ -16,7 +16,7 @@ use Rattle.layout_matching.specs.declared.found.Found.{Found}
 use Rattle.layout_matching.specs.declared.lookup.Lookup.{Lookup}
 use Rattle.layout_matching.specs.declared.rules.Rule.{Rule}
 use Rattle.layout_positions.specs.Edits.{broken}
-use Rattle.layout_positions.specs.Trial.{Placing, unplaced, lookup_placed}
+use Rattle.layout_positions.specs.Subtables.{Placing, unplaced, lookup_placed}
 use Rattle.layout_positions.specs.declared.bases.BaseSeen.{BaseSeen}
 
 -- ---- what a record of a rule names
@@ -48,13 +48,15 @@ abbrev pub nest_of : Nest → Placing → Nest
 nest_of s made = record { buffer = made.buffer; seen = made.seen; left = made.left; r = s.r + 1 }
 
 abbrev pub record_at_place : (Lookup → ℕ → ℕ → BaseSeen → Buffer → Placing) → Nest → Lookup → ℕ → Nest
-record_at_place next s other place = if nat_eq s.left 0 then skipped s else nest_of s (next other place (s.left - 1) s.seen s.buffer)
+record_at_place next s other place = nest_of s (next other place (s.left - 1) s.seen s.buffer)
 
 abbrev pub record_for : (Lookup → ℕ → ℕ → BaseSeen → Buffer → Placing) → Lookup → ℕ → Rule → Nest → Lookup → Nest
 record_for next l at rule s other = option_map_or (record_at_place next s other) (named_place l s.buffer.items at rule s.r) (skipped s)
 
+-- nothing is done once no lookup may be named
 abbrev pub record_step : (Lookup → ℕ → ℕ → BaseSeen → Buffer → Placing) → Lookup → ℕ → Rule → Nest → Nest
-record_step next l at rule s = option_map_or (record_for next l at rule s) (named_lookup l rule s.r) (skipped s)
+record_step next l at rule s = if nat_eq s.left 0 then skipped s
+    else option_map_or (record_for next l at rule s) (named_lookup l rule s.r) (skipped s)
 
 -- what the rule matches is unsafe to break with what is around it; it goes on after the last glyph that it matches
 abbrev pub rule_placed : (Lookup → ℕ → ℕ → BaseSeen → Buffer → Placing) → Lookup → ℕ → ℕ → BaseSeen → Buffer → Found → Placing

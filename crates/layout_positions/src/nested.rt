@@ -10,7 +10,7 @@ ghost use Rattle.layout_matching.specs.Loops.{times};
 
 use crate::edits::break_between;
 use crate::places::after;
-use crate::trial::{Carried, Outcome, apply_lookup};
+use crate::subtables::{Carried, Outcome, apply_lookup};
 use layout_matching::found::{Found, find, is_context};
 use layout_matching::input::seek_input;
 use layout_matching::lookup::Lookup;
@@ -31,8 +31,8 @@ pub struct Site<'a> {
     pub at: usize,
 }
 
-/// How many lookups the rules may name in a list of so many glyphs: a bound on the time that a font
-/// can take.
+/// How many lookups the rules of all lookups may name in a list of so many glyphs: a bound on the
+/// time that a font can take.
 pub fn most_named(count: usize) -> usize
     ensures { result ≡ most_named_of count }
 {
@@ -90,18 +90,21 @@ fn apply_record(
         (record { buffer = buffer.old; seen = carried.seen; left = carried.left; r = r }) }
     ensures len { length buffer.new.items ≡ length buffer.old.items }
 {
+    if carried.left == 0 {
+        return carried;
+    }
     let Some(other) = named_lookup(site, r) else {
         return carried;
     };
     match named_place(site, buffer.infos(), r) {
-        Some(place) if carried.left != 0 => {
+        Some(place) => {
             let fewer = Carried {
                 seen: carried.seen,
                 left: carried.left - 1,
             };
             apply_nested(level, &other, buffer, place, fewer).carried
         }
-        _ => carried,
+        None => carried,
     }
 }
 

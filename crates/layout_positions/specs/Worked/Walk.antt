@@ -1,5 +1,5 @@
 -- Lookups over lines, on tables that were read by hand.
-use Rattle.std.specs.Prelude.{◌≡◌, ℕ, ℤ, pos, negsuc, List, [], ◌∷◌, ◌++◌, Some, None, true, false, refl}
+use Rattle.std.specs.Prelude.{◌≡◌, ℕ, ℤ, pos, negsuc, List, [], ◌∷◌, ◌++◌, refl}
 use Rattle.std.specs.Int.{int_wrap}
 use Rattle.std.specs.Int.Count.{ones}
 use Rattle.shape_common.specs.Wrapping.{◌+ʷ◌, ◌-ʷ◌}
@@ -8,10 +8,10 @@ use Rattle.shape_font.specs.Bytes.{i16_of}
 use Rattle.shape_items.specs.Buffer.{Buffer}
 use Rattle.shape_items.specs.Items.{Item}
 use Rattle.layout_matching.specs.declared.lookup.Lookup.{Lookup}
-use Rattle.layout_positions.specs.Walk.{lookup_applied}
+use Rattle.layout_positions.specs.Walk.{positioned}
 use Rattle.layout_positions.specs.Worked.Lines.{base, mark, part_of, line, advances, offsets, chains}
 use Rattle.layout_positions.specs.Worked.Marks.{on_bases}
-use Rattle.layout_positions.specs.Worked.Pairs.{single_one, single_two, pairs_one, pairs_both, IsLookup}
+use Rattle.layout_positions.specs.Worked.Pairs.{single_one, single_two, pairs_one, IsLookup}
 
 -- a lookup of this type with one subtable, and one with two
 abbrev one_part : ℕ → List ℕ → List ℕ
@@ -30,7 +30,7 @@ in_context = 0 ∷ 1 ∷ 0 ∷ 0 ∷ 0 ∷ 0 ∷ 0 ∷ 0 ∷ 0 ∷ 10 ∷ 0 ∷ 
     0 ∷ 3 ∷ 0 ∷ 2 ∷ 0 ∷ 1 ∷ 0 ∷ 14 ∷ 0 ∷ 14 ∷ 0 ∷ 1 ∷ 0 ∷ 1 ∷ 0 ∷ 1 ∷ 0 ∷ 2 ∷ 0 ∷ 2 ∷ 0 ∷ 3 ∷ one_part 1 single_one)
 
 abbrev over : Lookup → List Item → Buffer
-over l items = lookup_applied (line LeftToRight items) l
+over l items = positioned (l ∷ []) (line LeftToRight items)
 
 -- the same glyph, for which the lookup is off
 abbrev off : ℕ → ℕ → Item
