@@ -25,7 +25,7 @@ mod flags;
 mod forms;
 pub mod joining;
 mod modifiers;
-pub(crate) mod requests;
+mod requests;
 
 use flags::mark_all;
 use forms::{FormMasks, form_all};
@@ -51,11 +51,7 @@ use std::alloc::Global;
 
 /// The shaper of texts in Arabic script, or one that joins as it does.
 #[derive(Clone, Copy, Debug)]
-pub struct ArabicShaper {
-    /// Whether the font has required contextual alternates (`rclt`) for the text: contextual ones are then applied
-    /// together with the ligatures that come after them. `choice::arabic_for` asks the engine.
-    pub has_rclt: bool,
-}
+pub struct ArabicShaper;
 
 impl<U: hb_unicode_funcs_t, F: hb_font_t, M: hb_ot_layout_t<F>> script_shaper<U, F, M>
     for ArabicShaper {
@@ -107,14 +103,14 @@ impl<U: hb_unicode_funcs_t, F: hb_font_t, M: hb_ot_layout_t<F>> script_shaper<U,
 }
 
 impl collect_features_hook<ArabicShaper> for ArabicShaper {
-    ghost collected = { λ shaper _ _ script. arabic_requests shaper.has_rclt script };
+    ghost collected = { λ _ _ _ script. arabic_requests script };
 
     ghost GIVEN = { true };
 
     const GIVEN: bool = true;
 
     fn collect_features(
-        shaper: &ArabicShaper,
+        _shaper: &ArabicShaper,
         _alloc: Global,
         builder: &mut hb_ot_map_builder_t,
         _direction: Direction,
@@ -124,7 +120,7 @@ impl collect_features_hook<ArabicShaper> for ArabicShaper {
         ask_first(builder)?;
         ask_final_forms(builder, fallback)?;
         ask_other_forms(builder, fallback)?;
-        ask_last(builder, shaper.has_rclt, script)
+        ask_last(builder, script)
     }
 }
 

@@ -29,7 +29,7 @@ use shape_plan::ot_shaper::{Runs, hb_default_shaper_t, hb_ot_shaper_t};
 use shape_plan::planner::Plans;
 use std::alloc::Global;
 
-/// The shapers that plans refer to. `choice::arabic_for` makes the one of Arabic for a font.
+/// The shapers that plans refer to.
 #[derive(Clone, Copy, Debug)]
 pub struct ScriptShapers {
     pub default: hb_default_shaper_t,

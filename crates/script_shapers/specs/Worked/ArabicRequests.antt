@@ -1,5 +1,5 @@
 -- The features of Arabic and their stages, in HarfBuzz's order.
-use Rattle.std.specs.Prelude.{◌≡◌, ℕ, true, false, None, Some, List, [], ◌∷◌, ◌++◌, map, refl}
+use Rattle.std.specs.Prelude.{◌≡◌, ℕ, None, Some, List, [], ◌∷◌, ◌++◌, map, refl}
 use Rattle.shape_common.specs.declared.text_types.Script.{Script}
 use Rattle.shape_common.specs.declared.text_types.hb_tag_t.{hb_tag_t}
 use Rattle.shape_buffer.specs.declared.interfaces.map_request.MapRequest.{MapRequest}
@@ -31,26 +31,18 @@ forms flags =
     (0x69736F6C, flags, 1) ∷ stop ∷ (0x66696E61, flags, 1) ∷ stop ∷ (0x66696E32, 8, 1) ∷ stop ∷ (0x66696E33, 8, 1) ∷ stop
     ∷ (0x6D656469, flags, 1) ∷ stop ∷ (0x6D656432, 8, 1) ∷ stop ∷ (0x696E6974, flags, 1) ∷ stop ∷ []
 
--- liga, clig, mset
-abbrev pub ligatures : List Shown
-ligatures = (0x6C696761, 9, 1) ∷ (0x636C6967, 9, 1) ∷ (0x6D736574, 9, 1) ∷ []
-
-abbrev pub calt : Shown
-calt = (0x63616C74, 9, 1)
-
+-- calt, pause, liga, clig, mset
 abbrev pub last : List Shown
-last = calt ∷ stop ∷ ligatures
+last = (0x63616C74, 9, 1) ∷ stop ∷ (0x6C696761, 9, 1) ∷ (0x636C6967, 9, 1) ∷ (0x6D736574, 9, 1) ∷ []
 
 abbrev pub rlig : Shown
 rlig = (0x726C6967, 11, 1)
 
 pub record WorkedRequests : Type 0 where
   -- Arabic has a pause after rlig, Syriac and a text without a script have none
-  pub arabic : map shown (arabic_requests false (Some (script 0x41726162))) ≡ first ++ forms 10 ++ (rlig ∷ stop ∷ []) ++ last
-  pub syriac : map shown (arabic_requests false (Some (script 0x53797263))) ≡ first ++ forms 8 ++ (rlig ∷ []) ++ last
-  pub no_script : map shown (arabic_requests false None) ≡ first ++ forms 8 ++ (rlig ∷ []) ++ last
-  -- no pause after calt beside rclt
-  pub with_rclt : map shown (arabic_requests true (Some (script 0x41726162))) ≡ first ++ forms 10 ++ (rlig ∷ stop ∷ calt ∷ []) ++ ligatures
+  pub arabic : map shown (arabic_requests (Some (script 0x41726162))) ≡ first ++ forms 10 ++ (rlig ∷ stop ∷ []) ++ last
+  pub syriac : map shown (arabic_requests (Some (script 0x53797263))) ≡ first ++ forms 8 ++ (rlig ∷ []) ++ last
+  pub no_script : map shown (arabic_requests None) ≡ first ++ forms 8 ++ (rlig ∷ []) ++ last
 
 pub worked_requests : WorkedRequests
-worked_requests = record { arabic = refl; syriac = refl; no_script = refl; with_rclt = refl }
+worked_requests = record { arabic = refl; syriac = refl; no_script = refl }

@@ -53,9 +53,6 @@ pub const LIGA: hb_tag_t = hb_tag_t(0x6C69_6761);
 /// Contextual ligatures.
 pub const CLIG: hb_tag_t = hb_tag_t(0x636C_6967);
 
-/// Required contextual alternates, which every text gets.
-pub const RCLT: hb_tag_t = hb_tag_t(0x7263_6C74);
-
 /// Marks placed by substitution.
 pub const MSET: hb_tag_t = hb_tag_t(0x6D73_6574);
 
@@ -144,17 +141,13 @@ pub fn ask_other_forms(
 
 /// Asks for what comes after the forms of letters. Arabic has a pause after its required ligatures, where the forms
 /// of fonts without `GSUB` belong; the other scripts apply them together with contextual alternates.
-pub fn ask_last(
-    builder: &mut hb_ot_map_builder_t,
-    has_rclt: bool,
-    script: Option<Script>,
-) -> Result<(), ShapeError>
-    ensures ok { OnOk result (builder.new
-        ≡ with_requests builder.old (last_requests has_rclt script)) }
+pub fn ask_last(builder: &mut hb_ot_map_builder_t, script: Option<Script>) -> Result<(), ShapeError>
+    ensures ok { OnOk result (builder.new ≡ with_requests builder.old (last_requests script)) }
     ensures memory { IfErr result (λ e. e ≡ ShapeError.Memory) }
 {
     ask_ligatures(builder, script)?;
-    ask_alternates(builder, has_rclt)?;
+    builder.enable_feature(CALT, F_MANUAL_ZWJ, 1)?;
+    builder.add_gsub_pause(None)?;
     builder.enable_feature(LIGA, F_MANUAL_ZWJ, 1)?;
     builder.enable_feature(CLIG, F_MANUAL_ZWJ, 1)?;
     builder.enable_feature(MSET, F_MANUAL_ZWJ, 1)
@@ -170,19 +163,6 @@ fn ask_ligatures(
 {
     builder.enable_feature(RLIG, F_MANUAL_ZWJ | F_HAS_FALLBACK, 1)?;
     if is_arabic(script) {
-        builder.add_gsub_pause(None)?;
-    }
-    Ok(())
-}
-
-/// Asks for contextual alternates, with a pause after them unless the font has required ones.
-fn ask_alternates(builder: &mut hb_ot_map_builder_t, has_rclt: bool) -> Result<(), ShapeError>
-    ensures ok { OnOk result (builder.new
-        ≡ with_requests builder.old (alternate_requests has_rclt)) }
-    ensures memory { IfErr result (λ e. e ≡ ShapeError.Memory) }
-{
-    builder.enable_feature(CALT, F_MANUAL_ZWJ, 1)?;
-    if !has_rclt {
         builder.add_gsub_pause(None)?;
     }
     Ok(())

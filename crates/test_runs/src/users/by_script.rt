@@ -5,9 +5,10 @@ use crate::users::shaping::{Shaper, assert_that, by_graphemes, face_of, print_gl
 use script_shapers::arabic::joining::{
     Form, Kind, State, form_before, is_selector, kind_of, next_state, own_form, settled,
 };
-use script_shapers::choice::{Category, arabic_for, category_of};
+use script_shapers::choice::{Category, category_of};
 use script_shapers::{
-    HangulShaper, HebrewShaper, ScriptShapers, ThaiShaper, plan_by_script, shape_with_script_plan,
+    ArabicShaper, HangulShaper, HebrewShaper, ScriptShapers, ThaiShaper, plan_by_script,
+    shape_with_script_plan,
 };
 use shape_pipeline::{DEFAULT_SHAPER, Direction, MapFace, NoLookups, Script, hb_tag_t};
 use shape_unicode::UnicodeDatabase;
@@ -64,7 +65,7 @@ fn print_planned(rt: &impl Abort, alloc: Global, printed: &mut String, face: &Ma
     let hangul = Some(Script(hb_tag_t::from_bytes(b"Hang")));
     let shapers = ScriptShapers {
         default: DEFAULT_SHAPER,
-        arabic: arabic_for::<MapFace, NoLookups>(alloc, face, hangul, None).expect(rt, "memory"),
+        arabic: ArabicShaper,
         hangul: HangulShaper,
         hebrew: HebrewShaper,
         thai: ThaiShaper,

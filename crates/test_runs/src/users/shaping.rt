@@ -181,13 +181,7 @@ pub fn glyphs_of(rt: &impl Abort, alloc: Global, how: Shaping<'_>, text: &str) -
             shaped_by::<NoLookups, _>(rt, alloc, how, &shaper, text)
         }
         Shaper::Hebrew => shaped_by::<NoLookups, _>(rt, alloc, how, &HebrewShaper, text),
-        Shaper::Arabic => shaped_by::<NoLookups, _>(
-            rt,
-            alloc,
-            how,
-            &ArabicShaper { has_rclt: false },
-            text,
-        ),
+        Shaper::Arabic => shaped_by::<NoLookups, _>(rt, alloc, how, &ArabicShaper, text),
         Shaper::ByScript => shaped_by_script(rt, alloc, how, text),
         Shaper::Capitals => shaped_by::<NoLookups, _>(rt, alloc, how, &CapitalsShaper, text),
     }
