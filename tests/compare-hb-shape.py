@@ -4,7 +4,7 @@ fonts-dejavu-core, libharfbuzz-bin and python3-fonttools are installed, and the 
 says so and ends with status 77.
 
 The texts are of scripts for which HarfBuzz has no shaper of its own, with marks, joiners, spaces and fractions, and of
-Hebrew, whose shaper stands in `shape_users`. The fonts are two copies of DejaVu Sans without tables of lookups: one
+Hebrew, whose shaper stands in `script_shapers`. The fonts are two copies of DejaVu Sans without tables of lookups: one
 without `kern` and without names of glyphs, one with both. Each line is compared whole: numbers or names, clusters,
 offsets, advances, flags, boxes. `--texts N` asks for N texts a script in one form of lines, `--options LISTS` for so
 many random lists of options (levels, directions, features, forms of lines).

@@ -14,7 +14,7 @@ use shape_pipeline::{
     hb_default_shaper_t, hb_font_t, hb_ot_layout_t, hb_ot_shaper_t, shape,
 };
 use shape_unicode::UnicodeDatabase;
-use shape_users::hebrew::HebrewShaper;
+use script_shapers::hebrew::HebrewShaper;
 use std::alloc::Global;
 
 /// A line as a buffer with the settings that are asked for, script and direction guessed if they aren't.

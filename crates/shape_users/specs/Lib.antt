@@ -1,10 +1,7 @@
-pub mod Arabic
 pub mod Capitals
-pub mod Forms
 pub mod Ligatures
 pub mod Lines
 pub mod Paragraph
 pub mod PlainGlyphs
-pub mod Points
 pub mod Worked
 pub mod Words

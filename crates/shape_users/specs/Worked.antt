@@ -1,8 +1,6 @@
-pub mod Arabic
 pub mod Capitals
-pub mod Forms
 pub mod Found
+pub mod Ligatures
 pub mod Plain
-pub mod Points
 pub mod Shown
 pub mod Words

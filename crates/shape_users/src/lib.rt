@@ -1,7 +1,6 @@
 //! Users of the layer at work, each on public contracts alone.
 //!
-//! [`arabic`] and [`hebrew`] are script shapers with hooks, which have no more obligations than their engine; [`capitals`] requests a
-//! feature and sets its masks.
+//! [`capitals`] is a script shaper that requests a feature and sets its masks.
 //! [`ligatures`] is a small engine with single and ligature substitutions, which preserves clusters and flags.
 //! [`breaking`] goes from a string to its lines, and [`lines`] tells a line breaker: may the text be
 //! cut here? [`paragraph`] leads from glyphs to the text that they show, and back. [`plain_glyphs`] says
@@ -10,13 +9,10 @@
 #![tactic(auto)]
 #![allow(non_camel_case_types)]
 
-pub mod arabic;
 pub mod breaking;
 pub mod capitals;
-pub mod hebrew;
 pub mod ligatures;
 pub mod lines;
-mod marks;
 pub mod paragraph;
 pub mod plain_glyphs;
 pub mod words;

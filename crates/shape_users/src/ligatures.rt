@@ -10,7 +10,7 @@ ghost use Rattle.shape_plan.specs.declared.ot_shaper.shapers.hb_default_shaper_t
 ghost use Rattle.shape_pipeline.specs.Premises.{HasNoObligations};
 ghost use Rattle.shape_users.specs.Ligatures.{ligature_masks, ligature_lookups};
 ghost use Rattle.shape_users.specs.Ligatures.{ligature_masks-lawful, ligature_lookups-lawful};
-ghost use Rattle.shape_users.specs.Worked.Points.{WorkedLigatures};
+ghost use Rattle.shape_users.specs.Worked.Ligatures.{WorkedLigatures};
 
 mod substitution;
 

@@ -1,9 +1,10 @@
-//! Tests of the users of the layer, through their public calls: texts in Hebrew and in Arabic, ligatures,
+//! Tests of the users of the layer, through their public calls: texts in Hebrew, in Arabic and by script, ligatures,
 //! lines and their pieces, spans, plain glyphs and words.
 
 mod arabic;
 mod breaking;
 mod broken_rows;
+mod by_script;
 mod capitals;
 mod cuts;
 mod every_form;

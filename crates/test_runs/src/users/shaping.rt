@@ -1,5 +1,6 @@
 //! What these tests shape with: faces of a few characters, and the whole database of Unicode.
 use bitflags::Flags;
+use script_shapers::{ArabicShaper, HebrewShaper, shape_by_script};
 use shape_pipeline::lines::{Line, can_cut, cut_lines};
 use shape_pipeline::ot_shape_plan::hb_ot_shape_plan_t;
 use shape_pipeline::ot_shaper::Decomposed;
@@ -9,9 +10,7 @@ use shape_pipeline::{
     hb_tag_t, shape,
 };
 use shape_unicode::UnicodeDatabase;
-use shape_users::arabic::ArabicShaper;
 use shape_users::capitals::CapitalsShaper;
-use shape_users::hebrew::HebrewShaper;
 use shape_users::ligatures::Ligatures;
 use std::alloc::Global;
 use std::process::Abort;
@@ -75,6 +74,8 @@ pub enum Shaper {
     Decomposed,
     Hebrew,
     Arabic,
+    /// The one that the script of the text asks for.
+    ByScript,
     /// The shaper that asks for a feature of capitals; no engine here has it.
     Capitals,
 }
@@ -162,6 +163,14 @@ where
     shape::<UnicodeDatabase, MapFace, M, S>(alloc, how.face, shaper, &[], text).expect(rt, "glyphs")
 }
 
+/// The glyphs of a text by the shaper of its script.
+fn shaped_by_script(rt: &impl Abort, alloc: Global, how: Shaping<'_>, text: &str) -> GlyphBuffer {
+    let text = text_of(rt, alloc, how, text);
+    shape_by_script::<UnicodeDatabase, MapFace, NoLookups>(alloc, how.face, &[], text).expect(
+        rt, "glyphs",
+    )
+}
+
 /// The glyphs of a text.
 pub fn glyphs_of(rt: &impl Abort, alloc: Global, how: Shaping<'_>, text: &str) -> GlyphBuffer {
     match how.shaper {
@@ -173,6 +182,7 @@ pub fn glyphs_of(rt: &impl Abort, alloc: Global, how: Shaping<'_>, text: &str) -
         }
         Shaper::Hebrew => shaped_by::<NoLookups, _>(rt, alloc, how, &HebrewShaper, text),
         Shaper::Arabic => shaped_by::<NoLookups, _>(rt, alloc, how, &ArabicShaper, text),
+        Shaper::ByScript => shaped_by_script(rt, alloc, how, text),
         Shaper::Capitals => shaped_by::<NoLookups, _>(rt, alloc, how, &CapitalsShaper, text),
     }
 }

@@ -1,0 +1,10 @@
+pub mod ArabicRequests
+pub mod Choice
+pub mod Hangul
+pub mod HebrewForms
+pub mod HebrewPoints
+pub mod JoinedText
+pub mod Joining
+pub mod Modifiers
+pub mod Thai
+pub mod ThaiForms

@@ -1,0 +1,169 @@
+//! The features that the shaper of Arabic asks for, with a pause after each stage.
+ghost use Rattle.std.specs.Prelude.{◌≡◌, OnOk, IfErr};
+ghost use Rattle.shape_buffer.specs.MapBuilder.{with_requests};
+ghost use Rattle.script_shapers.specs.ArabicRequests.{is_arabic, is_mongolian, has_fallback};
+ghost use Rattle.script_shapers.specs.ArabicRequests.{first_requests, form_requests, final_forms};
+ghost use Rattle.script_shapers.specs.ArabicRequests.{other_forms, ligature_requests};
+ghost use Rattle.script_shapers.specs.ArabicRequests.{last_requests};
+
+use shape_buffer::buffer::{Script, ShapeError, hb_tag_t};
+use shape_buffer::interfaces::{
+    F_HAS_FALLBACK, F_MANUAL_ZWJ, F_NONE, hb_ot_map_builder_t, hb_ot_map_feature_flags_t,
+};
+
+/// Stretching.
+pub const STCH: hb_tag_t = hb_tag_t(0x7374_6368);
+
+/// Composition and decomposition of glyphs.
+pub const CCMP: hb_tag_t = hb_tag_t(0x6363_6D70);
+
+/// Forms of a language.
+pub const LOCL: hb_tag_t = hb_tag_t(0x6C6F_636C);
+
+/// The form of a letter by itself.
+pub const ISOL: hb_tag_t = hb_tag_t(0x6973_6F6C);
+
+/// The form of one that ends joined letters.
+pub const FINA: hb_tag_t = hb_tag_t(0x6669_6E61);
+
+/// That of an alaph after a letter that it doesn't join.
+pub const FIN2: hb_tag_t = hb_tag_t(0x6669_6E32);
+
+/// That of an alaph after a dalath or rish.
+pub const FIN3: hb_tag_t = hb_tag_t(0x6669_6E33);
+
+/// The form of one between two.
+pub const MEDI: hb_tag_t = hb_tag_t(0x6D65_6469);
+
+/// That of an alaph in the middle.
+pub const MED2: hb_tag_t = hb_tag_t(0x6D65_6432);
+
+/// The form of one that begins joined letters.
+pub const INIT: hb_tag_t = hb_tag_t(0x696E_6974);
+
+/// Required ligatures.
+pub const RLIG: hb_tag_t = hb_tag_t(0x726C_6967);
+
+/// Contextual alternates.
+pub const CALT: hb_tag_t = hb_tag_t(0x6361_6C74);
+
+/// Standard ligatures.
+pub const LIGA: hb_tag_t = hb_tag_t(0x6C69_6761);
+
+/// Contextual ligatures.
+pub const CLIG: hb_tag_t = hb_tag_t(0x636C_6967);
+
+/// Marks placed by substitution.
+pub const MSET: hb_tag_t = hb_tag_t(0x6D73_6574);
+
+/// Whether a script is Arabic, which alone has forms for fonts without `GSUB`.
+fn is_arabic(script: Option<Script>) -> bool
+    ensures { result ≡ is_arabic script }
+{
+    match script {
+        Some(script) => script.0.0 == 0x4172_6162,
+        None => false,
+    }
+}
+
+/// Whether a script is Mongolian, whose variation selectors take the form of their letter.
+pub fn is_mongolian(script: Option<Script>) -> bool
+    ensures { result ≡ is_mongolian script }
+{
+    match script {
+        Some(script) => script.0.0 == 0x4D6F_6E67,
+        None => false,
+    }
+}
+
+/// The flag of the features that such a font may lack.
+pub fn has_fallback(script: Option<Script>) -> hb_ot_map_feature_flags_t
+    ensures { result ≡ has_fallback script }
+{
+    if is_arabic(script) {
+        F_HAS_FALLBACK
+    } else {
+        F_NONE
+    }
+}
+
+/// Asks for what comes before the forms of letters. The first pause is the place of stretching.
+pub fn ask_first(builder: &mut hb_ot_map_builder_t) -> Result<(), ShapeError>
+    ensures ok { OnOk result (builder.new ≡ with_requests builder.old first_requests) }
+    ensures memory { IfErr result (λ e. e ≡ ShapeError.Memory) }
+{
+    builder.enable_feature(STCH, F_NONE, 1)?;
+    builder.add_gsub_pause(None)?;
+    builder.enable_feature(CCMP, F_MANUAL_ZWJ, 1)?;
+    builder.enable_feature(LOCL, F_MANUAL_ZWJ, 1)?;
+    builder.add_gsub_pause(None)
+}
+
+/// Asks for a form of letters, and a pause after it.
+fn ask_form(
+    builder: &mut hb_ot_map_builder_t,
+    tag: hb_tag_t,
+    fallback: hb_ot_map_feature_flags_t,
+) -> Result<(), ShapeError>
+    ensures ok { OnOk result (builder.new ≡ with_requests builder.old (form_requests tag fallback)) }
+    ensures memory { IfErr result (λ e. e ≡ ShapeError.Memory) }
+{
+    builder.add_feature(tag, F_MANUAL_ZWJ | fallback, 1)?;
+    builder.add_gsub_pause(None)
+}
+
+/// Asks for the forms alone and at the end.
+pub fn ask_final_forms(
+    builder: &mut hb_ot_map_builder_t,
+    fallback: hb_ot_map_feature_flags_t,
+) -> Result<(), ShapeError>
+    ensures ok { OnOk result (builder.new ≡ with_requests builder.old (final_forms fallback)) }
+    ensures memory { IfErr result (λ e. e ≡ ShapeError.Memory) }
+{
+    ask_form(builder, ISOL, fallback)?;
+    ask_form(builder, FINA, fallback)?;
+    ask_form(builder, FIN2, F_NONE)?;
+    ask_form(builder, FIN3, F_NONE)
+}
+
+/// Asks for the forms in the middle and at the beginning.
+pub fn ask_other_forms(
+    builder: &mut hb_ot_map_builder_t,
+    fallback: hb_ot_map_feature_flags_t,
+) -> Result<(), ShapeError>
+    ensures ok { OnOk result (builder.new ≡ with_requests builder.old (other_forms fallback)) }
+    ensures memory { IfErr result (λ e. e ≡ ShapeError.Memory) }
+{
+    ask_form(builder, MEDI, fallback)?;
+    ask_form(builder, MED2, F_NONE)?;
+    ask_form(builder, INIT, fallback)
+}
+
+/// Asks for what comes after the forms of letters. Arabic has a pause after its required ligatures, where the forms
+/// of fonts without `GSUB` belong; the other scripts apply them together with contextual alternates.
+pub fn ask_last(builder: &mut hb_ot_map_builder_t, script: Option<Script>) -> Result<(), ShapeError>
+    ensures ok { OnOk result (builder.new ≡ with_requests builder.old (last_requests script)) }
+    ensures memory { IfErr result (λ e. e ≡ ShapeError.Memory) }
+{
+    ask_ligatures(builder, script)?;
+    builder.enable_feature(CALT, F_MANUAL_ZWJ, 1)?;
+    builder.add_gsub_pause(None)?;
+    builder.enable_feature(LIGA, F_MANUAL_ZWJ, 1)?;
+    builder.enable_feature(CLIG, F_MANUAL_ZWJ, 1)?;
+    builder.enable_feature(MSET, F_MANUAL_ZWJ, 1)
+}
+
+/// Asks for required ligatures.
+fn ask_ligatures(
+    builder: &mut hb_ot_map_builder_t,
+    script: Option<Script>,
+) -> Result<(), ShapeError>
+    ensures ok { OnOk result (builder.new ≡ with_requests builder.old (ligature_requests script)) }
+    ensures memory { IfErr result (λ e. e ≡ ShapeError.Memory) }
+{
+    builder.enable_feature(RLIG, F_MANUAL_ZWJ | F_HAS_FALLBACK, 1)?;
+    if is_arabic(script) {
+        builder.add_gsub_pause(None)?;
+    }
+    Ok(())
+}

@@ -1,9 +1,0 @@
--- What letters of Hebrew and their points make.
-use Rattle.std.specs.Prelude.{ℕ, ◌==◌, ◌&&◌, Option}
-use Rattle.std.specs.List.{find}
-use Rattle.std.specs.Option.{option_map}
-use Rattle.shape_users.specs.declared.hebrew.forms.TheConstants.{FORMS}
-
--- the character of the table for a letter and a point
-abbrev pub form_of : ℕ → ℕ → Option ℕ
-form_of letter point = option_map (λ entry. entry.2) (find (λ entry. entry.0 == letter && entry.1 == point) FORMS)
