@@ -1,0 +1,3 @@
+pub mod Gap
+pub mod GapLists
+pub mod GapMerging
