@@ -1,5 +1,5 @@
 //! What matching reads of a buffer.
-ghost use Rattle.std.specs.Prelude.{◌≡◌, length, slice_index_or};
+ghost use Rattle.std.specs.Prelude.{◌≡◌, ◌<◌, length, slice_index_or};
 ghost use Rattle.shape_items.specs.Items.{new_item};
 
 use shape_buffer::hb_glyph_info_t;
@@ -49,6 +49,19 @@ impl<'a> ItemList<'a> {
         ensures { result ≡ length self.now }
     {
         self.before.len() + self.after.len()
+    }
+
+    /// The item at a place, from 0.
+    pub fn at(&self, i: usize) -> &hb_glyph_info_t
+        requires { i < length self.now }
+        ensures { result.now ≡ slice_index_or self.now i (new_item 0 0) }
+    {
+        let count = self.before.len();
+        if i < count {
+            &self.before[i]
+        } else {
+            &self.after[i - count]
+        }
     }
 
     /// The item at a place, from 0; past the end one that stands for U+0000, as a text brings it in.

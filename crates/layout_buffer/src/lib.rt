@@ -15,6 +15,7 @@ mod gap_items;
 mod item_list;
 #[cfg(test)]
 mod tests;
+pub mod worked;
 
 pub use gap_buffer::GapBuffer;
 pub use item_list::ItemList;
