@@ -85,9 +85,10 @@ impl GapBuffer {
         self.settings
     }
 
-    /// How many items there are.
+    /// How many items there are, and how many positions.
     pub fn len(&self) -> usize
-        ensures { result ≡ length self.now.items }
+        ensures items { result ≡ length self.now.items }
+        ensures positions { result ≡ length self.now.positions }
     {
         self.infos.len()
     }
@@ -149,6 +150,7 @@ impl GapBuffer {
         requires ordered { start ≤ end }
         requires within { end ≤ length self.old.items }
         ensures merged { self.new ≡ merge_clusters_of start end self.old }
+        ensures len { length self.new.items ≡ length self.old.items }
     {
         if self.settings.cluster_level() == BufferClusterLevel::Characters {
             self.unsafe_to_break(start, end);
@@ -162,7 +164,7 @@ impl GapBuffer {
     pub fn unsafe_to_break(&mut self, start: usize, end: usize)
         requires ordered { start ≤ end }
         requires within { end ≤ length self.old.items }
-        ensures { self.new ≡ unsafe_to_break_of start end self.old }
+        ensures marked { self.new ≡ unsafe_to_break_of start end self.old }
     {
         if end - start < 2 {
             return;
@@ -178,7 +180,7 @@ impl GapBuffer {
     pub fn unsafe_to_concat(&mut self, start: usize, end: usize)
         requires ordered { start ≤ end }
         requires within { end ≤ length self.old.items }
-        ensures { self.new ≡ unsafe_to_concat_of start end self.old }
+        ensures marked { self.new ≡ unsafe_to_concat_of start end self.old }
     {
         let asked = BufferFlags::PRODUCE_UNSAFE_TO_CONCAT.0;
         if self.settings.flags().0 & asked != asked {

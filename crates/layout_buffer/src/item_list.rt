@@ -1,5 +1,5 @@
 //! What matching reads of a buffer.
-ghost use Rattle.std.specs.Prelude.{◌≡◌, ◌<◌, length, slice_index_or};
+ghost use Rattle.std.specs.Prelude.{◌≡◌, ◌<◌, ◌+◌, length, slice_index_or};
 ghost use Rattle.shape_items.specs.Items.{new_item};
 
 use shape_buffer::hb_glyph_info_t;
@@ -49,6 +49,15 @@ impl<'a> ItemList<'a> {
         ensures { result ≡ length self.now }
     {
         self.before.len() + self.after.len()
+    }
+
+    /// The place after one that is inside, the length after the last one.
+    pub fn place_after(&self, i: usize) -> usize
+        requires { i < length self.now }
+        ensures { result ≡ i + 1 }
+    {
+        let count = self.len();
+        (i + 1).min(count)
     }
 
     /// The item at a place, from 0.

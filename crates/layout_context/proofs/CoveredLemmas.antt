@@ -61,7 +61,7 @@ kind-uncovered l spot b part none =
     if_same (nat_eq part.kind 1) (single_applied l part.start spot b) _ (unapplied b)
     (map_or_none (put_one l spot b) (unapplied b) _ (and_then_none (single_by t part.start glyph) _ none))
     (if_same (nat_eq part.kind 2) (multiple_applied l part.start spot b) _ (unapplied b)
-        (map_or_none (sequence_put l spot b) (unapplied b) _ set)
+    (map_or_none (sequence_put l spot b) (unapplied b) _ set)
     (if_same (nat_eq part.kind 3) (alternate_applied l part.start spot b) _ (unapplied b)
     (if_same (is_random l (item_at b spot.at)) (random_applied l part.start spot b) _ (unapplied b)
     (map_or_none (random_put l spot b) (unapplied b) _ set)
@@ -135,21 +135,21 @@ in_part-uncovered l items origin part out = by_kind (is_context_part l part) ref
         → (if t then found_whole l items origin part else found_in_sets l items origin part) ≡ None
     by_format true is none =
         let first : is_first l.table.now part.start (whole_rule l.table.now (is_chained l part) part.start)
-            (nth items origin.at).glyph_id ≡ false =
+        (nth items origin.at).glyph_id ≡ false =
         subst (λ t. (if t then is_first l.table.now part.start (whole_rule l.table.now (is_chained l part) part.start)
-            (nth items origin.at).glyph_id
+        (nth items origin.at).glyph_id
         else is_some (number_of l.table.now part.start (nth items origin.at).glyph_id)) ≡ false) is none in
         rw first refl
     by_format false is none =
         let number : is_some (number_of l.table.now part.start (nth items origin.at).glyph_id) ≡ false =
         subst (λ t. (if t then is_first l.table.now part.start (whole_rule l.table.now (is_chained l part) part.start)
-            (nth items origin.at).glyph_id
+        (nth items origin.at).glyph_id
         else is_some (number_of l.table.now part.start (nth items origin.at).glyph_id)) ≡ false) is none in
         and_then_none (found_by_number l items origin part) _ (none_of _ number)
 
     by_kind : (t : Bool) → is_context_part l part ≡ t
         → (if t then (if nat_eq (u16_of l.table.now part.start) 3 then found_whole l items origin part
-            else found_in_sets l items origin part) else None) ≡ None
+        else found_in_sets l items origin part) else None) ≡ None
     by_kind true is = by_format (nat_eq (u16_of l.table.now part.start) 3) refl (context_out l part (nth items origin.at).glyph_id is out)
     by_kind false is = refl
 
@@ -170,7 +170,7 @@ found-uncovered : (l : Lookup) (items : List Item) (origin : Origin) → l.posit
     → found_of l items origin ≡ None
 found-uncovered l items origin gsub out =
     first_some_none (found_at_part l items origin) (λ i. at_part-uncovered l items origin i gsub out)
-        (subtable_count_of l.table.now l.place) 0
+    (subtable_count_of l.table.now l.place) 0
 
 in_part-reach : (l : Lookup) (items : List Item) (origin : Origin) (part : LookupSubtable)
     → part_covers l part (nth items origin.at).glyph_id ≡ false → part_reach l items origin part ≡ untried origin.at
@@ -180,15 +180,15 @@ in_part-reach l items origin part out = by_kind (is_context_part l part) refl
         → (if t then whole_reach l items origin part else sets_reach l items origin part) ≡ untried origin.at
     by_format true is none =
         let first : is_first l.table.now part.start (whole_rule l.table.now (is_chained l part) part.start)
-            (nth items origin.at).glyph_id ≡ false =
+        (nth items origin.at).glyph_id ≡ false =
         subst (λ t. (if t then is_first l.table.now part.start (whole_rule l.table.now (is_chained l part) part.start)
-            (nth items origin.at).glyph_id
+        (nth items origin.at).glyph_id
         else is_some (number_of l.table.now part.start (nth items origin.at).glyph_id)) ≡ false) is none in
         rw first refl
     by_format false is none =
         let number : is_some (number_of l.table.now part.start (nth items origin.at).glyph_id) ≡ false =
         subst (λ t. (if t then is_first l.table.now part.start (whole_rule l.table.now (is_chained l part) part.start)
-            (nth items origin.at).glyph_id
+        (nth items origin.at).glyph_id
         else is_some (number_of l.table.now part.start (nth items origin.at).glyph_id)) ≡ false) is none in
         map_or_none (number_reach l items origin part) (untried origin.at) _ (none_of _ number)
 
@@ -225,7 +225,7 @@ nested-uncovered zero l spot b gsub out = refl
 nested-uncovered (suc level) l spot b gsub out =
     let here : level_applied (nested_applied level) l spot b ≡ unapplied b =
     if_same (is_context l) (first_rule_applied (nested_applied level) l spot (tried_marked l spot b))
-        (lookup_applied l spot b) (unapplied b)
+    (lookup_applied l spot b) (unapplied b)
     (ap (first_rule_applied (nested_applied level) l spot) (tried-uncovered l spot b gsub out)
     ∙ map_or_none (rule_applied (nested_applied level) l spot b) (unapplied b) _ (found-uncovered l b.items (origin_of spot b) gsub out))
     (parts-uncovered l spot b gsub out (subtable_count_of l.table.now l.place) 0) in
@@ -245,12 +245,12 @@ step-uncovered levels l s gsub none =
   where
     inside : (t : Bool) → is_inside s.spot.at s.buffer ≡ t
         → (if t then (if is_on l (item_at s.buffer s.spot.at) then gone_on s (nested_applied levels l s.spot s.buffer)
-            else passed s) else s).buffer ≡ s.buffer
+        else passed s) else s).buffer ≡ s.buffer
     inside false e = refl
     inside true e =
         walk_same (is_on l (item_at s.buffer s.spot.at)) s.buffer (gone_on s (nested_applied levels l s.spot s.buffer)) (passed s)
         (ap (λ (a : Applied). a.buffer) (nested-uncovered levels l s.spot s.buffer gsub
-            (none s.spot.at (grind (arith, nat_tests, e))))) refl
+        (none s.spot.at (grind (arith, nat_tests, e))))) refl
 
 walk-uncovered : (levels : ℕ) (l : Lookup) (s : Walk) → l.positioning ≡ false → CoversNone l s.buffer.items
     → (n : ℕ) → (times (lookup_step (nested_applied levels l) l) n s).buffer ≡ s.buffer
@@ -308,7 +308,7 @@ at-uncovered l at b gsub out =
     if_same (is_on l (item_at b at)) (first_reversed l at (parted (reversal_reach l b.items at) b)) b b
     (ap (first_reversed l at) still
     ∙ map_or_none (reversed_by l at b) b _ (first_some_none (reversal_in l b.items at)
-        (λ i. reversal-uncovered l b.items at i gsub out) n 0)) refl
+    (λ i. reversal-uncovered l b.items at i gsub out) n 0)) refl
 
 abbrev back : Buffer → ℕ → Backwards
 back b at = record { buffer = b; at = at }

@@ -36,7 +36,7 @@ nested-off zero l spot b kind pure on = refl
 nested-off (suc level) l spot b kind pure on =
     let here : off_glyphs l (level_applied (nested_applied level) l spot b).buffer.items ≡ off_glyphs l b.items =
     subst (λ t. off_glyphs l (if t then first_rule_applied (nested_applied level) l spot (tried_marked l spot b)
-        else lookup_applied l spot b).buffer.items
+    else lookup_applied l spot b).buffer.items
     ≡ off_glyphs l b.items) (sym kind) (lookup-off l spot b pure on) in
     applied-off l b (is_past b) (unapplied b) _ refl
     (applied-off l b (is_inside spot.at b) (level_applied (nested_applied level) l spot b) (unapplied b) here refl)

@@ -11,6 +11,7 @@ ghost use Rattle.layout_matching.specs.Loops.{times};
 use crate::edits::break_between;
 use crate::places::after;
 use crate::subtables::{Carried, Outcome, apply_lookup};
+use layout_buffer::ItemList;
 use layout_matching::found::{Found, find, is_context};
 use layout_matching::input::seek_input;
 use layout_matching::lookup::Lookup;
@@ -50,7 +51,8 @@ fn matched_place(site: &Site<'_>, items: &[hb_glyph_info_t], index: u16) -> Opti
         return None;
     }
     let seek = seek_input(&site.lookup, &item_at(items, site.at), site.rule.input);
-    last_after(&site.lookup, &seek, items, u32::from(index), site.at)
+    let items = ItemList::of_slice(items);
+    last_after(&site.lookup, &seek, &items, u32::from(index), site.at)
 }
 
 /// Where record `r` of a rule applies its lookup.
@@ -218,7 +220,7 @@ fn apply_level(
         at,
         is_steady: true,
     };
-    match find(here, buffer.infos(), origin) {
+    match find(here, &ItemList::of_slice(buffer.infos()), origin) {
         Some(found) => apply_rule(level, here, buffer, at, carried, found),
         None => Outcome {
             next: None,

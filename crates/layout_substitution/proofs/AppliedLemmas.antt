@@ -31,7 +31,7 @@ pub like-replaced : (l : Lookup) (guess glyph : ℕ) (x : Item) → IsLike x (re
 like-replaced l guess glyph x =
     let same : IsLike x (with_glyph glyph x) = record { cluster = refl; mask = refl } in
     like-if (has_glyph_classes l.gdef.now) x (with_class (glyph_props l.gdef.now glyph) (with_glyph glyph x)) _
-        (record { cluster = refl; mask = refl })
+    (record { cluster = refl; mask = refl })
     (like-if (nat_lt 0 guess) x (with_class guess (with_glyph glyph x)) (with_glyph glyph x) (record { cluster = refl; mask = refl }) same)
 
 pub like-apart : (l : Lookup) (glyph i : ℕ) (x : Item) → IsLike x (taken_apart l glyph i x)
@@ -39,7 +39,7 @@ unfolding is_multiplied
 like-apart l glyph i x =
     let y = if nat_eq x.properties.ligature_id 0 then as_part 0 i x else x in
     let first : IsLike x y = like-if (nat_eq x.properties.ligature_id 0) x (as_part 0 i x) x
-        (record { cluster = refl; mask = refl }) (IsLike-same x) in
+    (record { cluster = refl; mask = refl }) (IsLike-same x) in
     let z = replaced l (if shares x.properties.glyph_class.0 4 then 2 else 0) glyph y in
     let second : IsLike y z = like-replaced l (if shares x.properties.glyph_class.0 4 then 2 else 0) glyph y in
     IsLike-then x z (is_multiplied z) (IsLike-then x y z first second) (record { cluster = refl; mask = refl })
@@ -105,12 +105,18 @@ handed-preserves cluster n s inside = (walk n).0
         → Preserves s.buffer (handed_step cluster s).buffer × ((handed_step cluster s).at < length (handed_step cluster s).buffer.items)
     one s inside =
         let P : Bool → Type 0 = λ t. is_handed cluster s ≡ t
-        → (let there : Handing = if t then record { buffer = put_at (s.at - 1)
-            (hand_over (item_at s.buffer s.at) (item_at s.buffer (s.at - 1))) s.buffer; at = s.at - 1 } else s in
+        → (let there : Handing = if t then record {
+          buffer = put_at (s.at - 1)
+              (hand_over (item_at s.buffer s.at) (item_at s.buffer (s.at - 1))) s.buffer;
+          at = s.at - 1;
+        } else s in
         Preserves s.buffer there.buffer × (there.at < length there.buffer.items)) in
         let cases : P (is_handed cluster s) = elim (is_handed cluster s) as P [
-          | true ↦ λ t. (Preserves-handed s.at s.buffer (grind (arith, nat_tests, t)) inside, grind
-              (arith, inside, length-put_at (s.at - 1) (hand_over (item_at s.buffer s.at) (item_at s.buffer (s.at - 1))) s.buffer))
+          | true ↦ λ t. (
+            Preserves-handed s.at s.buffer (grind (arith, nat_tests, t)) inside,
+            grind
+                (arith, inside, length-put_at (s.at - 1) (hand_over (item_at s.buffer s.at) (item_at s.buffer (s.at - 1))) s.buffer),
+          )
           | false ↦ λ t. (Preserves-same s.buffer, inside)
         ] in
         cases refl
@@ -132,7 +138,7 @@ left-preserves i b =
     let cases : P (is_inside i b) = elim (is_inside i b) as P [
       | true ↦ λ t.
           let handed : Preserves b back = handed-preserves (cluster_at b (i - 1)) i (record { buffer = b; at = i })
-              (grind (arith, nat_tests, t)) in
+          (grind (arith, nat_tests, t)) in
           Preserves-if (is_left_in b i) b b _ (Preserves-same b)
           (Preserves-if (nat_eq i 0) b (merged 0 2 b) _ (Preserves-merged 0 2 b)
           (Preserves-if (nat_lt (cluster_at b i) (cluster_at b (i - 1))) b back b handed (Preserves-same b)))
@@ -155,7 +161,7 @@ several-preserves l list at b =
     Preserves-then b first (copies_put l list at item n first)
     (Preserves-put at _ b (like-apart l (listed_at l.table.now list 0) 0 item))
     (Preserves-times (λ (s : Copying). s.buffer) (copy_put l list at item) (copy_put-preserves l list at item) n
-        (record { buffer = first; k = n }))
+    (record { buffer = first; k = n }))
 
 list-preserves : (l : Lookup) (list at : ℕ) (b : Buffer) → Preserves b (list_put l list at b)
 list-preserves l list at b =
@@ -178,7 +184,7 @@ multiple-preserves l start spot b =
 between-preserves : (own : Bool) (id : ℕ) (s : Joined) → Preserves s.buffer (between_stays own id s).buffer
 between-preserves own id s =
     Preserves-if own s.buffer _ s.buffer (Preserves-put s.walk.at _ s.buffer (record { cluster = refl; mask = refl }))
-        (Preserves-same s.buffer)
+    (Preserves-same s.buffer)
 
 joined-if : (t : Bool) (a : Buffer) (x y : Joined) → Preserves a x.buffer → Preserves a y.buffer → Preserves a (if t then x else y).buffer
 joined-if true a x y k m = k
@@ -188,7 +194,7 @@ join_step-preserves : (l : Lookup) (made : Ligation) (s : Joined) → Preserves 
 join_step-preserves l made s =
     joined-if (is_inside s.walk.at s.buffer) s.buffer _ s
     (joined-if (stays l made s) s.buffer (between_stays made.own made.id s) (component_gone s)
-        (between-preserves made.own made.id s) (Preserves-taken_out s.walk.at s.buffer))
+    (between-preserves made.own made.id s) (Preserves-taken_out s.walk.at s.buffer))
     (Preserves-same s.buffer)
 
 follow_step-preserves : (id : ℕ) (s : Joined) → Preserves s.buffer (follow_step id s).buffer
@@ -229,7 +235,7 @@ ligature_put-preserves l spot b m =
     Preserves-then b s.buffer (ligature_put l spot b m).buffer
     (Preserves-then b given s.buffer (given-preserves made.own b) (joined-preserves l made m spot.at given))
     (Preserves-put spot.at _ s.buffer (like-ligature l made.own made.id s.walk.so_far
-        (ligature_glyph l.table.now m.ligature) (item_at s.buffer spot.at)))
+    (ligature_glyph l.table.now m.ligature) (item_at s.buffer spot.at)))
 
 ligature_made-preserves : (l : Lookup) (spot : Spot) (b : Buffer) (m : Components) → Preserves b (ligature_made l spot b m).buffer
 ligature_made-preserves l spot b m =

@@ -56,6 +56,6 @@ parted_untried at b =
 pub parted_unasked : (r : Reach) (b : Buffer) → asks_for_concat b ≡ false → parted r b ≡ b
 parted_unasked r b unasked = elim (nat_lt r.from r.to && nat_le r.to (length b.items)) as
     (λ t. (if t then unsafe_to_concat r.from r.to b else b) ≡ b) [
-  | true ↦ rw unasked refl
-  | false ↦ refl
-]
+      | true ↦ rw unasked refl
+      | false ↦ refl
+    ]

@@ -67,7 +67,7 @@ random_put-off l spot b set pure on =
     off-cond l b spot.at (nat_eq count 0) (unapplied b) (put_one l (record spot { random = state }) c glyph) (off-unapplied l b spot.at on)
     (off-made l b _ spot.at _
     (put-off l spot.at _ c (like-replaced l 0 glyph (item_at c spot.at)).mask (same-on l b c spot.at pure same on)
-        ∙ same-off l b c pure same))
+    ∙ same-off l b c pure same))
 
 alternate-off : (l : Lookup) (start : ℕ) (spot : Spot) (b : Buffer) → HasNoFlag l → on_at l b spot.at ≡ true
     → Off l b spot.at (alternate_applied l start spot b)
@@ -76,7 +76,7 @@ alternate-off l start spot b pure on =
     off-cond l b spot.at (is_random l item) (random_applied l start spot b) _
     (off-option l b spot.at (random_put l spot b) (λ set. random_put-off l spot b set pure on) on (set_of l.table.now start item.glyph_id))
     (off-option l b spot.at (put_one l spot b) (λ glyph. put_one-off l spot b glyph on) on
-        (alternate_of l.table.now start item.glyph_id (value_of l item)))
+    (alternate_of l.table.now start item.glyph_id (value_of l item)))
 
 -- ---- several for one
 
@@ -93,7 +93,7 @@ left-same i b =
     (same-put (s.at - 1) (hand_over (item_at s.buffer s.at) (item_at s.buffer (s.at - 1))) s.buffer
     (bare-handed (item_at s.buffer s.at) (item_at s.buffer (s.at - 1)))) refl in
     let back : Same b (handed_back i b) = same-times (λ (s : Handing). s.buffer) (handed_step cluster) step i
-        (record { buffer = b; at = i }) in
+    (record { buffer = b; at = i }) in
     same-if (not (is_inside i b) || is_left_in b i) b b _ refl
     (same-if (nat_eq i 0) b (merged 0 2 b) _ (same-merged 0 2 b)
     (same-if (nat_lt (cluster_at b i) (cluster_at b (i - 1))) b (handed_back i b) b back refl))
@@ -174,8 +174,12 @@ between-going : (l : Lookup) (b : Buffer) (at : ℕ) (own : Bool) (id : ℕ) (s 
 between-going l b at own id s pure g =
     let c = (between_stays own id s).buffer in
     let same = between-same own id s in
-    record { glyphs = same-off l s.buffer c pure same ∙ g.glyphs; on = same-on l s.buffer c at pure same g.on; ahead =
-        omega (arith, g.ahead) }
+    record {
+      glyphs = same-off l s.buffer c pure same ∙ g.glyphs;
+      on = same-on l s.buffer c at pure same g.on;
+      ahead =
+          omega (arith, g.ahead);
+    }
 
 and_left : (a b : Bool) → (a && b) ≡ true → a ≡ true
 and_left true b e = refl
@@ -187,7 +191,7 @@ component-on : (l : Lookup) (made : Ligation) (s : Joined) → made.seek.is_inpu
 component-on l made s input goes =
     let item = item_at s.buffer s.walk.at in
     let fit : fits l made.seek (looked_for made s.walk) item ≡ true = by_tests (is_skipped l item)
-        (fits l made.seek (looked_for made s.walk) item) goes in
+    (fits l made.seek (looked_for made s.walk) item) goes in
     let shared : shares item.mask (if made.seek.is_input then l.mask else 0xFFFFFFFF) ≡ true = and_left _ _ (and_left _ _ fit) in
     ap (λ t. shares item.mask (if t then l.mask else 0xFFFFFFFF)) (sym input) ∙ shared
   where
@@ -204,7 +208,7 @@ gone-going l b at s inside on g =
     let out : (taken_out s.walk.at s.buffer).items ≡ remove s.buffer.items s.walk.at = rw inside refl in
     let there : item_at (taken_out s.walk.at s.buffer) at ≡ item_at s.buffer at =
     ap (λ (xs : List Item). get_or xs at (new_item 0 0)) out
-        ∙ get_or-remove_below s.buffer.items s.walk.at (new_item 0 0) at g.ahead more in
+    ∙ get_or-remove_below s.buffer.items s.walk.at (new_item 0 0) at g.ahead more in
     record {
       glyphs = taken_out-off l s.walk.at s.buffer on ∙ g.glyphs;
       on = ap (λ (x : Item). shares x.mask l.mask) there ∙ g.on;
@@ -248,7 +252,7 @@ ligature_put-off l spot b m pure on =
     } in
     let all : Going l b at (joined l made m at given) =
     followed-going l b at made _ pure (going-times l b at (join_step l made)
-        (λ s g. join_step-going l b at made s pure refl g) (m.last - at) first begun) in
+    (λ s g. join_step-going l b at made s pure refl g) (m.last - at) first begun) in
     let s = joined l made m at given in
     off-made l b _ at _ (put-off l at _ s.buffer
     (like-ligature l made.own made.id s.walk.so_far (ligature_glyph l.table.now m.ligature) (item_at s.buffer at)).mask all.on ∙ all.glyphs)
@@ -291,12 +295,12 @@ parts-off l spot (suc n) i b pure on =
     let rest : (o : Option Spot) → made.next ≡ o
     → off_glyphs l (or_else (parts_applied l spot n (suc i)) made o).buffer.items ≡ off_glyphs l b.items =
     λ o. elim o as (λ o. made.next ≡ o → off_glyphs l (or_else
-        (parts_applied l spot n (suc i)) made o).buffer.items ≡ off_glyphs l b.items) [
+    (parts_applied l spot n (suc i)) made o).buffer.items ≡ off_glyphs l b.items) [
       | Some there ↦ λ e. off.glyphs
       | None ↦ λ e. parts-off l spot n (suc i) made.buffer pure (off.on e) ∙ off.glyphs
     ] in
     elim (is_past made.buffer) as (λ t. off_glyphs l (if t then made else or_else
-        (parts_applied l spot n (suc i)) made made.next).buffer.items
+    (parts_applied l spot n (suc i)) made made.next).buffer.items
     ≡ off_glyphs l b.items) [
       | true ↦ off.glyphs
       | false ↦ rest made.next refl

@@ -67,7 +67,7 @@ same-times view f each (suc n) s = Same-then (view s) (view (times f n s)) (view
 pub same-merged : (start end : ℕ) (b : Buffer) → Same b (merged start end b)
 same-merged start end b =
     same-if (nat_le start end && nat_le end (length b.items)) b (merge_clusters start end b) b
-        (keys-merge_clusters bare IsKey-bare start end b) refl
+    (keys-merge_clusters bare IsKey-bare start end b) refl
 
 pub same-broken : (start end : ℕ) (b : Buffer) → Same b (broken start end b)
 same-broken start end b =
@@ -156,8 +156,11 @@ put-off l i item b like on = off-if l (is_inside i b) b (record b { items = slic
 pub put_after-off : (l : Lookup) (i : ℕ) (item : Item) (b : Buffer) → shares item.mask l.mask ≡ true
     → off_glyphs l (put_after i item b).items ≡ off_glyphs l b.items
 put_after-off l i item b on =
-    elim (is_inside i b) as (λ t. off_glyphs l (if t then record b { items = insert b.items (i + 1) item; positions =
-        insert b.positions (i + 1) zero_position } else b).items ≡ off_glyphs l b.items) [
+    elim (is_inside i b) as (λ t. off_glyphs l (if t then record b {
+      items = insert b.items (i + 1) item;
+      positions =
+          insert b.positions (i + 1) zero_position;
+    } else b).items ≡ off_glyphs l b.items) [
       | true ↦ insert-off l b.items (i + 1) item on
       | false ↦ refl
     ]
@@ -179,5 +182,5 @@ put-on l i j item b like on =
     ] in
     let same : (item_at put j).mask ≡ (item_at b j).mask =
     sym (get_or-map mask put.items j (new_item 0 0)) ∙ ap (λ (ms : List ℕ). get_or ms j 0) masks
-        ∙ get_or-map mask b.items j (new_item 0 0) in
+    ∙ get_or-map mask b.items j (new_item 0 0) in
     ap (λ m. shares m l.mask) same ∙ on

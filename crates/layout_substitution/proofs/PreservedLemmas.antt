@@ -29,8 +29,14 @@ pub record Preserves (b c : Buffer) : Type 0 where
   pub limit : c.length_limit ≡ b.length_limit
 
 pub Preserves-same : (b : Buffer) → Preserves b b
-Preserves-same b = record { draws = DrawsInOrder-same (clusters b.items); flags = PreservesFlags-same b; direction =
-    refl; level = refl; limit = refl }
+Preserves-same b = record {
+  draws = DrawsInOrder-same (clusters b.items);
+  flags = PreservesFlags-same b;
+  direction =
+      refl;
+  level = refl;
+  limit = refl;
+}
 
 pub Preserves-then : (a b c : Buffer) → Preserves a b → Preserves b c → Preserves a c
 Preserves-then a b c first later = record {
@@ -128,7 +134,7 @@ before-draws (x ∷ xs) (suc i) y inside same =
 
 before-some : (flag : ℕ) (xs : List Item) (i : ℕ) (y : Item) → suc i < length xs
     → has_flag flag y ≡ has_flag flag (slice_index_or xs (suc i) (new_item 0 0))
-        → some_has flag (slice_set xs i y) ≡ true → some_has flag xs ≡ true
+    → some_has flag (slice_set xs i y) ≡ true → some_has flag xs ≡ true
 before-some flag [] i y inside same some = absurd (omega (arith, inside))
 before-some flag (x ∷ []) zero y inside same some = absurd (omega (arith, inside))
 before-some flag (x ∷ z ∷ xs) zero y inside same some =
@@ -137,7 +143,7 @@ before-some flag (x ∷ z ∷ xs) zero y inside same some =
     (or_twice (has_flag flag y) (has_flag flag z) (some_has flag xs) (sym same) some))
 before-some flag (x ∷ xs) (suc i) y inside same some =
     or_left (has_flag flag x) (some_has flag (slice_set xs i y)) (some_has flag xs)
-        (before-some flag xs i y (omega (arith, inside)) same) some
+    (before-some flag xs i y (omega (arith, inside)) same) some
 
 -- a flag of an item that took the cluster of another one is a flag of that one
 hand_over-flag : (picked x : Item) (flag : ℕ) → IsDefinedFlag flag → bit_and (hand_over picked x).mask flag ≡ bit_and picked.mask flag
@@ -243,8 +249,11 @@ pub Preserves-put_after : (i : ℕ) (item : Item) (b : Buffer) → IsLike (item_
 Preserves-put_after i item b like =
     let e : suc i ≡ i + 1 = omega arith in
     let P : Bool → Type 0 = λ t. is_inside i b ≡ t
-    → Preserves b (if t then record b { items = insert b.items (i + 1) item; positions = insert b.positions
-        (i + 1) zero_position } else b) in
+    → Preserves b (if t then record b {
+      items = insert b.items (i + 1) item;
+      positions = insert b.positions
+          (i + 1) zero_position;
+    } else b) in
     let cases : P (is_inside i b) = elim (is_inside i b) as P [
       | true ↦ λ t. subst (λ k. Preserves b (record b { items = insert b.items k item; positions = insert b.positions k zero_position })) e
           (copy-preserves i item b t like)
@@ -269,7 +278,7 @@ merge-preserves start end b within =
 pub Preserves-merged : (start end : ℕ) (b : Buffer) → Preserves b (merged start end b)
 Preserves-merged start end b =
     let P : Bool → Type 0 = λ t. (nat_le start end && nat_le end (length b.items)) ≡ t
-        → Preserves b (if t then merge_clusters start end b else b) in
+    → Preserves b (if t then merge_clusters start end b else b) in
     let cases : P (nat_le start end && nat_le end (length b.items)) = elim (nat_le start end && nat_le end (length b.items)) as P [
       | true ↦ λ t. merge-preserves start end b (grind (arith, nat_tests, t))
       | false ↦ λ t. Preserves-same b
@@ -293,7 +302,7 @@ break-preserves start end b =
 pub Preserves-broken : (start end : ℕ) (b : Buffer) → Preserves b (broken start end b)
 Preserves-broken start end b =
     Preserves-if (nat_le start end && nat_le end (length b.items)) b (unsafe_to_break start end b) b
-        (break-preserves start end b) (Preserves-same b)
+    (break-preserves start end b) (Preserves-same b)
 
 -- ---- what was looked at in vain marked unsafe to concat
 

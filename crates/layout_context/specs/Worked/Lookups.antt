@@ -92,8 +92,11 @@ clusters_of b = map (λ (x : Item). x.cluster) b.items
 
 -- after the lookup has gone over the list, with so many nested lookups left
 abbrev pub after_with : ℕ → Lookup → List Item → Buffer
-after_with left l items = (looked_up 3 l (record { buffer = list items; spot =
-    record { at = 0; random = 1; left = left; whole = 0 } })).buffer
+after_with left l items = (looked_up 3 l (record {
+  buffer = list items;
+  spot =
+      record { at = 0; random = 1; left = left; whole = 0 };
+})).buffer
 
 abbrev pub after : Lookup → List Item → Buffer
 after l items = after_with 9 l items

@@ -54,7 +54,7 @@ loop-i-preserved c =
     let many : length d.items ≡ length b.items = c.in-Ok-None.ensures.as_many none in
     let limit : limit_of d ≡ limit_of b = c.in-Ok-None.ensures.limit none in
     let within : IsWithinLimit d = subst (λ k. length d.items ≤ k) (sym limit)
-        (subst (λ k. k ≤ limit_of b) (sym many) c.loop-i.invariant.within) in
+    (subst (λ k. k ≤ limit_of b) (sym many) c.loop-i.invariant.within) in
     let left : d ≡ (part_applied l i spot b).buffer = c.in-Ok-None.ensures.made in
     record {
       inside = subst (λ k. spot.at < k) (sym many) c.loop-i.invariant.inside;
