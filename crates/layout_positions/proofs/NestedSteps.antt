@@ -1,22 +1,24 @@
 -- what a lookup that names no other keeps, nested lookups and whole walks keep
 use Prim.Native.Nat.{zero}
-use Rattle.std.proofs.Common.{ℕ, suc, ◌+◌, ◌-◌, Bool, true, false, List, [], ◌∷◌, Option, Some, None, fold, length, nat_eq, nat_lt, if◌then◌else◌}
+use Rattle.std.proofs.Common.{◌≡◌, ℕ, suc, ◌+◌, ◌-◌, Bool, true, false, List, [], ◌∷◌, Option, Some, None, fold, length, nat_eq, nat_lt, if◌then◌else◌}
 use Rattle.std.specs.Option.{option_map_or}
 use Rattle.shape_items.specs.Buffer.{Buffer}
 use Rattle.layout_matching.specs.Found.{found_of, is_context}
 use Rattle.layout_matching.specs.Loops.{times}
 use Rattle.layout_matching.specs.Skipping.{nth, is_on}
+use Rattle.layout_matching.specs.Tried.{reach_of}
 use Rattle.layout_matching.specs.declared.found.Found.{Found}
 use Rattle.layout_matching.specs.declared.lookup.Lookup.{Lookup}
 use Rattle.layout_matching.specs.declared.rules.Rule.{Rule}
-use Rattle.layout_positions.specs.Edits.{broken}
-use Rattle.layout_positions.specs.Nested.{named_place, named_lookup, Nest, skipped, record_at_place, record_for, record_step, rule_placed, level_placed, LEVELS, nested_placed}
+use Rattle.layout_positions.specs.Edits.{broken, parted}
+use Rattle.layout_positions.specs.Nested.{named_place, named_lookup, Nest, skipped, record_at_place, record_for, record_step, rule_placed, origin_at, tried_parted, first_rule_placed, level_placed, LEVELS, nested_placed}
 use Rattle.layout_positions.specs.Subtables.{Placing, unplaced, lookup_placed}
 use Rattle.layout_positions.specs.Walk.{Walk, lookup_step, Budgeted, first_walk, lookup_applied, budgeted, positioned}
 use Rattle.layout_positions.specs.declared.bases.BaseSeen.{BaseSeen}
 
 module _ (P : Buffer → Buffer → Type 0) (same : (b : Buffer) → P b b) (after : (a b c : Buffer) → P a b → P b c → P a c)
     (by_break : (start end : ℕ) (b : Buffer) → P b (broken start end b))
+    (by_part : (start end : ℕ) (b : Buffer) → P b (parted start end b))
     (by_lookup : (l : Lookup) (i left : ℕ) (seen : BaseSeen) (b : Buffer) → P b (lookup_placed l i left seen b).buffer) where
   -- what is applied next keeps
   abbrev Preserves : (Lookup → ℕ → ℕ → BaseSeen → Buffer → Placing) → Type 0
@@ -59,7 +61,8 @@ module _ (P : Buffer → Buffer → Type 0) (same : (b : Buffer) → P b b) (aft
   step-record next preserves l at rule s =
       nest-if (nat_eq s.left 0) s.buffer (skipped s) _ (same s.buffer) (step-named next preserves l at rule s (named_lookup l rule s.r))
 
-  step-rule : (next : Lookup → ℕ → ℕ → BaseSeen → Buffer → Placing) → Preserves next → (l : Lookup) (i left : ℕ) (seen : BaseSeen) (b : Buffer)
+  step-rule : (next : Lookup → ℕ → ℕ → BaseSeen → Buffer → Placing) → Preserves next
+      → (l : Lookup) (i left : ℕ) (seen : BaseSeen) (b : Buffer)
       (found : Found) → P b (rule_placed next l i left seen b found).buffer
   step-rule next preserves l i left seen b found =
       let marked = broken found.span.start found.span.end b in
@@ -68,16 +71,29 @@ module _ (P : Buffer → Buffer → Type 0) (same : (b : Buffer) → P b b) (aft
       (step-record next preserves l i found.rule) found.rule.count
       (record { buffer = marked; seen = seen; left = left; r = 0 }))
 
-  step-found : (next : Lookup → ℕ → ℕ → BaseSeen → Buffer → Placing) → Preserves next → (l : Lookup) (i left : ℕ) (seen : BaseSeen) (b : Buffer)
+  step-found : (next : Lookup → ℕ → ℕ → BaseSeen → Buffer → Placing) → Preserves next
+      → (l : Lookup) (i left : ℕ) (seen : BaseSeen) (b : Buffer)
       (o : Option Found) → P b (option_map_or (rule_placed next l i left seen b) o (unplaced left seen b)).buffer
   step-found next preserves l i left seen b None = same b
   step-found next preserves l i left seen b (Some found) = step-rule next preserves l i left seen b found
 
-  step-level : (next : Lookup → ℕ → ℕ → BaseSeen → Buffer → Placing) → Preserves next → (l : Lookup) (i left : ℕ) (seen : BaseSeen) (b : Buffer)
+  buffer-if : (t : Bool) (b c d : Buffer) → P b c → P b d → P b (if t then c else d)
+  buffer-if true b c d x y = x
+  buffer-if false b c d x y = y
+
+  step-tried : (l : Lookup) (i : ℕ) (b : Buffer) → P b (tried_parted l i b)
+  step-tried l i b =
+      let reach = reach_of l b.items (origin_at i) in
+      buffer-if (nat_lt reach.from reach.to) b (parted reach.from reach.to b) b (by_part reach.from reach.to b) (same b)
+
+  step-level : (next : Lookup → ℕ → ℕ → BaseSeen → Buffer → Placing) → Preserves next
+      → (l : Lookup) (i left : ℕ) (seen : BaseSeen) (b : Buffer)
       → P b (level_placed next l i left seen b).buffer
   step-level next preserves l i left seen b =
-      placing-if (is_context l) b _ _
-      (step-found next preserves l i left seen b (found_of l b.items (record { at = i; is_steady = true }))) (by_lookup l i left seen b)
+      let c = tried_parted l i b in
+      placing-if (is_context l) b (first_rule_placed next l i left seen c) (lookup_placed l i left seen b)
+      (after b c (first_rule_placed next l i left seen c).buffer (step-tried l i b)
+      (step-found next preserves l i left seen c (found_of l c.items (origin_at i)))) (by_lookup l i left seen b)
 
   step-nested : (level : ℕ) (l : Lookup) (i left : ℕ) (seen : BaseSeen) (b : Buffer) → P b (nested_placed level l i left seen b).buffer
   step-nested zero l i left seen b = same b

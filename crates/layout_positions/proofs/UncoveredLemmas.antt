@@ -1,6 +1,6 @@
 -- a list that no lookup covers stays as it is
 use Prim.Native.Nat.{zero}
-use Rattle.std.proofs.Common.{◌≡◌, ℕ, suc, ◌+◌, Bool, true, false, List, [], ◌∷◌, Option, Some, None, is_some, All, fold, length, nat_eq, nat_lt, refl, sym, ap, subst, ◌∙◌, arith, ◌<◌, ◌||◌, if◌then◌else◌}
+use Rattle.std.proofs.Common.{◌≡◌, ℕ, suc, ◌+◌, ◌&&◌, Bool, true, false, List, [], ◌∷◌, Option, Some, None, is_some, All, fold, length, nat_eq, nat_lt, refl, sym, ap, subst, ◌∙◌, arith, ◌<◌, ◌||◌, if◌then◌else◌}
 use Rattle.std.proofs.lemmas.Bool.Decides.{nat_tests}
 use Rattle.std.specs.Option.{option_map_or, option_and_then}
 use Rattle.shape_font.specs.Bytes.{u16_of}
@@ -11,15 +11,19 @@ use Rattle.layout_tables.specs.declared.lookups.LookupSubtable.{LookupSubtable}
 use Rattle.layout_matching.specs.Found.{extension_kind, is_context, is_context_part, is_chained, whole_rule, is_first, found_whole, found_by_number, found_in_sets, found_in_part, found_at_part, found_of}
 use Rattle.layout_matching.specs.Loops.{times, first_some}
 use Rattle.layout_matching.specs.Skipping.{nth, is_on}
+use Rattle.layout_matching.specs.Tried.{untried, whole_reach, number_reach, sets_reach, part_reach, reach_at_part, reach_of}
+use Rattle.layout_matching.proofs.ReachLemmas.{until_untried}
 use Rattle.layout_matching.specs.declared.lookup.Lookup.{Lookup}
 use Rattle.layout_matching.specs.declared.spans.Origin.{Origin}
+use Rattle.layout_matching.specs.declared.tried.Reach.{Reach}
 use Rattle.layout_positions.specs.Anchors.{number_at}
 use Rattle.layout_positions.specs.Cursive.{entry_in, cursive_at, cursive_applied}
+use Rattle.layout_positions.specs.Edits.{parted}
 use Rattle.layout_positions.specs.Lookups.{Applied, unapplied}
 use Rattle.layout_positions.specs.Marks.{mark_base_at, mark_base_applied, mark_ligature_at, mark_ligature_applied, mark_mark_at, mark_mark_applied}
-use Rattle.layout_positions.specs.Nested.{rule_placed, level_placed, nested_placed, LEVELS}
+use Rattle.layout_positions.specs.Nested.{rule_placed, origin_at, tried_parted, first_rule_placed, level_placed, nested_placed, LEVELS}
 use Rattle.layout_positions.specs.Pairs.{single_value, single_put, single_applied, pair_at_number, has_pairs, pair_applied}
-use Rattle.layout_positions.specs.Subtables.{if_first_format, kind_applied, seen_at, Trial, part_tried, next_tried, trial_of, trial_step, Placing, unplaced, lookup_placed}
+use Rattle.layout_positions.specs.Subtables.{if_first_format, kind_applied, seen_at, Trial, part_tried, next_tried, trial_of, trial_step, lookup_tried, Placing, unplaced, lookup_placed}
 use Rattle.layout_positions.specs.Uncovered.{is_listed_at, rule_lists, part_lists, IsUnlisted, IsUncovered}
 use Rattle.layout_positions.specs.Walk.{Walk, gone_on, lookup_step, Budgeted, first_walk, lookup_applied, budgeted, positioned}
 use Rattle.layout_positions.specs.declared.bases.BaseSeen.{BaseSeen}
@@ -56,8 +60,8 @@ kind-un l part base i b none =
     (same-if (nat_eq part.kind 6) _ _ _ (format-un l s b _ on_mark) refl)))))
 
 -- contexts have their own kinds
-kind-context : (l : Lookup) (part : LookupSubtable) (base : Option ℕ) (i : ℕ) (b : Buffer) → l.positioning ≡ true → is_context_part l part ≡ true
-    → kind_applied l part base i b ≡ unapplied b
+kind-context : (l : Lookup) (part : LookupSubtable) (base : Option ℕ) (i : ℕ) (b : Buffer) → l.positioning ≡ true
+    → is_context_part l part ≡ true → kind_applied l part base i b ≡ unapplied b
 kind-context l part base i b gpos is =
     let kinds : (nat_eq part.kind 7 || nat_eq part.kind 8) ≡ true =
     subst (λ t. (nat_eq part.kind (if t then 7 else 5) || nat_eq part.kind (if t then 8 else 6)) ≡ true) gpos is in
@@ -83,7 +87,8 @@ part-un l b i gpos un k part is base = by_kind (is_context_part l part) refl (un
         → (if t then rule_lists l part (nth b.items i).glyph_id else is_listed_at l part (nth b.items i).glyph_id) ≡ false
         → kind_applied l part base i b ≡ unapplied b
     by_kind true is none = kind-context l part base i b gpos is
-    by_kind false is none = kind-un l part base i b (none_of (number_at l.table.now part.start (part.start + 2) (nth b.items i).glyph_id) none)
+    by_kind false is none = kind-un l part base i b
+        (none_of (number_at l.table.now part.start (part.start + 2) (nth b.items i).glyph_id) none)
 
 -- ---- a lookup at a place
 
@@ -139,7 +144,8 @@ rules-un l items origin part out = by_kind (is_context_part l part) refl out
 
     by_kind : (t : Bool) → is_context_part l part ≡ t
         → (if t then rule_lists l part (nth items origin.at).glyph_id else is_listed_at l part (nth items origin.at).glyph_id) ≡ false
-        → (if t then (if nat_eq (u16_of l.table.now part.start) 3 then found_whole l items origin part else found_in_sets l items origin part) else None) ≡ None
+        → (if t then (if nat_eq (u16_of l.table.now part.start) 3 then found_whole l items origin part else found_in_sets l items origin part)
+        else None) ≡ None
     by_kind true is none = by_format (nat_eq (u16_of l.table.now part.start) 3) none
     by_kind false is none = refl
 
@@ -150,7 +156,8 @@ at_part-un l items origin k gpos un =
     ap (λ kind. option_and_then (found_in_part l items origin) (subtable_of l.table.now kind l.place k)) far
     ∙ by_part (subtable_of l.table.now 9 l.place k) refl
   where
-    by_part : (o : Option LookupSubtable) → subtable_of l.table.now 9 l.place k ≡ o → option_and_then (found_in_part l items origin) o ≡ None
+    by_part : (o : Option LookupSubtable) → subtable_of l.table.now 9 l.place k ≡ o
+        → option_and_then (found_in_part l items origin) o ≡ None
     by_part None e = refl
     by_part (Some part) e = rules-un l items origin part (un k part e)
 
@@ -158,6 +165,49 @@ found-un : (l : Lookup) (items : List Item) (origin : Origin) → l.positioning 
     → found_of l items origin ≡ None
 found-un l items origin gpos un =
     first_some_none (found_at_part l items origin) (λ k. at_part-un l items origin k gpos un) (subtable_count_of l.table.now l.place) 0
+
+-- ---- what rules look at in vain
+
+reach_in-un : (l : Lookup) (items : List Item) (origin : Origin) (part : LookupSubtable)
+    → part_lists l part (nth items origin.at).glyph_id ≡ false → part_reach l items origin part ≡ untried origin.at
+reach_in-un l items origin part out = by_kind (is_context_part l part) refl out
+  where
+    by_format : (t : Bool)
+        → (if t then is_first l.table.now part.start (whole_rule l.table.now (is_chained l part) part.start) (nth items origin.at).glyph_id
+        else is_listed_at l part (nth items origin.at).glyph_id) ≡ false
+        → (if t then whole_reach l items origin part else sets_reach l items origin part) ≡ untried origin.at
+    by_format true none = rw none refl
+    by_format false none = ap (λ o. option_map_or (number_reach l items origin part) o (untried origin.at))
+        (none_of (number_at l.table.now part.start (part.start + 2) (nth items origin.at).glyph_id) none)
+
+    by_kind : (t : Bool) → is_context_part l part ≡ t
+        → (if t then rule_lists l part (nth items origin.at).glyph_id else is_listed_at l part (nth items origin.at).glyph_id) ≡ false
+        → (if t then (if nat_eq (u16_of l.table.now part.start) 3 then whole_reach l items origin part else sets_reach l items origin part)
+        else untried origin.at) ≡ untried origin.at
+    by_kind true is none = by_format (nat_eq (u16_of l.table.now part.start) 3) none
+    by_kind false is none = refl
+
+reach_at-un : (l : Lookup) (items : List Item) (origin : Origin) (k : ℕ) → l.positioning ≡ true → IsUnlisted l (nth items origin.at).glyph_id
+    → reach_at_part l items origin k ≡ untried origin.at
+reach_at-un l items origin k gpos un =
+    let far : extension_kind l ≡ 9 = ap (λ t. if t then 9 else 7) gpos in
+    ap (λ kind. option_map_or (part_reach l items origin) (subtable_of l.table.now kind l.place k) (untried origin.at)) far
+    ∙ by_part (subtable_of l.table.now 9 l.place k) refl
+  where
+    by_part : (o : Option LookupSubtable) → subtable_of l.table.now 9 l.place k ≡ o
+        → option_map_or (part_reach l items origin) o (untried origin.at) ≡ untried origin.at
+    by_part None e = refl
+    by_part (Some part) e = reach_in-un l items origin part (un k part e)
+
+tried-still : (i : ℕ) (b : Buffer) (reach : Reach) → reach ≡ untried i → (if nat_lt reach.from reach.to then parted reach.from reach.to b else b) ≡ b
+tried-still i b reach is =
+    let none : nat_lt i i ≡ false = grind (arith, nat_tests) in
+    ap (λ (r : Reach). if nat_lt r.from r.to then parted r.from r.to b else b) is ∙ ap (λ t. if t then parted i i b else b) none
+
+tried-none : (l : Lookup) (i : ℕ) (b : Buffer) → l.positioning ≡ true → IsUnlisted l (nth b.items i).glyph_id → tried_parted l i b ≡ b
+tried-none l i b gpos un = tried-still i b (reach_of l b.items (origin_at i))
+    (until_untried (reach_at_part l b.items (origin_at i)) i (λ k. reach_at-un l b.items (origin_at i) k gpos un)
+    (subtable_count_of l.table.now l.place) 0)
 
 -- ---- levels
 
@@ -173,8 +223,9 @@ unplaced-if b false x y k m = m
 level-un : (next : Lookup → ℕ → ℕ → BaseSeen → Buffer → Placing) (l : Lookup) (i left : ℕ) (seen : BaseSeen) (b : Buffer)
     → l.positioning ≡ true → IsUnlisted l (nth b.items i).glyph_id → IsUnplaced b (level_placed next l i left seen b)
 level-un next l i left seen b gpos un =
-    let origin : Origin = record { at = i; is_steady = true } in
-    let is = ap (λ o. option_map_or (rule_placed next l i left seen b) o (unplaced left seen b)) (found-un l b.items origin gpos un) in
+    let is : first_rule_placed next l i left seen (tried_parted l i b) ≡ unplaced left seen b =
+    ap (first_rule_placed next l i left seen) (tried-none l i b gpos un)
+    ∙ ap (λ o. option_map_or (rule_placed next l i left seen b) o (unplaced left seen b)) (found-un l b.items (origin_at i) gpos un) in
     let still = times-un l b i gpos un (subtable_count_of l.table.now l.place) (record { buffer = b; next = None; seen = seen; part = 0 })
     (record { buffer = refl; next = refl }) in
     unplaced-if b (is_context l) _ (lookup_placed l i left seen b)
@@ -199,7 +250,8 @@ step-un l b un s is =
     walk-if b (nat_lt s.at (length s.buffer.items)) _ s
     (λ t.
     let inside : s.at < length b.items = grind (arith, nat_tests, ap (λ (c : Buffer). nat_lt s.at (length c.items)) (sym is) ∙ t) in
-    walk-if b (is_on l (nth s.buffer.items s.at)) (gone_on s.at (nested_placed LEVELS l s.at s.left s.seen s.buffer)) (record s { at = s.at + 1 })
+    walk-if b (is_on l (nth s.buffer.items s.at)) (gone_on s.at (nested_placed LEVELS l s.at s.left s.seen s.buffer))
+    (record s { at = s.at + 1 })
     (λ t. ap (λ (c : Buffer). (nested_placed LEVELS l s.at s.left s.seen c).buffer) is
     ∙ (nested-un LEVELS l s.at s.left s.seen b un.positioning (un.glyphs s.at inside)).buffer) is)
     is

@@ -12,10 +12,12 @@ use Rattle.layout_matching.specs.Loops.{times}
 use Rattle.layout_matching.specs.Nesting.{lookup_with, record_at}
 use Rattle.layout_matching.specs.Seeking.{last_after}
 use Rattle.layout_matching.specs.Skipping.{nth}
+use Rattle.layout_matching.specs.Tried.{reach_of}
 use Rattle.layout_matching.specs.declared.found.Found.{Found}
 use Rattle.layout_matching.specs.declared.lookup.Lookup.{Lookup}
 use Rattle.layout_matching.specs.declared.rules.Rule.{Rule}
-use Rattle.layout_positions.specs.Edits.{broken}
+use Rattle.layout_matching.specs.declared.spans.Origin.{Origin}
+use Rattle.layout_positions.specs.Edits.{broken, parted}
 use Rattle.layout_positions.specs.Subtables.{Placing, unplaced, lookup_placed}
 use Rattle.layout_positions.specs.declared.bases.BaseSeen.{BaseSeen}
 
@@ -65,10 +67,20 @@ rule_placed next l i left seen b found =
     (record { buffer = broken found.span.start found.span.end b; seen = seen; left = left; r = 0 }) in
     record { buffer = s.buffer; next = Some (found.span.last + 1); seen = s.seen; left = s.left }
 
+abbrev pub origin_at : ℕ → Origin
+origin_at i = record { at = i; is_steady = true }
+
+-- what rules looked at in vain, up to the first that matches, is unsafe to concat
+abbrev pub tried_parted : Lookup → ℕ → Buffer → Buffer
+tried_parted l i b = let reach = reach_of l b.items (origin_at i) in
+    (if nat_lt reach.from reach.to then parted reach.from reach.to b else b)
+
+abbrev pub first_rule_placed : (Lookup → ℕ → ℕ → BaseSeen → Buffer → Placing) → Lookup → ℕ → ℕ → BaseSeen → Buffer → Placing
+first_rule_placed next l i left seen b =
+    option_map_or (rule_placed next l i left seen b) (found_of l b.items (origin_at i)) (unplaced left seen b)
+
 abbrev pub level_placed : (Lookup → ℕ → ℕ → BaseSeen → Buffer → Placing) → Lookup → ℕ → ℕ → BaseSeen → Buffer → Placing
-level_placed next l i left seen b =
-    if is_context l
-    then option_map_or (rule_placed next l i left seen b) (found_of l b.items (record { at = i; is_steady = true })) (unplaced left seen b)
+level_placed next l i left seen b = if is_context l then first_rule_placed next l i left seen (tried_parted l i b)
     else lookup_placed l i left seen b
 
 -- so many levels of lookups, each named by the one above

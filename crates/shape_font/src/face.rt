@@ -24,6 +24,8 @@ use crate::{cmap, metrics, names, variations};
 use shape_buffer::wrapping::{half, sum};
 use shape_buffer::{GlyphId, hb_font_t, hb_glyph_extents_t, hb_tables_t};
 
+mod lines;
+
 /// A face over the bytes of an OpenType or TrueType file, in its units. A table that the file lacks reads as an empty
 /// one. A font whose outlines stand in another table than `glyf` (`CFF`) has no boxes.
 #[derive(Clone, Copy)]

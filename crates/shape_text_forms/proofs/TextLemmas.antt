@@ -4,7 +4,7 @@ use Rattle.std.specs.Prelude.{Some, None}
 use Rattle.std.specs.Str.{IsUtf8, is_utf8}
 use Rattle.std.proofs.lemmas.Str.{IsUtf8-from_is_utf8, is_utf8-from_IsUtf8}
 use Rattle.std.proofs.lemmas.Bool.{false_from_ne_true}
-use Rattle.fontshape.specs.Names.{text_of}
+use Rattle.shape_text_forms.specs.FontNames.{text_of}
 
 pub text_of_utf8 : (bytes : List ℕ) → IsUtf8 bytes → text_of bytes ≡ Some bytes
 text_of_utf8 bytes utf8 = rw (is_utf8-from_IsUtf8 bytes utf8) refl

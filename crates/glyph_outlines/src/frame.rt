@@ -1,7 +1,7 @@
-//! Points of an outline, and where a part of a glyph stands.
+//! Points of an outline, and where a component of a glyph stands.
 ghost use Rattle.std.specs.Prelude.{◌≡◌, true};
 
-/// Where a part of a glyph stands: what its points are multiplied by, and moved by.
+/// Where a component of a glyph stands: what its points are multiplied by, and moved by.
 #[derive(Clone, Copy)]
 pub struct Frame {
     pub xx: f64,
@@ -13,7 +13,7 @@ pub struct Frame {
 }
 
 /// A point of an outline; `on` if the outline goes through it.
-#[derive(Clone, Copy)]
+#[derive(Clone, Copy, PartialEq, Debug)]
 pub struct Point {
     pub x: f64,
     pub y: f64,
@@ -55,7 +55,7 @@ impl Frame {
         }
     }
 
-    /// The frame of a part whose own frame is `inner`.
+    /// The frame of a component whose own frame is `inner`.
     pub fn within(&self, inner: &Frame) -> Frame {
         let origin = self.moved(inner.x, inner.y, true);
         Frame {
