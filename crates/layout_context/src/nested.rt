@@ -14,6 +14,7 @@ ghost use Rattle.layout_context.specs.Places.{renumbered, is_too_long as is_too_
 ghost use Rattle.layout_context.specs.Nested.{Nest, passed_record as passed_record_of, stopped_record as stopped_record_of, settled, nest_after, nested_spot as nested_spot_of, target_applied, record_step, first_nest, rule_applied, origin_of, tried_marked, level_applied, nested_applied};
 
 use crate::places::{is_too_long, moved_end, renumber};
+use layout_buffer::GapBuffer;
 use layout_matching::found::{Found, find, is_context};
 use layout_matching::lookup::Lookup;
 use layout_matching::nesting::{Target, places, target_at};
@@ -23,7 +24,7 @@ use layout_matching::spans::Origin;
 use layout_substitution::apply::Spot;
 use layout_substitution::edits::{asks_for_concat, break_span, next_place, part_span};
 use layout_substitution::kinds::apply_lookup;
-use shape_buffer::{ShapeError, hb_buffer_t};
+use shape_buffer::ShapeError;
 use std::alloc::Global;
 
 /// A rule of a lookup.
@@ -105,7 +106,7 @@ fn apply_target(
     alloc: Global,
     level: u32,
     there: &Target<'_>,
-    buffer: &mut hb_buffer_t,
+    buffer: &mut GapBuffer,
     places: &mut Vec<usize>,
     progress: Progress,
 ) -> Result<Progress, ShapeError>
@@ -142,7 +143,7 @@ fn apply_record(
     alloc: Global,
     level: u32,
     named: &LookupRule<'_>,
-    buffer: &mut hb_buffer_t,
+    buffer: &mut GapBuffer,
     places: &mut Vec<usize>,
     progress: Progress,
 ) -> Result<Progress, ShapeError>
@@ -171,7 +172,7 @@ fn apply_records(
     alloc: Global,
     level: u32,
     named: &LookupRule<'_>,
-    buffer: &mut hb_buffer_t,
+    buffer: &mut GapBuffer,
     places: &mut Vec<usize>,
     progress: Progress,
 ) -> Result<Progress, ShapeError>
@@ -199,7 +200,7 @@ fn apply_rule(
     alloc: Global,
     level: u32,
     lookup: &Lookup<'_>,
-    buffer: &mut hb_buffer_t,
+    buffer: &mut GapBuffer,
     spot: Spot,
     found: Found,
 ) -> Result<Option<Spot>, ShapeError>
@@ -223,7 +224,7 @@ fn apply_rule(
         stopped: false,
         r: 0,
     };
-    let mut all = places(alloc, lookup, buffer.infos(), spot.at, &found.rule)?;
+    let mut all = places(alloc, lookup, &buffer.items(), spot.at, &found.rule)?;
     break_span(buffer, found.span.start, found.span.end);
     match apply_records(alloc, level, &named, buffer, &mut all, first) {
         Err(error) => Err(error),
@@ -241,7 +242,7 @@ fn at_end(progress: Progress) -> Spot
 }
 
 /// Where a match begins.
-fn origin(spot: Spot, buffer: &hb_buffer_t) -> Origin
+fn origin(spot: Spot, buffer: &GapBuffer) -> Origin
     ensures { result ≡ origin_of spot buffer.now }
 {
     Origin {
@@ -252,7 +253,7 @@ fn origin(spot: Spot, buffer: &hb_buffer_t) -> Origin
 
 /// Marks what the rules of a lookup looked at in vain unsafe to concat, up to the first that matches, if the buffer asks for that.
 #[tactic(auto, using(layout_substitution::proofs::EditLemmas::parted_unasked))]
-fn mark_tried(lookup: &Lookup<'_>, buffer: &mut hb_buffer_t, spot: Spot)
+fn mark_tried(lookup: &Lookup<'_>, buffer: &mut GapBuffer, spot: Spot)
     requires near { lookup.now.place < 2 ^ 17 }
     requires inside { spot.at < length buffer.old.items }
     ensures made { buffer.new ≡ tried_marked lookup.now spot buffer.old }
@@ -262,7 +263,7 @@ fn mark_tried(lookup: &Lookup<'_>, buffer: &mut hb_buffer_t, spot: Spot)
     if !asks_for_concat(buffer) {
         return;
     }
-    let reach = reach_at(lookup, buffer.infos(), origin(spot, buffer));
+    let reach = reach_at(lookup, &buffer.items(), origin(spot, buffer));
     part_span(buffer, reach);
 }
 
@@ -274,7 +275,7 @@ pub fn apply_nested(
     alloc: Global,
     level: u32,
     lookup: &Lookup<'_>,
-    buffer: &mut hb_buffer_t,
+    buffer: &mut GapBuffer,
     spot: Spot,
 ) -> Result<Option<Spot>, ShapeError>
     requires near { lookup.now.place < 2 ^ 17 }
@@ -295,7 +296,7 @@ fn apply_level(
     alloc: Global,
     level: u32,
     lookup: &Lookup<'_>,
-    buffer: &mut hb_buffer_t,
+    buffer: &mut GapBuffer,
     spot: Spot,
 ) -> Result<Option<Spot>, ShapeError>
     requires near { lookup.now.place < 2 ^ 17 }
@@ -312,7 +313,7 @@ fn apply_level(
         return apply_lookup(lookup, buffer, spot);
     }
     mark_tried(lookup, buffer, spot);
-    match find(lookup, buffer.infos(), origin(spot, buffer)) {
+    match find(lookup, &buffer.items(), origin(spot, buffer)) {
         Some(found) => apply_rule(alloc, level, lookup, buffer, spot, found),
         None => Ok(None),
     }

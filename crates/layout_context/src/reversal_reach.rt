@@ -7,23 +7,22 @@ ghost use Rattle.layout_context.specs.Reverse.{reversal_after_reach, reversal_re
 ghost use Rattle.layout_context.specs.Reverse.{reversal_reach_in, reversal_reach as reversal_reach_all};
 
 use crate::reverse::reverse_rule;
+use layout_buffer::{GapBuffer, ItemList};
 use layout_matching::found::{number_in, part_at};
 use layout_matching::lookup::Lookup;
 use layout_matching::rules::Rule;
 use layout_matching::seeking::{last_after, last_before};
-use layout_matching::skipping::item_at;
 use layout_matching::spans::seek_around;
 use layout_matching::tried::{Reach, after_end, joined, match_at, untried, vain};
 use layout_substitution::edits::{asks_for_concat, part_span};
 use layout_substitution::substitutes::count;
 use layout_tables::lookups::{LookupSubtable, subtable_count};
-use shape_buffer::{hb_buffer_t, hb_glyph_info_t};
 use shape_font::bytes::u16_at;
 
 /// How far a rule looked whose glyphs before the one at `at` are there, from `start` on.
 fn after_reach(
     lookup: &Lookup<'_>,
-    items: &[hb_glyph_info_t],
+    items: &ItemList<'_>,
     at: usize,
     rule: &Rule,
     start: usize,
@@ -31,7 +30,7 @@ fn after_reach(
     requires { at < length items.now }
     ensures { result ≡ reversal_after_reach lookup.now items.now at rule.now start }
 {
-    let seek = seek_around(lookup, &item_at(items, at), true, rule.after);
+    let seek = seek_around(lookup, &items.item(at), true, rule.after);
     let n = u32::from(rule.after.count);
     match last_after(lookup, &seek, items, n, at) {
         Some(_) => match_at(at),
@@ -42,7 +41,7 @@ fn after_reach(
 /// How far the part at `start` looked, whose list has the glyph as number `i`.
 fn reach_of_number(
     lookup: &Lookup<'_>,
-    items: &[hb_glyph_info_t],
+    items: &ItemList<'_>,
     at: usize,
     start: usize,
     i: u32,
@@ -55,7 +54,7 @@ fn reach_of_number(
     if count(lookup.table, rule.lookups) <= i {
         return untried(at);
     }
-    let seek = seek_around(lookup, &item_at(items, at), true, rule.before);
+    let seek = seek_around(lookup, &items.item(at), true, rule.before);
     match last_before(lookup, &seek, items, u32::from(rule.before.count), at) {
         Some(first) => after_reach(lookup, items, at, &rule, first),
         None => untried(at),
@@ -64,7 +63,7 @@ fn reach_of_number(
 
 fn reach_of_part(
     lookup: &Lookup<'_>,
-    items: &[hb_glyph_info_t],
+    items: &ItemList<'_>,
     at: usize,
     part: LookupSubtable,
 ) -> Reach
@@ -75,14 +74,14 @@ fn reach_of_part(
     if part.kind != 8 || u16_at(lookup.table, part.start) != 1 {
         return untried(at);
     }
-    match number_in(lookup.table, part.start, item_at(items, at).glyph_id) {
+    match number_in(lookup.table, part.start, items.item(at).glyph_id) {
         Some(i) => reach_of_number(lookup, items, at, part.start, i),
         None => untried(at),
     }
 }
 
 /// How far part `i` of the lookup looked.
-fn reach_in(lookup: &Lookup<'_>, items: &[hb_glyph_info_t], at: usize, i: u32) -> Reach
+fn reach_in(lookup: &Lookup<'_>, items: &ItemList<'_>, at: usize, i: u32) -> Reach
     requires near { lookup.now.place < 2 ^ 17 }
     requires few { i < 2 ^ 16 }
     requires inside { at < length items.now }
@@ -96,7 +95,7 @@ fn reach_in(lookup: &Lookup<'_>, items: &[hb_glyph_info_t], at: usize, i: u32) -
 
 /// How far the parts of the lookup look that are tried at `at`, up to the first that matches.
 #[tactic(auto, using(layout_matching::proofs::ReachLemmas::until_next, layout_matching::proofs::ReachLemmas::until_stays, layout_matching::proofs::ReachLemmas::until_end))]
-fn reversal_reach(lookup: &Lookup<'_>, items: &[hb_glyph_info_t], at: usize) -> Reach
+fn reversal_reach(lookup: &Lookup<'_>, items: &ItemList<'_>, at: usize) -> Reach
     requires near { lookup.now.place < 2 ^ 17 }
     requires inside { at < length items.now }
     ensures { result ≡ reversal_reach_all lookup.now items.now at }
@@ -113,7 +112,7 @@ fn reversal_reach(lookup: &Lookup<'_>, items: &[hb_glyph_info_t], at: usize) -> 
 
 /// Marks what the lookup looked at in vain at a place unsafe to concat, if the buffer asks for that.
 #[tactic(auto, using(layout_substitution::proofs::EditLemmas::parted_unasked))]
-pub fn mark_tried(lookup: &Lookup<'_>, buffer: &mut hb_buffer_t, at: usize)
+pub fn mark_tried(lookup: &Lookup<'_>, buffer: &mut GapBuffer, at: usize)
     requires near { lookup.now.place < 2 ^ 17 }
     requires inside { at < length buffer.old.items }
     ensures made { buffer.new ≡ parted (reversal_reach_all lookup.now buffer.old.items at) buffer.old }
@@ -122,6 +121,6 @@ pub fn mark_tried(lookup: &Lookup<'_>, buffer: &mut hb_buffer_t, at: usize)
     if !asks_for_concat(buffer) {
         return;
     }
-    let reach = reversal_reach(lookup, buffer.infos(), at);
+    let reach = reversal_reach(lookup, &buffer.items(), at);
     part_span(buffer, reach);
 }

@@ -6,16 +6,16 @@ ghost use Rattle.layout_matching.specs.Loops.{times};
 ghost use Rattle.layout_context.specs.Reverse.{reverse_rule as reverse_rule_of, reversal_at as reversal_at_of, reversal_of, reversal_by as reversal_by_of, reversal_in as reversal_in_of, reversal_found, reversed_by, reversed_at, Backwards, reverse_step, reversed, is_reverse as is_reverse_of};
 
 use crate::reversal_reach::mark_tried;
+use layout_buffer::{GapBuffer, ItemList};
 use layout_matching::found::{extension_kind, first_part, number_in};
 use layout_matching::lookup::Lookup;
 use layout_matching::rules::{Row, Rule, Test};
-use layout_matching::skipping::{is_on, item_at};
+use layout_matching::skipping::is_on;
 use layout_matching::spans::{Origin, Span, span_at};
 use layout_substitution::apply::put_glyph;
 use layout_substitution::edits::{break_span, item};
 use layout_substitution::substitutes::{count, listed};
 use layout_tables::lookups::{LookupSubtable, subtable, subtable_count};
-use shape_buffer::{hb_buffer_t, hb_glyph_info_t};
 use shape_font::bytes::u16_at;
 
 /// The glyph that replaces one, and the span that was looked at, from `start` up to `end`.
@@ -73,7 +73,7 @@ fn reversal_at(table: &[u8], rule: &Rule, i: u32, span: Span) -> Option<Reversal
 /// What replaces the glyph at `at`, which has number `i` in the list of the part at `start`.
 fn reversal_by_number(
     lookup: &Lookup<'_>,
-    items: &[hb_glyph_info_t],
+    items: &ItemList<'_>,
     at: usize,
     start: usize,
     i: u32,
@@ -95,7 +95,7 @@ fn reversal_by_number(
 
 fn reversal_by(
     lookup: &Lookup<'_>,
-    items: &[hb_glyph_info_t],
+    items: &ItemList<'_>,
     at: usize,
     part: LookupSubtable,
 ) -> Option<Reversal>
@@ -106,18 +106,13 @@ fn reversal_by(
     if part.kind != 8 || u16_at(lookup.table, part.start) != 1 {
         return None;
     }
-    match number_in(lookup.table, part.start, item_at(items, at).glyph_id) {
+    match number_in(lookup.table, part.start, items.item(at).glyph_id) {
         Some(i) => reversal_by_number(lookup, items, at, part.start, i),
         None => None,
     }
 }
 
-fn reversal_in(
-    lookup: &Lookup<'_>,
-    items: &[hb_glyph_info_t],
-    at: usize,
-    i: u32,
-) -> Option<Reversal>
+fn reversal_in(lookup: &Lookup<'_>, items: &ItemList<'_>, at: usize, i: u32) -> Option<Reversal>
     requires near { lookup.now.place < 2 ^ 17 }
     requires few { i < 2 ^ 16 }
     requires inside { at < length items.now }
@@ -131,7 +126,7 @@ fn reversal_in(
 
 /// What the first part that replaces the glyph at `at` puts there.
 #[tactic(auto, using(layout_matching::proofs::LoopLemmas::first_some_next, layout_matching::proofs::LoopLemmas::first_some_found, layout_matching::proofs::LoopLemmas::first_some_end))]
-fn find_reversal(lookup: &Lookup<'_>, items: &[hb_glyph_info_t], at: usize) -> Option<Reversal>
+fn find_reversal(lookup: &Lookup<'_>, items: &ItemList<'_>, at: usize) -> Option<Reversal>
     requires near { lookup.now.place < 2 ^ 17 }
     requires inside { at < length items.now }
     ensures { result ≡ reversal_found lookup.now items.now at }
@@ -146,7 +141,7 @@ fn find_reversal(lookup: &Lookup<'_>, items: &[hb_glyph_info_t], at: usize) -> O
 
 /// Marks the span that was looked at, and puts the glyph there.
 #[tactic(auto, using(crate::proofs::ReverseLemmas::length_reversed_by))]
-fn put_reversal(lookup: &Lookup<'_>, buffer: &mut hb_buffer_t, at: usize, found: Reversal)
+fn put_reversal(lookup: &Lookup<'_>, buffer: &mut GapBuffer, at: usize, found: Reversal)
     ensures made { buffer.new ≡ reversed_by lookup.now at buffer.old found }
     ensures as_many { length buffer.new.items ≡ length buffer.old.items }
 {
@@ -156,7 +151,7 @@ fn put_reversal(lookup: &Lookup<'_>, buffer: &mut hb_buffer_t, at: usize, found:
 
 /// Replaces the glyph at `at` if the lookup is on there and a part of it matches.
 #[tactic(auto, using(crate::proofs::ReverseLemmas::length_reversed_at))]
-fn reverse_at(lookup: &Lookup<'_>, buffer: &mut hb_buffer_t, at: usize)
+fn reverse_at(lookup: &Lookup<'_>, buffer: &mut GapBuffer, at: usize)
     requires near { lookup.now.place < 2 ^ 17 }
     requires inside { at < length buffer.old.items }
     ensures made { buffer.new ≡ reversed_at lookup.now at buffer.old }
@@ -166,14 +161,14 @@ fn reverse_at(lookup: &Lookup<'_>, buffer: &mut hb_buffer_t, at: usize)
         return;
     }
     mark_tried(lookup, buffer, at);
-    if let Some(found) = find_reversal(lookup, buffer.infos(), at) {
+    if let Some(found) = find_reversal(lookup, &buffer.items(), at) {
         put_reversal(lookup, buffer, at, found);
     }
 }
 
 /// Goes over a buffer from its last item to its first.
 #[tactic(auto, using(layout_matching::proofs::LoopLemmas::times_step, crate::proofs::ReverseLemmas::buffer_of))]
-pub fn reverse(lookup: &Lookup<'_>, buffer: &mut hb_buffer_t)
+pub fn reverse(lookup: &Lookup<'_>, buffer: &mut GapBuffer)
     requires near { lookup.now.place < 2 ^ 17 }
     ensures { buffer.new ≡ reversed lookup.now buffer.old }
 {
@@ -184,7 +179,7 @@ pub fn reverse(lookup: &Lookup<'_>, buffer: &mut hb_buffer_t)
 }
 
 /// Replaces the glyph before `at`, if there is one. Returns its place.
-fn reverse_one(lookup: &Lookup<'_>, buffer: &mut hb_buffer_t, at: usize) -> usize
+fn reverse_one(lookup: &Lookup<'_>, buffer: &mut GapBuffer, at: usize) -> usize
     requires near { lookup.now.place < 2 ^ 17 }
     requires inside { at ≤ length buffer.old.items }
     ensures step { record { buffer = buffer.new; at = result }

@@ -1,5 +1,5 @@
 //! Lookups over a buffer, nested ones included, and stages of lookups.
-ghost use Rattle.std.specs.Prelude.{◌≡◌, ◌<◌, ◌^◌, length, true, IfOk, IsErrOf, OnOk, All};
+ghost use Rattle.std.specs.Prelude.{◌≡◌, ◌<◌, ◌^◌, length, true, IfOk, IsErrOf, IsOkUnless, OnOk, All};
 ghost use Rattle.shape_buffer.specs.Outcome.{IsWithinLimit, Outcome, step};
 ghost use Rattle.shape_buffer.specs.declared.buffer.error.ShapeError.TheVariants.{Length};
 ghost use Rattle.layout_substitution.specs.Edits.{is_past};
@@ -8,6 +8,7 @@ ghost use Rattle.layout_context.specs.Stages.{next_spot as next_spot_of, lookup_
 
 use crate::nested::apply_nested;
 use crate::reverse::{is_reverse, reverse};
+use layout_buffer::GapBuffer;
 use layout_matching::lookup::Lookup;
 use layout_matching::skipping::is_on;
 use layout_substitution::apply::Spot;
@@ -38,7 +39,7 @@ fn step_on(
     alloc: Global,
     levels: u32,
     lookup: &Lookup<'_>,
-    buffer: &mut hb_buffer_t,
+    buffer: &mut GapBuffer,
     spot: Spot,
 ) -> Result<Spot, ShapeError>
     requires near { lookup.now.place < 2 ^ 17 }
@@ -67,7 +68,7 @@ fn walk(
     alloc: Global,
     levels: u32,
     lookup: &Lookup<'_>,
-    buffer: &mut hb_buffer_t,
+    buffer: &mut GapBuffer,
     spot: Spot,
 ) -> Result<Spot, ShapeError>
     requires near { lookup.now.place < 2 ^ 17 }
@@ -96,7 +97,7 @@ fn look_up(
     alloc: Global,
     levels: u32,
     lookup: &Lookup<'_>,
-    buffer: &mut hb_buffer_t,
+    buffer: &mut GapBuffer,
     spot: Spot,
 ) -> Result<Spot, ShapeError>
     requires near { lookup.now.place < 2 ^ 17 }
@@ -125,7 +126,7 @@ fn look_all_up(
     alloc: Global,
     levels: u32,
     lookups: &[Lookup<'_>],
-    buffer: &mut hb_buffer_t,
+    buffer: &mut GapBuffer,
 ) -> Result<(), ShapeError>
     requires near { All HasPlace lookups.now }
     ensures ok { OnOk result (buffer.new ≡ stage_made levels lookups.now buffer.old) }
@@ -157,6 +158,37 @@ fn within_limit(buffer: &hb_buffer_t) -> Result<(), ShapeError>
     Ok(())
 }
 
+/// Gives the buffer its items back, in one slice again.
+fn put_back(walk: GapBuffer, buffer: &mut hb_buffer_t) -> Result<(), ShapeError>
+    ensures ok { OnOk result (buffer.new ≡ walk) }
+    ensures memory { IsOkUnless result ShapeError.Memory }
+{
+    let (edited, outcome) = walk.close();
+    *buffer = edited;
+    outcome
+}
+
+/// Lookups one after the other, over a buffer that edits in linear time.
+fn edit_all(
+    alloc: Global,
+    levels: u32,
+    lookups: &[Lookup<'_>],
+    buffer: &mut hb_buffer_t,
+) -> Result<(), ShapeError>
+    requires near { All HasPlace lookups.now }
+    ensures ok { OnOk result (buffer.new ≡ stage_made levels lookups.now buffer.old) }
+    ensures length { IsErrOf result Length → is_past (stage_made levels lookups.now buffer.old) ≡ true }
+{
+    let mut walk = GapBuffer::open(alloc, buffer);
+    match look_all_up(alloc, levels, lookups, &mut walk) {
+        Err(error) => {
+            *buffer = walk.abandon();
+            Err(error)
+        }
+        Ok(()) => put_back(walk, buffer),
+    }
+}
+
 /// A stage of substitution with so many levels of lookups.
 fn substitute_within(
     alloc: Global,
@@ -168,7 +200,7 @@ fn substitute_within(
     requires within { IsWithinLimit buffer.old }
     ensures { Outcome (step (stage_made levels lookups.now)) buffer.old buffer.new result }
 {
-    match look_all_up(alloc, levels, lookups, buffer) {
+    match edit_all(alloc, levels, lookups, buffer) {
         Err(error) => Err(error),
         Ok(()) => within_limit(buffer),
     }

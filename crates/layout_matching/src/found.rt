@@ -7,13 +7,12 @@ ghost use Rattle.layout_matching.specs.Found.{context_kind as context_kind_of, c
 
 use crate::lookup::Lookup;
 use crate::rules::{FAR, Rule, Test, chain, is_inside, plain, rule_at, rules};
-use crate::skipping::item_at;
 use crate::spans::{Origin, Span, span_at};
+use layout_buffer::ItemList;
 use layout_tables::classes::class;
 use layout_tables::coverage::{coverage_index, covers};
 use layout_tables::lookups::{LookupSubtable, subtable, subtable_count};
 use layout_tables::offsets::offset16;
-use shape_buffer::hb_glyph_info_t;
 use shape_font::bytes::{records, u16_at};
 
 /// A rule, and where it stands.
@@ -57,12 +56,7 @@ pub(crate) fn is_context_part(lookup: &Lookup<'_>, part: LookupSubtable) -> bool
 }
 
 /// The rule, if the table has all of its bytes, and it matches.
-fn found_if(
-    lookup: &Lookup<'_>,
-    items: &[hb_glyph_info_t],
-    origin: Origin,
-    rule: Rule,
-) -> Option<Found>
+fn found_if(lookup: &Lookup<'_>, items: &ItemList<'_>, origin: Origin, rule: Rule) -> Option<Found>
     requires { origin.at < length items.now }
     ensures value { result ≡ found_if_of lookup.now items.now origin rule }
     ensures last { IfSome result (λ f. f.span.last < length items.now) }
@@ -104,7 +98,7 @@ pub(crate) fn is_first(table: &[u8], start: usize, rule: &Rule, glyph: u32) -> b
 
 fn found_whole(
     lookup: &Lookup<'_>,
-    items: &[hb_glyph_info_t],
+    items: &ItemList<'_>,
     origin: Origin,
     part: LookupSubtable,
 ) -> Option<Found>
@@ -114,7 +108,7 @@ fn found_whole(
     ensures last { IfSome result (λ f. f.span.last < length items.now) }
 {
     let rule = whole_rule(lookup.table, is_chained(lookup, part), part.start);
-    let glyph = item_at(items, origin.at).glyph_id;
+    let glyph = items.item(origin.at).glyph_id;
     if is_first(lookup.table, part.start, &rule, glyph) {
         found_if(lookup, items, origin, rule)
     } else {
@@ -198,7 +192,7 @@ pub(crate) fn rule_by(table: &[u8], is_chain: bool, start: usize, at: usize) -> 
 /// Rule `r` of those at `set`, if it matches.
 fn found_rule(
     lookup: &Lookup<'_>,
-    items: &[hb_glyph_info_t],
+    items: &ItemList<'_>,
     origin: Origin,
     part: LookupSubtable,
     set: usize,
@@ -224,7 +218,7 @@ fn found_rule(
 #[tactic(auto, using(crate::proofs::LoopLemmas::first_some_next, crate::proofs::LoopLemmas::first_some_found, crate::proofs::LoopLemmas::first_some_end))]
 fn found_in_set(
     lookup: &Lookup<'_>,
-    items: &[hb_glyph_info_t],
+    items: &ItemList<'_>,
     origin: Origin,
     part: LookupSubtable,
     set: usize,
@@ -250,7 +244,7 @@ fn found_in_set(
 
 fn found_by_number(
     lookup: &Lookup<'_>,
-    items: &[hb_glyph_info_t],
+    items: &ItemList<'_>,
     origin: Origin,
     part: LookupSubtable,
     number: u32,
@@ -260,7 +254,7 @@ fn found_by_number(
     ensures value { result ≡ found_by_number_of lookup.now items.now origin part number }
     ensures last { IfSome result (λ f. f.span.last < length items.now) }
 {
-    let glyph = item_at(items, origin.at).glyph_id;
+    let glyph = items.item(origin.at).glyph_id;
     let is_chain = is_chained(lookup, part);
     match set_for(lookup.table, is_chain, part.start, glyph, number) {
         Some(set) => found_in_set(lookup, items, origin, part, set),
@@ -279,7 +273,7 @@ pub fn number_in(table: &[u8], start: usize, glyph: u32) -> Option<u32>
 
 fn found_in_sets(
     lookup: &Lookup<'_>,
-    items: &[hb_glyph_info_t],
+    items: &ItemList<'_>,
     origin: Origin,
     part: LookupSubtable,
 ) -> Option<Found>
@@ -288,7 +282,7 @@ fn found_in_sets(
     ensures value { result ≡ found_in_sets_of lookup.now items.now origin part }
     ensures last { IfSome result (λ f. f.span.last < length items.now) }
 {
-    let glyph = item_at(items, origin.at).glyph_id;
+    let glyph = items.item(origin.at).glyph_id;
     match number_in(lookup.table, part.start, glyph) {
         Some(i) => found_by_number(lookup, items, origin, part, i),
         None => None,
@@ -297,7 +291,7 @@ fn found_in_sets(
 
 fn found_in_part(
     lookup: &Lookup<'_>,
-    items: &[hb_glyph_info_t],
+    items: &ItemList<'_>,
     origin: Origin,
     part: LookupSubtable,
 ) -> Option<Found>
@@ -317,12 +311,7 @@ fn found_in_part(
 }
 
 /// The rule of part `i` that matches.
-fn found_at_part(
-    lookup: &Lookup<'_>,
-    items: &[hb_glyph_info_t],
-    origin: Origin,
-    i: u32,
-) -> Option<Found>
+fn found_at_part(lookup: &Lookup<'_>, items: &ItemList<'_>, origin: Origin, i: u32) -> Option<Found>
     requires near { lookup.now.place < 2 ^ 17 }
     requires few { i < 2 ^ 16 }
     requires inside { origin.at < length items.now }
@@ -337,7 +326,7 @@ fn found_at_part(
 
 /// The first rule of the first part that has one which matches at `origin`.
 #[tactic(auto, using(crate::proofs::LoopLemmas::first_some_next, crate::proofs::LoopLemmas::first_some_found, crate::proofs::LoopLemmas::first_some_end))]
-pub fn find(lookup: &Lookup<'_>, items: &[hb_glyph_info_t], origin: Origin) -> Option<Found>
+pub fn find(lookup: &Lookup<'_>, items: &ItemList<'_>, origin: Origin) -> Option<Found>
     requires near { lookup.now.place < 2 ^ 17 }
     requires inside { origin.at < length items.now }
     ensures value { result ≡ found_of lookup.now items.now origin }

@@ -10,7 +10,8 @@ ghost use Rattle.layout_matching.specs.Input.{base_of, base_before as base_befor
 use crate::lookup::Lookup;
 use crate::rules::Row;
 use crate::seeking::{Seek, next};
-use crate::skipping::{is_skipped, item_at, syllable};
+use crate::skipping::{is_skipped, syllable};
+use layout_buffer::ItemList;
 use shape_buffer::hb_glyph_info_t;
 
 /// The most glyphs that a rule or a ligature matches.
@@ -38,15 +39,15 @@ fn base(lookup: &Lookup<'_>, id: u8, there: &hb_glyph_info_t) -> Option<bool>
 }
 
 /// The same, by the item at a place.
-fn base_at(lookup: &Lookup<'_>, items: &[hb_glyph_info_t], id: u8, i: usize) -> Option<bool>
+fn base_at(lookup: &Lookup<'_>, items: &ItemList<'_>, id: u8, i: usize) -> Option<bool>
     ensures { result ≡ base_of lookup.now id (nth items.now i) }
 {
-    base(lookup, id, &item_at(items, i))
+    base(lookup, id, &items.item(i))
 }
 
 /// The same, by the nearest glyph before `at` that shows it.
 #[tactic(auto, using(crate::proofs::LoopLemmas::first_some_next, crate::proofs::LoopLemmas::first_some_found, crate::proofs::LoopLemmas::first_some_end))]
-fn base_before(lookup: &Lookup<'_>, items: &[hb_glyph_info_t], id: u8, at: usize) -> Option<bool>
+fn base_before(lookup: &Lookup<'_>, items: &ItemList<'_>, id: u8, at: usize) -> Option<bool>
     ensures { result ≡ base_before_of lookup.now items.now id at }
 {
     for k in 0..at {
@@ -58,17 +59,17 @@ fn base_before(lookup: &Lookup<'_>, items: &[hb_glyph_info_t], id: u8, at: usize
 }
 
 /// Whether the lookup skips the base of the ligature `id` before `at`.
-fn base_is_skipped(lookup: &Lookup<'_>, items: &[hb_glyph_info_t], id: u8, at: usize) -> bool
+fn base_is_skipped(lookup: &Lookup<'_>, items: &ItemList<'_>, id: u8, at: usize) -> bool
     ensures { result ≡ base_is_skipped_of lookup.now items.now id at }
 {
     !lookup.positioning && base_before(lookup, items, id, at).unwrap_or(false)
 }
 
 /// Whether a glyph may match together with the one at `at`, by the ligatures that they belong to.
-fn joins(lookup: &Lookup<'_>, items: &[hb_glyph_info_t], at: usize, there: &hb_glyph_info_t) -> bool
+fn joins(lookup: &Lookup<'_>, items: &ItemList<'_>, at: usize, there: &hb_glyph_info_t) -> bool
     ensures { result ≡ joins_of lookup.now items.now at there.now }
 {
-    let first = item_at(items, at);
+    let first = items.item(at);
     let (id, part) = (
         first._hb_glyph_info_get_ligature_id(),
         first._hb_glyph_info_get_ligature_component(),
@@ -94,7 +95,7 @@ pub fn is_mark_glyph(there: &hb_glyph_info_t) -> bool
 /// With one glyph more, at place `j`.
 fn with_glyph_at(
     lookup: &Lookup<'_>,
-    items: &[hb_glyph_info_t],
+    items: &ItemList<'_>,
     at: usize,
     found: Matched,
     j: usize,
@@ -102,7 +103,7 @@ fn with_glyph_at(
     ensures value { result ≡ with_glyph_at_of lookup.now items.now at found j }
     ensures last { IfSome result (λ m. m.last ≡ j) }
 {
-    let there = item_at(items, j);
+    let there = items.item(j);
     if !joins(lookup, items, at, &there) {
         return None;
     }
@@ -116,7 +117,7 @@ fn with_glyph_at(
 pub(crate) fn input_step(
     lookup: &Lookup<'_>,
     seek: &Seek,
-    items: &[hb_glyph_info_t],
+    items: &ItemList<'_>,
     at: usize,
     k: u32,
     found: Matched,
@@ -136,7 +137,7 @@ pub(crate) fn input_step(
 fn all_glyphs(
     lookup: &Lookup<'_>,
     seek: &Seek,
-    items: &[hb_glyph_info_t],
+    items: &ItemList<'_>,
     at: usize,
     n: u32,
 ) -> Option<Matched>
@@ -173,7 +174,7 @@ pub fn seek_input(lookup: &Lookup<'_>, first: &hb_glyph_info_t, row: Row) -> See
 /// A row of more than `MAX_CONTEXT_LENGTH` glyphs matches nowhere.
 pub fn match_input(
     lookup: &Lookup<'_>,
-    items: &[hb_glyph_info_t],
+    items: &ItemList<'_>,
     at: usize,
     row: Row,
 ) -> Option<Matched>
@@ -184,7 +185,7 @@ pub fn match_input(
     if MAX_CONTEXT_LENGTH < row.count {
         return None;
     }
-    let seek = seek_input(lookup, &item_at(items, at), row);
+    let seek = seek_input(lookup, &items.item(at), row);
     let n = u32::from(row.count.saturating_sub(1));
     all_glyphs(lookup, &seek, items, at, n)
 }

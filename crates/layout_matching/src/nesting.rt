@@ -7,9 +7,9 @@ use crate::input::seek_input;
 use crate::lookup::Lookup;
 use crate::rules::{FAR, Rule};
 use crate::seeking::push_places;
-use crate::skipping::item_at;
+use layout_buffer::ItemList;
 use layout_tables::lookups::{lookup, mark_filtering_set};
-use shape_buffer::{ShapeError, hb_glyph_info_t};
+use shape_buffer::ShapeError;
 use shape_font::bytes::u16_at;
 use std::alloc::Global;
 
@@ -76,7 +76,7 @@ pub fn target_at<'a>(here: &Lookup<'a>, rule: &Rule, places: &[usize], r: u32) -
 pub fn places(
     alloc: Global,
     lookup: &Lookup<'_>,
-    items: &[hb_glyph_info_t],
+    items: &ItemList<'_>,
     at: usize,
     rule: &Rule,
 ) -> Result<Vec<usize>, ShapeError>
@@ -89,7 +89,7 @@ pub fn places(
         return Ok(all);
     }
     all.push(at)?;
-    let seek = seek_input(lookup, &item_at(items, at), rule.input);
+    let seek = seek_input(lookup, &items.item(at), rule.input);
     let n = u32::from(rule.input.count.saturating_sub(1));
     push_places(lookup, &seek, items, n, at, &mut all)?;
     Ok(all)

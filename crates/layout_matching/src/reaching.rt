@@ -16,17 +16,16 @@ use crate::input::match_input;
 use crate::lookup::Lookup;
 use crate::rules::{Rule, is_inside, rule_at};
 use crate::seeking::{last_after, last_before};
-use crate::skipping::item_at;
 use crate::spans::{Origin, seek_around};
 use crate::tried::{Reach, after_end, before_start, input_end, joined, match_at, untried, vain};
+use layout_buffer::ItemList;
 use layout_tables::lookups::{LookupSubtable, subtable_count};
-use shape_buffer::hb_glyph_info_t;
 use shape_font::bytes::{records, u16_at};
 
 /// How far a rule looked whose glyphs are there, and what stands after them, up to `end`.
 fn before_reach(
     lookup: &Lookup<'_>,
-    items: &[hb_glyph_info_t],
+    items: &ItemList<'_>,
     origin: Origin,
     rule: &Rule,
     end: usize,
@@ -34,7 +33,7 @@ fn before_reach(
     requires { origin.at < length items.now }
     ensures { result ≡ before_reach_of lookup.now items.now origin rule.now end }
 {
-    let first = item_at(items, origin.at);
+    let first = items.item(origin.at);
     let seek = seek_around(lookup, &first, origin.is_steady, rule.before);
     let n = u32::from(rule.before.count);
     match last_before(lookup, &seek, items, n, origin.at) {
@@ -49,7 +48,7 @@ fn before_reach(
 /// How far a rule looked whose glyphs are there, the last one at `last`.
 fn after_reach(
     lookup: &Lookup<'_>,
-    items: &[hb_glyph_info_t],
+    items: &ItemList<'_>,
     origin: Origin,
     rule: &Rule,
     last: usize,
@@ -58,7 +57,9 @@ fn after_reach(
     requires last { last < length items.now }
     ensures { result ≡ after_reach_of lookup.now items.now origin rule.now last }
 {
-    let first = item_at(items, origin.at);
+    // The list can be counted, so the place after one of its own can.
+    let _count = items.len();
+    let first = items.item(origin.at);
     let seek = seek_around(lookup, &first, last == origin.at, rule.after);
     let n = u32::from(rule.after.count);
     match last_after(lookup, &seek, items, n, last) {
@@ -74,7 +75,7 @@ fn after_reach(
 /// How far a rule looked whose glyphs aren't all there.
 fn input_reach(
     lookup: &Lookup<'_>,
-    items: &[hb_glyph_info_t],
+    items: &ItemList<'_>,
     at: usize,
     is_chain: bool,
     rule: &Rule,
@@ -91,7 +92,7 @@ fn input_reach(
 /// How far a rule looked.
 fn rule_reach(
     lookup: &Lookup<'_>,
-    items: &[hb_glyph_info_t],
+    items: &ItemList<'_>,
     origin: Origin,
     is_chain: bool,
     rule: &Rule,
@@ -111,7 +112,7 @@ fn rule_reach(
 /// How far the one rule of a part of format 3 looked.
 fn whole_reach(
     lookup: &Lookup<'_>,
-    items: &[hb_glyph_info_t],
+    items: &ItemList<'_>,
     origin: Origin,
     part: LookupSubtable,
 ) -> Reach
@@ -121,7 +122,7 @@ fn whole_reach(
 {
     let is_chain = is_chained(lookup, part);
     let rule = whole_rule(lookup.table, is_chain, part.start);
-    let glyph = item_at(items, origin.at).glyph_id;
+    let glyph = items.item(origin.at).glyph_id;
     if is_first(lookup.table, part.start, &rule, glyph) {
         rule_reach(lookup, items, origin, is_chain, &rule)
     } else {
@@ -132,7 +133,7 @@ fn whole_reach(
 /// How far rule `r` of those at `set` looked.
 fn reach_by_rule(
     lookup: &Lookup<'_>,
-    items: &[hb_glyph_info_t],
+    items: &ItemList<'_>,
     origin: Origin,
     part: LookupSubtable,
     set: usize,
@@ -158,7 +159,7 @@ fn reach_by_rule(
 #[tactic(auto, using(crate::proofs::ReachLemmas::until_next, crate::proofs::ReachLemmas::until_stays, crate::proofs::ReachLemmas::until_end))]
 fn set_reach(
     lookup: &Lookup<'_>,
-    items: &[hb_glyph_info_t],
+    items: &ItemList<'_>,
     origin: Origin,
     part: LookupSubtable,
     set: usize,
@@ -185,7 +186,7 @@ fn set_reach(
 
 fn number_reach(
     lookup: &Lookup<'_>,
-    items: &[hb_glyph_info_t],
+    items: &ItemList<'_>,
     origin: Origin,
     part: LookupSubtable,
     number: u32,
@@ -194,7 +195,7 @@ fn number_reach(
     requires inside { origin.at < length items.now }
     ensures { result ≡ number_reach_of lookup.now items.now origin part number }
 {
-    let glyph = item_at(items, origin.at).glyph_id;
+    let glyph = items.item(origin.at).glyph_id;
     let is_chain = is_chained(lookup, part);
     match set_for(lookup.table, is_chain, part.start, glyph, number) {
         Some(set) => set_reach(lookup, items, origin, part, set),
@@ -204,7 +205,7 @@ fn number_reach(
 
 fn sets_reach(
     lookup: &Lookup<'_>,
-    items: &[hb_glyph_info_t],
+    items: &ItemList<'_>,
     origin: Origin,
     part: LookupSubtable,
 ) -> Reach
@@ -212,7 +213,7 @@ fn sets_reach(
     requires inside { origin.at < length items.now }
     ensures { result ≡ sets_reach_of lookup.now items.now origin part }
 {
-    let glyph = item_at(items, origin.at).glyph_id;
+    let glyph = items.item(origin.at).glyph_id;
     match number_in(lookup.table, part.start, glyph) {
         Some(i) => number_reach(lookup, items, origin, part, i),
         None => untried(origin.at),
@@ -221,7 +222,7 @@ fn sets_reach(
 
 fn part_reach(
     lookup: &Lookup<'_>,
-    items: &[hb_glyph_info_t],
+    items: &ItemList<'_>,
     origin: Origin,
     part: LookupSubtable,
 ) -> Reach
@@ -240,7 +241,7 @@ fn part_reach(
 }
 
 /// How far the rules of part `i` looked.
-fn reach_by_part(lookup: &Lookup<'_>, items: &[hb_glyph_info_t], origin: Origin, i: u32) -> Reach
+fn reach_by_part(lookup: &Lookup<'_>, items: &ItemList<'_>, origin: Origin, i: u32) -> Reach
     requires near { lookup.now.place < 2 ^ 17 }
     requires few { i < 2 ^ 16 }
     requires inside { origin.at < length items.now }
@@ -254,7 +255,7 @@ fn reach_by_part(lookup: &Lookup<'_>, items: &[hb_glyph_info_t], origin: Origin,
 
 /// How far the rules of a lookup look that are tried at `origin`, up to the first that matches.
 #[tactic(auto, using(crate::proofs::ReachLemmas::until_next, crate::proofs::ReachLemmas::until_stays, crate::proofs::ReachLemmas::until_end))]
-pub fn reach_at(lookup: &Lookup<'_>, items: &[hb_glyph_info_t], origin: Origin) -> Reach
+pub fn reach_at(lookup: &Lookup<'_>, items: &ItemList<'_>, origin: Origin) -> Reach
     requires near { lookup.now.place < 2 ^ 17 }
     requires inside { origin.at < length items.now }
     ensures { result ≡ reach_of lookup.now items.now origin }

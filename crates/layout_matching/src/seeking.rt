@@ -11,6 +11,7 @@ ghost use Rattle.layout_matching.specs.Seeking.{mask_of, fits as fits_of, is_bet
 use crate::lookup::Lookup;
 use crate::rules::{Row, fits_row};
 use crate::skipping::{is_skipped, is_transparent};
+use layout_buffer::ItemList;
 use shape_buffer::{ShapeError, hb_glyph_info_t};
 
 /// What is looked for: a row, within what is matched (`is_input`) or around it, and the syllable to stay in (0 for any).
@@ -53,7 +54,7 @@ pub fn is_between(lookup: &Lookup<'_>, seek: &Seek, k: u32, there: &hb_glyph_inf
 fn if_fits(
     lookup: &Lookup<'_>,
     seek: &Seek,
-    items: &[hb_glyph_info_t],
+    items: &ItemList<'_>,
     k: u32,
     j: usize,
 ) -> Option<usize>
@@ -62,7 +63,7 @@ fn if_fits(
     ensures inside { IfSome result (λ n. n < length items.now) }
     ensures same { IfSome result (λ n. n ≤ j) }
 {
-    if fits(lookup, seek, k, &items[j]) {
+    if fits(lookup, seek, k, items.at(j)) {
         Some(j)
     } else {
         None
@@ -74,7 +75,7 @@ fn if_fits(
 pub(crate) fn place_from(
     lookup: &Lookup<'_>,
     seek: &Seek,
-    items: &[hb_glyph_info_t],
+    items: &ItemList<'_>,
     k: u32,
     from: usize,
 ) -> Option<usize>
@@ -84,7 +85,7 @@ pub(crate) fn place_from(
     ensures inside { IfSome result (λ j. j < length items.now) }
 {
     for j in from..items.len() {
-        if !is_between(lookup, seek, k, &items[j]) {
+        if !is_between(lookup, seek, k, items.at(j)) {
             return Some(j);
         }
     }
@@ -95,7 +96,7 @@ pub(crate) fn place_from(
 pub fn next(
     lookup: &Lookup<'_>,
     seek: &Seek,
-    items: &[hb_glyph_info_t],
+    items: &ItemList<'_>,
     k: u32,
     i: usize,
 ) -> Option<usize>
@@ -103,6 +104,8 @@ pub fn next(
     ensures value { result ≡ next_place_of lookup.now seek.now items.now k i }
     ensures inside { IfSome result (λ j. j < length items.now) }
 {
+    // The list can be counted, so the place after one of its own can.
+    let _count = items.len();
     match place_from(lookup, seek, items, k, i + 1) {
         Some(j) => if_fits(lookup, seek, items, k, j),
         None => None,
@@ -110,11 +113,11 @@ pub fn next(
 }
 
 /// Whether the glyph at `j` may not stand between.
-fn ends(lookup: &Lookup<'_>, seek: &Seek, items: &[hb_glyph_info_t], k: u32, j: usize) -> bool
+fn ends(lookup: &Lookup<'_>, seek: &Seek, items: &ItemList<'_>, k: u32, j: usize) -> bool
     requires { j < length items.now }
     ensures { result ≡ not (is_between_of lookup.now seek.now k (nth items.now j)) }
 {
-    !is_between(lookup, seek, k, &items[j])
+    !is_between(lookup, seek, k, items.at(j))
 }
 
 /// How far before place `i` the nearest glyph stands that may not stand between.
@@ -122,7 +125,7 @@ fn ends(lookup: &Lookup<'_>, seek: &Seek, items: &[hb_glyph_info_t], k: u32, j: 
 pub(crate) fn distance_back(
     lookup: &Lookup<'_>,
     seek: &Seek,
-    items: &[hb_glyph_info_t],
+    items: &ItemList<'_>,
     k: u32,
     i: usize,
 ) -> Option<usize>
@@ -142,7 +145,7 @@ pub(crate) fn distance_back(
 pub fn prev(
     lookup: &Lookup<'_>,
     seek: &Seek,
-    items: &[hb_glyph_info_t],
+    items: &ItemList<'_>,
     k: u32,
     i: usize,
 ) -> Option<usize>
@@ -161,7 +164,7 @@ pub fn prev(
 pub fn last_after(
     lookup: &Lookup<'_>,
     seek: &Seek,
-    items: &[hb_glyph_info_t],
+    items: &ItemList<'_>,
     n: u32,
     i: usize,
 ) -> Option<usize>
@@ -184,7 +187,7 @@ pub fn last_after(
 pub fn last_before(
     lookup: &Lookup<'_>,
     seek: &Seek,
-    items: &[hb_glyph_info_t],
+    items: &ItemList<'_>,
     n: u32,
     i: usize,
 ) -> Option<usize>
@@ -206,7 +209,7 @@ pub fn last_before(
 pub fn push_places(
     lookup: &Lookup<'_>,
     seek: &Seek,
-    items: &[hb_glyph_info_t],
+    items: &ItemList<'_>,
     n: u32,
     at: usize,
     places: &mut Vec<usize>,

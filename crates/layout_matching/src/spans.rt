@@ -7,7 +7,8 @@ use crate::input::{Matched, match_input};
 use crate::lookup::Lookup;
 use crate::rules::{Row, Rule};
 use crate::seeking::{Seek, last_after, last_before};
-use crate::skipping::{item_at, syllable};
+use crate::skipping::syllable;
+use layout_buffer::ItemList;
 use shape_buffer::hb_glyph_info_t;
 
 /// Where a match begins: its first glyph, and whether the list is as long as the lookup found it. In such a list what
@@ -40,7 +41,7 @@ pub fn seek_around(lookup: &Lookup<'_>, first: &hb_glyph_info_t, stays: bool, ro
 /// The span of a rule, by its last glyph and where what is before it begins.
 fn span_to(
     lookup: &Lookup<'_>,
-    items: &[hb_glyph_info_t],
+    items: &ItemList<'_>,
     origin: Origin,
     rule: &Rule,
     last: usize,
@@ -50,13 +51,13 @@ fn span_to(
     ensures value { result ≡ span_to_of lookup.now items.now origin rule.now last start }
     ensures last { IfSome result (λ s. s.last ≡ last) }
 {
-    let first = item_at(items, origin.at);
+    let first = items.item(origin.at);
     let seek = seek_around(lookup, &first, last == origin.at, rule.after);
     match last_after(lookup, &seek, items, u32::from(rule.after.count), last) {
         Some(far) => Some(Span {
             start,
             last,
-            end: far + 1,
+            end: items.place_after(far),
         }),
         None => None,
     }
@@ -65,7 +66,7 @@ fn span_to(
 /// The span of a rule, by what it matches.
 fn span_from(
     lookup: &Lookup<'_>,
-    items: &[hb_glyph_info_t],
+    items: &ItemList<'_>,
     origin: Origin,
     rule: &Rule,
     found: Matched,
@@ -75,7 +76,7 @@ fn span_from(
     ensures value { result ≡ span_from_of lookup.now items.now origin rule.now found }
     ensures last { IfSome result (λ s. s.last ≡ found.last) }
 {
-    let first = item_at(items, origin.at);
+    let first = items.item(origin.at);
     let seek = seek_around(lookup, &first, origin.is_steady, rule.before);
     match last_before(
         lookup,
@@ -92,7 +93,7 @@ fn span_from(
 /// The span of a rule which begins at `origin`, if it matches there. The first glyph itself isn't looked at.
 pub fn span_at(
     lookup: &Lookup<'_>,
-    items: &[hb_glyph_info_t],
+    items: &ItemList<'_>,
     origin: Origin,
     rule: &Rule,
 ) -> Option<Span>

@@ -16,8 +16,7 @@ use crate::input::{MAX_CONTEXT_LENGTH, Matched, input_step, seek_input};
 use crate::lookup::Lookup;
 use crate::rules::Row;
 use crate::seeking::{Seek, distance_back, next, place_from, prev};
-use crate::skipping::item_at;
-use shape_buffer::hb_glyph_info_t;
+use layout_buffer::ItemList;
 
 /// What was looked at in vain, from `from` up to `to`, and whether a rule matched then.
 #[derive(Clone, Copy, PartialEq, Eq, Debug)]
@@ -72,16 +71,12 @@ pub fn joined(s: Reach, r: Reach) -> Reach
 }
 
 /// Where a search for glyph `k` of a row ended after place `i`.
-fn stop_after(
-    lookup: &Lookup<'_>,
-    seek: &Seek,
-    items: &[hb_glyph_info_t],
-    k: u32,
-    i: usize,
-) -> usize
+fn stop_after(lookup: &Lookup<'_>, seek: &Seek, items: &ItemList<'_>, k: u32, i: usize) -> usize
     requires { i < length items.now }
     ensures { result ≡ stop_after_of lookup.now seek.now items.now k i }
 {
+    // The list can be counted, so the place after one of its own can.
+    let _count = items.len();
     match place_from(lookup, seek, items, k, i + 1) {
         Some(j) => j + 1,
         None => items.len(),
@@ -89,13 +84,7 @@ fn stop_after(
 }
 
 /// Where one ended before place `i`.
-fn stop_before(
-    lookup: &Lookup<'_>,
-    seek: &Seek,
-    items: &[hb_glyph_info_t],
-    k: u32,
-    i: usize,
-) -> usize
+fn stop_before(lookup: &Lookup<'_>, seek: &Seek, items: &ItemList<'_>, k: u32, i: usize) -> usize
     requires { i ≤ length items.now }
     ensures { result ≡ stop_before_of lookup.now seek.now items.now k i }
 {
@@ -110,7 +99,7 @@ fn stop_before(
 fn input_stop(
     lookup: &Lookup<'_>,
     seek: &Seek,
-    items: &[hb_glyph_info_t],
+    items: &ItemList<'_>,
     k: u32,
     found: Matched,
 ) -> usize
@@ -125,13 +114,7 @@ fn input_stop(
 
 /// Where the first of `n` glyphs stopped that isn't there; 0 if all are.
 #[tactic(auto, using(crate::proofs::LoopLemmas::stopped_next, crate::proofs::LoopLemmas::stopped_none, crate::proofs::LoopLemmas::stopped_end))]
-fn glyphs_stop(
-    lookup: &Lookup<'_>,
-    seek: &Seek,
-    items: &[hb_glyph_info_t],
-    at: usize,
-    n: u32,
-) -> usize
+fn glyphs_stop(lookup: &Lookup<'_>, seek: &Seek, items: &ItemList<'_>, at: usize, n: u32) -> usize
     requires { at < length items.now }
     ensures { result ≡ stopped (input_step_of lookup.now seek.now items.now at)
         (input_stop_of lookup.now seek.now items.now) n 0 (record { last = at; all_marks = true }) }
@@ -151,27 +134,21 @@ fn glyphs_stop(
 
 /// Where the glyphs of a row stopped that aren't all there, from the one at `at` on; 0 if all are, and for a row of more than
 /// `MAX_CONTEXT_LENGTH`.
-pub fn input_end(lookup: &Lookup<'_>, items: &[hb_glyph_info_t], at: usize, row: Row) -> usize
+pub fn input_end(lookup: &Lookup<'_>, items: &ItemList<'_>, at: usize, row: Row) -> usize
     requires { at < length items.now }
     ensures { result ≡ input_end_of lookup.now items.now at row }
 {
     if MAX_CONTEXT_LENGTH < row.count {
         return 0;
     }
-    let seek = seek_input(lookup, &item_at(items, at), row);
+    let seek = seek_input(lookup, &items.item(at), row);
     let n = u32::from(row.count.saturating_sub(1));
     glyphs_stop(lookup, &seek, items, at, n)
 }
 
 /// Where `n` glyphs after place `i` stopped that aren't all there.
 #[tactic(auto, using(crate::proofs::LoopLemmas::stopped_next, crate::proofs::LoopLemmas::stopped_none, crate::proofs::LoopLemmas::stopped_end))]
-pub fn after_end(
-    lookup: &Lookup<'_>,
-    seek: &Seek,
-    items: &[hb_glyph_info_t],
-    n: u32,
-    i: usize,
-) -> usize
+pub fn after_end(lookup: &Lookup<'_>, seek: &Seek, items: &ItemList<'_>, n: u32, i: usize) -> usize
     requires { i < length items.now }
     ensures { result ≡ after_end_of lookup.now seek.now items.now n i }
 {
@@ -190,7 +167,7 @@ pub fn after_end(
 pub fn before_start(
     lookup: &Lookup<'_>,
     seek: &Seek,
-    items: &[hb_glyph_info_t],
+    items: &ItemList<'_>,
     n: u32,
     i: usize,
 ) -> usize

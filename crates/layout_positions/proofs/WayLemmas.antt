@@ -22,9 +22,10 @@ over_none : (pen : Pen) (from end : ℕ) (ps : List GlyphPosition)
     → (if nat_lt from end then fold pen_on pen (slice_range ps from end) else pen) ≡ fold pen_on pen (slice_range ps from end)
 over_none pen from end ps =
     elim (nat_lt from end) as (λ t. nat_lt from end ≡ t
-    → (if t then fold pen_on pen (slice_range ps from end) else pen) ≡ fold pen_on pen (slice_range ps from end))
-    [ true ↦ λ e. refl
-    | false ↦ λ e. let none : end - from ≡ 0 = grind (arith, nat_tests, e) in ap (λ n. fold pen_on pen (take n (drop from ps))) (sym none) ]
+    → (if t then fold pen_on pen (slice_range ps from end) else pen) ≡ fold pen_on pen (slice_range ps from end)) [
+      | true ↦ λ e. refl
+      | false ↦ λ e. let none : end - from ≡ 0 = grind (arith, nat_tests, e) in ap (λ n. fold pen_on pen (take n (drop from ps))) (sym none)
+    ]
     refl
 
 slices : (ps : List GlyphPosition) (from mid end : ℕ) → from ≤ mid → mid ≤ end
@@ -92,9 +93,9 @@ measured_put i p b w same measured =
     let end : ℕ = min w.to (length b.items) in
     record {
       pen = measured.pen ∙ way_by_advances b w.from w.to
-      ∙ sym (ap (λ ps. fold pen_by no_way (slice_range ps w.from end)) (put_advances i p b same))
-      ∙ sym (ap (λ n. fold pen_by no_way (slice_range (map advance c.positions) w.from (min w.to n))) (put_length i p b))
-      ∙ sym (way_by_advances c w.from w.to);
+          ∙ sym (ap (λ ps. fold pen_by no_way (slice_range ps w.from end)) (put_advances i p b same))
+          ∙ sym (ap (λ n. fold pen_by no_way (slice_range (map advance c.positions) w.from (min w.to n))) (put_length i p b))
+          ∙ sym (way_by_advances c w.from w.to);
     }
 
 carried_stays : (horizontal : Bool) (q p : GlyphPosition) → advance (carried horizontal q p) ≡ advance p

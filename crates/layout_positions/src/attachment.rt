@@ -113,11 +113,19 @@ fn follow(buffer: &mut hb_buffer_t, i: usize, j: usize, last: Measured) -> Measu
     let there = position(buffer, j);
     let direction = buffer.direction();
     if here.attach_type == CURSIVE_ATTACHED {
-        put(buffer, i, carried_by(direction.is_horizontal(), &there, here));
+        put(
+            buffer,
+            i,
+            carried_by(direction.is_horizontal(), &there, here),
+        );
         return last;
     }
     let measured = way_between(buffer, i, j, last);
-    put(buffer, i, hung(direction.is_forward(), measured.pen, &there, here));
+    put(
+        buffer,
+        i,
+        hung(direction.is_forward(), measured.pen, &there, here),
+    );
     if measured.is_short() { last } else { measured }
 }
 

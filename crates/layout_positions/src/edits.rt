@@ -43,7 +43,9 @@ pub fn break_between(buffer: &mut hb_buffer_t, start: usize, end: usize)
 pub fn asks_for_concat(buffer: &hb_buffer_t) -> bool
     ensures { result ≡ asks_for_concat_of buffer.now }
 {
-    buffer.flags().contains(BufferFlags::PRODUCE_UNSAFE_TO_CONCAT)
+    buffer
+        .flags()
+        .contains(BufferFlags::PRODUCE_UNSAFE_TO_CONCAT)
 }
 
 /// Marks the items from `start` up to `end`, or to the end of the list, unsafe to concat, if the

@@ -11,6 +11,7 @@ ghost use Rattle.layout_matching.specs.Loops.{times};
 use crate::edits::{asks_for_concat, break_between, part_between};
 use crate::places::after;
 use crate::subtables::{Carried, Outcome, apply_lookup};
+use layout_buffer::ItemList;
 use layout_matching::found::{Found, find, is_context};
 use layout_matching::input::seek_input;
 use layout_matching::lookup::Lookup;
@@ -51,7 +52,8 @@ fn matched_place(site: &Site<'_>, items: &[hb_glyph_info_t], index: u16) -> Opti
         return None;
     }
     let seek = seek_input(&site.lookup, &item_at(items, site.at), site.rule.input);
-    last_after(&site.lookup, &seek, items, u32::from(index), site.at)
+    let items = ItemList::of_slice(items);
+    last_after(&site.lookup, &seek, &items, u32::from(index), site.at)
 }
 
 /// Where record `r` of a rule applies its lookup.
@@ -215,7 +217,7 @@ fn mark_tried(here: &Lookup<'_>, buffer: &mut hb_buffer_t, at: usize)
     if !asks_for_concat(buffer) {
         return;
     }
-    let reach = reach_at(here, buffer.infos(), origin_at(at));
+    let reach = reach_at(here, &ItemList::of_slice(buffer.infos()), origin_at(at));
     if reach.from < reach.to {
         part_between(buffer, reach.from, reach.to);
     }
@@ -240,7 +242,7 @@ fn apply_first(
     } ≡ first_rule_placed (nested_placed level) here.now at carried.left carried.seen buffer.old }
     ensures len { length buffer.new.items ≡ length buffer.old.items }
 {
-    match find(here, buffer.infos(), origin_at(at)) {
+    match find(here, &ItemList::of_slice(buffer.infos()), origin_at(at)) {
         Some(found) => apply_rule(level, here, buffer, at, carried, found),
         None => Outcome {
             next: None,

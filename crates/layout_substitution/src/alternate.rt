@@ -6,8 +6,9 @@ ghost use Rattle.layout_substitution.specs.Applied.{random_put, random_applied, 
 use crate::apply::{Spot, replace};
 use crate::edits::{break_span, item};
 use crate::substitutes::{alternate, count, listed, set};
+use layout_buffer::GapBuffer;
 use layout_matching::lookup::Lookup;
-use shape_buffer::{hb_buffer_t, hb_glyph_info_t};
+use shape_buffer::hb_glyph_info_t;
 
 /// The value of a mask that asks for an alternate at random.
 const MAX_VALUE: u32 = 255;
@@ -41,7 +42,7 @@ fn next_random(state: u32) -> u32
 /// An alternate at random of those listed at `set`. It depends on all that was shaped before, so that nothing is safe to break.
 fn replace_at_random(
     lookup: &Lookup<'_>,
-    buffer: &mut hb_buffer_t,
+    buffer: &mut GapBuffer,
     spot: Spot,
     set: usize,
 ) -> Option<Spot>
@@ -67,7 +68,7 @@ fn replace_at_random(
 fn apply_random(
     lookup: &Lookup<'_>,
     start: usize,
-    buffer: &mut hb_buffer_t,
+    buffer: &mut GapBuffer,
     spot: Spot,
 ) -> Option<Spot>
     requires near { start < 2 ^ 35 }
@@ -86,7 +87,7 @@ fn apply_random(
 pub fn apply_alternate(
     lookup: &Lookup<'_>,
     start: usize,
-    buffer: &mut hb_buffer_t,
+    buffer: &mut GapBuffer,
     spot: Spot,
 ) -> Option<Spot>
     requires near { start < 2 ^ 35 }

@@ -14,8 +14,9 @@ use crate::ligature::{Components, found, put_ligature};
 use crate::ligature_reach::mark_tried;
 use crate::replaced::{replaced, taken_apart};
 use crate::substitutes::{components, count, ligature_glyph, listed, set, single};
+use layout_buffer::GapBuffer;
 use layout_matching::lookup::Lookup;
-use shape_buffer::{ShapeError, hb_buffer_t, hb_glyph_info_t};
+use shape_buffer::{ShapeError, hb_glyph_info_t};
 
 /// Where a lookup stands in a buffer, and what it counts.
 #[derive(Clone, Copy, PartialEq, Eq, Debug)]
@@ -30,7 +31,7 @@ pub struct Spot {
 }
 
 /// Puts another glyph at a place.
-pub fn put_glyph(lookup: &Lookup<'_>, buffer: &mut hb_buffer_t, at: usize, glyph: u32)
+pub fn put_glyph(lookup: &Lookup<'_>, buffer: &mut GapBuffer, at: usize, glyph: u32)
     ensures { buffer.new ≡ put_at at (replaced_of lookup.now 0 glyph (item_at buffer.old at)) buffer.old }
 {
     let there = item(buffer, at);
@@ -40,7 +41,7 @@ pub fn put_glyph(lookup: &Lookup<'_>, buffer: &mut hb_buffer_t, at: usize, glyph
 /// Puts another glyph at the place. Returns the next one.
 pub(crate) fn replace(
     lookup: &Lookup<'_>,
-    buffer: &mut hb_buffer_t,
+    buffer: &mut GapBuffer,
     spot: Spot,
     glyph: u32,
 ) -> Option<Spot>
@@ -60,7 +61,7 @@ pub(crate) fn replace(
 pub fn apply_single(
     lookup: &Lookup<'_>,
     start: usize,
-    buffer: &mut hb_buffer_t,
+    buffer: &mut GapBuffer,
     spot: Spot,
 ) -> Option<Spot>
     requires near { start < 2 ^ 35 }
@@ -76,7 +77,7 @@ pub fn apply_single(
 }
 
 /// Whether the item after has the cluster of the one at `i`.
-fn is_left(buffer: &hb_buffer_t, i: usize) -> bool
+fn is_left(buffer: &GapBuffer, i: usize) -> bool
     ensures { result ≡ is_left_in buffer.now i }
 {
     i < buffer.len()
@@ -85,7 +86,7 @@ fn is_left(buffer: &hb_buffer_t, i: usize) -> bool
 }
 
 /// Whether the item before `at` stands in the cluster.
-fn is_handed(buffer: &hb_buffer_t, cluster: u32, at: usize) -> bool
+fn is_handed(buffer: &GapBuffer, cluster: u32, at: usize) -> bool
     ensures value { result ≡ is_handed_of cluster (record { buffer = buffer.now; at = at }) }
     ensures some { IsTrue result → 0 < at }
 {
@@ -103,7 +104,7 @@ fn handed_over(from: &hb_glyph_info_t, to: hb_glyph_info_t) -> hb_glyph_info_t
 }
 
 /// Hands the cluster and the defined flags of an item to the one before it.
-fn hand_one(buffer: &mut hb_buffer_t, at: usize)
+fn hand_one(buffer: &mut GapBuffer, at: usize)
     requires { 0 < at }
     ensures { buffer.new ≡ put_at (at - 1) (hand_over (item_at buffer.old at) (item_at buffer.old (at - 1))) buffer.old }
 {
@@ -113,7 +114,7 @@ fn hand_one(buffer: &mut hb_buffer_t, at: usize)
 
 /// Hands the cluster and the defined flags of the item at `i` to all items before it that stand in one cluster.
 #[tactic(auto, using(layout_matching::proofs::LoopLemmas::times_step, crate::proofs::CopyLemmas::handed_on, crate::proofs::CopyLemmas::handed_buffer))]
-fn hand_back(buffer: &mut hb_buffer_t, cluster: u32, i: usize)
+fn hand_back(buffer: &mut GapBuffer, cluster: u32, i: usize)
     ensures { buffer.new ≡ (times (handed_step cluster) i (record { buffer = buffer.old; at = i })).buffer }
 {
     let mut at = i;
@@ -127,7 +128,7 @@ fn hand_back(buffer: &mut hb_buffer_t, cluster: u32, i: usize)
 }
 
 /// Leaves the cluster of an item that is to go to its neighbours, if it isn't theirs.
-fn leave_to_neighbours(buffer: &mut hb_buffer_t, i: usize)
+fn leave_to_neighbours(buffer: &mut GapBuffer, i: usize)
     requires { i < length buffer.old.items }
     ensures { buffer.new ≡ left_to_neighbours i buffer.old }
 {
@@ -144,7 +145,7 @@ fn leave_to_neighbours(buffer: &mut hb_buffer_t, i: usize)
 }
 
 /// Takes an item out, whose cluster is left to its neighbours.
-fn delete(buffer: &mut hb_buffer_t, i: usize)
+fn delete(buffer: &mut GapBuffer, i: usize)
     requires { i < length buffer.old.items }
     ensures { buffer.new ≡ gone_of i buffer.old }
 {
@@ -155,7 +156,7 @@ fn delete(buffer: &mut hb_buffer_t, i: usize)
 /// Glyph `k` of a list, in the cluster and with the mask of the item at a place.
 fn copy_of(
     lookup: &Lookup<'_>,
-    buffer: &hb_buffer_t,
+    buffer: &GapBuffer,
     list: usize,
     at: usize,
     there: &hb_glyph_info_t,
@@ -176,7 +177,7 @@ fn copy_of(
 #[tactic(auto, using(layout_matching::proofs::LoopLemmas::times_step))]
 fn put_copies(
     lookup: &Lookup<'_>,
-    buffer: &mut hb_buffer_t,
+    buffer: &mut GapBuffer,
     list: usize,
     at: usize,
     there: &hb_glyph_info_t,
@@ -197,7 +198,7 @@ fn put_copies(
 }
 
 /// Puts the first glyph of a list at a place.
-fn put_first(lookup: &Lookup<'_>, buffer: &mut hb_buffer_t, list: usize, at: usize)
+fn put_first(lookup: &Lookup<'_>, buffer: &mut GapBuffer, list: usize, at: usize)
     requires near { list < 2 ^ 36 }
     ensures { buffer.new ≡ first_put lookup.now list at (item_at buffer.old at) buffer.old }
 {
@@ -210,7 +211,7 @@ fn put_first(lookup: &Lookup<'_>, buffer: &mut hb_buffer_t, list: usize, at: usi
 #[tactic(auto, using(crate::proofs::CopyLemmas::length_first, crate::proofs::CopyLemmas::limit_first, crate::proofs::CopyLemmas::length_several))]
 fn put_several(
     lookup: &Lookup<'_>,
-    buffer: &mut hb_buffer_t,
+    buffer: &mut GapBuffer,
     list: usize,
     at: usize,
 ) -> Result<(), ShapeError>
@@ -229,7 +230,7 @@ fn put_several(
 /// Puts a list of glyphs in place of one: none deletes it.
 fn put_list(
     lookup: &Lookup<'_>,
-    buffer: &mut hb_buffer_t,
+    buffer: &mut GapBuffer,
     list: usize,
     at: usize,
 ) -> Result<(), ShapeError>
@@ -255,7 +256,7 @@ fn put_list(
 /// Puts a list of glyphs in place of one. Returns where the lookup goes on.
 fn put_sequence(
     lookup: &Lookup<'_>,
-    buffer: &mut hb_buffer_t,
+    buffer: &mut GapBuffer,
     spot: Spot,
     list: usize,
 ) -> Result<Option<Spot>, ShapeError>
@@ -277,7 +278,7 @@ fn put_sequence(
 pub fn apply_multiple(
     lookup: &Lookup<'_>,
     start: usize,
-    buffer: &mut hb_buffer_t,
+    buffer: &mut GapBuffer,
     spot: Spot,
 ) -> Result<Option<Spot>, ShapeError>
     requires near { start < 2 ^ 35 }
@@ -297,7 +298,7 @@ pub fn apply_multiple(
 /// A ligature that was found; one of a single component replaces it.
 fn make_ligature(
     lookup: &Lookup<'_>,
-    buffer: &mut hb_buffer_t,
+    buffer: &mut GapBuffer,
     spot: Spot,
     one: Components,
 ) -> Option<Spot>
@@ -317,12 +318,7 @@ fn make_ligature(
 }
 
 /// The first ligature of a set that stands there.
-fn ligate_first(
-    lookup: &Lookup<'_>,
-    buffer: &mut hb_buffer_t,
-    spot: Spot,
-    set: usize,
-) -> Option<Spot>
+fn ligate_first(lookup: &Lookup<'_>, buffer: &mut GapBuffer, spot: Spot, set: usize) -> Option<Spot>
     requires near { set < 2 ^ 36 }
     requires inside { spot.at < length buffer.old.items }
     ensures made { buffer.new ≡ (one_ligated lookup.now spot set buffer.old).buffer }
@@ -336,7 +332,7 @@ fn ligate_first(
 }
 
 /// The same, after what was looked at in vain is marked.
-fn apply_set(lookup: &Lookup<'_>, buffer: &mut hb_buffer_t, spot: Spot, set: usize) -> Option<Spot>
+fn apply_set(lookup: &Lookup<'_>, buffer: &mut GapBuffer, spot: Spot, set: usize) -> Option<Spot>
     requires near { set < 2 ^ 36 }
     requires inside { spot.at < length buffer.old.items }
     ensures made { buffer.new ≡ (set_ligated lookup.now spot buffer.old set).buffer }
@@ -352,7 +348,7 @@ fn apply_set(lookup: &Lookup<'_>, buffer: &mut hb_buffer_t, spot: Spot, set: usi
 pub fn apply_ligature(
     lookup: &Lookup<'_>,
     start: usize,
-    buffer: &mut hb_buffer_t,
+    buffer: &mut GapBuffer,
     spot: Spot,
 ) -> Option<Spot>
     requires near { start < 2 ^ 35 }

@@ -8,19 +8,19 @@ ghost use Rattle.layout_substitution.specs.Edits.{item_at as item_at_of, put_at,
 ghost use Rattle.layout_substitution.specs.Edits.{asks_for_concat as asks_for_concat_of, parted};
 
 use bitflags::Flags;
-use layout_matching::skipping::item_at;
+use layout_buffer::GapBuffer;
 use layout_matching::tried::Reach;
-use shape_buffer::{BufferFlags, ShapeError, hb_buffer_t, hb_glyph_info_t};
+use shape_buffer::{BufferFlags, ShapeError, hb_glyph_info_t};
 
 /// The item at a place, a new one past the end.
-pub fn item(buffer: &hb_buffer_t, i: usize) -> hb_glyph_info_t
+pub fn item(buffer: &GapBuffer, i: usize) -> hb_glyph_info_t
     ensures { result ≡ item_at_of buffer.now i }
 {
-    item_at(buffer.infos(), i)
+    buffer.items().item(i)
 }
 
 /// Replaces the item at a place.
-pub fn put(buffer: &mut hb_buffer_t, i: usize, item: hb_glyph_info_t)
+pub fn put(buffer: &mut GapBuffer, i: usize, item: hb_glyph_info_t)
     ensures { buffer.new ≡ put_at i item buffer.old }
 {
     if i < buffer.len() {
@@ -30,7 +30,7 @@ pub fn put(buffer: &mut hb_buffer_t, i: usize, item: hb_glyph_info_t)
 
 /// Puts an item in after a place. Refuses as `insert` does.
 pub fn insert_after(
-    buffer: &mut hb_buffer_t,
+    buffer: &mut GapBuffer,
     i: usize,
     item: hb_glyph_info_t,
 ) -> Result<(), ShapeError>
@@ -47,7 +47,7 @@ pub fn insert_after(
 }
 
 /// Takes the item at a place out.
-pub fn take_out(buffer: &mut hb_buffer_t, i: usize)
+pub fn take_out(buffer: &mut GapBuffer, i: usize)
     ensures { buffer.new ≡ taken_out i buffer.old }
 {
     if i < buffer.len() {
@@ -56,7 +56,7 @@ pub fn take_out(buffer: &mut hb_buffer_t, i: usize)
 }
 
 /// Merges the clusters of a span.
-pub fn merge(buffer: &mut hb_buffer_t, start: usize, end: usize)
+pub fn merge(buffer: &mut GapBuffer, start: usize, end: usize)
     ensures { buffer.new ≡ merged start end buffer.old }
 {
     if start <= end && end <= buffer.len() {
@@ -66,7 +66,7 @@ pub fn merge(buffer: &mut hb_buffer_t, start: usize, end: usize)
 
 /// Marks a span unsafe to break.
 #[tactic(auto, using(crate::proofs::EditLemmas::length_broken))]
-pub fn break_span(buffer: &mut hb_buffer_t, start: usize, end: usize)
+pub fn break_span(buffer: &mut GapBuffer, start: usize, end: usize)
     ensures made { buffer.new ≡ broken start end buffer.old }
     ensures as_many { length buffer.new.items ≡ length buffer.old.items }
 {
@@ -76,7 +76,7 @@ pub fn break_span(buffer: &mut hb_buffer_t, start: usize, end: usize)
 }
 
 /// Whether the buffer asks for marks of what is unsafe to concat.
-pub fn asks_for_concat(buffer: &hb_buffer_t) -> bool
+pub fn asks_for_concat(buffer: &GapBuffer) -> bool
     ensures { result ≡ asks_for_concat_of buffer.now }
 {
     buffer
@@ -86,7 +86,7 @@ pub fn asks_for_concat(buffer: &hb_buffer_t) -> bool
 
 /// Marks what was looked at in vain unsafe to concat, if the buffer asks for that.
 #[tactic(auto, using(crate::proofs::EditLemmas::length_parted, crate::proofs::EditLemmas::limit_parted))]
-pub fn part_span(buffer: &mut hb_buffer_t, reach: Reach)
+pub fn part_span(buffer: &mut GapBuffer, reach: Reach)
     ensures made { buffer.new ≡ parted reach buffer.old }
     ensures as_many { length buffer.new.items ≡ length buffer.old.items }
     ensures limit { limit_of buffer.new ≡ limit_of buffer.old }

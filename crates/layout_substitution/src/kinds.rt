@@ -8,16 +8,17 @@ ghost use Rattle.layout_substitution.specs.Kinds.{kind_applied, part_applied, pa
 
 use crate::alternate::apply_alternate;
 use crate::apply::{Spot, apply_ligature, apply_multiple, apply_single};
+use layout_buffer::GapBuffer;
 use layout_matching::lookup::Lookup;
 use layout_tables::lookups::{LookupSubtable, subtable, subtable_count};
-use shape_buffer::{ShapeError, hb_buffer_t};
+use shape_buffer::ShapeError;
 
 /// A part of the lookup, by its kind.
 #[tactic(auto, using(crate::proofs::KindLemmas::past_multiple))]
 fn apply_kind(
     lookup: &Lookup<'_>,
     part: LookupSubtable,
-    buffer: &mut hb_buffer_t,
+    buffer: &mut GapBuffer,
     spot: Spot,
 ) -> Result<Option<Spot>, ShapeError>
     requires near { part.start < 2 ^ 35 }
@@ -42,7 +43,7 @@ fn apply_kind(
 fn apply_part(
     lookup: &Lookup<'_>,
     i: u32,
-    buffer: &mut hb_buffer_t,
+    buffer: &mut GapBuffer,
     spot: Spot,
 ) -> Result<Option<Spot>, ShapeError>
     requires near { lookup.now.place < 2 ^ 17 }
@@ -65,7 +66,7 @@ fn apply_part(
 #[tactic(auto, using(crate::proofs::KindLemmas::parts_past, crate::proofs::KindLemmas::parts_end))]
 pub fn apply_lookup(
     lookup: &Lookup<'_>,
-    buffer: &mut hb_buffer_t,
+    buffer: &mut GapBuffer,
     spot: Spot,
 ) -> Result<Option<Spot>, ShapeError>
     requires near { lookup.now.place < 2 ^ 17 }

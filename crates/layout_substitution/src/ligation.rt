@@ -4,9 +4,10 @@ ghost use Rattle.layout_substitution.specs.Ligatures.{is_own as is_own_of, ligat
 
 use crate::edits::item;
 use crate::ligature::{Components, Ligation, component_row};
+use layout_buffer::GapBuffer;
 use layout_matching::input::{is_mark_glyph, seek_input};
 use layout_matching::lookup::Lookup;
-use shape_buffer::{hb_buffer_t, hb_glyph_info_t};
+use shape_buffer::hb_glyph_info_t;
 
 /// Whether the ligature isn't one of marks, or of a base and marks.
 fn is_own(found: Components, first: &hb_glyph_info_t) -> bool
@@ -16,7 +17,7 @@ fn is_own(found: Components, first: &hb_glyph_info_t) -> bool
 }
 
 /// Gives the ligature an id if it has one of its own. Returns the id, 0 for none.
-fn give_id(buffer: &mut hb_buffer_t, own: bool) -> u8
+fn give_id(buffer: &mut GapBuffer, own: bool) -> u8
     ensures id { result ≡ id_of own buffer.old }
     ensures given { buffer.new ≡ id_given own buffer.old }
 {
@@ -27,7 +28,7 @@ fn give_id(buffer: &mut hb_buffer_t, own: bool) -> u8
 #[tactic(auto, using(crate::proofs::LigatureLemmas::length_given))]
 pub fn how_to_ligate(
     lookup: &Lookup<'_>,
-    buffer: &mut hb_buffer_t,
+    buffer: &mut GapBuffer,
     at: usize,
     found: Components,
 ) -> Ligation

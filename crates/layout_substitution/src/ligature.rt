@@ -13,12 +13,13 @@ use crate::edits::{item, merge, next_place, put, take_out};
 use crate::ligation::how_to_ligate;
 use crate::replaced::{as_ligature, as_part, parts_of};
 use crate::substitutes::{components, count, has_components, ligature_at, ligature_glyph};
+use layout_buffer::GapBuffer;
 use layout_matching::input::match_input;
 use layout_matching::lookup::Lookup;
 use layout_matching::rules::{Row, Test};
 use layout_matching::seeking::{Seek, fits};
 use layout_matching::skipping::is_skipped;
-use shape_buffer::{hb_buffer_t, hb_glyph_info_t};
+use shape_buffer::hb_glyph_info_t;
 
 /// A ligature whose components were found: where the last one stands, and whether all after the first are marks.
 #[derive(Clone, Copy, PartialEq, Eq, Debug)]
@@ -65,7 +66,7 @@ pub(crate) fn component_row(lookup: &Lookup<'_>, ligature: usize) -> Row
 /// The components of the ligature from `at` on, at most 64.
 pub fn matched_at(
     lookup: &Lookup<'_>,
-    buffer: &hb_buffer_t,
+    buffer: &GapBuffer,
     at: usize,
     ligature: usize,
 ) -> Option<Components>
@@ -78,7 +79,7 @@ pub fn matched_at(
     if !has_components(lookup.table, ligature) {
         return None;
     }
-    match match_input(lookup, buffer.infos(), at, component_row(lookup, ligature)) {
+    match match_input(lookup, &buffer.items(), at, component_row(lookup, ligature)) {
         Some(found) => Some(Components {
             ligature,
             last: found.last,
@@ -91,7 +92,7 @@ pub fn matched_at(
 /// Ligature `i` of the set, if its components stand at `at`.
 fn matched_in(
     lookup: &Lookup<'_>,
-    buffer: &hb_buffer_t,
+    buffer: &GapBuffer,
     at: usize,
     set: usize,
     i: u32,
@@ -111,7 +112,7 @@ fn matched_in(
 
 /// The first ligature of the set whose components stand at `at`.
 #[tactic(auto, using(layout_matching::proofs::LoopLemmas::first_some_next, layout_matching::proofs::LoopLemmas::first_some_found, layout_matching::proofs::LoopLemmas::first_some_end))]
-pub fn found(lookup: &Lookup<'_>, buffer: &hb_buffer_t, at: usize, set: usize) -> Option<Components>
+pub fn found(lookup: &Lookup<'_>, buffer: &GapBuffer, at: usize, set: usize) -> Option<Components>
     requires near { set < 2 ^ 36 }
     requires inside { at < length buffer.now.items }
     ensures value { result ≡ ligature_found lookup.now buffer.now at set }
@@ -140,7 +141,7 @@ fn part_of(walk: Joining, there: &hb_glyph_info_t) -> u32
 }
 
 /// Goes over an item that stays; it becomes a mark on the ligature if that has a number of its own.
-fn leave_between(buffer: &mut hb_buffer_t, own: bool, id: u8, walk: Joining) -> Joining
+fn leave_between(buffer: &mut GapBuffer, own: bool, id: u8, walk: Joining) -> Joining
     requires { walk.at < length buffer.old.items }
     ensures { record { buffer = buffer.new; walk = result }
         ≡ between_stays own id (record { buffer = buffer.old; walk = walk }) }
@@ -156,7 +157,7 @@ fn leave_between(buffer: &mut hb_buffer_t, own: bool, id: u8, walk: Joining) -> 
 }
 
 /// Takes a component out.
-fn drop_component(buffer: &mut hb_buffer_t, walk: Joining) -> Joining
+fn drop_component(buffer: &mut GapBuffer, walk: Joining) -> Joining
     ensures { record { buffer = buffer.new; walk = result }
         ≡ component_gone (record { buffer = buffer.old; walk = walk }) }
 {
@@ -186,7 +187,7 @@ fn looked_for(made: &Ligation, walk: Joining) -> u32
 }
 
 /// Whether the item at the walk stays: the lookup skips it, or it isn't the component that is looked for.
-fn stays(lookup: &Lookup<'_>, buffer: &hb_buffer_t, made: &Ligation, walk: Joining) -> bool
+fn stays(lookup: &Lookup<'_>, buffer: &GapBuffer, made: &Ligation, walk: Joining) -> bool
     ensures { result ≡ stays_of lookup.now made.now (record { buffer = buffer.now; walk = walk }) }
 {
     let there = item(buffer, walk.at);
@@ -194,12 +195,7 @@ fn stays(lookup: &Lookup<'_>, buffer: &hb_buffer_t, made: &Ligation, walk: Joini
 }
 
 /// Goes over one item after the first component.
-fn join_one(
-    lookup: &Lookup<'_>,
-    buffer: &mut hb_buffer_t,
-    made: &Ligation,
-    walk: Joining,
-) -> Joining
+fn join_one(lookup: &Lookup<'_>, buffer: &mut GapBuffer, made: &Ligation, walk: Joining) -> Joining
     ensures { record { buffer = buffer.new; walk = result } ≡ join_step lookup.now made.now
         (record { buffer = buffer.old; walk = walk }) }
 {
@@ -217,7 +213,7 @@ fn join_one(
 #[tactic(auto, using(layout_matching::proofs::LoopLemmas::times_step))]
 fn join_all(
     lookup: &Lookup<'_>,
-    buffer: &mut hb_buffer_t,
+    buffer: &mut GapBuffer,
     made: &Ligation,
     n: usize,
     walk: Joining,
@@ -233,7 +229,7 @@ fn join_all(
 }
 
 /// Whether the item stands on a component of the ligature that the last component was.
-fn follows(buffer: &hb_buffer_t, walk: Joining) -> bool
+fn follows(buffer: &GapBuffer, walk: Joining) -> bool
     ensures value { result ≡ follows_of (record { buffer = buffer.now; walk = walk }) }
     ensures inside { IsTrue result → walk.at < length buffer.now.items }
 {
@@ -247,7 +243,7 @@ fn follows(buffer: &hb_buffer_t, walk: Joining) -> bool
 
 /// Puts the marks that follow onto the ligature.
 #[tactic(auto, using(layout_matching::proofs::LoopLemmas::times_step, crate::proofs::LigatureLemmas::follow_on, crate::proofs::LigatureLemmas::follow_stops))]
-fn follow_all(buffer: &mut hb_buffer_t, id: u8, walk: Joining) -> Joining
+fn follow_all(buffer: &mut GapBuffer, id: u8, walk: Joining) -> Joining
     ensures { record { buffer = buffer.new; walk = result }
         ≡ times (follow_step id) (length buffer.old.items) (record { buffer = buffer.old; walk = walk }) }
 {
@@ -262,7 +258,7 @@ fn follow_all(buffer: &mut hb_buffer_t, id: u8, walk: Joining) -> Joining
 }
 
 /// The same, unless the ligature is one of marks alone, or the last component belonged to none.
-fn follow(buffer: &mut hb_buffer_t, made: &Ligation, walk: Joining) -> Joining
+fn follow(buffer: &mut GapBuffer, made: &Ligation, walk: Joining) -> Joining
     ensures { record { buffer = buffer.new; walk = result }
         ≡ followed made.now (record { buffer = buffer.old; walk = walk }) }
 {
@@ -275,7 +271,7 @@ fn follow(buffer: &mut hb_buffer_t, made: &Ligation, walk: Joining) -> Joining
 /// Puts all components into one cluster, and takes all after the first one out.
 fn join(
     lookup: &Lookup<'_>,
-    buffer: &mut hb_buffer_t,
+    buffer: &mut GapBuffer,
     made: &Ligation,
     found: Components,
     at: usize,
@@ -305,7 +301,7 @@ fn join(
 /// Puts the ligature in place of its first component, after a walk over the others.
 fn put_over(
     lookup: &Lookup<'_>,
-    buffer: &mut hb_buffer_t,
+    buffer: &mut GapBuffer,
     made: &Ligation,
     found: Components,
     at: usize,
@@ -325,7 +321,7 @@ fn put_over(
 }
 
 /// The spot where so many items are left.
-fn with_left(buffer: &hb_buffer_t, spot: Spot, left: usize) -> Spot
+fn with_left(buffer: &GapBuffer, spot: Spot, left: usize) -> Spot
     ensures { result ≡ with_as_many_after left spot buffer.now }
 {
     let mut next = spot;
@@ -336,7 +332,7 @@ fn with_left(buffer: &hb_buffer_t, spot: Spot, left: usize) -> Spot
 /// Puts a ligature, made in this way, in place of its components. Returns where the lookup goes on: with `left` items after it.
 fn ligate(
     lookup: &Lookup<'_>,
-    buffer: &mut hb_buffer_t,
+    buffer: &mut GapBuffer,
     spot: Spot,
     made: &Ligation,
     found: Components,
@@ -354,7 +350,7 @@ fn ligate(
 }
 
 /// How many items are after the one at `last`.
-fn left_after(buffer: &hb_buffer_t, last: usize) -> usize
+fn left_after(buffer: &GapBuffer, last: usize) -> usize
     requires { last < length buffer.now.items }
     ensures { result ≡ length buffer.now.items - (last + 1) }
 {
@@ -365,7 +361,7 @@ fn left_after(buffer: &hb_buffer_t, last: usize) -> usize
 /// Puts a ligature in place of its components. Returns where the lookup goes on.
 pub fn put_ligature(
     lookup: &Lookup<'_>,
-    buffer: &mut hb_buffer_t,
+    buffer: &mut GapBuffer,
     spot: Spot,
     found: Components,
 ) -> Spot

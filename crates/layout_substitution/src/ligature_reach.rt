@@ -12,17 +12,18 @@ ghost use Rattle.layout_substitution.specs.Ligatures.{ligatures_reach as ligatur
 use crate::edits::{asks_for_concat, item, part_span};
 use crate::ligature::component_row;
 use crate::substitutes::{components, count, has_components, ligature_at};
+use layout_buffer::GapBuffer;
 use layout_matching::input::{match_input, seek_input};
 use layout_matching::lookup::Lookup;
 use layout_matching::rules::{Row, Test};
 use layout_matching::seeking::{Seek, next};
 use layout_matching::skipping::is_transparent;
 use layout_matching::tried::{Reach, input_end, joined, match_at, untried, vain};
-use shape_buffer::{hb_buffer_t, hb_glyph_info_t};
+use shape_buffer::hb_glyph_info_t;
 use shape_font::bytes::u16_at;
 
 /// How far the search for the components of a ligature looked in vain.
-fn ligature_reach(lookup: &Lookup<'_>, buffer: &hb_buffer_t, at: usize, ligature: usize) -> Reach
+fn ligature_reach(lookup: &Lookup<'_>, buffer: &GapBuffer, at: usize, ligature: usize) -> Reach
     requires near { ligature < 2 ^ 37 }
     requires inside { at < length buffer.now.items }
     ensures { result ≡ ligature_reach_of lookup.now buffer.now at ligature }
@@ -31,16 +32,16 @@ fn ligature_reach(lookup: &Lookup<'_>, buffer: &hb_buffer_t, at: usize, ligature
         return untried(at);
     }
     let row = component_row(lookup, ligature);
-    match match_input(lookup, buffer.infos(), at, row) {
+    match match_input(lookup, &buffer.items(), at, row) {
         Some(_) => match_at(at),
-        None => vain(at, at, input_end(lookup, buffer.infos(), at, row)),
+        None => vain(at, at, input_end(lookup, &buffer.items(), at, row)),
     }
 }
 
 /// The same for ligature `i` of a set.
 fn reach_by_ligature(
     lookup: &Lookup<'_>,
-    buffer: &hb_buffer_t,
+    buffer: &GapBuffer,
     at: usize,
     set: usize,
     i: u32,
@@ -58,7 +59,7 @@ fn reach_by_ligature(
 
 /// How far all ligatures of a set look that are tried at `at`, up to the first that stands there.
 #[tactic(auto, using(layout_matching::proofs::ReachLemmas::until_next, layout_matching::proofs::ReachLemmas::until_stays, layout_matching::proofs::ReachLemmas::until_end))]
-fn all_reach(lookup: &Lookup<'_>, buffer: &hb_buffer_t, at: usize, set: usize) -> Reach
+fn all_reach(lookup: &Lookup<'_>, buffer: &GapBuffer, at: usize, set: usize) -> Reach
     requires near { set < 2 ^ 36 }
     requires inside { at < length buffer.now.items }
     ensures { result ≡ all_reach_of lookup.now buffer.now at set }
@@ -74,12 +75,12 @@ fn all_reach(lookup: &Lookup<'_>, buffer: &hb_buffer_t, at: usize, set: usize) -
 }
 
 /// The next glyph that the lookup sees after `at`, unless it may be passed over.
-fn next_glyph(lookup: &Lookup<'_>, buffer: &hb_buffer_t, at: usize) -> Option<u32>
+fn next_glyph(lookup: &Lookup<'_>, buffer: &GapBuffer, at: usize) -> Option<u32>
     requires { at < length buffer.now.items }
     ensures { result ≡ next_glyph_of lookup.now buffer.now at }
 {
     let seek = seek_any(lookup, &item(buffer, at));
-    match next(lookup, &seek, buffer.infos(), 0, at) {
+    match next(lookup, &seek, &buffer.items(), 0, at) {
         Some(j) => seen_glyph(lookup, buffer, j),
         None => None,
     }
@@ -99,7 +100,7 @@ fn seek_any(lookup: &Lookup<'_>, first: &hb_glyph_info_t) -> Seek
 }
 
 /// The glyph at `j`, unless it may be passed over.
-fn seen_glyph(lookup: &Lookup<'_>, buffer: &hb_buffer_t, j: usize) -> Option<u32>
+fn seen_glyph(lookup: &Lookup<'_>, buffer: &GapBuffer, j: usize) -> Option<u32>
     ensures { result ≡ seen_glyph_of lookup.now buffer.now j }
 {
     let there = item(buffer, j);
@@ -121,7 +122,7 @@ fn begins_otherwise(lookup: &Lookup<'_>, glyph: u32, ligature: usize) -> bool
 /// How far ligature `i` of a set looked, if its second component is the next glyph.
 fn quick_reach(
     lookup: &Lookup<'_>,
-    buffer: &hb_buffer_t,
+    buffer: &GapBuffer,
     at: usize,
     set: usize,
     glyph: u32,
@@ -147,7 +148,7 @@ fn quick_reach(
 #[tactic(auto, using(layout_matching::proofs::ReachLemmas::until_next, layout_matching::proofs::ReachLemmas::until_stays, layout_matching::proofs::ReachLemmas::until_end))]
 fn quickly_reached(
     lookup: &Lookup<'_>,
-    buffer: &hb_buffer_t,
+    buffer: &GapBuffer,
     at: usize,
     set: usize,
     glyph: u32,
@@ -168,7 +169,7 @@ fn quickly_reached(
 
 /// How far the ligatures of a set look that are tried at `at`, up to the first that stands there. In a set of more than four
 /// HarfBuzz compares the second components first, and doesn't mark that if a ligature is made.
-fn ligatures_reach(lookup: &Lookup<'_>, buffer: &hb_buffer_t, at: usize, set: usize) -> Reach
+fn ligatures_reach(lookup: &Lookup<'_>, buffer: &GapBuffer, at: usize, set: usize) -> Reach
     requires near { set < 2 ^ 36 }
     requires inside { at < length buffer.now.items }
     ensures { result ≡ ligatures_reach_of lookup.now buffer.now at set }
@@ -185,7 +186,7 @@ fn ligatures_reach(lookup: &Lookup<'_>, buffer: &hb_buffer_t, at: usize, set: us
 
 /// Marks what the ligatures of a set looked at in vain unsafe to concat, if the buffer asks for that.
 #[tactic(auto, using(crate::proofs::EditLemmas::parted_unasked))]
-pub fn mark_tried(lookup: &Lookup<'_>, buffer: &mut hb_buffer_t, at: usize, set: usize)
+pub fn mark_tried(lookup: &Lookup<'_>, buffer: &mut GapBuffer, at: usize, set: usize)
     requires near { set < 2 ^ 36 }
     requires inside { at < length buffer.old.items }
     ensures made { buffer.new ≡ parted (ligatures_reach_of lookup.now buffer.old at set) buffer.old }

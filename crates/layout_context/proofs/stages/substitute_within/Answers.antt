@@ -6,5 +6,5 @@ returns-in-Err c = refused_by c.args.levels c.args.lookups.now c.args.buffer.now
 
 pub returns-in-Ok : goal.returns-in-Ok
 returns-in-Ok c =
-    outcome_of c.args.levels c.args.lookups.now c.args.buffer.now c.look_all_up.new.buffer c.within_limit.result c.in-Ok.ensures.ok
+    outcome_of c.args.levels c.args.lookups.now c.args.buffer.now c.edit_all.new.buffer c.within_limit.result c.in-Ok.ensures.ok
     c.within_limit.ensures.ok c.within_limit.ensures.length

@@ -1,0 +1,4 @@
+pub mod Gap
+pub mod GapLists
+pub mod GapMerging
+pub mod Worked
