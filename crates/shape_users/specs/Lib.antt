@@ -6,5 +6,6 @@ pub mod Lines
 pub mod Paragraph
 pub mod PlainGlyphs
 pub mod Points
+pub mod Stages
 pub mod Worked
 pub mod Words

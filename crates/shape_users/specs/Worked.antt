@@ -5,4 +5,5 @@ pub mod Found
 pub mod Plain
 pub mod Points
 pub mod Shown
+pub mod Stages
 pub mod Words

@@ -2,7 +2,8 @@
 //!
 //! [`arabic`] and [`hebrew`] are script shapers with hooks, which have no more obligations than their engine; [`capitals`] requests a
 //! feature and sets its masks.
-//! [`ligatures`] is a small engine with single and ligature substitutions, which preserves clusters and flags.
+//! [`ligatures`] is a small engine with single and ligature substitutions, which preserves clusters and flags. It is made by
+//! [`stages`], which gives all but the stages of an engine.
 //! [`breaking`] goes from a string to its lines, and [`lines`] tells a line breaker: may the text be
 //! cut here? [`paragraph`] leads from glyphs to the text that they show, and back. [`plain_glyphs`] says
 //! what is known of glyphs without hooks and lookups.
@@ -19,4 +20,5 @@ pub mod lines;
 mod marks;
 pub mod paragraph;
 pub mod plain_glyphs;
+pub mod stages;
 pub mod words;
