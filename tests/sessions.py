@@ -23,7 +23,8 @@ TESTS = Path(__file__).resolve().parent
 CRATES = TESTS.parent / "crates"
 PROGRAM = CRATES / "shapeline/out/shapeline"
 FONTSHAPE = CRATES / "fontshape/out/fontshape"
-FONTS = [CRATES / "fontshape/data/tiny.ttf", TESTS / "fontshape/tall.ttf", TESTS / "fontshape/two.ttc"]
+FILES = [CRATES / "fontshape/data/tiny.ttf",
+         *(TESTS / "fontshape" / name for name in ("tall.ttf", "two.ttc", "flat.ttf", "heavy.ttf", "lines"))]
 
 # How long a run may take, in seconds.
 LIMIT = 60
@@ -263,9 +264,21 @@ def run_full_device(folder):
     with open("/dev/full", "wb") as full:
         words = [FONTSHAPE, "tiny.ttf", "AB"]
         ended = subprocess.run(words, stdout=full, stderr=subprocess.PIPE, cwd=folder, timeout=LIMIT)
-    right = (ended.returncode, ended.stderr) == (1, b"fontshape: a read or a write failed\n")
+    right = (ended.returncode, ended.stderr) == (1, b"error: standard output: No space left on device (os error 28)\n")
     if not right:
         print(f"fontshape on a full device: status {ended.returncode}, {ended.stderr}")
+    return right
+
+
+def run_heavy_font(folder):
+    """The picture of a line has at most a megabyte and takes little time, whatever the font: A has 65,536 points.
+    Gives whether it does."""
+    given = b"A" * 5000 + b"\n" + b"A" * 5000 + b"\n"
+    ended = subprocess.run([FONTSHAPE, "heavy.ttf", "--svg"], input=given, stdout=subprocess.PIPE, cwd=folder,
+                           timeout=LIMIT, preexec_fn=limit_processor_time)
+    right = ended.returncode == 0 and 1_500_000 < len(ended.stdout) < 2_001_000
+    if not right:
+        print(f"fontshape draws a heavy font: status {ended.returncode}, {len(ended.stdout)} bytes")
     return right
 
 
@@ -281,12 +294,12 @@ def main():
     build(FONTSHAPE, ["--", "data/tiny.ttf", ""])
     named = [Path(name) for name in sys.argv[1:]]
     with tempfile.TemporaryDirectory() as folder:
-        for font in FONTS:
-            shutil.copy(font, folder)
+        for file in FILES:
+            shutil.copy(file, folder)
         all_files = sorted([*(TESTS / "sessions").glob("*.txt"), *(TESTS / "fontshape").glob("*.txt")])
         right = [run_sessions(named or all_files, folder)]
         if not named:
-            right += [run_fuzzed(), run_failing_calls(), run_long_text(folder), run_full_device(folder)]
+            right += [run_fuzzed(), run_failing_calls(), run_long_text(folder), run_full_device(folder), run_heavy_font(folder)]
     sys.exit(0 if all(right) else 1)
 
 

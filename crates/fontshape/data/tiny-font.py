@@ -1,7 +1,8 @@
 #!/usr/bin/env python3
 """Makes the tests' fonts, of seven and eight glyphs of boxes, from nothing. It writes `tiny.ttf` beside itself and, as
-text, to the crate `test_stages`; and to tests/fontshape `tall.ttf`, which has metrics of vertical lines, a dotted circle
-and its kerning in GPOS too, and `two.ttc`, a collection of both. They are under this repository's licence.
+text, to the crates `test_stages` and `test_forms`; and to tests/fontshape `tall.ttf`, which has metrics of vertical lines, a dotted circle
+and its kerning in GPOS too, `two.ttc`, a collection of both, `flat.ttf`, which has no outlines, and `heavy.ttf`, whose A
+has 65,536 points in few bytes. They are under this repository's licence.
 
 Each glyph is a rectangle, except for the space, which is empty, and Aacute, which is made of two others.
 """
@@ -166,6 +167,21 @@ def tall():
     return tables
 
 
+def flat():
+    tables = tiny()
+    del tables[b"glyf"], tables[b"loca"]
+    return tables
+
+
+def heavy():
+    """A is one contour of 65,536 points at one place: flags that are repeated, and no coordinates."""
+    tables = tiny()
+    data = struct.pack(">5h2H", 1, 10, 0, 590, 700, 65535, 0) + bytes([0x31 | 8, 255]) * 256
+    tables[b"glyf"] = data
+    tables[b"loca"] = struct.pack(">8H", 0, 0, 0, *[len(data) // 2] * 5)
+    return tables
+
+
 def file_of(tables, begin=0):
     """A font of these tables that begins at this place of its file."""
     records, data, at = b"", b"", begin + 12 + 16 * len(tables)
@@ -199,14 +215,17 @@ def main():
         "crates/fontshape/data/tiny.ttf": file_of(tiny()),
         "tests/fontshape/tall.ttf": file_of(tall()),
         "tests/fontshape/two.ttc": collection([tiny(), tall()]),
+        "tests/fontshape/flat.ttf": file_of(flat()),
+        "tests/fontshape/heavy.ttf": file_of(heavy()),
     }
     for name, data in files.items():
         with open(os.path.join(top, name), "wb") as file:
             file.write(data)
         print(name, len(data), "bytes")
-    with open(os.path.join(top, "crates/test_stages/src/fonts/tiny.rt"), "w") as file:
-        file.write("//! The font that crates/fontshape/data/tiny-font.py makes: its bytes, 32 a row, by two digits each.\n\n")
-        file.write('pub const DIGITS: &str = "\\\n%s";\n' % as_text(file_of(tiny())))
+    for name in "crates/test_stages/src/fonts/tiny.rt", "crates/test_forms/src/tiny.rt":
+        with open(os.path.join(top, name), "w") as file:
+            file.write("//! The font that crates/fontshape/data/tiny-font.py makes: its bytes, 32 a row, by two digits each.\n\n")
+            file.write('pub const DIGITS: &str = "\\\n%s";\n' % as_text(file_of(tiny())))
 
 
 if __name__ == "__main__":

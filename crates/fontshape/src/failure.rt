@@ -1,69 +1,100 @@
-//! Why the program gives up, and with which status.
-ghost use Rattle.std.specs.Prelude.{◌≡◌, ◌≤◌, ◌<◌};
-
+//! Why the program gives up, what it says of it, and the status that it ends with.
+use clap::Error;
+use clap::error::ErrorKind;
 use shape_pipeline::ShapeError;
-use std::alloc::AllocError;
+use std::alloc::{AllocError, Global};
 use std::io;
 
-/// Why the program gives up. The reason of the first four is an argument, whose word the options keep.
-#[derive(Clone, Copy)]
+/// Why the program gives up.
+#[derive(Drop)]
 pub enum Failure {
-    /// There is no such option.
-    Unknown,
-    /// The option wants a value, and no word follows.
-    NoValue,
-    /// The option doesn't take this value.
-    BadValue,
-    /// There are a font and a text already.
-    OneTooMany,
-    /// No font is named.
-    NoName,
-    /// The font file can't be read.
-    NoFile,
-    /// The file has no font, or none with this number.
-    NoFont,
-    /// A read or a write failed.
-    Io,
+    /// `clap` refuses the arguments, or they ask for help or for the version: it has the words.
+    Usage(Error),
+    /// An argument is not as it should be.
+    Argument(String),
+    /// A file is not as it should be.
+    File(String),
+    /// A text was refused.
+    Refused(String),
     /// A growth of memory was refused.
     Memory,
-    /// A text was refused, since a step would have passed the limit.
-    Length,
 }
 
 impl Failure {
-    /// The status that the program ends with.
-    pub fn status(self) -> u8
-        ensures above { 0 < result }
-        ensures within { result ≤ 3 }
-    {
-        match self {
-            Failure::Unknown | Failure::NoValue | Failure::BadValue | Failure::OneTooMany => 2,
-            Failure::NoName => 2,
-            Failure::NoFile | Failure::NoFont | Failure::Io | Failure::Memory => 1,
-            Failure::Length => 3,
+    /// The value of an option that doesn't take it, and what it takes.
+    pub fn value(alloc: Global, option: &str, value: &str, wanted: &str) -> Failure {
+        match format!(in alloc; "invalid value '{value}' for '--{option}': {wanted}") {
+            Ok(text) => Failure::Argument(text),
+            Err(_) => Failure::Memory,
         }
     }
 
-    /// What is said of it; the word of an argument follows.
-    pub fn text(self) -> &'static str {
+    /// Two options that exclude each other.
+    pub fn both(alloc: Global, one: &str, other: &str) -> Failure {
+        match format!(in alloc; "{one} can't be used with {other}") {
+            Ok(text) => Failure::Argument(text),
+            Err(_) => Failure::Memory,
+        }
+    }
+
+    /// What is wrong with a file.
+    pub fn file(alloc: Global, name: &str, wrong: &str) -> Failure {
+        match format!(in alloc; "{name}: {wrong}") {
+            Ok(text) => Failure::File(text),
+            Err(_) => Failure::Memory,
+        }
+    }
+
+    /// A file without the font of this number.
+    pub fn no_font(alloc: Global, name: &str, number: u32) -> Failure {
+        if number == 0 {
+            return Failure::file(alloc, name, "not a font file");
+        }
+        match format!(in alloc; "{name}: no font has the number {number} there") {
+            Ok(text) => Failure::File(text),
+            Err(_) => Failure::Memory,
+        }
+    }
+
+    /// A file that can't be read or written.
+    pub fn io(alloc: Global, name: &str, error: io::Error) -> Failure {
+        match format!(in alloc; "{name}: {error}") {
+            Ok(text) => Failure::File(text),
+            Err(_) => Failure::Memory,
+        }
+    }
+
+    /// A line that was refused.
+    pub fn line(alloc: Global, number: usize, error: ShapeError) -> Failure {
+        if let ShapeError::Memory = error {
+            return Failure::Memory;
+        }
+        match format!(in alloc;
+            "line {number}: the text is too long, or its glyphs would be too many"
+        ) {
+            Ok(text) => Failure::Refused(text),
+            Err(_) => Failure::Memory,
+        }
+    }
+
+    /// The status that the program ends with: 0 only after help and the version.
+    pub fn status(&self) -> u8 {
         match self {
-            Failure::Unknown => "unknown option --",
-            Failure::NoValue => "no value for --",
-            Failure::BadValue => "bad value: ",
-            Failure::OneTooMany => "one word too many: ",
-            Failure::NoName => "no font is named; --help tells more",
-            Failure::NoFile => "the font file can't be read",
-            Failure::NoFont => "no font with this number in the file",
-            Failure::Io => "a read or a write failed",
+            Failure::Usage(error) if !error.use_stderr() => 0,
+            Failure::Usage(_) => 2,
+            Failure::Argument(_) => 2,
+            Failure::File(_) | Failure::Memory => 1,
+            Failure::Refused(_) => 3,
+        }
+    }
+
+    /// What is said of it, except for what `clap` says.
+    pub fn text(&self) -> &str {
+        match self {
+            Failure::Usage(_) => "",
+            Failure::Argument(text) | Failure::File(text) | Failure::Refused(text) => text.as_str(),
             Failure::Memory => "out of memory",
-            Failure::Length => "a text was refused: too long",
         }
-    }
-}
-
-impl From<io::Error> for Failure {
-    fn from(_error: io::Error) -> Failure {
-        Failure::Io
     }
 }
 
@@ -73,11 +104,12 @@ impl From<AllocError> for Failure {
     }
 }
 
-impl From<ShapeError> for Failure {
-    fn from(error: ShapeError) -> Failure {
-        match error {
-            ShapeError::Memory => Failure::Memory,
-            ShapeError::Length => Failure::Length,
+impl From<Error> for Failure {
+    fn from(error: Error) -> Failure {
+        if error.kind() == ErrorKind::OutOfMemory {
+            Failure::Memory
+        } else {
+            Failure::Usage(error)
         }
     }
 }

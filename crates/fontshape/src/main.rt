@@ -1,182 +1,260 @@
 //! Shapes texts with a font file, and writes the glyphs as `hb-shape` does.
 //!
-//! [`options`] reads the arguments, [`shaping`] shapes a line, [`names`] names glyphs, [`picture`] draws a line.
+//! [`command`] says which arguments there are, [`options`] and [`values`] what they ask for; [`line`] reads a line,
+//! [`shaping`] shapes it, [`written`] writes it in a [`size`], and [`picture`] draws it.
 #![tactic(auto)]
 #![allow(non_camel_case_types)]
 
+mod command;
+mod drawing;
 mod failure;
-mod frame;
-mod names;
+mod line;
 mod options;
-mod outlines;
 mod picture;
-mod setting;
 mod shaping;
+mod size;
+mod unicodes;
+mod values;
+mod written;
 
+use crate::command::command;
 use crate::failure::Failure;
-use crate::names::FaceNames;
-use crate::options::Options;
-use crate::outlines::Outlines;
-use crate::picture::picture_of;
+use crate::line::Line;
+use crate::options::{Format, Options, Source};
+use crate::picture::Picture;
 use crate::shaping::shaped;
+use crate::written::written;
+use glyph_outlines::Outlines;
 use shape_font::FontFace;
-use shape_pipeline::{GlyphBuffer, hb_font_t};
-use shape_text_forms::{SerializeFlags, glyph_names, serialize};
-use std::alloc::{AllocError, Global};
-use std::io::{BufRead, BufReader, BufWriter, Write};
+use shape_pipeline::hb_font_t;
+use shape_text_forms::SerializeFlags;
+use std::alloc::Global;
+use std::fs::File;
+use std::io::{BufRead, BufReader, BufWriter, Read, Write};
 use std::process::ExitCode;
 use std::{env, fs, io};
 
-/// What `--help` writes.
-const HELP: &str = "\
-usage: fontshape FONT [OPTION ..] [TEXT]
+/// What is said of standard input and output.
+const INPUT: &str = "standard input";
 
-Shapes TEXT, or each line of standard input, with the font file FONT.
+const OUTPUT: &str = "standard output";
 
-  --features LIST         features such as kern=0,-liga,aalt[3:5]=2
-  --direction DIRECTION   ltr, rtl, ttb or btt (guessed)
-  --script SCRIPT         a tag of ISO 15924 (guessed)
-  --language LANGUAGE     a name of BCP 47
-  --cluster-level N       0 graphemes, 1 characters, 2 never merged
-  --mode N                how texts are normalised, 0 to 4 (the shaper's)
-  --face-index N          the font of a collection (0)
-  --utf8-clusters         clusters are bytes and not characters
-  --bot, --eot            the text begins, ends a paragraph
-  --preserve-default-ignorables, --remove-default-ignorables
-  --unsafe-to-concat, --safe-to-insert-tatweel
-                          ask for these flags of glyphs
-  --no-glyph-names, --no-positions, --no-advances, --no-clusters, --ned
-                          leave these out; --ned is the last two
-  --show-extents, --show-flags
-                          write boxes and flags of glyphs
-  --svg                   draw the glyphs, with a bar for each cluster and a
-                          mark where a line may be cut
-  --help                  this text
-
-Status 1: a file can't be read or is no font, or a write failed. Status 2:
-the arguments. Status 3: a text was refused.
-";
-
-/// A font to shape with: what it answers, and its outlines.
-#[derive(Clone, Copy)]
-struct Font<'a> {
+/// The program at work: what it shapes with, and what it draws or writes to.
+#[derive(Drop)]
+struct Work<'a, W: Write + Drop> {
+    options: &'a Options,
     face: FontFace<'a>,
-    outlines: Outlines<'a>,
+    outlines: Option<Outlines<'a>>,
+    picture: Picture,
+    writer: BufWriter<W>,
 }
 
-/// The glyphs as a line.
-fn line_of<F: hb_font_t, N: glyph_names>(
-    alloc: Global,
-    face: &F,
-    names: &N,
-    glyphs: &GlyphBuffer,
-    form: SerializeFlags,
-) -> Result<String, AllocError> {
-    let mut line = serialize(alloc, glyphs, face, names, form)?;
-    line.push('\n')?;
-    Ok(line)
-}
-
-/// What is written of a text: its glyphs as a line, or drawn. Refuses if shaping does, or a growth was refused.
-fn answer(alloc: Global, options: &Options, font: &Font, text: &str) -> Result<String, Failure> {
-    let glyphs = shaped(alloc, options, &font.face, text)?;
-    if options.draws() {
-        Ok(picture_of(alloc, &font.outlines, &font.face, &glyphs)?)
-    } else {
-        let names = FaceNames::new(font.face);
-        Ok(line_of(alloc, &font.face, &names, &glyphs, options.form())?)
+impl<'a, W: Write + Drop> Work<'a, W> {
+    /// Writes some bytes.
+    fn write(&mut self, alloc: Global, bytes: &[u8]) -> Result<(), Failure> {
+        match self.writer.write_all(bytes) {
+            Ok(()) => Ok(()),
+            Err(error) => Err(Failure::io(alloc, self.options.output().unwrap_or(OUTPUT), error)),
+        }
     }
-}
 
-/// Writes the answer to a text.
-fn write_answer<W: Write>(
-    alloc: Global,
-    options: &Options,
-    font: &Font,
-    text: &str,
-    writer: &mut W,
-) -> Result<(), Failure> {
-    let answer = answer(alloc, options, font, text)?;
-    writer.write_all(answer.as_bytes())?;
-    Ok(())
-}
-
-/// Answers each line of a reader.
-fn answer_lines<R: BufRead + Drop, W: Write>(
-    alloc: Global,
-    options: &Options,
-    font: &Font,
-    reader: R,
-    writer: &mut W,
-) -> Result<(), Failure> {
-    for line in reader.lines(alloc) {
-        write_answer(alloc, options, font, &line?, writer)?;
+    /// Shapes a line, and draws it or writes it.
+    fn take_line(&mut self, alloc: Global, text: &[u8], number: usize) -> Result<(), Failure> {
+        let line = Line::new(alloc, text, self.options.utf8_clusters())?;
+        let glyphs = match shaped(alloc, self.options, &self.face, &line) {
+            Ok(glyphs) => glyphs,
+            Err(error) => return Err(Failure::line(alloc, number, error)),
+        };
+        match &self.outlines {
+            Some(outlines) => match self.picture.add(alloc, outlines, &glyphs) {
+                Ok(()) => Ok(()),
+                Err(error) => Err(Failure::line(alloc, number, error)),
+            },
+            None => {
+                let output = written(
+                    alloc,
+                    self.options,
+                    &self.face,
+                    text,
+                    &line,
+                    number,
+                    &glyphs,
+                )?;
+                self.write(alloc, output.bytes())
+            }
+        }
     }
-    Ok(())
-}
 
-/// Answers the text of the arguments, or each line of standard input.
-fn answer_all<W: Write>(
-    rt: &HostRuntime,
-    options: &Options,
-    font: &Font,
-    writer: &mut W,
-) -> Result<(), Failure> {
-    let alloc = rt.alloc();
-    match options.text() {
-        Some(text) => write_answer(alloc, options, font, text, writer),
-        None => {
-            let reader = BufReader::new(alloc, rt.reader())?;
-            answer_lines(alloc, options, font, reader, writer)
+    /// Takes each line of a reader.
+    fn take_lines<R: BufRead + Drop>(
+        &mut self,
+        alloc: Global,
+        reader: R,
+        name: &str,
+    ) -> Result<(), Failure> {
+        let mut number: usize = 0;
+        for line in reader.split(alloc, b'\n') {
+            number = number.saturating_add(1);
+            match line {
+                Ok(text) => self.take_line(alloc, text.as_slice(), number)?,
+                Err(error) => return Err(Failure::io(alloc, name, error)),
+            }
+        }
+        Ok(())
+    }
+
+    /// Takes each line of the texts that the options name.
+    fn take_source(&mut self, rt: &HostRuntime) -> Result<(), Failure> {
+        let alloc = rt.alloc();
+        match self.options.source() {
+            Source::Given(text) => self.take_lines(alloc, text.as_bytes(), INPUT),
+            Source::File(name) => match File::open(rt, name.as_str()) {
+                Ok(file) => {
+                    let reader = buffered(alloc, file)?;
+                    self.take_lines(alloc, reader, name.as_str())
+                }
+                Err(error) => Err(Failure::io(alloc, name.as_str(), error)),
+            },
+            Source::Input => {
+                let reader = buffered(alloc, rt.reader())?;
+                self.take_lines(alloc, reader, INPUT)
+            }
+        }
+    }
+
+    /// Takes all lines, and writes the picture if one was drawn.
+    fn take_all(&mut self, rt: &HostRuntime) -> Result<(), Failure> {
+        let alloc = rt.alloc();
+        self.take_source(rt)?;
+        if self.outlines.is_some() {
+            let svg = self.picture.svg(alloc)?;
+            self.write(alloc, svg.as_bytes())?;
+        }
+        Ok(())
+    }
+
+    /// Takes all lines, and hands on what is written, also what stands before a failure.
+    fn run(&mut self, rt: &HostRuntime) -> Result<(), Failure> {
+        let done = self.take_all(rt);
+        match self.writer.flush() {
+            Ok(()) => done,
+            Err(error) => {
+                let name = self.options.output().unwrap_or(OUTPUT);
+                Err(Failure::io(rt.alloc(), name, error))
+            }
         }
     }
 }
 
-/// Answers with the font of a file.
-fn run_font(rt: &HostRuntime, options: &Options, bytes: &[u8]) -> Result<(), Failure> {
-    let Some(face) = FontFace::from_slice(bytes, options.face_index()) else {
-        return Err(Failure::NoFont);
-    };
-    let font = Font {
-        face,
-        outlines: Outlines::new(bytes, options.face_index()),
-    };
-    let mut writer = BufWriter::new(rt.alloc(), io::writer(rt))?;
-    let answered = answer_all(rt, options, &font, &mut writer);
-    writer.flush()?;
-    answered
+/// A reader with a buffer.
+fn buffered<R: Read + Drop>(alloc: Global, reader: R) -> Result<BufReader<R>, Failure> {
+    match BufReader::new(alloc, reader) {
+        Ok(reader) => Ok(reader),
+        Err(_) => Err(Failure::Memory),
+    }
 }
 
-/// Writes help, or reads the font and answers.
-fn run(rt: &HostRuntime, options: &Options) -> Result<(), Failure> {
-    if options.asks_for_help() {
-        io::writer(rt).write_all(HELP.as_bytes())?;
+/// The outlines to draw, none if glyphs are written. Refuses to draw a font without any.
+fn drawn<'a>(
+    alloc: Global,
+    options: &Options,
+    bytes: &'a [u8],
+) -> Result<Option<Outlines<'a>>, Failure> {
+    if options.format() != Format::Svg {
+        return Ok(None);
+    }
+    match Outlines::from_slice(bytes, options.face_index()) {
+        Some(outlines) => Ok(Some(outlines)),
+        None => Err(Failure::file(
+            alloc,
+            options.font(),
+            "no outlines to draw, since it has no table glyf",
+        )),
+    }
+}
+
+/// Says that boxes are asked for of a font that has none.
+fn warn_of_boxes(rt: &HostRuntime, options: &Options, bytes: &[u8]) -> Result<(), Failure> {
+    let asked = options.form().asks(SerializeFlags::GLYPH_EXTENTS);
+    if !asked || Outlines::from_slice(bytes, options.face_index()).is_some() {
         return Ok(());
     }
-    match fs::read(rt, options.font()) {
-        Ok(bytes) => run_font(rt, options, &bytes),
-        Err(_) => Err(Failure::NoFile),
+    let name = options.font();
+    match eprintln!(rt; "warning: {name}: no boxes, since it has no table glyf") {
+        Ok(()) => Ok(()),
+        Err(error) => Err(Failure::io(rt.alloc(), "standard error", error)),
+    }
+}
+
+/// Shapes with the font of a file, for this writer.
+fn run_to<W: Write + Drop>(
+    rt: &HostRuntime,
+    options: &Options,
+    bytes: &[u8],
+    writer: W,
+) -> Result<(), Failure> {
+    let alloc = rt.alloc();
+    let index = options.face_index();
+    let Some(face) = FontFace::from_slice(bytes, index) else {
+        return Err(Failure::no_font(alloc, options.font(), index));
+    };
+    let outlines = drawn(alloc, options, bytes)?;
+    warn_of_boxes(rt, options, bytes)?;
+    let Ok(writer) = BufWriter::new(alloc, writer) else {
+        return Err(Failure::Memory);
+    };
+    let mut work = Work {
+        options,
+        face,
+        outlines,
+        picture: Picture::new(alloc, face.units_per_em()),
+        writer,
+    };
+    work.run(rt)
+}
+
+/// Shapes with the font of a file.
+fn run(rt: &HostRuntime, options: &Options, bytes: &[u8]) -> Result<(), Failure> {
+    match options.output() {
+        Some(name) => match File::create(rt, name) {
+            Ok(file) => run_to(rt, options, bytes, file),
+            Err(error) => Err(Failure::io(rt.alloc(), name, error)),
+        },
+        None => run_to(rt, options, bytes, io::writer(rt)),
     }
 }
 
 /// Reads the arguments and does what they ask.
-fn obey(rt: &HostRuntime, options: &mut Options) -> Result<(), Failure> {
-    let mut words = env::args(rt)?;
-    words.next();
-    options.read_all(rt.alloc(), words)?;
-    run(rt, options)
+fn obey(rt: &HostRuntime) -> Result<(), Failure> {
+    let alloc = rt.alloc();
+    let words = match env::args(rt) {
+        Ok(words) => words,
+        Err(error) => return Err(Failure::io(alloc, "the arguments", error)),
+    };
+    let words: Vec<String> = words.collect(alloc)?;
+    let matches = match command(alloc)?.try_get_matches_from(words.as_slice()) {
+        Ok(matches) => matches,
+        Err(error) => return Err(Failure::from(error)),
+    };
+    let options = Options::new(alloc, &matches)?;
+    match fs::read(rt, options.font()) {
+        Ok(bytes) => run(rt, &options, bytes.as_slice()),
+        Err(error) => Err(Failure::io(alloc, options.font(), error)),
+    }
 }
 
 /// Says why the program gives up, and gives the status that it ends with.
-fn give_up(rt: &HostRuntime, failure: Failure, blamed: &str) -> io::Result<ExitCode> {
-    eprintln!(rt; "fontshape: {}{}", failure.text(), blamed)?;
+fn give_up(rt: &HostRuntime, failure: &Failure) -> io::Result<ExitCode> {
+    match failure {
+        Failure::Usage(error) => error.print(rt)?,
+        _ => eprintln!(rt; "error: {}", failure.text())?,
+    }
     Ok(ExitCode::from(failure.status()))
 }
 
 fn main(rt: HostRuntime) -> io::Result<ExitCode> {
-    let mut options = Options::new(rt.alloc());
-    match obey(&rt, &mut options) {
+    match obey(&rt) {
         Ok(()) => Ok(ExitCode::SUCCESS),
-        Err(failure) => give_up(&rt, failure, options.blamed()),
+        Err(failure) => give_up(&rt, &failure),
     }
 }

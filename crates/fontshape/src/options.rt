@@ -1,72 +1,116 @@
 //! What the arguments ask for.
-ghost use Rattle.std.specs.Prelude.{◌≡◌};
-
 use crate::failure::Failure;
-use crate::setting::{Setting, Switch};
-use shape_pipeline::{BufferClusterLevel, BufferFlags, Direction, Feature, Language, Script};
-use shape_text_forms::{
-    SerializeFlags, direction_from_string, feature_from_string, language_from_string,
-    script_from_string,
+use crate::size::Size;
+use crate::values;
+use clap::ArgMatches;
+use shape_pipeline::{
+    BufferClusterLevel, BufferFlags, Direction, Feature, GlyphId, Language, Script,
 };
+use shape_text_forms::{SerializeFlags, language_from_string};
 use std::alloc::{AllocError, Global};
-use std::env::Args;
+
+/// How lines are written.
+#[derive(Clone, Copy, PartialEq, Eq)]
+pub enum Format {
+    /// As `hb-shape` writes them.
+    Text,
+    /// As lists of JSON.
+    Json,
+    /// As one picture.
+    Svg,
+}
+
+/// Where texts come from.
+#[derive(Drop)]
+pub enum Source {
+    /// The arguments.
+    Given(String),
+    /// The file of this name.
+    File(String),
+    /// Standard input.
+    Input,
+}
+
+/// What is written before the glyphs of a line.
+#[derive(Clone, Copy)]
+pub struct Shown {
+    pub text: bool,
+    pub unicode: bool,
+    pub line_num: bool,
+}
 
 /// What the arguments ask for.
 #[derive(Drop)]
 pub struct Options {
-    font: Option<String>,
-    text: Option<String>,
+    font: String,
+    source: Source,
+    before: String,
+    after: String,
     features: Vec<Feature>,
     direction: Direction,
     script: Option<Script>,
     language: Option<String>,
+    size: Option<Size>,
     level: BufferClusterLevel,
     mode: Option<u32>,
     face_index: u32,
     utf8_clusters: bool,
-    help: bool,
-    svg: bool,
+    layout: bool,
+    invisible: Option<GlyphId>,
+    not_found_selector: Option<GlyphId>,
     flags: u32,
     form: u32,
-    blamed: Option<String>,
+    format: Format,
+    shown: Shown,
+    output: Option<String>,
 }
 
 impl Options {
-    /// Nothing is asked for.
-    pub fn new(alloc: Global) -> Options {
-        Options {
-            font: None,
-            text: None,
-            features: Vec::new(alloc),
-            direction: Direction::Invalid,
-            script: None,
-            language: None,
-            level: BufferClusterLevel::MonotoneGraphemes,
-            mode: None,
-            face_index: 0,
-            utf8_clusters: false,
-            help: false,
-            svg: false,
-            flags: 0,
-            form: 0,
-            blamed: None,
-        }
+    /// What the arguments ask for. Refuses the first value that isn't as it should be, and two texts.
+    pub fn new(alloc: Global, matches: &ArgMatches) -> Result<Options, Failure> {
+        Ok(Options {
+            font: values::word_or(alloc, matches, "font", "")?,
+            source: values::source(alloc, matches)?,
+            before: values::context(alloc, matches, "--text-before", "--unicodes-before")?,
+            after: values::context(alloc, matches, "--text-after", "--unicodes-after")?,
+            features: values::features(alloc, matches)?,
+            direction: values::direction(alloc, matches)?,
+            script: values::script(alloc, matches)?,
+            language: values::word(alloc, matches, "language")?,
+            size: values::size(alloc, matches)?,
+            level: values::level(matches),
+            mode: matches.get_one::<u32>("mode"),
+            face_index: matches.get_one::<u32>("face-index").unwrap_or(0),
+            utf8_clusters: matches.get_flag("utf8-clusters"),
+            layout: !matches.get_flag("no-layout"),
+            invisible: values::glyph(matches, "invisible-glyph"),
+            not_found_selector: values::glyph(matches, "not-found-variation-selector-glyph"),
+            flags: values::run_flags(matches),
+            form: values::form_flags(matches),
+            format: values::format(alloc, matches)?,
+            shown: values::shown(matches),
+            output: values::word(alloc, matches, "output-file")?,
+        })
     }
 
-    /// The name of the font file, empty if help is asked for without one.
+    /// The name of the font file.
     pub fn font(&self) -> &str {
-        match &self.font {
-            Some(font) => font.as_str(),
-            None => "",
-        }
+        self.font.as_str()
     }
 
-    /// The text, if it is an argument.
-    pub fn text(&self) -> Option<&str> {
-        match &self.text {
-            Some(text) => Some(text.as_str()),
-            None => None,
-        }
+    /// Where texts come from.
+    pub fn source(&self) -> &Source {
+        &self.source
+    }
+
+    /// What stands before each text.
+    pub fn before(&self) -> &str {
+        self.before.as_str()
+    }
+
+    /// What stands after each text.
+    pub fn after(&self) -> &str {
+        self.after.as_str()
     }
 
     /// The features that are asked for.
@@ -92,6 +136,11 @@ impl Options {
         }
     }
 
+    /// How many units wide and high the em square is to be; none for those of the font.
+    pub fn size(&self) -> Option<Size> {
+        self.size
+    }
+
     /// How clusters are merged.
     pub fn level(&self) -> BufferClusterLevel {
         self.level
@@ -112,14 +161,19 @@ impl Options {
         self.utf8_clusters
     }
 
-    /// Whether help is asked for.
-    pub fn asks_for_help(&self) -> bool {
-        self.help
+    /// Whether the font's tables of lookups are used.
+    pub fn layout(&self) -> bool {
+        self.layout
     }
 
-    /// Whether glyphs are drawn and not written.
-    pub fn draws(&self) -> bool {
-        self.svg
+    /// The glyph of default ignorables, none for the space's.
+    pub fn invisible_glyph(&self) -> Option<GlyphId> {
+        self.invisible
+    }
+
+    /// The glyph of a variation selector that the font has no glyph for; none to leave it out.
+    pub fn not_found_variation_selector_glyph(&self) -> Option<GlyphId> {
+        self.not_found_selector
     }
 
     /// What is asked of a run.
@@ -127,206 +181,26 @@ impl Options {
         BufferFlags(self.flags)
     }
 
-    /// The word of the argument that was refused, empty if none was.
-    pub fn blamed(&self) -> &str {
-        match &self.blamed {
-            Some(word) => word.as_str(),
-            None => "",
-        }
-    }
-
     /// What is written of glyphs.
     pub fn form(&self) -> SerializeFlags {
         SerializeFlags(self.form)
     }
 
-    /// Reads the arguments, each a word. Refuses the first one that isn't as it should be, and a missing font.
-    pub fn read_all(&mut self, alloc: Global, words: Args) -> Result<(), Failure> {
-        let mut waiting: Option<Setting> = None;
-        for word in words {
-            waiting = self.take(alloc, waiting, word.as_str())?;
-        }
-        if let Some(setting) = waiting {
-            return Err(self.blame(alloc, Failure::NoValue, setting.name()));
-        }
-        if self.font.is_none() && !self.help {
-            return Err(Failure::NoName);
-        }
-        Ok(())
+    /// How lines are written.
+    pub fn format(&self) -> Format {
+        self.format
     }
 
-    /// Takes a word: the value of the option that waits for one, or a word by itself. Gives the option that waits then.
-    fn take(
-        &mut self,
-        alloc: Global,
-        waiting: Option<Setting>,
-        word: &str,
-    ) -> Result<Option<Setting>, Failure> {
-        match waiting {
-            Some(setting) => {
-                self.set(alloc, setting, word)?;
-                Ok(None)
-            }
-            None => self.read(alloc, word),
-        }
+    /// What is written before the glyphs of a line.
+    pub fn shown(&self) -> Shown {
+        self.shown
     }
 
-    /// Reads a word; gives the option whose value is to follow it.
-    fn read(&mut self, alloc: Global, word: &str) -> Result<Option<Setting>, Failure> {
-        match word.strip_prefix("--") {
-            Some(option) => self.read_option(alloc, option),
-            None => {
-                self.read_plain(alloc, word)?;
-                Ok(None)
-            }
+    /// The name of the file to write to, none for standard output.
+    pub fn output(&self) -> Option<&str> {
+        match &self.output {
+            Some(name) => Some(name.as_str()),
+            None => None,
         }
     }
-
-    /// Reads a word that is no option: the font, then the text.
-    fn read_plain(&mut self, alloc: Global, word: &str) -> Result<(), Failure> {
-        if self.font.is_none() {
-            keep(&mut self.font, alloc, word)
-        } else if self.text.is_none() {
-            keep(&mut self.text, alloc, word)
-        } else {
-            Err(self.blame(alloc, Failure::OneTooMany, word))
-        }
-    }
-
-    /// Reads an option after its dashes; gives it if its value is to follow.
-    fn read_option(&mut self, alloc: Global, option: &str) -> Result<Option<Setting>, Failure> {
-        if let Some((name, value)) = option.split_once('=') {
-            return self.read_setting(alloc, name, value);
-        }
-        if let Some(setting) = Setting::from_name(option) {
-            return Ok(Some(setting));
-        }
-        match Switch::from_name(option) {
-            Some(switch) => {
-                self.turn_on(switch);
-                Ok(None)
-            }
-            None => Err(self.blame(alloc, Failure::Unknown, option)),
-        }
-    }
-
-    /// Gives the option of a name its value; none waits then.
-    fn read_setting(
-        &mut self,
-        alloc: Global,
-        name: &str,
-        value: &str,
-    ) -> Result<Option<Setting>, Failure> {
-        match Setting::from_name(name) {
-            Some(setting) => {
-                self.set(alloc, setting, value)?;
-                Ok(None)
-            }
-            None => Err(self.blame(alloc, Failure::Unknown, name)),
-        }
-    }
-
-    /// Switches on an option that takes no value.
-    fn turn_on(&mut self, switch: Switch) {
-        match switch {
-            Switch::Help => self.help = true,
-            Switch::Svg => self.svg = true,
-            Switch::Utf8Clusters => self.utf8_clusters = true,
-            Switch::Run(flag) => self.flags |= flag,
-            Switch::Form(flags) => self.form |= flags,
-        }
-    }
-
-    /// Gives an option its value.
-    fn set(&mut self, alloc: Global, setting: Setting, value: &str) -> Result<(), Failure> {
-        let known = match setting {
-            Setting::Features => return self.add_features(alloc, value),
-            Setting::Language => return keep(&mut self.language, alloc, value),
-            Setting::Direction => {
-                self.direction = direction_from_string(value);
-                self.direction != Direction::Invalid
-            }
-            Setting::Script => {
-                self.script = script_from_string(value);
-                self.script.is_some()
-            }
-            Setting::ClusterLevel => self.set_level(value),
-            Setting::Mode => self.set_mode(value),
-            Setting::FaceIndex => self.set_face_index(value),
-        };
-        if known {
-            Ok(())
-        } else {
-            Err(self.blame(alloc, Failure::BadValue, value))
-        }
-    }
-
-    /// Adds the features of a list, with commas or spaces between them.
-    fn add_features(&mut self, alloc: Global, list: &str) -> Result<(), Failure> {
-        for text in list.split([',', ' ']) {
-            self.add_feature(alloc, text)?;
-        }
-        Ok(())
-    }
-
-    /// Adds a feature; nothing stands between two spaces.
-    fn add_feature(&mut self, alloc: Global, text: &str) -> Result<(), Failure> {
-        if text.is_empty() {
-            return Ok(());
-        }
-        let Some(feature) = feature_from_string(text) else {
-            return Err(self.blame(alloc, Failure::BadValue, text));
-        };
-        match self.features.push(feature) {
-            Ok(()) => Ok(()),
-            Err(_) => Err(Failure::Memory),
-        }
-    }
-
-    /// Sets how clusters are merged; returns whether the value names a way.
-    fn set_level(&mut self, value: &str) -> bool {
-        self.level = match value {
-            "0" => BufferClusterLevel::MonotoneGraphemes,
-            "1" => BufferClusterLevel::MonotoneCharacters,
-            "2" => BufferClusterLevel::Characters,
-            _ => return false,
-        };
-        true
-    }
-
-    /// Sets how texts are normalised; returns whether the value names a way.
-    fn set_mode(&mut self, value: &str) -> bool {
-        match value.parse::<u32>() {
-            Ok(mode) if mode <= 4 => {
-                self.mode = Some(mode);
-                true
-            }
-            _ => false,
-        }
-    }
-
-    /// Sets the number of the font; returns whether the value is a number.
-    fn set_face_index(&mut self, value: &str) -> bool {
-        match value.parse::<u32>() {
-            Ok(index) => {
-                self.face_index = index;
-                true
-            }
-            Err(_) => false,
-        }
-    }
-
-    /// The failure of a wrong argument, whose word is kept; `Memory` if there is none for the word.
-    fn blame(&mut self, alloc: Global, failure: Failure, word: &str) -> Failure {
-        match keep(&mut self.blamed, alloc, word) {
-            Ok(()) => failure,
-            Err(memory) => memory,
-        }
-    }
-}
-
-/// Keeps a word.
-fn keep(place: &mut Option<String>, alloc: Global, word: &str) -> Result<(), Failure> {
-    *place = Some(String::from_str(alloc, word)?);
-    Ok(())
 }

@@ -1,15 +1,17 @@
-//! A line as a picture: its outlines, a bar for each cluster, and a mark where a line may be cut.
-use crate::outlines::{Outlines, append_pair};
-use shape_font::FontFace;
-use shape_pipeline::{Direction, GlyphBuffer, ShapeError, hb_font_t};
+//! All lines as one picture: their outlines, a bar for each cluster, and a mark where a line may be cut.
+//!
+//! A line stands below the one before it, and the frame holds the boxes of all that is drawn. The picture of a line has
+//! at most [`MOST_BYTES`] bytes and is made of at most [`MOST_POINTS`] points: what would pass either is left out.
+use crate::drawing::{Bounds, Drawing, Place, rounded};
+use glyph_outlines::Outlines;
+use shape_pipeline::{Direction, GlyphBuffer, GlyphCluster, ShapeError};
 use std::alloc::{AllocError, Global};
 
-/// Where the pen stands.
-#[derive(Clone, Copy)]
-struct Place {
-    x: f64,
-    y: f64,
-}
+/// The most bytes of a line.
+const MOST_BYTES: usize = 1_000_000;
+
+/// The most points and contours that are read for a line, except for those of its last glyph.
+const MOST_POINTS: u32 = 200_000;
 
 /// Where bars of clusters stand, seen from the pen, and how long the marks across them are.
 #[derive(Clone, Copy)]
@@ -22,12 +24,21 @@ struct Bars {
 }
 
 impl Bars {
-    /// The bars of a line that runs in this direction.
-    fn of(direction: Direction, em: f64) -> Bars {
+    /// The bars of a line with glyphs in these bounds: below them, or at their left if the line runs down.
+    fn of(direction: Direction, em: f64, glyphs: &Bounds) -> Bars {
         let down = direction.is_vertical();
+        let far = em * 0.125;
         Bars {
-            left: if down { em * -0.625 } else { 0.0 },
-            low: if down { 0.0 } else { em * -0.3125 },
+            left: if down {
+                (em * -0.625).min(glyphs.left - far)
+            } else {
+                0.0
+            },
+            low: if down {
+                0.0
+            } else {
+                (em * -0.3125).min(glyphs.low - far)
+            },
             len: em * 0.0625,
             down,
             backward: direction.is_backward(),
@@ -64,73 +75,49 @@ fn place_at(places: &[Place], at: usize) -> Place {
     }
 }
 
-/// Appends the outlines of the glyphs, y upwards.
-fn append_glyphs(
+/// Draws the outlines of the glyphs.
+fn draw_glyphs(
     alloc: Global,
-    out: &mut String,
+    drawing: &mut Drawing,
     outlines: &Outlines,
     glyphs: &GlyphBuffer,
     places: &[Place],
 ) -> Result<(), AllocError> {
+    let mut points: u32 = 0;
     let mut at: usize = 0;
     for (info, position) in glyphs.iter() {
         let mut pen = place_at(places, at);
         pen.x = pen.x + f64::from(position.x_offset);
         pen.y = pen.y + f64::from(position.y_offset);
-        append_glyph(alloc, out, outlines, info.glyph_id, pen)?;
         at = at.saturating_add(1);
+        let Ok(glyph) = u16::try_from(info.glyph_id) else {
+            continue;
+        };
+        if MOST_POINTS < points || !drawing.has_room() {
+            continue;
+        }
+        let outline = outlines.outline(alloc, glyph, MOST_BYTES)?;
+        points = points.saturating_add(outline.points());
+        drawing.glyph(outline.segments(), pen)?;
     }
     Ok(())
 }
 
-/// Appends the outline of a glyph; nothing if no font can have it.
-fn append_glyph(
-    alloc: Global,
-    out: &mut String,
-    outlines: &Outlines,
-    glyph: u32,
-    pen: Place,
+/// Draws the bar of a cluster, and a mark where a line may be cut before its text.
+fn draw_cluster(
+    drawing: &mut Drawing,
+    cluster: &GlyphCluster,
+    places: &[Place],
+    bars: Bars,
+    odd: bool,
 ) -> Result<(), AllocError> {
-    if 65536 <= glyph {
+    let begin = bars.at(place_at(places, cluster.start));
+    let end = bars.at(place_at(places, cluster.end));
+    drawing.line(if odd { "#39c" } else { "#c63" }, begin, end)?;
+    if cluster.unsafe_to_break {
         return Ok(());
     }
-    out.push_str("<path transform=\"translate")?;
-    append_pair(out, '(', pen.x, pen.y)?;
-    out.push_str(")\" d=\"")?;
-    outlines.append(alloc, out, glyph as u16)?;
-    out.push_str("\"/>\n")
-}
-
-/// Appends a bar for each cluster, in two alternating colours, and a mark where a line may be cut before its text.
-fn append_clusters(
-    alloc: Global,
-    out: &mut String,
-    glyphs: &GlyphBuffer,
-    places: &[Place],
-    em: f64,
-) -> Result<(), ShapeError> {
-    let clusters = glyphs.clusters(alloc)?;
-    let bars = Bars::of(glyphs.direction(), em);
-    let mut odd = false;
-    for cluster in clusters.iter() {
-        let begin = place_at(places, cluster.start);
-        let end = place_at(places, cluster.end);
-        append_line(
-            out,
-            if odd { "#39c" } else { "#c63" },
-            bars.at(begin),
-            bars.at(end),
-        )?;
-        if !cluster.unsafe_to_break {
-            append_mark(out, bars.at(if bars.backward { end } else { begin }), bars)?;
-        }
-        odd = !odd;
-    }
-    Ok(())
-}
-
-/// Appends a mark across the bars.
-fn append_mark(out: &mut String, cut: Place, bars: Bars) -> Result<(), AllocError> {
+    let cut = if bars.backward { end } else { begin };
     let (across, along) = if bars.down {
         (bars.len, 0.0)
     } else {
@@ -144,66 +131,99 @@ fn append_mark(out: &mut String, cut: Place, bars: Bars) -> Result<(), AllocErro
         x: cut.x + across,
         y: cut.y + along,
     };
-    append_line(out, "#000", from, to)
+    drawing.line("#000", from, to)
 }
 
-/// Appends a line of this colour from one place to another.
-fn append_line(out: &mut String, colour: &str, from: Place, to: Place) -> Result<(), AllocError> {
-    write!(out, "<path stroke=\"{colour}\" d=\"")?;
-    append_pair(out, 'M', from.x, from.y)?;
-    append_pair(out, 'L', to.x, to.y)?;
-    out.push_str("\"/>\n")
-}
-
-/// What part of the plane is seen: its left and upper edge, its width and its height.
-fn seen(end: Place, down: bool, em: f64) -> (f64, f64, f64, f64) {
-    let height = if end.y < 0.0 { 0.0 - end.y } else { end.y };
-    if down {
-        (em * -0.8125, em * -0.1875, em * 1.625, height + em * 0.375)
-    } else {
-        (em * -0.125, em * -1.125, end.x + em * 0.25, em * 1.625)
-    }
-}
-
-/// Appends the head of the picture: what part of the plane is seen.
-fn append_head(out: &mut String, end: Place, down: bool, em: f64) -> Result<(), AllocError> {
-    let (x, y, width, height) = seen(end, down, em);
-    out.push_str("<svg xmlns=\"http://www.w3.org/2000/svg\" style=\"background:#fff\"")?;
-    write!(
-        out,
-        " viewBox=\"{x} {y} {width} {height}\">\n<g transform=\"scale(1 -1)\">\n"
-    )
-}
-
-/// Appends the picture of a line, with the pen at these places.
-fn append_picture(
+/// Draws a bar for each cluster, in two alternating colours, with marks.
+fn draw_clusters(
     alloc: Global,
-    out: &mut String,
-    outlines: &Outlines,
-    em: f64,
+    drawing: &mut Drawing,
     glyphs: &GlyphBuffer,
     places: &[Place],
+    bars: Bars,
 ) -> Result<(), ShapeError> {
-    let end = place_at(places, glyphs.len());
-    append_head(out, end, glyphs.direction().is_vertical(), em)?;
-    append_glyphs(alloc, out, outlines, glyphs, places)?;
-    let width = em * 0.03125;
-    write!(out, "<g stroke-width=\"{width}\">\n")?;
-    append_clusters(alloc, out, glyphs, places, em)?;
-    out.push_str("</g>\n</g>\n</svg>\n")?;
+    let clusters = glyphs.clusters(alloc)?;
+    let mut odd = false;
+    for cluster in clusters.iter() {
+        draw_cluster(drawing, cluster, places, bars, odd)?;
+        odd = !odd;
+    }
     Ok(())
 }
 
-/// The picture of a line as SVG. Refuses if a growth was refused.
-pub fn picture_of(
-    alloc: Global,
-    outlines: &Outlines,
-    face: &FontFace,
-    glyphs: &GlyphBuffer,
-) -> Result<String, ShapeError> {
-    let em = f64::from(face.units_per_em());
-    let places = places(alloc, glyphs)?;
-    let mut out = String::new(alloc);
-    append_picture(alloc, &mut out, outlines, em, glyphs, places.as_slice())?;
-    Ok(out)
+/// A picture of lines, of which each stands below the one before it.
+#[derive(Drop)]
+pub struct Picture {
+    body: String,
+    em: f64,
+    left: f64,
+    right: f64,
+    low: f64,
+}
+
+impl Picture {
+    /// A picture without a line, for a font with such an em square.
+    pub fn new(alloc: Global, units_per_em: u16) -> Picture {
+        Picture {
+            body: String::new(alloc),
+            em: f64::from(units_per_em),
+            left: 0.0,
+            right: 0.0,
+            low: 0.0,
+        }
+    }
+
+    /// Adds a line below all others. Refuses if a growth was refused.
+    pub fn add(
+        &mut self,
+        alloc: Global,
+        outlines: &Outlines,
+        glyphs: &GlyphBuffer,
+    ) -> Result<(), ShapeError> {
+        let places = places(alloc, glyphs)?;
+        let places = places.as_slice();
+        let mut drawing = Drawing::new(alloc, MOST_BYTES);
+        drawing.sees(place_at(places, 0));
+        drawing.sees(place_at(places, glyphs.len()));
+        draw_glyphs(alloc, &mut drawing, outlines, glyphs, places)?;
+        let bars = Bars::of(glyphs.direction(), self.em, drawing.bounds());
+        drawing.begin_lines(self.em * 0.03125)?;
+        draw_clusters(alloc, &mut drawing, glyphs, places, bars)?;
+        let least = if glyphs.direction().is_vertical() {
+            0.0
+        } else {
+            self.em * 0.75
+        };
+        self.put(&drawing, least)?;
+        Ok(())
+    }
+
+    /// Puts a drawing below all that is there, with a gap between them and at least so much room above its origin.
+    fn put(&mut self, drawing: &Drawing, least: f64) -> Result<(), AllocError> {
+        let bounds = drawing.bounds();
+        let gap = self.em * 0.125;
+        let base = self.low - gap - bounds.high.max(least);
+        self.low = base + bounds.low - gap;
+        self.left = self.left.min(bounds.left - gap);
+        self.right = self.right.max(bounds.right + gap);
+        drawing.append_to(&mut self.body, base)
+    }
+
+    /// The picture as SVG.
+    pub fn svg(&self, alloc: Global) -> Result<String, AllocError> {
+        let mut out = String::new(alloc);
+        out.push_str("<svg xmlns=\"http://www.w3.org/2000/svg\" style=\"background:#fff\"")?;
+        let (x, width, height) = (
+            rounded(self.left),
+            rounded(self.right - self.left),
+            rounded(0.0 - self.low),
+        );
+        write!(
+            out,
+            " viewBox=\"{x} 0 {width} {height}\">\n<g transform=\"scale(1 -1)\">\n"
+        )?;
+        out.push_str(self.body.as_str())?;
+        out.push_str("</g>\n</svg>\n")?;
+        Ok(out)
+    }
 }

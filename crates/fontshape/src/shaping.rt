@@ -1,7 +1,7 @@
 //! Shaping one text as the options ask.
 ghost use Rattle.std.specs.Prelude.{◌≡◌};
 
-use crate::failure::Failure;
+use crate::line::Line;
 use crate::options::Options;
 use kern_table::KernTable;
 use shape_font::FontFace;
@@ -9,28 +9,29 @@ use shape_pipeline::ot_shaper::{
     ComposedDiacritics, ComposedDiacriticsNoShortCircuit, Decomposed, Preference, Shortest,
 };
 use shape_pipeline::{
-    DEFAULT_SHAPER, GlyphBuffer, NoLookups, Preferring, Script, UnicodeBuffer, hb_default_shaper_t,
-    hb_font_t, hb_ot_layout_t, hb_ot_shaper_t, shape,
+    DEFAULT_SHAPER, GlyphBuffer, NoLookups, Preferring, Script, ShapeError, UnicodeBuffer,
+    hb_default_shaper_t, hb_font_t, hb_ot_layout_t, hb_ot_shaper_t, shape,
 };
 use shape_unicode::UnicodeDatabase;
 use shape_users::hebrew::HebrewShaper;
 use std::alloc::Global;
 
-/// The text as a buffer with the settings that are asked for, script and direction guessed if they aren't.
-fn filled(alloc: Global, options: &Options, text: &str) -> Result<UnicodeBuffer, Failure> {
-    if u32::MAX as usize <= text.len() {
-        return Err(Failure::Length);
-    }
+/// A line as a buffer with the settings that are asked for, script and direction guessed if they aren't.
+pub fn filled(alloc: Global, options: &Options, line: &Line) -> Result<UnicodeBuffer, ShapeError> {
     let mut buffer = UnicodeBuffer::new(alloc);
-    buffer.push_str(text)?;
-    if !options.utf8_clusters() {
-        buffer.reset_clusters();
+    buffer.reserve(line.characters().len())?;
+    for character in line.characters() {
+        buffer.add(character.c, character.cluster)?;
     }
+    buffer.set_pre_context(options.before());
+    buffer.set_post_context(options.after());
     buffer.set_direction(options.direction());
     buffer.set_script(options.script());
     buffer.set_language(options.language(alloc)?);
     buffer.set_flags(options.flags());
     buffer.set_cluster_level(options.level());
+    buffer.set_invisible_glyph(options.invisible_glyph());
+    buffer.set_not_found_variation_selector_glyph(options.not_found_variation_selector_glyph());
     buffer.guess_segment_properties::<UnicodeDatabase>();
     Ok(buffer)
 }
@@ -42,7 +43,7 @@ fn shaped_by<F, M, S>(
     face: &F,
     shaper: &S,
     buffer: UnicodeBuffer,
-) -> Result<GlyphBuffer, Failure>
+) -> Result<GlyphBuffer, ShapeError>
 where
     F: hb_font_t,
     M: hb_ot_layout_t<F>,
@@ -51,7 +52,7 @@ where
     let features = options.features();
     match shape::<UnicodeDatabase, F, M, S>(alloc, face, shaper, features, buffer) {
         Ok(glyphs) => Ok(glyphs),
-        Err(fault) => Err(Failure::from(fault.cause)),
+        Err(fault) => Err(fault.cause),
     }
 }
 
@@ -61,7 +62,7 @@ fn shaped_preferring<P: Preference, F: hb_font_t, M: hb_ot_layout_t<F>>(
     options: &Options,
     face: &F,
     buffer: UnicodeBuffer,
-) -> Result<GlyphBuffer, Failure> {
+) -> Result<GlyphBuffer, ShapeError> {
     shaped_by::<F, M, Preferring<P>>(alloc, options, face, &Preferring::new(), buffer)
 }
 
@@ -71,7 +72,7 @@ fn shaped_hebrew<F: hb_font_t, M: hb_ot_layout_t<F>>(
     options: &Options,
     face: &F,
     buffer: UnicodeBuffer,
-) -> Result<GlyphBuffer, Failure> {
+) -> Result<GlyphBuffer, ShapeError> {
     shaped_by::<F, M, HebrewShaper>(alloc, options, face, &HebrewShaper, buffer)
 }
 
@@ -81,7 +82,7 @@ fn shaped_default<F: hb_font_t, M: hb_ot_layout_t<F>>(
     options: &Options,
     face: &F,
     buffer: UnicodeBuffer,
-) -> Result<GlyphBuffer, Failure> {
+) -> Result<GlyphBuffer, ShapeError> {
     shaped_by::<F, M, hb_default_shaper_t>(alloc, options, face, &DEFAULT_SHAPER, buffer)
 }
 
@@ -92,7 +93,7 @@ fn shaped_with<F: hb_font_t, M: hb_ot_layout_t<F>>(
     options: &Options,
     face: &F,
     buffer: UnicodeBuffer,
-) -> Result<GlyphBuffer, Failure> {
+) -> Result<GlyphBuffer, ShapeError> {
     match options.mode() {
         Some(0) => shaped_preferring::<Shortest, F, M>(alloc, options, face, buffer),
         Some(1) => shaped_preferring::<Decomposed, F, M>(alloc, options, face, buffer),
@@ -107,18 +108,28 @@ fn shaped_with<F: hb_font_t, M: hb_ot_layout_t<F>>(
     }
 }
 
-/// The glyphs of a text, kerned by the table `kern` of a font without GPOS. A font with GPOS has its kerning there, and
-/// no engine here reads it. Refuses as `shape` does, and with `Length` a text of 4 GiB.
-pub fn shaped(
+/// The glyphs of a buffer without tables of lookups, kerned by the table `kern` of a font without GPOS: a font with GPOS
+/// has its kerning there.
+fn shaped_without_layout(
     alloc: Global,
     options: &Options,
     face: &FontFace,
-    text: &str,
-) -> Result<GlyphBuffer, Failure> {
-    let buffer = filled(alloc, options, text)?;
+    buffer: UnicodeBuffer,
+) -> Result<GlyphBuffer, ShapeError> {
     if face.tables().gpos {
         shaped_with::<FontFace, NoLookups>(alloc, options, face, buffer)
     } else {
         shaped_with::<FontFace, KernTable>(alloc, options, face, buffer)
     }
+}
+
+/// The glyphs of a line. Refuses as `shape` does.
+pub fn shaped(
+    alloc: Global,
+    options: &Options,
+    face: &FontFace,
+    line: &Line,
+) -> Result<GlyphBuffer, ShapeError> {
+    let buffer = filled(alloc, options, line)?;
+    shaped_without_layout(alloc, options, face, buffer)
 }

@@ -1,8 +1,8 @@
 -- kerning preserves the number of items, and the limit
 use Prim.Native.Nat.{zero}
-use Rattle.std.proofs.Common.{◌≡◌, ℕ, suc, ℤ, ◌+◌, ◌==◌, ◌≤◌, Bool, true, false, if◌then◌else◌, List, map, length, reverse, Option, nat_lt, nat_eq, refl, sym, ap, ◌∙◌, arith}
+use Rattle.std.proofs.Common.{◌≡◌, ℕ, suc, ℤ, ◌+◌, ◌==◌, true, false, if◌then◌else◌, List, length, nat_lt, nat_eq, refl, ap, ◌∙◌, arith}
 use Rattle.std.specs.Int.RustNames.{bit_and}
-use Rattle.std.proofs.lemmas.List.{length-map, length-reverse}
+use Rattle.std.proofs.lemmas.List.{length-reverse}
 use Rattle.shape_items.specs.Buffer.{Buffer, limit_of}
 use Rattle.shape_items.specs.BufferClusters.{unsafe_to_break, unsafe_to_concat, with_glyph_flags}
 use Rattle.shape_items.specs.Clusters.{clusters, map_range, mark_concat}

@@ -1,6 +1,5 @@
 -- what the engine returns of a face, and what it makes of a buffer
-use Rattle.std.specs.Prelude.{◌≡◌, ℕ, List, Bool, true, false, None, not, nat_eq, length, refl}
-use Rattle.shape_items.specs.Buffer.{Buffer}
+use Rattle.std.specs.Prelude.{false, None, not, nat_eq}
 use Rattle.shape_buffer.specs.Layout.{LayoutMeaning, LookupMeaning, LawfulMasks, LawfulLookups}
 use Rattle.shape_buffer.specs.NoLookups.{no_lookups, no_lookups-lawful}
 use Rattle.shape_font.specs.declared.face.FontFace.{FontFace}

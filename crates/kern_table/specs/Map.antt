@@ -1,5 +1,5 @@
 -- where kerning is on, by the requests of a plan
-use Rattle.std.specs.Prelude.{◌≡◌, ℕ, ◌%◌, ◌*◌, ◌&&◌, ◌||◌, not, Bool, false, List, fold, max, nat_eq, Option, None, Some, if◌then◌else◌}
+use Rattle.std.specs.Prelude.{ℕ, ◌%◌, ◌*◌, ◌&&◌, ◌||◌, not, Bool, false, List, fold, max, nat_eq, None, if◌then◌else◌}
 use Rattle.std.specs.Int.RustNames.{bit_and}
 use Rattle.shape_common.specs.FlagNames.{F_GLOBAL, F_HAS_FALLBACK}
 use Rattle.shape_buffer.specs.Layout.{MapMeaning}

@@ -1,5 +1,5 @@
 -- no mask of the engine has a defined flag
-use Rattle.std.proofs.Common.{◌≡◌, ℕ, ◌+◌, ◌*◌, ◌%◌, ◌<◌, ◌&&◌, Bool, true, false, if◌then◌else◌, refl, ◌∙◌, arith, rules}
+use Rattle.std.proofs.Common.{◌≡◌, ℕ, ◌*◌, ◌%◌, ◌<◌, ◌&&◌, true, false, if◌then◌else◌, refl, ◌∙◌, arith, rules}
 use Rattle.std.proofs.lemmas.Nat.{and_mask}
 use Rattle.std.specs.Int.RustNames.{bit_and}
 use Rattle.shape_buffer.specs.Layout.{HasNoDefinedFlag}

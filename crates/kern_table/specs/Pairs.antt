@@ -1,9 +1,11 @@
--- values of pairs of glyphs, by format 0 of `kern`
-use Rattle.std.specs.Prelude.{ℕ, ℤ, pos, List, Option, ◌+◌, ◌*◌, ◌||◌, nat_lt, if◌then◌else◌}
+-- Values of pairs of glyphs, by formats 0 and 2 of `kern`.
+use Rattle.std.specs.Prelude.{ℕ, ℤ, pos, List, Bool, Option, ◌+◌, ◌-◌, ◌*◌, ◌/◌, ◌&&◌, ◌||◌, not, nat_eq, nat_lt, nat_le, slice_index, if◌then◌else◌}
 use Rattle.std.specs.Option.{option_map_or}
 use Rattle.std.specs.declared.cmp.Ordering.{Ordering}
 use Rattle.shape_font.specs.Bytes.{u16_of, u32_of, i16_of, fitting}
 use Rattle.shape_font.specs.Search.{side_of, found_by}
+
+-- ---- format 0: pairs in order
 
 -- pairs of 6 bytes: two glyphs, which are one number for the search, and their value
 abbrev pub side_of_pair : List ℕ → ℕ → ℕ → ℕ → Ordering
@@ -13,6 +15,37 @@ abbrev pub pair_of : List ℕ → ℕ → ℕ → Option ℕ
 pair_of t start glyphs = found_by (side_of_pair t start glyphs) (fitting t (u16_of t (start + 6)) (start + 14) 6)
 
 -- the value of two glyphs in the part that begins at `start`; none has a glyph past 65535
-abbrev pub value_of : List ℕ → ℕ → ℕ → ℕ → ℤ
-value_of t start left right = if nat_lt 0xFFFF left || nat_lt 0xFFFF right then pos 0
+abbrev pub listed_value : List ℕ → ℕ → ℕ → ℕ → ℤ
+listed_value t start left right = if nat_lt 0xFFFF left || nat_lt 0xFFFF right then pos 0
     else option_map_or (λ i. i16_of t (start + 18 + 6 * i)) (pair_of t start (left * 65536 + right)) (pos 0)
+
+-- ---- format 2: values by the class of the left glyph and that of the right one
+
+-- the classes of glyphs one after the other, from a first one on
+abbrev pub class_of : List ℕ → ℕ → ℕ → ℕ
+class_of t classes glyph = u16_of t (classes + 4 + 2 * (glyph - u16_of t classes))
+
+-- 1 is no class: it stands for a glyph out of bounds
+abbrev pub is_classed : List ℕ → ℕ → ℕ → Bool
+is_classed t classes glyph = nat_le (u16_of t classes) glyph
+    && nat_lt (glyph - u16_of t classes) (fitting t (u16_of t (classes + 2)) (classes + 4) 2)
+    && not (nat_eq (class_of t classes glyph) 1)
+
+-- a class is a number of bytes: that of the left glyph leads from the start of the part to a row of the array, that of the right
+-- one along the row. What stands before the array is no value; from there on each has two bytes
+abbrev pub value_at : List ℕ → ℕ → ℕ → ℤ
+value_at t start place = let array = u16_of t (start + 12) in
+    (if nat_lt place array then pos 0 else i16_of t (start + array + 2 * ((place - array) / 2)))
+
+-- two glyphs of which one has no class have no value
+abbrev pub classed_value : List ℕ → ℕ → ℕ → ℕ → ℤ
+classed_value t start left right = let lefts = start + u16_of t (start + 8) in
+    let rights = start + u16_of t (start + 10) in
+    (if is_classed t lefts left && is_classed t rights right
+    then value_at t start (class_of t lefts left + class_of t rights right) else pos 0)
+
+-- ---- by the format of the part
+
+abbrev pub value_of : List ℕ → ℕ → ℕ → ℕ → ℤ
+value_of t start left right =
+    if nat_eq (slice_index t (start + 4)) 2 then classed_value t start left right else listed_value t start left right

@@ -1,6 +1,6 @@
 -- what each step of kerning preserves, the whole preserves
 use Prim.Native.Nat.{zero}
-use Rattle.std.proofs.Common.{◌≡◌, ℕ, suc, ℤ, ◌+◌, Bool, true, false, if◌then◌else◌, List, length, Option, Some, None, nat_lt, nat_eq, refl}
+use Rattle.std.proofs.Common.{ℕ, suc, ℤ, ◌+◌, Bool, true, false, if◌then◌else◌, List, length, Option, Some, None, nat_eq}
 use Rattle.std.specs.Prelude.{pos}
 use Rattle.std.specs.Ordering.{int_eq}
 use Rattle.shape_common.specs.Wrapping.{◌-ʷ◌}
@@ -11,7 +11,7 @@ use Rattle.shape_common.specs.Direction.{is_horizontal}
 use Rattle.shape_common.specs.declared.positions.GlyphPosition.{GlyphPosition}
 use Rattle.shape_font.specs.Metrics.{half_down}
 use Rattle.kern_table.specs.Pairs.{value_of}
-use Rattle.kern_table.specs.Walk.{moved_on, moved, position_at, position_put, pair_moved, pair_kerned, item_at, is_skipped_by, kerned_with, kerned_at, kerned_to, kerned}
+use Rattle.kern_table.specs.Walk.{moved_on, moved, position_at, position_put, pair_moved, item_at, is_skipped_by, kerned_with, kerned_at, kerned_to, kerned}
 
 module _ (P : Buffer → Buffer → Type 0) (same : (b : Buffer) → P b b) (after : (a b c : Buffer) → P a b → P b c → P a c)
     (by_break : (start end : ℕ) (b : Buffer) → P b (unsafe_to_break start end b))

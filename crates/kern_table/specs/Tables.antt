@@ -1,6 +1,6 @@
 -- kerning of a buffer by a whole table `kern` (OpenType, version 0)
 use Prim.Native.Nat.{zero}
-use Rattle.std.specs.Prelude.{ℕ, suc, List, Bool, ◌+◌, ◌/◌, ◌%◌, ◌&&◌, nat_lt, nat_eq, reverse, slice_index, if◌then◌else◌}
+use Rattle.std.specs.Prelude.{ℕ, suc, List, Bool, ◌+◌, ◌/◌, ◌%◌, ◌&&◌, ◌||◌, nat_lt, nat_eq, reverse, slice_index, if◌then◌else◌}
 use Rattle.shape_items.specs.Buffer.{Buffer}
 use Rattle.shape_common.specs.Direction.{is_horizontal, is_backward}
 use Rattle.shape_font.specs.Bytes.{u16_of}
@@ -10,10 +10,10 @@ use Rattle.kern_table.specs.Walk.{kerned}
 abbrev pub parts_of : List ℕ → ℕ
 parts_of t = if nat_eq (u16_of t 0) 0 then u16_of t 2 else 0
 
--- a part of format 0, for lines of this kind (bit 0), that doesn't move glyphs across the line (bit 2)
+-- a part of format 0 or 2, for lines of this kind (bit 0), that doesn't move glyphs across the line (bit 2)
 abbrev pub is_read : List ℕ → ℕ → Bool → Bool
 is_read t start horizontal = let coverage = slice_index t (start + 5) in
-    nat_eq (slice_index t (start + 4)) 0 && nat_eq (coverage % 2) (if horizontal then 1 else 0) && nat_eq (coverage / 4 % 2) 0
+    (nat_eq (slice_index t (start + 4)) 0 || nat_eq (slice_index t (start + 4)) 2) && nat_eq (coverage % 2) (if horizontal then 1 else 0) && nat_eq (coverage / 4 % 2) 0
 
 abbrev pub reversed : Buffer → Buffer
 reversed b = record b { items = reverse b.items; positions = reverse b.positions }

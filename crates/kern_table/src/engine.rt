@@ -16,7 +16,7 @@ use shape_font::FontFace;
 use std::alloc::Global;
 
 /// The engine that kerns by the table `kern` of a font file, and does nothing else: it chooses no script, and has no
-/// stage. Read are the parts of format 0 of a table of version 0, those along the line. Takes no memory, and refuses
+/// stage. Read are the parts of formats 0 and 2 of a table of version 0, those along the line. Takes no memory, and refuses
 /// nothing: its calls say so beside what the trait asks.
 pub struct KernTable;
 

@@ -1,8 +1,8 @@
-//! Values of pairs of glyphs: format 0 of the table `kern`.
+//! Values of pairs of glyphs: formats 0 and 2 of the table `kern`.
 ghost use Rattle.std.specs.Prelude.{◌≡◌, ◌+◌, ◌*◌, ◌<◌, ◌^◌, ◌≤ℤ◌, pos, negsuc};
-ghost use Rattle.kern_table.specs.Pairs.{side_of_pair, pair_of, value_of};
+ghost use Rattle.kern_table.specs.Pairs.{side_of_pair, pair_of, listed_value as listed_value_of, is_classed as is_classed_of, class_of, value_at as value_at_of, classed_value as classed_value_of, value_of};
 
-use shape_font::bytes::{i16_at, records, u16_at, u32_at};
+use shape_font::bytes::{i16_at, records, u8_at, u16_at, u32_at};
 use shape_font::search::{found, side};
 use std::cmp::Ordering;
 
@@ -24,11 +24,10 @@ fn pair(kern: &[u8], start: usize, glyphs: u32) -> Option<u32>
     found(count, |i| pair_side(kern, start, glyphs, i))
 }
 
-/// How far two glyphs are moved apart by the part of the table that begins at `start`, in units of the face;
-/// together if it is negative, and 0 if the part doesn't have them.
-pub fn value(kern: &[u8], start: usize, left: u32, right: u32) -> i32
+/// The value of two glyphs in the part of format 0 that begins at `start`.
+fn listed_value(kern: &[u8], start: usize, left: u32, right: u32) -> i32
     requires { start < 2 ^ 34 }
-    ensures value { result ≡ value_of kern.now start left right }
+    ensures value { result ≡ listed_value_of kern.now start left right }
     ensures low { negsuc 32767 ≤ℤ result }
     ensures high { result ≤ℤ pos 32767 }
 {
@@ -38,5 +37,73 @@ pub fn value(kern: &[u8], start: usize, left: u32, right: u32) -> i32
     match pair(kern, start, left * 65536 + right) {
         Some(i) => i16_at(kern, start + 18 + 6 * i as usize),
         None => 0,
+    }
+}
+
+/// Whether the classes at `classes` have the glyph. Class 1 stands for a glyph out of bounds.
+fn is_classed(kern: &[u8], classes: usize, glyph: u32) -> bool
+    requires { classes < 2 ^ 35 }
+    ensures { result ≡ is_classed_of kern.now classes glyph }
+{
+    let first = u32::from(u16_at(kern, classes));
+    let said = u32::from(u16_at(kern, classes + 2));
+    first <= glyph
+        && glyph - first < records(kern, said, classes + 4, 2)
+        && class(kern, classes, glyph) != 1
+}
+
+/// The class of a glyph that the classes at `classes` have.
+fn class(kern: &[u8], classes: usize, glyph: u32) -> u32
+    requires { classes < 2 ^ 35 }
+    ensures value { result ≡ class_of kern.now classes glyph }
+    ensures small { result < 65536 }
+{
+    let i = glyph.saturating_sub(u32::from(u16_at(kern, classes)));
+    u32::from(u16_at(kern, classes + 4 + 2 * i as usize))
+}
+
+/// The value that stands so many bytes after the start of a part, 0 if its array of values begins later.
+fn value_at(kern: &[u8], start: usize, place: u32) -> i32
+    requires part { start < 2 ^ 34 }
+    requires near { place < 131072 }
+    ensures value { result ≡ value_at_of kern.now start place }
+    ensures low { negsuc 32767 ≤ℤ result }
+    ensures high { result ≤ℤ pos 32767 }
+{
+    let array = u32::from(u16_at(kern, start + 12));
+    if place < array {
+        return 0;
+    }
+    i16_at(kern, start + array as usize + 2 * ((place - array) / 2) as usize)
+}
+
+/// The value of two glyphs in the part of format 2 that begins at `start`, by their classes; 0 if one has none.
+fn classed_value(kern: &[u8], start: usize, left: u32, right: u32) -> i32
+    requires { start < 2 ^ 34 }
+    ensures value { result ≡ classed_value_of kern.now start left right }
+    ensures low { negsuc 32767 ≤ℤ result }
+    ensures high { result ≤ℤ pos 32767 }
+{
+    let lefts = start + usize::from(u16_at(kern, start + 8));
+    let rights = start + usize::from(u16_at(kern, start + 10));
+    if !is_classed(kern, lefts, left) || !is_classed(kern, rights, right) {
+        return 0;
+    }
+    value_at(kern, start, class(kern, lefts, left) + class(kern, rights, right))
+}
+
+/// How far two glyphs are moved apart by the part of the table that begins at `start`, in units of the face;
+/// together if it is negative, and 0 if the part doesn't have them. A part of format 2 has values by classes, every
+/// other one is read as format 0.
+pub fn value(kern: &[u8], start: usize, left: u32, right: u32) -> i32
+    requires { start < 2 ^ 34 }
+    ensures value { result ≡ value_of kern.now start left right }
+    ensures low { negsuc 32767 ≤ℤ result }
+    ensures high { result ≤ℤ pos 32767 }
+{
+    if u8_at(kern, start + 4) == 2 {
+        classed_value(kern, start, left, right)
+    } else {
+        listed_value(kern, start, left, right)
     }
 }

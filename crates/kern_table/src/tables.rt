@@ -1,4 +1,4 @@
-//! Kerning by a whole table `kern`: its parts in order, those of format 0 that move glyphs along the line.
+//! Kerning by a whole table `kern`: its parts in order, those of formats 0 and 2 that move glyphs along the line.
 ghost use Rattle.std.specs.Prelude.{◌≡◌, ◌<◌, ◌≤◌, ◌^◌, length};
 ghost use Rattle.shape_items.specs.Buffer.{limit_of};
 ghost use Rattle.kern_table.specs.Tables.{parts_of, is_read as is_read_of, part_kerned, table_kerned};
@@ -19,15 +19,15 @@ pub fn parts(kern: &[u8]) -> u32
     }
 }
 
-/// Whether the part that begins at `start` kerns lines of this kind: it is of format 0, for lines of this kind, and
-/// doesn't move glyphs across the line.
+/// Whether the part that begins at `start` kerns lines of this kind: it is of format 0 or 2, for lines of this
+/// kind, and doesn't move glyphs across the line.
 fn is_read(kern: &[u8], start: usize, horizontal: bool) -> bool
     requires { start < 2 ^ 34 }
     ensures { result ≡ is_read_of kern.now start horizontal }
 {
     let coverage = u8_at(kern, start + 5);
     let line = if horizontal { 1 } else { 0 };
-    u8_at(kern, start + 4) == 0 && coverage % 2 == line && coverage / 4 % 2 == 0
+    matches!(u8_at(kern, start + 4), 0 | 2) && coverage % 2 == line && coverage / 4 % 2 == 0
 }
 
 /// Kerns a buffer by the part that begins at `start`, from the left of the line to its right.

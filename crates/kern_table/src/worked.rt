@@ -1,10 +1,11 @@
 //! The definitions, computed on tables and buffers that were read by hand.
-ghost use Rattle.kern_table.specs.Worked.Kern.{WorkedValues, WorkedLines, WorkedMaps};
+ghost use Rattle.kern_table.specs.Worked.Kern.{WorkedValues, WorkedClasses, WorkedLines, WorkedMaps};
 ghost use Rattle.kern_table.specs.Worked.Engine.{WorkedEngine};
 
 /// Values of pairs, lines that are kerned, what requests ask for, and what the engine returns.
 pub fn kerning_meets_worked_cases()
     ensures values { WorkedValues }
+    ensures classes { WorkedClasses }
     ensures lines { WorkedLines }
     ensures maps { WorkedMaps }
     ensures engine { WorkedEngine }

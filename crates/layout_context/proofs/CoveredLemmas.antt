@@ -11,18 +11,21 @@ use Rattle.layout_tables.specs.declared.lookups.LookupSubtable.{LookupSubtable}
 use Rattle.layout_matching.specs.Found.{extension_kind, is_context, is_context_part, is_chained, whole_rule, is_first, number_of, found_if, found_whole, found_by_number, found_in_sets, found_in_part, found_at_part, found_of}
 use Rattle.layout_matching.specs.Loops.{times, first_some}
 use Rattle.layout_matching.specs.Skipping.{nth, is_on}
+use Rattle.layout_matching.specs.Tried.{untried, whole_reach, number_reach, sets_reach, part_reach, reach_at_part}
 use Rattle.layout_matching.specs.declared.found.Found.{Found}
+use Rattle.layout_matching.proofs.ReachLemmas.{until_untried}
 use Rattle.layout_matching.specs.declared.lookup.Lookup.{Lookup}
 use Rattle.layout_matching.specs.declared.spans.Origin.{Origin}
-use Rattle.layout_substitution.specs.Applied.{Applied, unapplied, put_one, single_applied, value_of, alternate_applied, sequence_put, multiple_applied}
-use Rattle.layout_substitution.specs.Edits.{item_at, is_inside, is_past}
+use Rattle.layout_substitution.specs.Applied.{Applied, unapplied, put_one, single_applied, value_of, is_random, random_put, random_applied, alternate_applied, sequence_put, multiple_applied}
+use Rattle.layout_substitution.specs.Edits.{item_at, is_inside, is_past, parted}
+use Rattle.layout_substitution.proofs.EditLemmas.{parted_untried}
 use Rattle.layout_substitution.specs.Kinds.{kind_applied, part_applied, parts_applied, or_next, lookup_applied}
-use Rattle.layout_substitution.specs.Ligatures.{ligature_found, ligature_made, ligature_applied}
+use Rattle.layout_substitution.specs.Ligatures.{set_ligated, ligature_applied}
 use Rattle.layout_substitution.specs.Substitutes.{single_by, single_of, set_number, set_of, alternate_in, alternate_of}
 use Rattle.layout_substitution.specs.declared.apply.Spot.{Spot}
 use Rattle.layout_context.specs.Covered.{context_covers, part_covers, IsUncovered, CoversNone}
-use Rattle.layout_context.specs.Nested.{rule_applied, origin_of, level_applied, nested_applied}
-use Rattle.layout_context.specs.Reverse.{reversal_of, reversal_by, reversal_in, reversal_found, reversed_by, reversed_at, Backwards, reverse_step, reversed, is_reverse}
+use Rattle.layout_context.specs.Nested.{rule_applied, origin_of, tried_marked, first_rule_applied, level_applied, nested_applied}
+use Rattle.layout_context.specs.Reverse.{reversal_of, reversal_by, reversal_in, reversal_found, reversal_reach_of, reversal_reach_by, reversal_reach_in, reversal_reach, reversed_by, first_reversed, reversed_at, Backwards, reverse_step, reversed, is_reverse}
 use Rattle.layout_context.specs.Stages.{Walk, passed, gone_on, lookup_step, first_walk, walked, looked_up}
 use Rattle.layout_context.specs.declared.reverse.Reversal.{Reversal}
 
@@ -57,14 +60,18 @@ kind-uncovered l spot b part none =
     let set = set_none t part.start glyph none in
     if_same (nat_eq part.kind 1) (single_applied l part.start spot b) _ (unapplied b)
     (map_or_none (put_one l spot b) (unapplied b) _ (and_then_none (single_by t part.start glyph) _ none))
-    (if_same (nat_eq part.kind 2) (multiple_applied l part.start spot b) _ (unapplied b) (map_or_none (sequence_put l spot b) (unapplied b) _ set)
+    (if_same (nat_eq part.kind 2) (multiple_applied l part.start spot b) _ (unapplied b)
+        (map_or_none (sequence_put l spot b) (unapplied b) _ set)
     (if_same (nat_eq part.kind 3) (alternate_applied l part.start spot b) _ (unapplied b)
-    (map_or_none (put_one l spot b) (unapplied b) _ (and_then_none (alternate_in t (value_of l (item_at b spot.at))) _ set))
+    (if_same (is_random l (item_at b spot.at)) (random_applied l part.start spot b) _ (unapplied b)
+    (map_or_none (random_put l spot b) (unapplied b) _ set)
+    (map_or_none (put_one l spot b) (unapplied b) _ (and_then_none (alternate_in t (value_of l (item_at b spot.at))) _ set)))
     (if_same (nat_eq part.kind 4) (ligature_applied l part.start spot b) _ (unapplied b)
-    (map_or_none (ligature_made l spot b) (unapplied b) _ (and_then_none (ligature_found l b spot.at) _ set)) refl)))
+    (map_or_none (set_ligated l spot b) (unapplied b) _ set) refl)))
 
 -- a part of context has none of the kinds below 5, and not kind 8
-not_kind : (l : Lookup) (part : LookupSubtable) (n : ℕ) → l.positioning ≡ false → is_context_part l part ≡ true → n < 5 → nat_eq part.kind n ≡ false
+not_kind : (l : Lookup) (part : LookupSubtable) (n : ℕ) → l.positioning ≡ false → is_context_part l part ≡ true → n < 5
+    → nat_eq part.kind n ≡ false
 not_kind l part n gsub is few =
     let kinds : (nat_eq part.kind 5 || nat_eq part.kind 6) ≡ true =
     subst (λ t. (nat_eq part.kind (if t then 7 else 5) || nat_eq part.kind (if t then 8 else 6)) ≡ true) gsub is in
@@ -127,44 +134,100 @@ in_part-uncovered l items origin part out = by_kind (is_context_part l part) ref
     by_format : (t : Bool) → nat_eq (u16_of l.table.now part.start) 3 ≡ t → context_covers l part (nth items origin.at).glyph_id ≡ false
         → (if t then found_whole l items origin part else found_in_sets l items origin part) ≡ None
     by_format true is none =
-        let first : is_first l.table.now part.start (whole_rule l.table.now (is_chained l part) part.start) (nth items origin.at).glyph_id ≡ false =
-        subst (λ t. (if t then is_first l.table.now part.start (whole_rule l.table.now (is_chained l part) part.start) (nth items origin.at).glyph_id
+        let first : is_first l.table.now part.start (whole_rule l.table.now (is_chained l part) part.start)
+            (nth items origin.at).glyph_id ≡ false =
+        subst (λ t. (if t then is_first l.table.now part.start (whole_rule l.table.now (is_chained l part) part.start)
+            (nth items origin.at).glyph_id
         else is_some (number_of l.table.now part.start (nth items origin.at).glyph_id)) ≡ false) is none in
         rw first refl
     by_format false is none =
         let number : is_some (number_of l.table.now part.start (nth items origin.at).glyph_id) ≡ false =
-        subst (λ t. (if t then is_first l.table.now part.start (whole_rule l.table.now (is_chained l part) part.start) (nth items origin.at).glyph_id
+        subst (λ t. (if t then is_first l.table.now part.start (whole_rule l.table.now (is_chained l part) part.start)
+            (nth items origin.at).glyph_id
         else is_some (number_of l.table.now part.start (nth items origin.at).glyph_id)) ≡ false) is none in
         and_then_none (found_by_number l items origin part) _ (none_of _ number)
 
     by_kind : (t : Bool) → is_context_part l part ≡ t
-        → (if t then (if nat_eq (u16_of l.table.now part.start) 3 then found_whole l items origin part else found_in_sets l items origin part) else None) ≡ None
+        → (if t then (if nat_eq (u16_of l.table.now part.start) 3 then found_whole l items origin part
+            else found_in_sets l items origin part) else None) ≡ None
     by_kind true is = by_format (nat_eq (u16_of l.table.now part.start) 3) refl (context_out l part (nth items origin.at).glyph_id is out)
     by_kind false is = refl
 
-at_part-uncovered : (l : Lookup) (items : List Item) (origin : Origin) (i : ℕ) → l.positioning ≡ false → IsUncovered l (nth items origin.at).glyph_id
+at_part-uncovered : (l : Lookup) (items : List Item) (origin : Origin) (i : ℕ) → l.positioning ≡ false
+    → IsUncovered l (nth items origin.at).glyph_id
     → found_at_part l items origin i ≡ None
 at_part-uncovered l items origin i gsub out =
     let e : extension_kind l ≡ 7 = ap (λ t. if t then 9 else 7) gsub in
     ap (λ k. option_and_then (found_in_part l items origin) (subtable_of l.table.now k l.place i)) e
     ∙ by_part (subtable_of l.table.now 7 l.place i) refl
   where
-    by_part : (o : Option LookupSubtable) → subtable_of l.table.now 7 l.place i ≡ o → option_and_then (found_in_part l items origin) o ≡ None
+    by_part : (o : Option LookupSubtable) → subtable_of l.table.now 7 l.place i ≡ o
+        → option_and_then (found_in_part l items origin) o ≡ None
     by_part None e = refl
     by_part (Some part) e = in_part-uncovered l items origin part (out i part e)
 
 found-uncovered : (l : Lookup) (items : List Item) (origin : Origin) → l.positioning ≡ false → IsUncovered l (nth items origin.at).glyph_id
     → found_of l items origin ≡ None
 found-uncovered l items origin gsub out =
-    first_some_none (found_at_part l items origin) (λ i. at_part-uncovered l items origin i gsub out) (subtable_count_of l.table.now l.place) 0
+    first_some_none (found_at_part l items origin) (λ i. at_part-uncovered l items origin i gsub out)
+        (subtable_count_of l.table.now l.place) 0
+
+in_part-reach : (l : Lookup) (items : List Item) (origin : Origin) (part : LookupSubtable)
+    → part_covers l part (nth items origin.at).glyph_id ≡ false → part_reach l items origin part ≡ untried origin.at
+in_part-reach l items origin part out = by_kind (is_context_part l part) refl
+  where
+    by_format : (t : Bool) → nat_eq (u16_of l.table.now part.start) 3 ≡ t → context_covers l part (nth items origin.at).glyph_id ≡ false
+        → (if t then whole_reach l items origin part else sets_reach l items origin part) ≡ untried origin.at
+    by_format true is none =
+        let first : is_first l.table.now part.start (whole_rule l.table.now (is_chained l part) part.start)
+            (nth items origin.at).glyph_id ≡ false =
+        subst (λ t. (if t then is_first l.table.now part.start (whole_rule l.table.now (is_chained l part) part.start)
+            (nth items origin.at).glyph_id
+        else is_some (number_of l.table.now part.start (nth items origin.at).glyph_id)) ≡ false) is none in
+        rw first refl
+    by_format false is none =
+        let number : is_some (number_of l.table.now part.start (nth items origin.at).glyph_id) ≡ false =
+        subst (λ t. (if t then is_first l.table.now part.start (whole_rule l.table.now (is_chained l part) part.start)
+            (nth items origin.at).glyph_id
+        else is_some (number_of l.table.now part.start (nth items origin.at).glyph_id)) ≡ false) is none in
+        map_or_none (number_reach l items origin part) (untried origin.at) _ (none_of _ number)
+
+    by_kind : (t : Bool) → is_context_part l part ≡ t
+        → (if t then (if nat_eq (u16_of l.table.now part.start) 3 then whole_reach l items origin part else sets_reach l items origin part)
+        else untried origin.at) ≡ untried origin.at
+    by_kind true is = by_format (nat_eq (u16_of l.table.now part.start) 3) refl (context_out l part (nth items origin.at).glyph_id is out)
+    by_kind false is = refl
+
+at_part-reach : (l : Lookup) (items : List Item) (origin : Origin) (i : ℕ) → l.positioning ≡ false
+    → IsUncovered l (nth items origin.at).glyph_id
+    → reach_at_part l items origin i ≡ untried origin.at
+at_part-reach l items origin i gsub out =
+    let e : extension_kind l ≡ 7 = ap (λ t. if t then 9 else 7) gsub in
+    ap (λ k. option_map_or (part_reach l items origin) (subtable_of l.table.now k l.place i) (untried origin.at)) e
+    ∙ by_part (subtable_of l.table.now 7 l.place i) refl
+  where
+    by_part : (o : Option LookupSubtable) → subtable_of l.table.now 7 l.place i ≡ o
+        → option_map_or (part_reach l items origin) o (untried origin.at) ≡ untried origin.at
+    by_part None e = refl
+    by_part (Some part) e = in_part-reach l items origin part (out i part e)
+
+-- nothing was looked at, so nothing is marked
+tried-uncovered : (l : Lookup) (spot : Spot) (b : Buffer) → l.positioning ≡ false → IsUncovered l (item_at b spot.at).glyph_id
+    → tried_marked l spot b ≡ b
+tried-uncovered l spot b gsub out =
+    let origin = origin_of spot b in
+    ap (λ r. parted r b) (until_untried (reach_at_part l b.items origin) spot.at (λ i. at_part-reach l b.items origin i gsub out)
+    (subtable_count_of l.table.now l.place) 0) ∙ parted_untried spot.at b
 
 nested-uncovered : (level : ℕ) (l : Lookup) (spot : Spot) (b : Buffer) → l.positioning ≡ false → IsUncovered l (item_at b spot.at).glyph_id
     → nested_applied level l spot b ≡ unapplied b
 nested-uncovered zero l spot b gsub out = refl
 nested-uncovered (suc level) l spot b gsub out =
     let here : level_applied (nested_applied level) l spot b ≡ unapplied b =
-    if_same (is_context l) _ (lookup_applied l spot b) (unapplied b)
-    (map_or_none (rule_applied (nested_applied level) l spot b) (unapplied b) _ (found-uncovered l b.items (origin_of spot b) gsub out))
+    if_same (is_context l) (first_rule_applied (nested_applied level) l spot (tried_marked l spot b))
+        (lookup_applied l spot b) (unapplied b)
+    (ap (first_rule_applied (nested_applied level) l spot) (tried-uncovered l spot b gsub out)
+    ∙ map_or_none (rule_applied (nested_applied level) l spot b) (unapplied b) _ (found-uncovered l b.items (origin_of spot b) gsub out))
     (parts-uncovered l spot b gsub out (subtable_count_of l.table.now l.place) 0) in
     if_same (is_past b) (unapplied b) _ (unapplied b) refl
     (if_same (is_inside spot.at b) (level_applied (nested_applied level) l spot b) (unapplied b) (unapplied b) here refl)
@@ -181,11 +244,13 @@ step-uncovered levels l s gsub none =
     walk_same (is_past s.buffer) s.buffer s _ refl (inside (is_inside s.spot.at s.buffer) refl)
   where
     inside : (t : Bool) → is_inside s.spot.at s.buffer ≡ t
-        → (if t then (if is_on l (item_at s.buffer s.spot.at) then gone_on s (nested_applied levels l s.spot s.buffer) else passed s) else s).buffer ≡ s.buffer
+        → (if t then (if is_on l (item_at s.buffer s.spot.at) then gone_on s (nested_applied levels l s.spot s.buffer)
+            else passed s) else s).buffer ≡ s.buffer
     inside false e = refl
     inside true e =
         walk_same (is_on l (item_at s.buffer s.spot.at)) s.buffer (gone_on s (nested_applied levels l s.spot s.buffer)) (passed s)
-        (ap (λ (a : Applied). a.buffer) (nested-uncovered levels l s.spot s.buffer gsub (none s.spot.at (grind (arith, nat_tests, e))))) refl
+        (ap (λ (a : Applied). a.buffer) (nested-uncovered levels l s.spot s.buffer gsub
+            (none s.spot.at (grind (arith, nat_tests, e))))) refl
 
 walk-uncovered : (levels : ℕ) (l : Lookup) (s : Walk) → l.positioning ≡ false → CoversNone l s.buffer.items
     → (n : ℕ) → (times (lookup_step (nested_applied levels l) l) n s).buffer ≡ s.buffer
@@ -215,10 +280,35 @@ reversal-uncovered l items at i gsub out =
     by_part None e = refl
     by_part (Some part) e = by_kind part (is_context_part l part) refl (out i part e)
 
+backwards-reach : (l : Lookup) (items : List Item) (at i : ℕ) → l.positioning ≡ false → IsUncovered l (nth items at).glyph_id
+    → reversal_reach_in l items at i ≡ untried at
+backwards-reach l items at i gsub out =
+    let e : extension_kind l ≡ 7 = ap (λ t. if t then 9 else 7) gsub in
+    ap (λ k. option_map_or (reversal_reach_by l items at) (subtable_of l.table.now k l.place i) (untried at)) e
+    ∙ by_part (subtable_of l.table.now 7 l.place i) refl
+  where
+    by_kind : (part : LookupSubtable) (t : Bool) → is_context_part l part ≡ t → part_covers l part (nth items at).glyph_id ≡ false
+        → reversal_reach_by l items at part ≡ untried at
+    by_kind part true is none = rw (not_reverse l part gsub is) refl
+    by_kind part false is none =
+        if_same (nat_eq part.kind 8 && nat_eq (u16_of l.table.now part.start) 1) _ _ (untried at)
+        (map_or_none (reversal_reach_of l items at part.start) (untried at) _ (number_out l part (nth items at).glyph_id is none)) refl
+
+    by_part : (o : Option LookupSubtable) → subtable_of l.table.now 7 l.place i ≡ o
+        → option_map_or (reversal_reach_by l items at) o (untried at) ≡ untried at
+    by_part None e = refl
+    by_part (Some part) e = by_kind part (is_context_part l part) refl (out i part e)
+
 at-uncovered : (l : Lookup) (at : ℕ) (b : Buffer) → l.positioning ≡ false → IsUncovered l (item_at b at).glyph_id → reversed_at l at b ≡ b
-at-uncovered l at b gsub out = if_same (is_on l (item_at b at)) _ b b
-    (map_or_none (reversed_by l at b) b _
-    (first_some_none (reversal_in l b.items at) (λ i. reversal-uncovered l b.items at i gsub out) (subtable_count_of l.table.now l.place) 0)) refl
+at-uncovered l at b gsub out =
+    let n = subtable_count_of l.table.now l.place in
+    let still : parted (reversal_reach l b.items at) b ≡ b =
+    ap (λ r. parted r b) (until_untried (reversal_reach_in l b.items at) at (λ i. backwards-reach l b.items at i gsub out) n 0)
+    ∙ parted_untried at b in
+    if_same (is_on l (item_at b at)) (first_reversed l at (parted (reversal_reach l b.items at) b)) b b
+    (ap (first_reversed l at) still
+    ∙ map_or_none (reversed_by l at b) b _ (first_some_none (reversal_in l b.items at)
+        (λ i. reversal-uncovered l b.items at i gsub out) n 0)) refl
 
 abbrev back : Buffer → ℕ → Backwards
 back b at = record { buffer = b; at = at }

@@ -3,3 +3,4 @@ pub mod NestedLemmas
 pub mod ReverseLemmas
 pub mod StageLemmas
 pub mod CoveredLemmas
+mod OffWalks

@@ -5,6 +5,7 @@ use Rattle.shape_items.specs.Buffer.{Buffer}
 use Rattle.layout_matching.specs.Found.{is_context, found_of}
 use Rattle.layout_matching.specs.Loops.{times}
 use Rattle.layout_matching.specs.Nesting.{target_of}
+use Rattle.layout_matching.specs.Tried.{reach_of}
 use Rattle.layout_matching.specs.declared.found.Found.{Found}
 use Rattle.layout_matching.specs.declared.lookup.Lookup.{Lookup}
 use Rattle.layout_matching.specs.declared.nesting.Target.{Target}
@@ -15,8 +16,8 @@ use Rattle.layout_substitution.specs.Kinds.{lookup_applied}
 use Rattle.layout_substitution.specs.declared.apply.Spot.{Spot}
 use Rattle.layout_substitution.proofs.AppliedLemmas.{or_unapplied, applied-if}
 use Rattle.layout_substitution.proofs.KindLemmas.{lookup-preserves}
-use Rattle.layout_substitution.proofs.PreservedLemmas.{Preserves, Preserves-same, Preserves-then, Preserves-times, Preserves-broken}
-use Rattle.layout_context.specs.Nested.{Nest, nested_spot, passed_record, stopped_record, nest_after, target_applied, target_done, record_step, first_nest, records_made, rule_applied, origin_of, level_applied, nested_applied}
+use Rattle.layout_substitution.proofs.PreservedLemmas.{Preserves, Preserves-same, Preserves-then, Preserves-times, Preserves-broken, Preserves-parted}
+use Rattle.layout_context.specs.Nested.{Nest, nested_spot, passed_record, stopped_record, nest_after, target_applied, target_done, record_step, first_nest, records_made, rule_applied, origin_of, tried_marked, first_rule_applied, level_applied, nested_applied}
 use Rattle.layout_context.specs.declared.nested.LookupRule.{LookupRule}
 
 -- ---- what is applied next preserves
@@ -28,14 +29,16 @@ nest-if : (t : Bool) (a : Buffer) (x y : Nest) → Preserves a x.buffer → Pres
 nest-if true a x y k m = k
 nest-if false a x y k m = m
 
-target-preserves : (next : Lookup → Spot → Buffer → Applied) → PreservesNext next → (s : Nest) (t : Target) → Preserves s.buffer (target_applied next s t).buffer
+target-preserves : (next : Lookup → Spot → Buffer → Applied) → PreservesNext next → (s : Nest) (t : Target)
+    → Preserves s.buffer (target_applied next s t).buffer
 target-preserves next each s t =
     let spot = nested_spot s.progress.spot t.place in
     nest-if (not (is_inside t.place s.buffer)) s.buffer (record s { progress = passed_record s.progress }) _ (Preserves-same s.buffer)
     (nest-if (nat_eq s.progress.spot.left 0) s.buffer (record s { progress = stopped_record s.progress })
     (nest_after s t spot (next t.lookup spot s.buffer)) (Preserves-same s.buffer) (each t.lookup spot s.buffer))
 
-done-preserves : (next : Lookup → Spot → Buffer → Applied) → PreservesNext next → (s : Nest) (t : Option Target) → Preserves s.buffer (target_done next s t).buffer
+done-preserves : (next : Lookup → Spot → Buffer → Applied) → PreservesNext next → (s : Nest) (t : Option Target)
+    → Preserves s.buffer (target_done next s t).buffer
 done-preserves next each s None = Preserves-same s.buffer
 done-preserves next each s (Some t) = target-preserves next each s t
 
@@ -56,8 +59,10 @@ rule-preserves next each l spot b found =
 level-preserves : (next : Lookup → Spot → Buffer → Applied) → PreservesNext next → (l : Lookup) (spot : Spot) (b : Buffer)
     → Preserves b (level_applied next l spot b).buffer
 level-preserves next each l spot b =
-    applied-if (is_context l) b _ _
-    (or_unapplied (rule_applied next l spot b) b (rule-preserves next each l spot b) (found_of l b.items (origin_of spot b)))
+    let c = tried_marked l spot b in
+    applied-if (is_context l) b (first_rule_applied next l spot c) _
+    (Preserves-then b c (first_rule_applied next l spot c).buffer (Preserves-parted (reach_of l b.items (origin_of spot b)) b)
+    (or_unapplied (rule_applied next l spot c) c (rule-preserves next each l spot c) (found_of l c.items (origin_of spot c))))
     (lookup-preserves l spot b)
 
 pub nested-preserves : (level : ℕ) (l : Lookup) (spot : Spot) (b : Buffer) → Preserves b (nested_applied level l spot b).buffer
@@ -80,7 +85,8 @@ outside_if : (t : Bool) (made : Applied) (b : Buffer) → (if t then unapplied b
 outside_if true made b = refl
 outside_if false made b = refl
 
-pub nested_outside : (level : ℕ) (l : Lookup) (spot : Spot) (b : Buffer) → is_inside spot.at b ≡ false → nested_applied level l spot b ≡ unapplied b
+pub nested_outside : (level : ℕ) (l : Lookup) (spot : Spot) (b : Buffer) → is_inside spot.at b ≡ false
+    → nested_applied level l spot b ≡ unapplied b
 nested_outside zero l spot b out = refl
 nested_outside (suc level) l spot b out = rw out (outside_if (is_past b) (unapplied b) b)
 

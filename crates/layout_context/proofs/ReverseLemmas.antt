@@ -1,44 +1,39 @@
 -- Lookups that go backwards: as many items as before, and what they preserve.
 use Prim.Native.Nat.{zero}
-use Rattle.std.proofs.Common.{◌≡◌, ℕ, suc, ◌+◌, ◌-◌, Bool, true, false, Option, Some, None, ◌&&◌, length, nat_le, nat_eq, refl, sym, ap, ◌∙◌, if◌then◌else◌}
+use Rattle.std.proofs.Common.{◌≡◌, ℕ, suc, ◌+◌, ◌-◌, Bool, true, false, Option, Some, None, length, nat_eq, refl, sym, ap, ◌∙◌, if◌then◌else◌}
 use Rattle.std.specs.Option.{option_map_or}
 use Rattle.shape_items.specs.Buffer.{Buffer}
-use Rattle.shape_items.specs.BufferClusters.{unsafe_to_break}
-use Rattle.shape_items.proofs.Merging.KeyLemmas.{length-unsafe_to_break}
 use Rattle.layout_matching.specs.Loops.{times}
 use Rattle.layout_matching.specs.Skipping.{is_on}
 use Rattle.layout_matching.specs.declared.lookup.Lookup.{Lookup}
-use Rattle.layout_substitution.specs.Edits.{item_at, put_at, broken}
+use Rattle.layout_substitution.specs.Edits.{item_at, put_at, broken, parted}
 use Rattle.layout_substitution.specs.Replaced.{replaced}
 use Rattle.layout_substitution.proofs.AppliedLemmas.{like-replaced}
 use Rattle.layout_substitution.proofs.CopyLemmas.{length-put_at}
-use Rattle.layout_substitution.proofs.PreservedLemmas.{Preserves, Preserves-same, Preserves-then, Preserves-times, Preserves-if, Preserves-put, Preserves-broken}
-use Rattle.layout_context.specs.Reverse.{Backwards, reversal_found, reversed_by, reversed_at, reverse_step, reversed}
+use Rattle.layout_substitution.proofs.EditLemmas.{length-if, length_broken, length_parted}
+use Rattle.layout_substitution.proofs.PreservedLemmas.{Preserves, Preserves-same, Preserves-then, Preserves-times, Preserves-if, Preserves-put, Preserves-broken, Preserves-parted}
+use Rattle.layout_context.specs.Reverse.{Backwards, reversal_reach, reversal_found, reversed_by, first_reversed, reversed_at, reverse_step, reversed}
 use Rattle.layout_context.specs.declared.reverse.Reversal.{Reversal}
 
 pub buffer_of : (b : Buffer) (at : ℕ) (s : Backwards) → record { buffer = b; at = at } ≡ s → b ≡ s.buffer
 buffer_of b at s e = ap (λ (w : Backwards). w.buffer) e
 
-length-if : (t : Bool) (n : ℕ) (x y : Buffer) → length x.items ≡ n → length y.items ≡ n → length (if t then x else y).items ≡ n
-length-if true n x y k m = k
-length-if false n x y k m = m
-
-length-broken : (start end : ℕ) (b : Buffer) → length (broken start end b).items ≡ length b.items
-length-broken start end b =
-    length-if (nat_le start end && nat_le end (length b.items)) (length b.items) (unsafe_to_break start end b) b (length-unsafe_to_break start end b) refl
-
 pub length_reversed_by : (l : Lookup) (at : ℕ) (b : Buffer) (r : Reversal) → length (reversed_by l at b r).items ≡ length b.items
 length_reversed_by l at b r = let c = broken r.start r.end b in
-    length-put_at at (replaced l 0 r.glyph (item_at c at)) c ∙ length-broken r.start r.end b
+    length-put_at at (replaced l 0 r.glyph (item_at c at)) c ∙ length_broken r.start r.end b
 
-pub length_reversed_at : (l : Lookup) (at : ℕ) (b : Buffer) → length (reversed_at l at b).items ≡ length b.items
-length_reversed_at l at b =
-    length-if (is_on l (item_at b at)) (length b.items) (option_map_or (reversed_by l at b) (reversal_found l b.items at) b) b
-    (by_found (reversal_found l b.items at)) refl
+length_first : (l : Lookup) (at : ℕ) (b : Buffer) → length (first_reversed l at b).items ≡ length b.items
+length_first l at b = by_found (reversal_found l b.items at)
   where
     by_found : (o : Option Reversal) → length (option_map_or (reversed_by l at b) o b).items ≡ length b.items
     by_found None = refl
     by_found (Some r) = length_reversed_by l at b r
+
+pub length_reversed_at : (l : Lookup) (at : ℕ) (b : Buffer) → length (reversed_at l at b).items ≡ length b.items
+length_reversed_at l at b =
+    let c = parted (reversal_reach l b.items at) b in
+    length-if (is_on l (item_at b at)) (length b.items) (first_reversed l at c) b
+    (length_first l at c ∙ length_parted (reversal_reach l b.items at) b) refl
 
 length-step : (l : Lookup) (s : Backwards) → length (reverse_step l s).buffer.items ≡ length s.buffer.items
 length-step l s = elim (nat_eq s.at 0) as (λ t.
@@ -56,12 +51,14 @@ length-reversed l b = walk (length b.items)
 
 at-preserves : (l : Lookup) (at : ℕ) (b : Buffer) → Preserves b (reversed_at l at b)
 at-preserves l at b =
-    Preserves-if (is_on l (item_at b at)) b (option_map_or (reversed_by l at b) (reversal_found l b.items at) b) b
-    (by_found (reversal_found l b.items at)) (Preserves-same b)
+    let marked = parted (reversal_reach l b.items at) b in
+    Preserves-if (is_on l (item_at b at)) b (first_reversed l at marked) b
+    (Preserves-then b marked (first_reversed l at marked) (Preserves-parted (reversal_reach l b.items at) b)
+    (by_found marked (reversal_found l marked.items at))) (Preserves-same b)
   where
-    by_found : (o : Option Reversal) → Preserves b (option_map_or (reversed_by l at b) o b)
-    by_found None = Preserves-same b
-    by_found (Some r) = let c = broken r.start r.end b in
+    by_found : (b : Buffer) (o : Option Reversal) → Preserves b (option_map_or (reversed_by l at b) o b)
+    by_found b None = Preserves-same b
+    by_found b (Some r) = let c = broken r.start r.end b in
         Preserves-then b c (reversed_by l at b r) (Preserves-broken r.start r.end b)
         (Preserves-put at (replaced l 0 r.glyph (item_at c at)) c (like-replaced l 0 r.glyph (item_at c at)))
 

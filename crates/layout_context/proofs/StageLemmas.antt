@@ -65,10 +65,12 @@ past_all levels [] s past = past
 past_all levels (l ∷ ls) s past = past_all levels ls (looked_up levels l s) (looked-past levels l s past)
 
 pub past_from : (levels : ℕ) (ls : List Lookup) (k : ℕ) (here first : Walk) (d : Lookup) → k < length ls
-    → all_looked_up levels (drop k ls) here ≡ all_looked_up levels ls first → is_past (looked_up levels (slice_index_or ls k d) here).buffer ≡ true
+    → all_looked_up levels (drop k ls) here ≡ all_looked_up levels ls first
+        → is_past (looked_up levels (slice_index_or ls k d) here).buffer ≡ true
     → is_past (all_looked_up levels ls first).buffer ≡ true
 past_from levels ls k here first d more same past =
-    sym (ap (λ (w : Walk). is_past w.buffer) same) ∙ ap (λ (left : List Lookup). is_past (all_looked_up levels left here).buffer) (drop_more ls k d more)
+    sym (ap (λ (w : Walk). is_past w.buffer) same) ∙ ap (λ (left : List Lookup). is_past
+        (all_looked_up levels left here).buffer) (drop_more ls k d more)
     ∙ past_all levels (drop (k + 1) ls) (looked_up levels (slice_index_or ls k d) here) past
 
 -- ---- what stages preserve
@@ -89,27 +91,32 @@ looked-preserves : (levels : ℕ) (l : Lookup) (s : Walk) → Preserves s.buffer
 looked-preserves levels l s =
     walk-if (is_reverse l) s.buffer (record s { buffer = reversed l s.buffer }) (walked (nested_applied levels l) l s)
     (reversed-preserves l s.buffer)
-    (Preserves-times (λ (w : Walk). w.buffer) (lookup_step (nested_applied levels l) l) (step-preserves levels l) (length s.buffer.items) (first_walk s))
+    (Preserves-times (λ (w : Walk). w.buffer) (lookup_step (nested_applied levels l) l) (step-preserves levels l)
+        (length s.buffer.items) (first_walk s))
 
 all-preserves : (levels : ℕ) (ls : List Lookup) (s : Walk) → Preserves s.buffer (all_looked_up levels ls s).buffer
 all-preserves levels [] s = Preserves-same s.buffer
 all-preserves levels (l ∷ ls) s =
-    Preserves-then s.buffer (looked_up levels l s).buffer (all_looked_up levels ls (looked_up levels l s)).buffer (looked-preserves levels l s)
+    Preserves-then s.buffer (looked_up levels l s).buffer (all_looked_up levels ls (looked_up levels l s)).buffer
+        (looked-preserves levels l s)
     (all-preserves levels ls (looked_up levels l s))
 
 pub stage-preserves : (levels : ℕ) (ls : List Lookup) (b : Buffer) → Preserves b (stage_made levels ls b)
 stage-preserves levels ls b =
-    all-preserves levels ls (record { buffer = b; spot = record { at = 0; serial = 0; left = most_nested (length b.items); whole = 0 } })
+    all-preserves levels ls (record { buffer = b; spot = record { at = 0; random = 1; left = most_nested (length b.items); whole = 0 } })
 
 -- ---- outcomes
 
-stage_ran : (levels : ℕ) (ls : List Lookup) (b c : Buffer) → c ≡ stage_made levels ls b → length c.items ≤ limit_of c → Ran (step (stage_made levels ls) ∷ []) b c
+stage_ran : (levels : ℕ) (ls : List Lookup) (b c : Buffer) → c ≡ stage_made levels ls b → length c.items ≤ limit_of c
+    → Ran (step (stage_made levels ls) ∷ []) b c
 stage_ran levels ls b c is within =
     let same : limit_of c ≡ limit_of b = ap limit_of is ∙ limit-preserves b (stage_made levels ls b) (stage-preserves levels ls b) in
-    let counted : length (stage_made levels ls b).items ≤ limit_of b = subst (λ (d : Buffer). length d.items ≤ limit_of b) is (subst (λ n. length c.items ≤ n) same within) in
+    let counted : length (stage_made levels ls b).items ≤ limit_of b = subst
+        (λ (d : Buffer). length d.items ≤ limit_of b) is (subst (λ n. length c.items ≤ n) same within) in
     record { made = is; each_within = (counted, tt); within = within; same_limit = same }
 
-stage_refused : (levels : ℕ) (ls : List Lookup) (b : Buffer) → is_past (stage_made levels ls b) ≡ true → limit_of b < length (stage_made levels ls b).items
+stage_refused : (levels : ℕ) (ls : List Lookup) (b : Buffer) → is_past (stage_made levels ls b) ≡ true
+    → limit_of b < length (stage_made levels ls b).items
 stage_refused levels ls b past =
     let same : limit_of (stage_made levels ls b) ≡ limit_of b = limit-preserves b (stage_made levels ls b) (stage-preserves levels ls b) in
     let more : limit_of (stage_made levels ls b) < length (stage_made levels ls b).items = grind (arith, nat_tests, past) in

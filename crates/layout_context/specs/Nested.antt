@@ -6,13 +6,14 @@ use Rattle.shape_items.specs.Buffer.{Buffer}
 use Rattle.layout_matching.specs.Found.{is_context, found_of}
 use Rattle.layout_matching.specs.Loops.{times}
 use Rattle.layout_matching.specs.Nesting.{target_of, places_of}
+use Rattle.layout_matching.specs.Tried.{reach_of}
 use Rattle.layout_matching.specs.declared.found.Found.{Found}
 use Rattle.layout_matching.specs.declared.lookup.Lookup.{Lookup}
 use Rattle.layout_matching.specs.declared.nesting.Target.{Target}
 use Rattle.layout_matching.specs.declared.rules.Rule.{Rule}
 use Rattle.layout_matching.specs.declared.spans.Origin.{Origin}
 use Rattle.layout_substitution.specs.Applied.{Applied, unapplied}
-use Rattle.layout_substitution.specs.Edits.{is_inside, is_past, broken}
+use Rattle.layout_substitution.specs.Edits.{is_inside, is_past, broken, parted}
 use Rattle.layout_substitution.specs.Kinds.{lookup_applied}
 use Rattle.layout_substitution.specs.declared.apply.Spot.{Spot}
 use Rattle.layout_context.specs.Places.{renumbered, moved_end, is_too_long}
@@ -87,9 +88,16 @@ rule_applied next l spot b found = let s = records_made next l spot b found in
 abbrev pub origin_of : Spot → Buffer → Origin
 origin_of spot b = record { at = spot.at; is_steady = nat_eq (length b.items) spot.whole }
 
+-- what the rules looked at in vain that were tried before the one that matches
+abbrev pub tried_marked : Lookup → Spot → Buffer → Buffer
+tried_marked l spot b = parted (reach_of l b.items (origin_of spot b)) b
+
+abbrev pub first_rule_applied : (Lookup → Spot → Buffer → Applied) → Lookup → Spot → Buffer → Applied
+first_rule_applied next l spot b =
+    option_map_or (rule_applied next l spot b) (found_of l b.items (origin_of spot b)) (unapplied b)
+
 abbrev pub level_applied : (Lookup → Spot → Buffer → Applied) → Lookup → Spot → Buffer → Applied
-level_applied next l spot b = if is_context l
-    then option_map_or (rule_applied next l spot b) (found_of l b.items (origin_of spot b)) (unapplied b)
+level_applied next l spot b = if is_context l then first_rule_applied next l spot (tried_marked l spot b)
     else lookup_applied l spot b
 
 -- past the limit, and where no level is left, nothing is done

@@ -6,16 +6,19 @@ use Rattle.shape_items.specs.Buffer.{Buffer}
 use Rattle.shape_items.specs.Items.{Item}
 use Rattle.layout_tables.specs.Lookups.{subtable_count_of, subtable_of}
 use Rattle.layout_tables.specs.declared.lookups.LookupSubtable.{LookupSubtable}
-use Rattle.layout_matching.specs.Found.{extension_kind, first_part, number_of}
+use Rattle.layout_matching.specs.Found.{extension_kind, first_part, part_of, number_of}
 use Rattle.layout_matching.specs.Loops.{times, first_some}
 use Rattle.layout_matching.specs.Rules.{row}
 use Rattle.layout_matching.specs.Skipping.{nth, is_on}
-use Rattle.layout_matching.specs.Spans.{span_of}
+use Rattle.layout_matching.specs.Seeking.{last_after, last_before}
+use Rattle.layout_matching.specs.Spans.{seek_around, span_of}
+use Rattle.layout_matching.specs.Tried.{untried, match_at, vain, until_matched, after_end}
 use Rattle.layout_matching.specs.declared.lookup.Lookup.{Lookup}
 use Rattle.layout_matching.specs.declared.rules.Rule.{Rule}
 use Rattle.layout_matching.specs.declared.rules.Test.TheVariants.{Coverage}
 use Rattle.layout_matching.specs.declared.spans.Span.{Span}
-use Rattle.layout_substitution.specs.Edits.{item_at, put_at, broken}
+use Rattle.layout_matching.specs.declared.tried.Reach.{Reach}
+use Rattle.layout_substitution.specs.Edits.{item_at, put_at, broken, parted}
 use Rattle.layout_substitution.specs.Replaced.{replaced}
 use Rattle.layout_substitution.specs.Substitutes.{listed_count, listed_at}
 use Rattle.layout_context.specs.declared.reverse.Reversal.{Reversal}
@@ -47,11 +50,38 @@ reversal_in l items at i = option_and_then (reversal_by l items at) (subtable_of
 abbrev pub reversal_found : Lookup → List Item → ℕ → Option Reversal
 reversal_found l items at = first_some (reversal_in l items at) (subtable_count_of l.table.now l.place) 0
 
+-- what was looked at in vain after the glyph; where what stands before isn't there, HarfBuzz marks nothing
+abbrev pub reversal_after_reach : Lookup → List Item → ℕ → Rule → ℕ → Reach
+reversal_after_reach l items at rule start = let seek = seek_around l (nth items at) true rule.after in
+    option_map_or (λ far. match_at at) (last_after l seek items rule.after.count at)
+    (vain at start (after_end l seek items rule.after.count at))
+
+abbrev pub reversal_reach_of : Lookup → List Item → ℕ → ℕ → ℕ → Reach
+reversal_reach_of l items at start i = let rule = reverse_rule l.table.now start in
+    (if nat_lt i (listed_count l.table.now rule.lookups)
+    then option_map_or (reversal_after_reach l items at rule)
+    (last_before l (seek_around l (nth items at) true rule.before) items rule.before.count at) (untried at)
+    else untried at)
+
+abbrev pub reversal_reach_by : Lookup → List Item → ℕ → LookupSubtable → Reach
+reversal_reach_by l items at part = if nat_eq part.kind 8 && nat_eq (u16_of l.table.now part.start) 1
+    then option_map_or (reversal_reach_of l items at part.start) (number_of l.table.now part.start (nth items at).glyph_id) (untried at)
+    else untried at
+
+abbrev pub reversal_reach_in : Lookup → List Item → ℕ → ℕ → Reach
+reversal_reach_in l items at i = option_map_or (reversal_reach_by l items at) (part_of l i) (untried at)
+
+abbrev pub reversal_reach : Lookup → List Item → ℕ → Reach
+reversal_reach l items at = until_matched (reversal_reach_in l items at) (subtable_count_of l.table.now l.place) 0 (untried at)
+
 abbrev pub reversed_by : Lookup → ℕ → Buffer → Reversal → Buffer
 reversed_by l at b r = let c = broken r.start r.end b in put_at at (replaced l 0 r.glyph (item_at c at)) c
 
+abbrev pub first_reversed : Lookup → ℕ → Buffer → Buffer
+first_reversed l at b = option_map_or (reversed_by l at b) (reversal_found l b.items at) b
+
 abbrev pub reversed_at : Lookup → ℕ → Buffer → Buffer
-reversed_at l at b = if is_on l (item_at b at) then option_map_or (reversed_by l at b) (reversal_found l b.items at) b else b
+reversed_at l at b = if is_on l (item_at b at) then first_reversed l at (parted (reversal_reach l b.items at) b) else b
 
 -- the item before the place, and then the place is there
 pub record Backwards : Type 0 where

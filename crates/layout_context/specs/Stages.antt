@@ -59,10 +59,10 @@ MAX_OPS_MIN = 16384
 abbrev pub most_nested : ℕ → ℕ
 most_nested n = max (min (n * MAX_OPS_FACTOR) most_countable) MAX_OPS_MIN
 
--- a stage counts ligatures from 1 on
+-- the random state of a stage begins with 1
 abbrev pub stage_made : ℕ → List Lookup → Buffer → Buffer
 stage_made levels ls b = (all_looked_up levels ls
-    (record { buffer = b; spot = record { at = 0; serial = 0; left = most_nested (length b.items); whole = 0 } })).buffer
+    (record { buffer = b; spot = record { at = 0; random = 1; left = most_nested (length b.items); whole = 0 } })).buffer
 
 -- a lookup over the text names others, and these others again, 64 levels deep
 unfoldable pub substituted : List Lookup → Buffer → Buffer

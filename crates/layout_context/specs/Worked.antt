@@ -1,3 +1,5 @@
 pub mod Places
 pub mod Lookups
 pub mod Contexts
+pub mod Chains
+pub mod Marks

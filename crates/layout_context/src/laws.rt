@@ -5,7 +5,9 @@ ghost use Rattle.shape_items.specs.Buffer.{Buffer};
 ghost use Rattle.shape_items.specs.ClusterOrder.{PreservesClusters};
 ghost use Rattle.shape_items.specs.Clusters.{clusters};
 ghost use Rattle.shape_items.specs.PreservesFlags.{PreservesFlags};
+ghost use Rattle.layout_matching.specs.Found.{is_context};
 ghost use Rattle.layout_matching.specs.declared.lookup.Lookup.{Lookup as LookupOf};
+ghost use Rattle.layout_substitution.specs.Off.{off_glyphs, HasNoFlag};
 ghost use Rattle.layout_substitution.specs.declared.apply.Spot.{Spot as SpotOf};
 ghost use Rattle.layout_context.specs.Covered.{CoversNone};
 ghost use Rattle.layout_context.specs.Nested.{nested_applied};
@@ -29,4 +31,11 @@ pub fn stages_preserve()
 pub fn uncovered_lists_stay()
     ensures { (levels : ℕ) (l : LookupOf) (s : Walk) → l.positioning ≡ false → CoversNone l s.buffer.items
         → (looked_up levels l s).buffer ≡ s.buffer }
+{}
+
+/// Where a lookup is off, it changes no glyph: the glyphs whose masks have no bit of it are the same, in the same order, after any
+/// lookup that applies no others. A lookup that applies others may reach one of them after a nested lookup deleted glyphs.
+pub fn glyphs_that_are_off_stay()
+    ensures { (levels : ℕ) (l : LookupOf) (s : Walk) → is_context l ≡ false → HasNoFlag l
+        → off_glyphs l (looked_up levels l s).buffer.items ≡ off_glyphs l s.buffer.items }
 {}

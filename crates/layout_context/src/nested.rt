@@ -5,21 +5,23 @@
 //! applied, or when the list passes the limit of the run.
 ghost use Rattle.std.specs.Prelude.{◌≡◌, ◌<◌, ◌≤◌, ◌-◌, ◌^◌, ◌+◌, length, true, false, map, OnOk, IfOk, IsErrOf, IsOkUnless};
 ghost use Rattle.std.specs.Option.{unwrap_or};
+ghost use Rattle.shape_items.specs.Buffer.{limit_of};
 ghost use Rattle.shape_buffer.specs.Outcome.{IsWithinLimit};
 ghost use Rattle.shape_buffer.specs.declared.buffer.error.ShapeError.TheVariants.{Length};
 ghost use Rattle.layout_matching.specs.Loops.{times};
 ghost use Rattle.layout_substitution.specs.Edits.{is_past};
 ghost use Rattle.layout_context.specs.Places.{renumbered, is_too_long as is_too_long_of};
-ghost use Rattle.layout_context.specs.Nested.{Nest, passed_record as passed_record_of, stopped_record as stopped_record_of, settled, nest_after, nested_spot as nested_spot_of, target_applied, record_step, first_nest, rule_applied, origin_of, level_applied, nested_applied};
+ghost use Rattle.layout_context.specs.Nested.{Nest, passed_record as passed_record_of, stopped_record as stopped_record_of, settled, nest_after, nested_spot as nested_spot_of, target_applied, record_step, first_nest, rule_applied, origin_of, tried_marked, level_applied, nested_applied};
 
 use crate::places::{is_too_long, moved_end, renumber};
 use layout_matching::found::{Found, find, is_context};
 use layout_matching::lookup::Lookup;
 use layout_matching::nesting::{Target, places, target_at};
+use layout_matching::reaching::reach_at;
 use layout_matching::rules::Rule;
 use layout_matching::spans::Origin;
 use layout_substitution::apply::Spot;
-use layout_substitution::edits::{break_span, next_place};
+use layout_substitution::edits::{asks_for_concat, break_span, next_place, part_span};
 use layout_substitution::kinds::apply_lookup;
 use shape_buffer::{ShapeError, hb_buffer_t};
 use std::alloc::Global;
@@ -248,6 +250,22 @@ fn origin(spot: Spot, buffer: &hb_buffer_t) -> Origin
     }
 }
 
+/// Marks what the rules of a lookup looked at in vain unsafe to concat, up to the first that matches, if the buffer asks for that.
+#[tactic(auto, using(layout_substitution::proofs::EditLemmas::parted_unasked))]
+fn mark_tried(lookup: &Lookup<'_>, buffer: &mut hb_buffer_t, spot: Spot)
+    requires near { lookup.now.place < 2 ^ 17 }
+    requires inside { spot.at < length buffer.old.items }
+    ensures made { buffer.new ≡ tried_marked lookup.now spot buffer.old }
+    ensures as_many { length buffer.new.items ≡ length buffer.old.items }
+    ensures limit { limit_of buffer.new ≡ limit_of buffer.old }
+{
+    if !asks_for_concat(buffer) {
+        return;
+    }
+    let reach = reach_at(lookup, buffer.infos(), origin(spot, buffer));
+    part_span(buffer, reach);
+}
+
 /// Applies a lookup at a place, with so many levels of others that it may name. Returns where it goes on, if it was applied.
 /// Refuses with `Length` if the list passes the limit of the run.
 #[cycle(nesting)]
@@ -293,6 +311,7 @@ fn apply_level(
     if !is_context(lookup) {
         return apply_lookup(lookup, buffer, spot);
     }
+    mark_tried(lookup, buffer, spot);
     match find(lookup, buffer.infos(), origin(spot, buffer)) {
         Some(found) => apply_rule(alloc, level, lookup, buffer, spot, found),
         None => Ok(None),

@@ -5,13 +5,14 @@ ghost use Rattle.std.specs.Prelude.{◌≡◌, ◌<◌, ◌≤◌, ◌-◌, ◌+
 ghost use Rattle.layout_matching.specs.Loops.{times};
 ghost use Rattle.layout_context.specs.Reverse.{reverse_rule as reverse_rule_of, reversal_at as reversal_at_of, reversal_of, reversal_by as reversal_by_of, reversal_in as reversal_in_of, reversal_found, reversed_by, reversed_at, Backwards, reverse_step, reversed, is_reverse as is_reverse_of};
 
+use crate::reversal_reach::mark_tried;
 use layout_matching::found::{extension_kind, first_part, number_in};
 use layout_matching::lookup::Lookup;
 use layout_matching::rules::{Row, Rule, Test};
 use layout_matching::skipping::{is_on, item_at};
 use layout_matching::spans::{Origin, Span, span_at};
-use layout_substitution::edits::{break_span, item, put};
-use layout_substitution::replaced::replaced;
+use layout_substitution::apply::put_glyph;
+use layout_substitution::edits::{break_span, item};
 use layout_substitution::substitutes::{count, listed};
 use layout_tables::lookups::{LookupSubtable, subtable, subtable_count};
 use shape_buffer::{hb_buffer_t, hb_glyph_info_t};
@@ -37,7 +38,7 @@ fn lists(start: usize, count: u16, values: usize) -> Row
 }
 
 /// What stands before and after the glyph; `lookups` is where the glyphs are listed that replace it.
-fn reverse_rule(table: &[u8], start: usize) -> Rule
+pub(crate) fn reverse_rule(table: &[u8], start: usize) -> Rule
     requires { start < 2 ^ 35 }
     ensures value { result ≡ reverse_rule_of table.now start }
     ensures near { result.lookups < 2 ^ 36 }
@@ -150,8 +151,7 @@ fn put_reversal(lookup: &Lookup<'_>, buffer: &mut hb_buffer_t, at: usize, found:
     ensures as_many { length buffer.new.items ≡ length buffer.old.items }
 {
     break_span(buffer, found.start, found.end);
-    let there = item(buffer, at);
-    put(buffer, at, replaced(lookup, 0, found.glyph, there));
+    put_glyph(lookup, buffer, at, found.glyph);
 }
 
 /// Replaces the glyph at `at` if the lookup is on there and a part of it matches.
@@ -165,6 +165,7 @@ fn reverse_at(lookup: &Lookup<'_>, buffer: &mut hb_buffer_t, at: usize)
     if !is_on(lookup, &item(buffer, at)) {
         return;
     }
+    mark_tried(lookup, buffer, at);
     if let Some(found) = find_reversal(lookup, buffer.infos(), at) {
         put_reversal(lookup, buffer, at, found);
     }

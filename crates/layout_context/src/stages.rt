@@ -78,7 +78,7 @@ fn walk(
 {
     let mut spot = Spot {
         at: 0,
-        serial: spot.serial,
+        random: spot.random,
         left: spot.left,
         whole: buffer.len(),
     };
@@ -133,7 +133,7 @@ fn look_all_up(
 {
     let mut spot = Spot {
         at: 0,
-        serial: 0,
+        random: 1,
         left: most_nested(buffer.len()),
         whole: 0,
     };

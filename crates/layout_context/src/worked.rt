@@ -1,6 +1,9 @@
 //! The definitions, computed by hand.
-ghost use Rattle.layout_context.specs.Worked.Contexts.{WorkedRules, WorkedClasses, WorkedChains, WorkedChainsElsewhere, WorkedMarkSets, WorkedMarkClasses, WorkedSyllables, WorkedComponents};
+ghost use Rattle.layout_context.specs.Worked.Chains.{WorkedChainedGlyphs, WorkedNested, WorkedDeletions};
+ghost use Rattle.layout_context.specs.Worked.Contexts.{WorkedRules, WorkedClasses, WorkedChains, WorkedChainsElsewhere};
+ghost use Rattle.layout_context.specs.Worked.Contexts.{WorkedMarkSets, WorkedMarkClasses, WorkedSyllables, WorkedComponents};
 ghost use Rattle.layout_context.specs.Worked.Lookups.{WorkedLookups};
+ghost use Rattle.layout_context.specs.Worked.Marks.{WorkedVainLigatures, WorkedVainRules, WorkedRandom, WorkedIds};
 ghost use Rattle.layout_context.specs.Worked.Places.{WorkedPlaces};
 
 /// Where the glyphs of a rule stand after a nested lookup that changed how many items there are, and where the rule goes on.
@@ -23,4 +26,20 @@ pub fn contexts_meet_worked_cases()
     ensures mark_classes { WorkedMarkClasses }
     ensures syllables { WorkedSyllables }
     ensures components { WorkedComponents }
+{}
+
+/// Chained context with glyphs by number, nested lookups after skipped marks, through extensions and by levels, and nested lookups
+/// that delete.
+pub fn chains_meet_worked_cases()
+    ensures chained_glyphs { WorkedChainedGlyphs }
+    ensures nested { WorkedNested }
+    ensures deletions { WorkedDeletions }
+{}
+
+/// What is marked unsafe to concat, alternates at random, and the ids of ligatures.
+pub fn marks_meet_worked_cases()
+    ensures vain_ligatures { WorkedVainLigatures }
+    ensures vain_rules { WorkedVainRules }
+    ensures random { WorkedRandom }
+    ensures ids { WorkedIds }
 {}

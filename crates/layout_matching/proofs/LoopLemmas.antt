@@ -1,7 +1,7 @@
 -- loops, step by step
 use Prim.Native.Nat.{zero}
 use Rattle.std.proofs.Common.{◌≡◌, ℕ, suc, ◌+◌, ◌-◌, ◌<◌, ◌≤◌, Bool, true, false, not, Option, Some, None, refl, sym, ap, ◌∙◌, arith}
-use Rattle.layout_matching.specs.Loops.{times, steps, first_some}
+use Rattle.layout_matching.specs.Loops.{times, steps, first_some, stopped}
 
 pub not_true : (b : Bool) → b ≡ true → not b ≡ false
 not_true b e = rw e refl
@@ -71,4 +71,23 @@ first_some_found f n i x more is =
 pub first_some_end : {X : Type 0} (f : ℕ → Option X) (n i : ℕ) → n ≤ i → first_some f (n - i) i ≡ None
 first_some_end f n i over =
     let e : n - i ≡ 0 = omega (arith, over) in
+    rw e refl
+
+-- where steps stop
+pub stopped_next : {S : Type 0} (f : ℕ → S → Option S) (at : ℕ → S → ℕ) (n k : ℕ) (s t : S) → k < n → f k s ≡ Some t
+    → stopped f at (n - k) k s ≡ stopped f at (n - (k + 1)) (k + 1) t
+stopped_next f at n k s t more is =
+    let e : n - k ≡ suc (n - (k + 1)) = omega (arith, more) in
+    let s' : suc k ≡ k + 1 = omega arith in
+    rw e (rw is (rw s' refl))
+
+pub stopped_none : {S : Type 0} (f : ℕ → S → Option S) (at : ℕ → S → ℕ) (n k : ℕ) (s : S) → k < n → f k s ≡ None
+    → stopped f at (n - k) k s ≡ at k s
+stopped_none f at n k s more is =
+    let e : n - k ≡ suc (n - (k + 1)) = omega (arith, more) in
+    rw e (rw is refl)
+
+pub stopped_end : {S : Type 0} (f : ℕ → S → Option S) (at : ℕ → S → ℕ) (n k : ℕ) (s : S) → n ≤ k → stopped f at (n - k) k s ≡ 0
+stopped_end f at n k s over =
+    let e : n - k ≡ 0 = omega (arith, over) in
     rw e refl

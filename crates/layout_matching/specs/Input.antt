@@ -19,8 +19,9 @@ base_of l id item = if not (nat_eq item.properties.ligature_id id) then Some fal
 abbrev pub base_before : Lookup → List Item → ℕ → ℕ → Option Bool
 base_before l items id at = first_some (λ k. base_of l id (nth items (at - k - 1))) at 0
 
+-- positioning looks for no base: HarfBuzz walks over what substitution put out, and positioning puts out nothing
 abbrev pub base_is_skipped : Lookup → List Item → ℕ → ℕ → Bool
-base_is_skipped l items id at = unwrap_or (base_before l items id at) false
+base_is_skipped l items id at = not l.positioning && unwrap_or (base_before l items id at) false
 
 -- marks on a component of a ligature match with marks on the same component, or with any if the ligature is skipped;
 -- other glyphs match with no mark on a component of another ligature

@@ -6,4 +6,5 @@ pub mod Input
 pub mod Spans
 pub mod Found
 pub mod Nesting
+pub mod Tried
 pub mod Worked

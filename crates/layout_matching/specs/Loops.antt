@@ -1,7 +1,7 @@
 -- loops: so many times, until something is missing, and the first that gives something
 use Prim.Native.Nat.{zero}
 use Rattle.std.specs.Prelude.{ℕ, suc, Option, Some, None}
-use Rattle.std.specs.Option.{option_and_then, option_or}
+use Rattle.std.specs.Option.{option_and_then, option_or, option_map_or}
 
 -- a step made so many times
 abbrev pub times : {S : Type 0} → (S → S) → ℕ → S → S
@@ -17,3 +17,8 @@ steps f (suc n) k s = option_and_then (steps f n (suc k)) (f k s)
 abbrev pub first_some : {X : Type 0} → (ℕ → Option X) → ℕ → ℕ → Option X
 first_some f zero i = None
 first_some f (suc n) i = option_or (f i) (first_some f n (suc i))
+
+-- what `at` says of the first of such steps that gives none, 0 if each gives something
+abbrev pub stopped : {S : Type 0} → (ℕ → S → Option S) → (ℕ → S → ℕ) → ℕ → ℕ → S → ℕ
+stopped f at zero k s = 0
+stopped f at (suc n) k s = option_map_or (stopped f at n (suc k)) (f k s) (at k s)

@@ -1,19 +1,20 @@
 -- Rules of context: what stands before, what is matched, what stands after, and the lookups that are applied then
-use Rattle.std.specs.Prelude.{ℕ, List, Bool, Option, None, min, ◌+◌, ◌-◌, ◌*◌, ◌&&◌, nat_eq, nat_lt, nat_le, length, if◌then◌else◌}
+use Rattle.std.specs.Prelude.{ℕ, List, Bool, true, Option, None, min, ◌+◌, ◌-◌, ◌*◌, ◌&&◌, nat_eq, nat_lt, nat_le, length, if◌then◌else◌}
 use Rattle.shape_font.specs.Bytes.{u16_of, fitting}
 use Rattle.layout_tables.specs.Coverage.{covers}
 use Rattle.layout_tables.specs.Offsets.{offset16_of}
 use Rattle.layout_tables.specs.Classes.{class_of}
 use Rattle.layout_matching.specs.declared.rules.Test.{Test}
-use Rattle.layout_matching.specs.declared.rules.Test.TheVariants.{Glyph, Class, Coverage}
+use Rattle.layout_matching.specs.declared.rules.Test.TheVariants.{Glyph, Class, Coverage, Any}
 use Rattle.layout_matching.specs.declared.rules.Row.{Row}
 use Rattle.layout_matching.specs.declared.rules.Rule.{Rule}
 
--- whether a glyph is the one that a value names: itself, its class, or one of a list
+-- whether a glyph is the one that a value names: itself, its class, one of a list, or any
 abbrev pub is_named : List ℕ → ℕ → ℕ → ℕ → Test → Bool
 is_named t from value glyph Glyph = nat_eq glyph value
 is_named t from value glyph Class = nat_eq (class_of t from glyph) value
 is_named t from value glyph Coverage = nat_lt 0 value && covers t (from + value) glyph
+is_named t from value glyph Any = true
 
 -- no table is so long
 abbrev pub FAR : ℕ

@@ -1,8 +1,8 @@
 -- Which glyphs a lookup sees (OpenType, "Lookup table", lookup flags).
-use Rattle.std.specs.Prelude.{ℕ, Bool, List, ◌/◌, ◌%◌, ◌&&◌, ◌||◌, not, nat_eq, nat_lt, slice_index_or, if◌then◌else◌}
+use Rattle.std.specs.Prelude.{ℕ, Bool, List, ◌/◌, ◌&&◌, ◌||◌, not, nat_eq, nat_lt, slice_index_or, if◌then◌else◌}
 use Rattle.std.specs.Int.RustNames.{bit_and}
 use Rattle.shape_items.specs.Items.{Item, new_item, is_ignorable_item}
-use Rattle.layout_tables.specs.Gdef.{mark_attachment_class, mark_set_covers}
+use Rattle.layout_tables.specs.Gdef.{mark_set_covers}
 use Rattle.layout_matching.specs.declared.lookup.Lookup.{Lookup}
 
 abbrev pub shares : ℕ → ℕ → Bool
@@ -17,7 +17,7 @@ nth items i = slice_index_or items i (new_item 0 0)
 abbrev pub is_mark_left_out : Lookup → Item → Bool
 is_mark_left_out l item =
     if shares l.flags 16 then not (mark_set_covers l.gdef.now l.mark_set item.glyph_id)
-    else (nat_lt 255 l.flags && not (nat_eq (l.flags / 256) (mark_attachment_class l.gdef.now item.glyph_id % 256)))
+    else (nat_lt 255 l.flags && not (nat_eq (l.flags / 256) item.properties.mark_attachment_class))
 
 -- bases, ligatures or marks that the flags ignore (2, 4 and 8), and marks that are left out
 abbrev pub is_skipped : Lookup → Item → Bool

@@ -44,13 +44,13 @@ pub fn extension_kind(lookup: &Lookup<'_>) -> u16
     if lookup.positioning { 9 } else { 7 }
 }
 
-fn is_chained(lookup: &Lookup<'_>, part: LookupSubtable) -> bool
+pub(crate) fn is_chained(lookup: &Lookup<'_>, part: LookupSubtable) -> bool
     ensures { result ≡ is_chained_of lookup.now part }
 {
     part.kind == chained_kind(lookup)
 }
 
-fn is_context_part(lookup: &Lookup<'_>, part: LookupSubtable) -> bool
+pub(crate) fn is_context_part(lookup: &Lookup<'_>, part: LookupSubtable) -> bool
     ensures { result ≡ is_context_part_of lookup.now part }
 {
     part.kind == context_kind(lookup) || is_chained(lookup, part)
@@ -77,7 +77,7 @@ fn found_if(
 }
 
 /// The one rule of a part of format 3.
-fn whole_rule(table: &[u8], is_chain: bool, start: usize) -> Rule
+pub(crate) fn whole_rule(table: &[u8], is_chain: bool, start: usize) -> Rule
     requires { start < 2 ^ 35 }
     ensures { result ≡ whole_rule_of table.now is_chain start }
 {
@@ -89,7 +89,7 @@ fn whole_rule(table: &[u8], is_chain: bool, start: usize) -> Rule
 }
 
 /// Whether the list of the rule's first glyph has the glyph.
-fn is_first(table: &[u8], start: usize, rule: &Rule, glyph: u32) -> bool
+pub(crate) fn is_first(table: &[u8], start: usize, rule: &Rule, glyph: u32) -> bool
     requires { start < 2 ^ 35 }
     ensures { result ≡ is_first_of table.now start rule.now glyph }
 {
@@ -151,7 +151,7 @@ fn set_by_class(table: &[u8], is_chain: bool, start: usize, glyph: u32) -> Optio
 }
 
 /// The rules for a glyph with this number.
-fn set_for(table: &[u8], is_chain: bool, start: usize, glyph: u32, number: u32) -> Option<usize>
+pub(crate) fn set_for(table: &[u8], is_chain: bool, start: usize, glyph: u32, number: u32) -> Option<usize>
     requires { start < 2 ^ 35 }
     ensures value { result ≡ set_for_of table.now is_chain start glyph number }
     ensures near { IfSome result (λ s. s < 2 ^ 36) }
@@ -164,7 +164,7 @@ fn set_for(table: &[u8], is_chain: bool, start: usize, glyph: u32, number: u32) 
 }
 
 /// The rule at a place, of a part of format 1 or 2.
-fn rule_by(table: &[u8], is_chain: bool, start: usize, at: usize) -> Rule
+pub(crate) fn rule_by(table: &[u8], is_chain: bool, start: usize, at: usize) -> Rule
     requires start { start < 2 ^ 35 }
     requires at { at < 2 ^ 37 }
     ensures { result ≡ rule_of table.now is_chain start at }
@@ -346,10 +346,11 @@ pub fn find(lookup: &Lookup<'_>, items: &[hb_glyph_info_t], origin: Origin) -> O
 }
 
 /// Part `i` of the lookup; none if its offset is NULL.
-fn part_at(lookup: &Lookup<'_>, i: u32) -> Option<LookupSubtable>
+pub fn part_at(lookup: &Lookup<'_>, i: u32) -> Option<LookupSubtable>
     requires near { lookup.now.place < 2 ^ 17 }
     requires few { i < 2 ^ 16 }
     ensures value { result ≡ part_of lookup.now i }
+    ensures near { IfSome result (λ p. p.start < 2 ^ 35) }
 {
     subtable(lookup.table, extension_kind(lookup), lookup.place, i)
 }

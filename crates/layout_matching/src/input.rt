@@ -61,7 +61,7 @@ fn base_before(lookup: &Lookup<'_>, items: &[hb_glyph_info_t], id: u8, at: usize
 fn base_is_skipped(lookup: &Lookup<'_>, items: &[hb_glyph_info_t], id: u8, at: usize) -> bool
     ensures { result ≡ base_is_skipped_of lookup.now items.now id at }
 {
-    base_before(lookup, items, id, at).unwrap_or(false)
+    !lookup.positioning && base_before(lookup, items, id, at).unwrap_or(false)
 }
 
 /// Whether a glyph may match together with the one at `at`, by the ligatures that they belong to.
@@ -113,7 +113,7 @@ fn with_glyph_at(
 }
 
 /// With glyph `k` after the first one.
-fn input_step(
+pub(crate) fn input_step(
     lookup: &Lookup<'_>,
     seek: &Seek,
     items: &[hb_glyph_info_t],

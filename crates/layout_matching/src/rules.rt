@@ -11,12 +11,13 @@ use shape_font::bytes::{records, u16_at};
 /// No table is so long.
 pub const FAR: usize = 274_877_906_944;
 
-/// What a value of a row says of a glyph: which one it is, its class, or a list that has it.
+/// What a value of a row says of a glyph: which one it is, its class, a list that has it, or nothing.
 #[derive(Clone, Copy, PartialEq, Eq, Debug)]
 pub enum Test {
     Glyph,
     Class,
     Coverage,
+    Any,
 }
 
 /// So many values, from a place on. Classes and lists stand from `from` on.
@@ -48,6 +49,7 @@ fn is_named(table: &[u8], from: usize, value: u16, glyph: u32, test: Test) -> bo
         Test::Glyph => glyph == u32::from(value),
         Test::Class => class(table, from, glyph) == value,
         Test::Coverage => 0 < value && covers(table, from + usize::from(value), glyph),
+        Test::Any => true,
     }
 }
 

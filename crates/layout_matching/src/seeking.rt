@@ -33,7 +33,7 @@ fn mask(lookup: &Lookup<'_>, seek: &Seek) -> u32
 }
 
 /// Whether a glyph is number `k` of the row, where the lookup may match it.
-fn fits(lookup: &Lookup<'_>, seek: &Seek, k: u32, there: &hb_glyph_info_t) -> bool
+pub fn fits(lookup: &Lookup<'_>, seek: &Seek, k: u32, there: &hb_glyph_info_t) -> bool
     ensures { result ≡ fits_of lookup.now seek.now k there.now }
 {
     there.mask & mask(lookup, seek) != 0
@@ -71,7 +71,7 @@ fn if_fits(
 
 /// The first place from `from` on whose glyph may not stand between.
 #[tactic(auto, using(shape_font::proofs::SearchLemmas::first_at_next, shape_font::proofs::SearchLemmas::first_at_found, shape_font::proofs::SearchLemmas::first_at_end, crate::proofs::LoopLemmas::not_true, crate::proofs::LoopLemmas::not_false))]
-fn place_from(
+pub(crate) fn place_from(
     lookup: &Lookup<'_>,
     seek: &Seek,
     items: &[hb_glyph_info_t],
@@ -119,7 +119,7 @@ fn ends(lookup: &Lookup<'_>, seek: &Seek, items: &[hb_glyph_info_t], k: u32, j: 
 
 /// How far before place `i` the nearest glyph stands that may not stand between.
 #[tactic(auto, using(shape_font::proofs::SearchLemmas::first_at_next, shape_font::proofs::SearchLemmas::first_at_found, shape_font::proofs::SearchLemmas::first_at_end))]
-fn distance_back(
+pub(crate) fn distance_back(
     lookup: &Lookup<'_>,
     seek: &Seek,
     items: &[hb_glyph_info_t],

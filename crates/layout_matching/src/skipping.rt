@@ -6,7 +6,7 @@ ghost use Rattle.std.specs.Prelude.{◌≡◌};
 ghost use Rattle.layout_matching.specs.Skipping.{nth, is_mark_left_out, is_skipped as is_skipped_of, passes_zwnj as passes_zwnj_of, passes_zwj as passes_zwj_of, is_transparent as is_transparent_of, is_on as is_on_of, syllable_of};
 
 use crate::lookup::Lookup;
-use layout_tables::gdef::{mark_attachment_class, mark_set_covers};
+use layout_tables::gdef::mark_set_covers;
 use shape_buffer::hb_glyph_info_t;
 
 /// The item at place `i`, a new one past the end.
@@ -28,7 +28,7 @@ fn mark_is_left_out(lookup: &Lookup<'_>, item: &hb_glyph_info_t) -> bool
         return !mark_set_covers(lookup.gdef, lookup.mark_set, item.glyph_id);
     }
     255 < lookup.flags
-        && lookup.flags / 256 != mark_attachment_class(lookup.gdef, item.glyph_id) % 256
+        && lookup.flags / 256 != u16::from(item._hb_glyph_info_get_mark_attachment_class())
 }
 
 /// Whether the lookup's flags skip the glyph.

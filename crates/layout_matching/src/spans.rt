@@ -27,7 +27,7 @@ pub struct Span {
 }
 
 /// What is looked for around what is matched, in the syllable of its first glyph if `stays`.
-fn seek_around(lookup: &Lookup<'_>, first: &hb_glyph_info_t, stays: bool, row: Row) -> Seek
+pub fn seek_around(lookup: &Lookup<'_>, first: &hb_glyph_info_t, stays: bool, row: Row) -> Seek
     ensures { result ≡ seek_around_of lookup.now first.now stays row }
 {
     Seek {

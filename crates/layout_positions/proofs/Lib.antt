@@ -1,10 +1,12 @@
 pub mod ProductLemmas
 pub mod CountLemmas
 pub mod SettleLemmas
+pub mod WayLemmas
 pub mod TurnLemmas
 pub mod StepLemmas
-pub mod TrialLemmas
+pub mod SubtableLemmas
 pub mod NestedLemmas
 pub mod NestedSteps
 pub mod PreservationLemmas
 pub mod UncoveredLemmas
+pub mod MadeLemmas

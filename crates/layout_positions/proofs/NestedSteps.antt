@@ -1,22 +1,24 @@
 -- what a lookup that names no other keeps, nested lookups and whole walks keep
 use Prim.Native.Nat.{zero}
-use Rattle.std.proofs.Common.{◌≡◌, ℕ, suc, ◌+◌, ◌-◌, Bool, true, false, List, [], ◌∷◌, Option, Some, None, length, nat_eq, nat_lt, if◌then◌else◌}
+use Rattle.std.proofs.Common.{◌≡◌, ℕ, suc, ◌+◌, ◌-◌, Bool, true, false, List, [], ◌∷◌, Option, Some, None, fold, length, nat_eq, nat_lt, if◌then◌else◌}
 use Rattle.std.specs.Option.{option_map_or}
 use Rattle.shape_items.specs.Buffer.{Buffer}
 use Rattle.layout_matching.specs.Found.{found_of, is_context}
 use Rattle.layout_matching.specs.Loops.{times}
 use Rattle.layout_matching.specs.Skipping.{nth, is_on}
+use Rattle.layout_matching.specs.Tried.{reach_of}
 use Rattle.layout_matching.specs.declared.found.Found.{Found}
 use Rattle.layout_matching.specs.declared.lookup.Lookup.{Lookup}
 use Rattle.layout_matching.specs.declared.rules.Rule.{Rule}
-use Rattle.layout_positions.specs.Edits.{broken}
-use Rattle.layout_positions.specs.Nested.{named_place, named_lookup, Nest, skipped, record_at_place, record_for, record_step, rule_placed, level_placed, LEVELS, most_named, nested_placed}
-use Rattle.layout_positions.specs.Trial.{Placing, unplaced, lookup_placed}
-use Rattle.layout_positions.specs.Walk.{Walk, lookup_step, none_seen, lookup_applied, positioned}
+use Rattle.layout_positions.specs.Edits.{broken, parted}
+use Rattle.layout_positions.specs.Nested.{named_place, named_lookup, Nest, skipped, record_at_place, record_for, record_step, rule_placed, origin_at, tried_parted, first_rule_placed, level_placed, LEVELS, nested_placed}
+use Rattle.layout_positions.specs.Subtables.{Placing, unplaced, lookup_placed}
+use Rattle.layout_positions.specs.Walk.{Walk, lookup_step, Budgeted, first_walk, lookup_applied, budgeted, positioned}
 use Rattle.layout_positions.specs.declared.bases.BaseSeen.{BaseSeen}
 
 module _ (P : Buffer → Buffer → Type 0) (same : (b : Buffer) → P b b) (after : (a b c : Buffer) → P a b → P b c → P a c)
     (by_break : (start end : ℕ) (b : Buffer) → P b (broken start end b))
+    (by_part : (start end : ℕ) (b : Buffer) → P b (parted start end b))
     (by_lookup : (l : Lookup) (i left : ℕ) (seen : BaseSeen) (b : Buffer) → P b (lookup_placed l i left seen b).buffer) where
   -- what is applied next keeps
   abbrev Preserves : (Lookup → ℕ → ℕ → BaseSeen → Buffer → Placing) → Type 0
@@ -42,8 +44,7 @@ module _ (P : Buffer → Buffer → Type 0) (same : (b : Buffer) → P b b) (aft
 
   step-place : (next : Lookup → ℕ → ℕ → BaseSeen → Buffer → Placing) → Preserves next → (s : Nest) (other : Lookup) (place : ℕ)
       → P s.buffer (record_at_place next s other place).buffer
-  step-place next preserves s other place =
-      nest-if (nat_eq s.left 0) s.buffer (skipped s) _ (same s.buffer) (preserves other place (s.left - 1) s.seen s.buffer)
+  step-place next preserves s other place = preserves other place (s.left - 1) s.seen s.buffer
 
   step-for : (next : Lookup → ℕ → ℕ → BaseSeen → Buffer → Placing) → Preserves next → (s : Nest) (other : Lookup) (o : Option ℕ)
       → P s.buffer (option_map_or (record_at_place next s other) o (skipped s)).buffer
@@ -55,25 +56,44 @@ module _ (P : Buffer → Buffer → Type 0) (same : (b : Buffer) → P b b) (aft
   step-named next preserves l at rule s None = same s.buffer
   step-named next preserves l at rule s (Some other) = step-for next preserves s other (named_place l s.buffer.items at rule s.r)
 
-  step-rule : (next : Lookup → ℕ → ℕ → BaseSeen → Buffer → Placing) → Preserves next → (l : Lookup) (i left : ℕ) (seen : BaseSeen) (b : Buffer)
+  step-record : (next : Lookup → ℕ → ℕ → BaseSeen → Buffer → Placing) → Preserves next → (l : Lookup) (at : ℕ) (rule : Rule) (s : Nest)
+      → P s.buffer (record_step next l at rule s).buffer
+  step-record next preserves l at rule s =
+      nest-if (nat_eq s.left 0) s.buffer (skipped s) _ (same s.buffer) (step-named next preserves l at rule s (named_lookup l rule s.r))
+
+  step-rule : (next : Lookup → ℕ → ℕ → BaseSeen → Buffer → Placing) → Preserves next
+      → (l : Lookup) (i left : ℕ) (seen : BaseSeen) (b : Buffer)
       (found : Found) → P b (rule_placed next l i left seen b found).buffer
   step-rule next preserves l i left seen b found =
       let marked = broken found.span.start found.span.end b in
       after b marked (rule_placed next l i left seen b found).buffer (by_break found.span.start found.span.end b)
       (times-step (λ (s : Nest). s.buffer) (record_step next l i found.rule)
-      (λ s. step-named next preserves l i found.rule s (named_lookup l found.rule s.r)) found.rule.count
+      (step-record next preserves l i found.rule) found.rule.count
       (record { buffer = marked; seen = seen; left = left; r = 0 }))
 
-  step-found : (next : Lookup → ℕ → ℕ → BaseSeen → Buffer → Placing) → Preserves next → (l : Lookup) (i left : ℕ) (seen : BaseSeen) (b : Buffer)
+  step-found : (next : Lookup → ℕ → ℕ → BaseSeen → Buffer → Placing) → Preserves next
+      → (l : Lookup) (i left : ℕ) (seen : BaseSeen) (b : Buffer)
       (o : Option Found) → P b (option_map_or (rule_placed next l i left seen b) o (unplaced left seen b)).buffer
   step-found next preserves l i left seen b None = same b
   step-found next preserves l i left seen b (Some found) = step-rule next preserves l i left seen b found
 
-  step-level : (next : Lookup → ℕ → ℕ → BaseSeen → Buffer → Placing) → Preserves next → (l : Lookup) (i left : ℕ) (seen : BaseSeen) (b : Buffer)
+  buffer-if : (t : Bool) (b c d : Buffer) → P b c → P b d → P b (if t then c else d)
+  buffer-if true b c d x y = x
+  buffer-if false b c d x y = y
+
+  step-tried : (l : Lookup) (i : ℕ) (b : Buffer) → P b (tried_parted l i b)
+  step-tried l i b =
+      let reach = reach_of l b.items (origin_at i) in
+      buffer-if (nat_lt reach.from reach.to) b (parted reach.from reach.to b) b (by_part reach.from reach.to b) (same b)
+
+  step-level : (next : Lookup → ℕ → ℕ → BaseSeen → Buffer → Placing) → Preserves next
+      → (l : Lookup) (i left : ℕ) (seen : BaseSeen) (b : Buffer)
       → P b (level_placed next l i left seen b).buffer
   step-level next preserves l i left seen b =
-      placing-if (is_context l) b _ _
-      (step-found next preserves l i left seen b (found_of l b.items (record { at = i; is_steady = true }))) (by_lookup l i left seen b)
+      let c = tried_parted l i b in
+      placing-if (is_context l) b (first_rule_placed next l i left seen c) (lookup_placed l i left seen b)
+      (after b c (first_rule_placed next l i left seen c).buffer (step-tried l i b)
+      (step-found next preserves l i left seen c (found_of l c.items (origin_at i)))) (by_lookup l i left seen b)
 
   step-nested : (level : ℕ) (l : Lookup) (i left : ℕ) (seen : BaseSeen) (b : Buffer) → P b (nested_placed level l i left seen b).buffer
   step-nested zero l i left seen b = same b
@@ -88,12 +108,14 @@ module _ (P : Buffer → Buffer → Type 0) (same : (b : Buffer) → P b b) (aft
       (step-nested LEVELS l s.at s.left s.seen s.buffer) (same s.buffer))
       (same s.buffer)
 
-  pub step-lookup : (l : Lookup) (b : Buffer) → P b (lookup_applied b l)
-  step-lookup l b =
-      times-step (λ (s : Walk). s.buffer) (lookup_step l) (step-walk l) (length b.items)
-      (record { buffer = b; at = 0; seen = none_seen; left = most_named (length b.items) })
+  step-lookup : (l : Lookup) (s : Budgeted) → P s.buffer (lookup_applied s l).buffer
+  step-lookup l s = times-step (λ (w : Walk). w.buffer) (lookup_step l) (step-walk l) (length s.buffer.items) (first_walk s)
+
+  step-lookups : (lookups : List Lookup) (s : Budgeted) → P s.buffer (fold lookup_applied s lookups).buffer
+  step-lookups [] s = same s.buffer
+  step-lookups (l ∷ lookups) s =
+      let here = lookup_applied s l in
+      after s.buffer here.buffer (fold lookup_applied here lookups).buffer (step-lookup l s) (step-lookups lookups here)
 
   pub step-positioned : (lookups : List Lookup) (b : Buffer) → P b (positioned lookups b)
-  step-positioned [] b = same b
-  step-positioned (l ∷ lookups) b =
-      after b (lookup_applied b l) (positioned lookups (lookup_applied b l)) (step-lookup l b) (step-positioned lookups (lookup_applied b l))
+  step-positioned lookups b = step-lookups lookups (budgeted b)

@@ -13,12 +13,13 @@ use Rattle.shape_items.specs.PreservesFlags.{PreservesFlags}
 use Rattle.shape_items.proofs.Flags.FlagLemmas.{glyph_flags_set, PreservesFlags-same, PreservesFlags-then, unsafe_to_break_preserves}
 use Rattle.shape_items.proofs.Merging.KeyLemmas.{keys-map_range, keys-unsafe_to_break, without_items-unsafe_to_break}
 use Rattle.shape_buffer.specs.Preservation.{PreservesOrder, IsClusterPreserving, IsFlagPreserving}
+use Rattle.shape_buffer.specs.PositionWalks.{positions_mapped}
 use Rattle.shape_buffer.proofs.Steps.PreservationLemmas.{PreservesClusters-equal}
 use Rattle.layout_matching.specs.declared.lookup.Lookup.{Lookup}
 use Rattle.layout_positions.specs.Attachment.{offsets_finished}
 use Rattle.layout_positions.specs.Edits.{position_put, broken, parted}
 use Rattle.layout_positions.specs.Preserves.{Kept}
-use Rattle.layout_positions.specs.Walk.{positioned}
+use Rattle.layout_positions.specs.Walk.{started, positioned}
 use Rattle.layout_positions.proofs.NestedSteps.{step-positioned}
 use Rattle.layout_positions.proofs.StepLemmas.{step-tried, step-finished}
 
@@ -98,10 +99,21 @@ Kept-put i p b =
     })
     (Kept-same b)
 
--- ---- lookups, and attachment
+-- ---- the start, lookups, and attachment
+
+pub started-kept : (b : Buffer) → Kept b (started b)
+unfolding positions_mapped
+started-kept b = record {
+  clusters = refl;
+  count = refl;
+  flags = record { flags = refl; stays_set = λ e. e; none_new = λ flag d some. inl some };
+  direction = refl;
+  level = refl;
+  limit = refl;
+}
 
 pub positioned-kept : (lookups : List Lookup) (b : Buffer) → Kept b (positioned lookups b)
-positioned-kept = step-positioned Kept Kept-same Kept-then Kept-broken
+positioned-kept = step-positioned Kept Kept-same Kept-then Kept-broken Kept-parted
     (λ l i left seen b. step-tried Kept Kept-same Kept-then Kept-broken Kept-parted Kept-put l i seen b)
 
 pub finished-kept : (b : Buffer) → Kept b (offsets_finished b)
@@ -114,6 +126,12 @@ order b c kept = record {
   flags = kept.flags.flags;
   level = kept.level;
 }
+
+pub started-clusters : IsClusterPreserving started
+started-clusters b monotone = order b (started b) (started-kept b)
+
+pub started-flags : IsFlagPreserving started
+started-flags b = (started-kept b).flags
 
 pub positioned-clusters : (lookups : List Lookup) → IsClusterPreserving (positioned lookups)
 positioned-clusters lookups b monotone = order b (positioned lookups b) (positioned-kept lookups b)

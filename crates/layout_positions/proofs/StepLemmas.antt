@@ -1,7 +1,7 @@
 -- what marking a span and putting a position keep, every lookup keeps
 use Prim.Native.Nat.{zero}
-use Rattle.std.proofs.Common.{◌≡◌, ℕ, suc, ◌+◌, ◌-◌, ◌*◌, ◌&&◌, Bool, true, false, List, Option, Some, None, is_some, length, min, nat_eq, refl, if◌then◌else◌}
-use Rattle.std.specs.Prelude.{ℤ, pos}
+use Rattle.std.proofs.Common.{ℕ, suc, ◌+◌, ◌&&◌, Bool, true, false, Option, Some, None, is_some, length, min, nat_eq, if◌then◌else◌}
+use Rattle.std.specs.Prelude.{ℤ}
 use Rattle.std.specs.Option.{option_map_or, option_and_then}
 use Rattle.shape_common.specs.Direction.{is_horizontal}
 use Rattle.shape_common.specs.declared.positions.GlyphPosition.{GlyphPosition}
@@ -15,14 +15,13 @@ use Rattle.layout_matching.specs.Skipping.{nth, shares}
 use Rattle.layout_matching.specs.declared.lookup.Lookup.{Lookup}
 use Rattle.layout_positions.specs.Anchors.{number_at, anchor_of_mark}
 use Rattle.layout_positions.specs.Attachment.{parent_of, freed, followed, settled, each, MOST_LINKS, offsets_finished}
-use Rattle.layout_positions.specs.Cursive.{gap_across, joined_across, joined_along, cursive_put, cursive_with, cursive_at, cursive_applied, entry_of, exit_of, left_at, entered_at}
+use Rattle.layout_positions.specs.Cursive.{joined_across, joined_along, cursive_put, cursive_with, cursive_at, cursive_applied, entry_of, exit_of, left_at}
 use Rattle.layout_positions.specs.Edits.{position_at, position_put, broken, parted}
 use Rattle.layout_positions.specs.Lookups.{Applied, unapplied, glyph_after, end_after, glyph_before, start_before}
 use Rattle.layout_positions.specs.Marks.{mark_put, mark_array, base_anchor, mark_attached, mark_number, row_of, mark_on_row, mark_on_glyph, mark_base_at, mark_base_applied, ligature_matrix, component_of, mark_on_matrix, mark_on_ligature, mark_ligature_at, mark_ligature_applied, for_marks, are_together, mark_on_mark, mark_mark_at, mark_mark_applied}
 use Rattle.layout_positions.specs.Pairs.{glyph_adjusted, single_of, single_put, single_applied, pair_of, pair_marked, pair_ended, pair_moves, pair_put, pair_with, pair_at_number, has_pairs, pair_applied}
 use Rattle.layout_positions.specs.Turning.{Turn, turn_next, turn_at, turn_step, turned, follows, parent_freed, link_put, attached}
-use Rattle.layout_positions.specs.Values.{value_at}
-use Rattle.layout_positions.specs.Trial.{if_first_format, kind_applied, seen_at, Trial, part_tried, next_tried, trial_step, lookup_tried}
+use Rattle.layout_positions.specs.Subtables.{if_first_format, kind_applied, seen_at, Trial, part_tried, next_tried, trial_step, lookup_tried}
 use Rattle.layout_positions.specs.declared.anchors.Anchor.{Anchor}
 use Rattle.layout_positions.specs.declared.bases.BaseSeen.{BaseSeen}
 use Rattle.layout_positions.specs.declared.pairs.PairValues.{PairValues}
@@ -167,7 +166,8 @@ module _ (P : Buffer → Buffer → Type 0) (same : (b : Buffer) → P b b) (aft
       (λ row. step-attach_mark l start i j number row (offset16_of l.table.now start (start + 10)) b) (by_part j (i + 1) b)
       (row_of l start j b)
 
-  step-base_at : (l : Lookup) (start : ℕ) (base : Option ℕ) (i : ℕ) (b : Buffer) (number : ℕ) → P b (mark_base_at l start base i b number).buffer
+  step-base_at : (l : Lookup) (start : ℕ) (base : Option ℕ) (i : ℕ) (b : Buffer) (number : ℕ)
+      → P b (mark_base_at l start base i b number).buffer
   step-base_at l start base i b number =
       step-or (mark_on_glyph l start i number b) b (parted 0 (i + 1) b) (step-on_glyph l start i number b) (by_part 0 (i + 1) b) base
 

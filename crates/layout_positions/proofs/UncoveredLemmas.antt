@@ -1,24 +1,31 @@
 -- a list that no lookup covers stays as it is
 use Prim.Native.Nat.{zero}
-use Rattle.std.proofs.Common.{◌≡◌, ℕ, suc, ◌+◌, ◌&&◌, Bool, true, false, List, [], ◌∷◌, Option, Some, None, is_some, All, length, nat_eq, nat_lt, refl, sym, ap, ◌∙◌, arith, if◌then◌else◌}
+use Rattle.std.proofs.Common.{◌≡◌, ℕ, suc, ◌+◌, ◌&&◌, Bool, true, false, List, [], ◌∷◌, Option, Some, None, is_some, All, fold, length, nat_eq, nat_lt, refl, sym, ap, subst, ◌∙◌, arith, ◌<◌, ◌||◌, if◌then◌else◌}
+use Rattle.std.proofs.lemmas.Bool.Decides.{nat_tests}
 use Rattle.std.specs.Option.{option_map_or, option_and_then}
 use Rattle.shape_font.specs.Bytes.{u16_of}
 use Rattle.shape_items.specs.Buffer.{Buffer}
+use Rattle.shape_items.specs.Items.{Item}
 use Rattle.layout_tables.specs.Lookups.{subtable_count_of, subtable_of}
 use Rattle.layout_tables.specs.declared.lookups.LookupSubtable.{LookupSubtable}
-use Rattle.layout_matching.specs.Found.{found_of, is_context}
-use Rattle.layout_matching.specs.Loops.{times}
+use Rattle.layout_matching.specs.Found.{extension_kind, is_context, is_context_part, is_chained, whole_rule, is_first, found_whole, found_by_number, found_in_sets, found_in_part, found_at_part, found_of}
+use Rattle.layout_matching.specs.Loops.{times, first_some}
 use Rattle.layout_matching.specs.Skipping.{nth, is_on}
+use Rattle.layout_matching.specs.Tried.{untried, whole_reach, number_reach, sets_reach, part_reach, reach_at_part, reach_of}
+use Rattle.layout_matching.proofs.ReachLemmas.{until_untried}
 use Rattle.layout_matching.specs.declared.lookup.Lookup.{Lookup}
+use Rattle.layout_matching.specs.declared.spans.Origin.{Origin}
+use Rattle.layout_matching.specs.declared.tried.Reach.{Reach}
 use Rattle.layout_positions.specs.Anchors.{number_at}
 use Rattle.layout_positions.specs.Cursive.{entry_in, cursive_at, cursive_applied}
+use Rattle.layout_positions.specs.Edits.{parted}
 use Rattle.layout_positions.specs.Lookups.{Applied, unapplied}
 use Rattle.layout_positions.specs.Marks.{mark_base_at, mark_base_applied, mark_ligature_at, mark_ligature_applied, mark_mark_at, mark_mark_applied}
-use Rattle.layout_positions.specs.Nested.{rule_placed, level_placed, nested_placed, LEVELS, most_named}
+use Rattle.layout_positions.specs.Nested.{rule_placed, origin_at, tried_parted, first_rule_placed, level_placed, nested_placed, LEVELS}
 use Rattle.layout_positions.specs.Pairs.{single_value, single_put, single_applied, pair_at_number, has_pairs, pair_applied}
-use Rattle.layout_positions.specs.Trial.{if_first_format, kind_applied, seen_at, Trial, part_tried, next_tried, trial_of, trial_step, lookup_tried, Placing, unplaced, lookup_placed}
-use Rattle.layout_positions.specs.Uncovered.{IsUncovered, IsUncoveredAt}
-use Rattle.layout_positions.specs.Walk.{Walk, gone_on, lookup_step, none_seen, lookup_applied, positioned}
+use Rattle.layout_positions.specs.Subtables.{if_first_format, kind_applied, seen_at, Trial, part_tried, next_tried, trial_of, trial_step, lookup_tried, Placing, unplaced, lookup_placed}
+use Rattle.layout_positions.specs.Uncovered.{is_listed_at, rule_lists, part_lists, IsUnlisted, IsUncovered}
+use Rattle.layout_positions.specs.Walk.{Walk, gone_on, lookup_step, Budgeted, first_walk, lookup_applied, budgeted, positioned}
 use Rattle.layout_positions.specs.declared.bases.BaseSeen.{BaseSeen}
 
 same-if : {X : Type 0} (t : Bool) (x y z : X) → x ≡ z → y ≡ z → (if t then x else y) ≡ z
@@ -52,6 +59,37 @@ kind-un l part base i b none =
     (same-if (nat_eq part.kind 5) _ _ _ (format-un l s b _ on_ligature)
     (same-if (nat_eq part.kind 6) _ _ _ (format-un l s b _ on_mark) refl)))))
 
+-- contexts have their own kinds
+kind-context : (l : Lookup) (part : LookupSubtable) (base : Option ℕ) (i : ℕ) (b : Buffer) → l.positioning ≡ true
+    → is_context_part l part ≡ true → kind_applied l part base i b ≡ unapplied b
+kind-context l part base i b gpos is =
+    let kinds : (nat_eq part.kind 7 || nat_eq part.kind 8) ≡ true =
+    subst (λ t. (nat_eq part.kind (if t then 7 else 5) || nat_eq part.kind (if t then 8 else 6)) ≡ true) gpos is in
+    let one : nat_eq part.kind 1 ≡ false = grind (arith, nat_tests, kinds) in
+    let two : nat_eq part.kind 2 ≡ false = grind (arith, nat_tests, kinds) in
+    let three : nat_eq part.kind 3 ≡ false = grind (arith, nat_tests, kinds) in
+    let four : nat_eq part.kind 4 ≡ false = grind (arith, nat_tests, kinds) in
+    let five : nat_eq part.kind 5 ≡ false = grind (arith, nat_tests, kinds) in
+    let six : nat_eq part.kind 6 ≡ false = grind (arith, nat_tests, kinds) in
+    rw one (rw two (rw three (rw four (rw five (rw six refl)))))
+
+none_of : {A : Type 0} (o : Option A) → is_some o ≡ false → o ≡ None
+none_of None e = refl
+none_of (Some x) e = cc
+
+-- a subtable that doesn't list the glyph isn't applied
+part-un : (l : Lookup) (b : Buffer) (i : ℕ) → l.positioning ≡ true → IsUnlisted l (nth b.items i).glyph_id
+    → (k : ℕ) (part : LookupSubtable) → subtable_of l.table.now 9 l.place k ≡ Some part → (base : Option ℕ)
+    → kind_applied l part base i b ≡ unapplied b
+part-un l b i gpos un k part is base = by_kind (is_context_part l part) refl (un k part is)
+  where
+    by_kind : (t : Bool) → is_context_part l part ≡ t
+        → (if t then rule_lists l part (nth b.items i).glyph_id else is_listed_at l part (nth b.items i).glyph_id) ≡ false
+        → kind_applied l part base i b ≡ unapplied b
+    by_kind true is none = kind-context l part base i b gpos is
+    by_kind false is none = kind-un l part base i b
+        (none_of (number_at l.table.now part.start (part.start + 2) (nth b.items i).glyph_id) none)
+
 -- ---- a lookup at a place
 
 -- nothing has been done
@@ -60,80 +98,175 @@ record IsStill (b : Buffer) (s : Trial) : Type 0 where
   next : s.next ≡ None
 
 tried-un : (l : Lookup) (b : Buffer) (i : ℕ) (s : Trial) → IsStill b s → (o : Option LookupSubtable)
-    → ((part : LookupSubtable) → o ≡ Some part → number_at l.table.now part.start (part.start + 2) (nth b.items i).glyph_id ≡ None)
+    → ((part : LookupSubtable) → o ≡ Some part → (base : Option ℕ) → kind_applied l part base i b ≡ unapplied b)
     → IsStill b (option_map_or (part_tried l i s) o (trial_of s (unapplied s.buffer) s.seen))
 tried-un l b i s still None none = record { buffer = still.buffer; next = refl }
 tried-un l b i s still (Some part) none =
-    let n = ap (λ (c : Buffer). number_at l.table.now part.start (part.start + 2) (nth c.items i).glyph_id) still.buffer ∙ none part refl in
-    let is = kind-un l part (seen_at l part i s.buffer s.seen).place i s.buffer n in
-    record { buffer = ap (λ (a : Applied). a.buffer) is ∙ still.buffer; next = ap (λ (a : Applied). a.next) is }
+    let base = (seen_at l part i s.buffer s.seen).place in
+    let is : kind_applied l part base i s.buffer ≡ unapplied b =
+    ap (kind_applied l part base i) still.buffer ∙ none part refl base in
+    record { buffer = ap (λ (a : Applied). a.buffer) is; next = ap (λ (a : Applied). a.next) is }
 
 still-if : (b : Buffer) (t : Bool) (x y : Trial) → IsStill b x → IsStill b y → IsStill b (if t then x else y)
 still-if b true x y k m = k
 still-if b false x y k m = m
 
-times-un : (l : Lookup) (b : Buffer) (i : ℕ)
-    → ((k : ℕ) (part : LookupSubtable) → subtable_of l.table.now 9 l.place k ≡ Some part
-    → number_at l.table.now part.start (part.start + 2) (nth b.items i).glyph_id ≡ None)
+times-un : (l : Lookup) (b : Buffer) (i : ℕ) → l.positioning ≡ true → IsUnlisted l (nth b.items i).glyph_id
     → (n : ℕ) (s : Trial) → IsStill b s → IsStill b (times (trial_step l i) n s)
-times-un l b i none zero s still = still
-times-un l b i none (suc n) s still =
+times-un l b i gpos un zero s still = still
+times-un l b i gpos un (suc n) s still =
     let before = times (trial_step l i) n s in
-    let kept = times-un l b i none n s still in
+    let kept = times-un l b i gpos un n s still in
     still-if b (is_some before.next) (record before { part = before.part + 1 }) (next_tried l i before)
     (record { buffer = kept.buffer; next = kept.next })
-    (tried-un l b i before kept (subtable_of l.table.now 9 l.place before.part) (none before.part))
+    (tried-un l b i before kept (subtable_of l.table.now 9 l.place before.part) (part-un l b i gpos un before.part))
+
+-- ---- rules at a place
+
+and_then_none : {A B : Type 0} (f : A → Option B) (o : Option A) → o ≡ None → option_and_then f o ≡ None
+and_then_none f o e = ap (option_and_then f) e
+
+first_some_none : {X : Type 0} (f : ℕ → Option X) → ((i : ℕ) → f i ≡ None) → (n i : ℕ) → first_some f n i ≡ None
+first_some_none f none zero i = refl
+first_some_none f none (suc n) i = rw (none i) (first_some_none f none n (suc i))
+
+rules-un : (l : Lookup) (items : List Item) (origin : Origin) (part : LookupSubtable)
+    → part_lists l part (nth items origin.at).glyph_id ≡ false → found_in_part l items origin part ≡ None
+rules-un l items origin part out = by_kind (is_context_part l part) refl out
+  where
+    by_format : (t : Bool)
+        → (if t then is_first l.table.now part.start (whole_rule l.table.now (is_chained l part) part.start) (nth items origin.at).glyph_id
+        else is_listed_at l part (nth items origin.at).glyph_id) ≡ false
+        → (if t then found_whole l items origin part else found_in_sets l items origin part) ≡ None
+    by_format true none = rw none refl
+    by_format false none = and_then_none (found_by_number l items origin part) _
+        (none_of (number_at l.table.now part.start (part.start + 2) (nth items origin.at).glyph_id) none)
+
+    by_kind : (t : Bool) → is_context_part l part ≡ t
+        → (if t then rule_lists l part (nth items origin.at).glyph_id else is_listed_at l part (nth items origin.at).glyph_id) ≡ false
+        → (if t then (if nat_eq (u16_of l.table.now part.start) 3 then found_whole l items origin part else found_in_sets l items origin part)
+        else None) ≡ None
+    by_kind true is none = by_format (nat_eq (u16_of l.table.now part.start) 3) none
+    by_kind false is none = refl
+
+at_part-un : (l : Lookup) (items : List Item) (origin : Origin) (k : ℕ) → l.positioning ≡ true → IsUnlisted l (nth items origin.at).glyph_id
+    → found_at_part l items origin k ≡ None
+at_part-un l items origin k gpos un =
+    let far : extension_kind l ≡ 9 = ap (λ t. if t then 9 else 7) gpos in
+    ap (λ kind. option_and_then (found_in_part l items origin) (subtable_of l.table.now kind l.place k)) far
+    ∙ by_part (subtable_of l.table.now 9 l.place k) refl
+  where
+    by_part : (o : Option LookupSubtable) → subtable_of l.table.now 9 l.place k ≡ o
+        → option_and_then (found_in_part l items origin) o ≡ None
+    by_part None e = refl
+    by_part (Some part) e = rules-un l items origin part (un k part e)
+
+found-un : (l : Lookup) (items : List Item) (origin : Origin) → l.positioning ≡ true → IsUnlisted l (nth items origin.at).glyph_id
+    → found_of l items origin ≡ None
+found-un l items origin gpos un =
+    first_some_none (found_at_part l items origin) (λ k. at_part-un l items origin k gpos un) (subtable_count_of l.table.now l.place) 0
+
+-- ---- what rules look at in vain
+
+reach_in-un : (l : Lookup) (items : List Item) (origin : Origin) (part : LookupSubtable)
+    → part_lists l part (nth items origin.at).glyph_id ≡ false → part_reach l items origin part ≡ untried origin.at
+reach_in-un l items origin part out = by_kind (is_context_part l part) refl out
+  where
+    by_format : (t : Bool)
+        → (if t then is_first l.table.now part.start (whole_rule l.table.now (is_chained l part) part.start) (nth items origin.at).glyph_id
+        else is_listed_at l part (nth items origin.at).glyph_id) ≡ false
+        → (if t then whole_reach l items origin part else sets_reach l items origin part) ≡ untried origin.at
+    by_format true none = rw none refl
+    by_format false none = ap (λ o. option_map_or (number_reach l items origin part) o (untried origin.at))
+        (none_of (number_at l.table.now part.start (part.start + 2) (nth items origin.at).glyph_id) none)
+
+    by_kind : (t : Bool) → is_context_part l part ≡ t
+        → (if t then rule_lists l part (nth items origin.at).glyph_id else is_listed_at l part (nth items origin.at).glyph_id) ≡ false
+        → (if t then (if nat_eq (u16_of l.table.now part.start) 3 then whole_reach l items origin part else sets_reach l items origin part)
+        else untried origin.at) ≡ untried origin.at
+    by_kind true is none = by_format (nat_eq (u16_of l.table.now part.start) 3) none
+    by_kind false is none = refl
+
+reach_at-un : (l : Lookup) (items : List Item) (origin : Origin) (k : ℕ) → l.positioning ≡ true → IsUnlisted l (nth items origin.at).glyph_id
+    → reach_at_part l items origin k ≡ untried origin.at
+reach_at-un l items origin k gpos un =
+    let far : extension_kind l ≡ 9 = ap (λ t. if t then 9 else 7) gpos in
+    ap (λ kind. option_map_or (part_reach l items origin) (subtable_of l.table.now kind l.place k) (untried origin.at)) far
+    ∙ by_part (subtable_of l.table.now 9 l.place k) refl
+  where
+    by_part : (o : Option LookupSubtable) → subtable_of l.table.now 9 l.place k ≡ o
+        → option_map_or (part_reach l items origin) o (untried origin.at) ≡ untried origin.at
+    by_part None e = refl
+    by_part (Some part) e = reach_in-un l items origin part (un k part e)
+
+tried-still : (i : ℕ) (b : Buffer) (reach : Reach) → reach ≡ untried i → (if nat_lt reach.from reach.to then parted reach.from reach.to b else b) ≡ b
+tried-still i b reach is =
+    let none : nat_lt i i ≡ false = grind (arith, nat_tests) in
+    ap (λ (r : Reach). if nat_lt r.from r.to then parted r.from r.to b else b) is ∙ ap (λ t. if t then parted i i b else b) none
+
+tried-none : (l : Lookup) (i : ℕ) (b : Buffer) → l.positioning ≡ true → IsUnlisted l (nth b.items i).glyph_id → tried_parted l i b ≡ b
+tried-none l i b gpos un = tried-still i b (reach_of l b.items (origin_at i))
+    (until_untried (reach_at_part l b.items (origin_at i)) i (λ k. reach_at-un l b.items (origin_at i) k gpos un)
+    (subtable_count_of l.table.now l.place) 0)
+
+-- ---- levels
 
 -- nothing is done, and the lookup goes on to the next glyph
 record IsUnplaced (b : Buffer) (p : Placing) : Type 0 where
   buffer : p.buffer ≡ b
   next : p.next ≡ None
 
-unplaced-if : (b : Buffer) (t : Bool) (x y : Placing) → (t ≡ true → IsUnplaced b x) → (t ≡ false → IsUnplaced b y) → IsUnplaced b (if t then x else y)
-unplaced-if b true x y k m = k refl
-unplaced-if b false x y k m = m refl
+unplaced-if : (b : Buffer) (t : Bool) (x y : Placing) → IsUnplaced b x → IsUnplaced b y → IsUnplaced b (if t then x else y)
+unplaced-if b true x y k m = k
+unplaced-if b false x y k m = m
 
 level-un : (next : Lookup → ℕ → ℕ → BaseSeen → Buffer → Placing) (l : Lookup) (i left : ℕ) (seen : BaseSeen) (b : Buffer)
-    → IsUncoveredAt l b i → IsUnplaced b (level_placed next l i left seen b)
-level-un next l i left seen b un =
-    unplaced-if b (is_context l) _ (lookup_placed l i left seen b)
-    (λ t.
-    let is = ap (λ o. option_map_or (rule_placed next l i left seen b) o (unplaced left seen b)) (un.rules t) in
-    record { buffer = ap (λ (p : Placing). p.buffer) is; next = ap (λ (p : Placing). p.next) is })
-    (λ t.
-    let still = times-un l b i (un.lists t) (subtable_count_of l.table.now l.place) (record { buffer = b; next = None; seen = seen; part = 0 })
+    → l.positioning ≡ true → IsUnlisted l (nth b.items i).glyph_id → IsUnplaced b (level_placed next l i left seen b)
+level-un next l i left seen b gpos un =
+    let is : first_rule_placed next l i left seen (tried_parted l i b) ≡ unplaced left seen b =
+    ap (first_rule_placed next l i left seen) (tried-none l i b gpos un)
+    ∙ ap (λ o. option_map_or (rule_placed next l i left seen b) o (unplaced left seen b)) (found-un l b.items (origin_at i) gpos un) in
+    let still = times-un l b i gpos un (subtable_count_of l.table.now l.place) (record { buffer = b; next = None; seen = seen; part = 0 })
     (record { buffer = refl; next = refl }) in
-    record { buffer = still.buffer; next = still.next })
+    unplaced-if b (is_context l) _ (lookup_placed l i left seen b)
+    (record { buffer = ap (λ (p : Placing). p.buffer) is; next = ap (λ (p : Placing). p.next) is })
+    (record { buffer = still.buffer; next = still.next })
 
-nested-un : (level : ℕ) (l : Lookup) (i left : ℕ) (seen : BaseSeen) (b : Buffer) → IsUncoveredAt l b i
-    → IsUnplaced b (nested_placed level l i left seen b)
-nested-un zero l i left seen b un = record { buffer = refl; next = refl }
-nested-un (suc level) l i left seen b un =
+nested-un : (level : ℕ) (l : Lookup) (i left : ℕ) (seen : BaseSeen) (b : Buffer) → l.positioning ≡ true
+    → IsUnlisted l (nth b.items i).glyph_id → IsUnplaced b (nested_placed level l i left seen b)
+nested-un zero l i left seen b gpos un = record { buffer = refl; next = refl }
+nested-un (suc level) l i left seen b gpos un =
     unplaced-if b (nat_lt i (length b.items)) (level_placed (nested_placed level) l i left seen b) (unplaced left seen b)
-    (λ t. level-un (nested_placed level) l i left seen b un) (λ t. record { buffer = refl; next = refl })
+    (level-un (nested_placed level) l i left seen b gpos un) (record { buffer = refl; next = refl })
 
 -- ---- over a list
 
-walk-if : (b : Buffer) (t : Bool) (x y : Walk) → x.buffer ≡ b → y.buffer ≡ b → (if t then x else y).buffer ≡ b
-walk-if b true x y k m = k
+walk-if : (b : Buffer) (t : Bool) (x y : Walk) → (t ≡ true → x.buffer ≡ b) → y.buffer ≡ b → (if t then x else y).buffer ≡ b
+walk-if b true x y k m = k refl
 walk-if b false x y k m = m
 
 step-un : (l : Lookup) (b : Buffer) → IsUncovered b l → (s : Walk) → s.buffer ≡ b → (lookup_step l s).buffer ≡ b
 step-un l b un s is =
     walk-if b (nat_lt s.at (length s.buffer.items)) _ s
-    (walk-if b (is_on l (nth s.buffer.items s.at)) (gone_on s.at (nested_placed LEVELS l s.at s.left s.seen s.buffer)) (record s { at = s.at + 1 })
-    (ap (λ (c : Buffer). (nested_placed LEVELS l s.at s.left s.seen c).buffer) is ∙ (nested-un LEVELS l s.at s.left s.seen b (un s.at)).buffer) is)
+    (λ t.
+    let inside : s.at < length b.items = grind (arith, nat_tests, ap (λ (c : Buffer). nat_lt s.at (length c.items)) (sym is) ∙ t) in
+    walk-if b (is_on l (nth s.buffer.items s.at)) (gone_on s.at (nested_placed LEVELS l s.at s.left s.seen s.buffer))
+    (record s { at = s.at + 1 })
+    (λ t. ap (λ (c : Buffer). (nested_placed LEVELS l s.at s.left s.seen c).buffer) is
+    ∙ (nested-un LEVELS l s.at s.left s.seen b un.positioning (un.glyphs s.at inside)).buffer) is)
     is
 
 walk-un : (l : Lookup) (b : Buffer) → IsUncovered b l → (n : ℕ) (s : Walk) → s.buffer ≡ b → (times (lookup_step l) n s).buffer ≡ b
 walk-un l b un zero s is = is
 walk-un l b un (suc n) s is = step-un l b un (times (lookup_step l) n s) (walk-un l b un n s is)
 
-lookup-un : (l : Lookup) (b : Buffer) → IsUncovered b l → lookup_applied b l ≡ b
-lookup-un l b un = walk-un l b un (length b.items) (record { buffer = b; at = 0; seen = none_seen; left = most_named (length b.items) }) refl
+lookups-un : (lookups : List Lookup) (b : Buffer) → All (IsUncovered b) lookups → (s : Budgeted) → s.buffer ≡ b
+    → (fold lookup_applied s lookups).buffer ≡ b
+lookups-un [] b all s is = is
+lookups-un (l ∷ lookups) b all s is =
+    let first : IsUncovered b l = all 0 l (omega arith) in
+    lookups-un lookups b (λ k d inside. all (suc k) d (omega (arith, inside))) (lookup_applied s l)
+    (walk-un l b first (length s.buffer.items) (first_walk s) is)
 
 pub positioned-uncovered : (lookups : List Lookup) (b : Buffer) → All (IsUncovered b) lookups → positioned lookups b ≡ b
-positioned-uncovered [] b all = refl
-positioned-uncovered (l ∷ lookups) b all =
-    let first : IsUncovered b l = all 0 l (omega arith) in
-    ap (positioned lookups) (lookup-un l b first) ∙ positioned-uncovered lookups b (λ k d inside. all (suc k) d (omega (arith, inside)))
+positioned-uncovered lookups b all = lookups-un lookups b all (budgeted b) refl

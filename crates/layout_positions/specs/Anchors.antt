@@ -1,6 +1,6 @@
 -- Anchors, the marks that have one, and the glyphs that marks attach to (OpenType, `GPOS`, "Anchor tables", "Mark array").
-use Rattle.std.specs.Prelude.{ℕ, pos, List, Bool, Option, None, ◌+◌, ◌*◌, ◌||◌, nat_eq, nat_lt, nat_le, if◌then◌else◌}
-use Rattle.std.specs.Option.{option_map, option_map_or, option_and_then}
+use Rattle.std.specs.Prelude.{ℕ, pos, List, Bool, Option, Some, None, ◌+◌, ◌*◌, ◌||◌, length, nat_eq, nat_lt, nat_le, if◌then◌else◌}
+use Rattle.std.specs.Option.{option_map_or, option_and_then}
 use Rattle.shape_font.specs.Bytes.{u16_of, i16_of, fitting}
 use Rattle.layout_tables.specs.Coverage.{coverage_index}
 use Rattle.layout_tables.specs.Offsets.{offset16_of}
@@ -15,9 +15,17 @@ anchor_at t start = let format = u16_of t start in
     (if nat_eq format 1 || nat_eq format 2 || nat_eq format 3
     then record { x = i16_of t (start + 2); y = i16_of t (start + 4) } else origin)
 
+-- how many bytes an anchor of this format has; of another format only that is read
+abbrev pub anchor_size : ℕ → ℕ
+anchor_size format = if nat_eq format 1 then 6 else (if nat_eq format 2 then 8 else (if nat_eq format 3 then 10 else 2))
+
+-- an anchor that leads past the end of the table is none
+abbrev pub anchor_if : List ℕ → ℕ → Option Anchor
+anchor_if t start = if nat_le (start + anchor_size (u16_of t start)) (length t) then Some (anchor_at t start) else None
+
 -- the anchor whose offset stands at `at`
 abbrev pub anchor_by : List ℕ → ℕ → ℕ → Option Anchor
-anchor_by t start at = option_map (anchor_at t) (offset16_of t start at)
+anchor_by t start at = option_and_then (anchor_if t) (offset16_of t start at)
 
 -- rows of anchors, one for each class of marks
 abbrev pub anchor_in : List ℕ → ℕ → ℕ → ℕ → ℕ → Option Anchor

@@ -1,13 +1,14 @@
 -- Glyphs attached to others: how far, and where they end up.
 use Prim.Native.Nat.{zero}
-use Rattle.std.specs.Prelude.{ℕ, suc, ℤ, pos, neg_ℤ, List, Bool, true, false, Option, Some, None, ◌+◌, ◌-◌, ◌||◌, min, fold, length, nat_eq, nat_lt, nat_le, int_lt, unsigned_abs, slice_range, if◌then◌else◌}
+use Rattle.std.specs.Prelude.{ℕ, suc, ℤ, pos, neg_ℤ, Bool, true, false, Option, Some, None, ◌+◌, ◌-◌, ◌||◌, length, nat_eq, nat_lt, nat_le, int_lt, unsigned_abs, if◌then◌else◌}
 use Rattle.std.specs.Option.{option_map_or}
 use Rattle.shape_common.specs.Direction.{is_horizontal, is_forward}
 use Rattle.shape_common.specs.Wrapping.{◌+ʷ◌, ◌-ʷ◌}
 use Rattle.shape_common.specs.declared.positions.GlyphPosition.{GlyphPosition}
 use Rattle.shape_items.specs.Buffer.{Buffer}
 use Rattle.layout_positions.specs.Edits.{position_at, position_put}
-use Rattle.layout_positions.specs.declared.attachment.Pen.{Pen}
+use Rattle.layout_positions.specs.Ways.{way_between}
+use Rattle.layout_positions.specs.declared.ways.Pen.{Pen}
 
 -- how a glyph is attached: as a mark, or by cursive attachment
 abbrev pub MARK_ATTACHED : ℕ
@@ -34,22 +35,6 @@ abbrev pub freed : ℕ → Buffer → Buffer
 freed i b = position_put i (record (position_at b i) { attach_chain = pos 0 }) b
 
 -- ---- what is attached follows what it is attached to
-
--- the way of the pen over the glyphs from one place up to another
-abbrev pub pen_on : Pen → GlyphPosition → Pen
-pen_on pen p = record { x = pen.x +ʷ p.x_advance; y = pen.y +ʷ p.y_advance }
-
-abbrev pub no_way : Pen
-no_way = record { x = pos 0; y = pos 0 }
-
-abbrev pub way : Buffer → ℕ → ℕ → Pen
-way b from to = let end = min to (length b.items) in
-    (if nat_lt from end then fold pen_on no_way (slice_range b.positions from end) else no_way)
-
--- between a glyph at place `j` and a mark at place `i` the pen goes over the glyph and what follows it; in backward text over
--- what follows it and the mark
-abbrev pub way_between : Buffer → ℕ → ℕ → Pen
-way_between b i j = if is_forward b.direction then way b j i else way b (j + 1) (i + 1)
 
 -- a mark stands where the glyph does: it moves as the glyph, and the pen goes back to that
 abbrev pub hung : Bool → Pen → GlyphPosition → GlyphPosition → GlyphPosition

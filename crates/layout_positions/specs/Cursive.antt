@@ -18,10 +18,12 @@ use Rattle.layout_positions.specs.declared.anchors.Anchor.{Anchor}
 
 -- for each glyph the anchor where it is entered, and the one where it is left
 abbrev pub entry_in : List ℕ → ℕ → ℕ → Option Anchor
-entry_in t start number = if nat_lt number (fitting t (u16_of t (start + 4)) (start + 6) 4) then anchor_by t start (start + 6 + 4 * number) else None
+entry_in t start number = if nat_lt number (fitting t (u16_of t (start + 4)) (start + 6) 4)
+    then anchor_by t start (start + 6 + 4 * number) else None
 
 abbrev pub exit_in : List ℕ → ℕ → ℕ → Option Anchor
-exit_in t start number = if nat_lt number (fitting t (u16_of t (start + 4)) (start + 6) 4) then anchor_by t start (start + 8 + 4 * number) else None
+exit_in t start number = if nat_lt number (fitting t (u16_of t (start + 4)) (start + 6) 4)
+    then anchor_by t start (start + 8 + 4 * number) else None
 
 abbrev pub entry_of : List ℕ → ℕ → ℕ → Option Anchor
 entry_of t start glyph = option_and_then (entry_in t start) (number_at t start (start + 2) glyph)

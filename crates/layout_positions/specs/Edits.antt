@@ -1,5 +1,7 @@
 -- Edits of a buffer's positions and flags, by places; past the end nothing changes.
-use Rattle.std.specs.Prelude.{ℕ, ℤ, pos, neg_ℤ, Bool, ◌-◌, min, length, nat_lt, nat_le, slice_set, slice_index_or, if◌then◌else◌}
+use Rattle.std.specs.Prelude.{ℕ, ℤ, pos, neg_ℤ, Bool, ◌-◌, min, length, nat_lt, nat_le, ◌==◌, slice_set, slice_index_or, if◌then◌else◌}
+use Rattle.std.specs.Int.RustNames.{bit_and}
+use Rattle.shape_common.specs.FlagNames.{PRODUCE_UNSAFE_TO_CONCAT}
 use Rattle.shape_common.specs.Positions.{zero_position}
 use Rattle.shape_common.specs.declared.positions.GlyphPosition.{GlyphPosition}
 use Rattle.shape_items.specs.Buffer.{Buffer}
@@ -18,6 +20,9 @@ position_changed f i b = position_put i (f (position_at b i)) b
 -- a span, as far as the list goes, marked unsafe to break, or to concat
 abbrev pub broken : ℕ → ℕ → Buffer → Buffer
 broken start end b = let last = min end (length b.items) in (if nat_le start last then unsafe_to_break start last b else b)
+
+abbrev pub asks_for_concat : Buffer → Bool
+asks_for_concat b = bit_and b.flags.0 PRODUCE_UNSAFE_TO_CONCAT == PRODUCE_UNSAFE_TO_CONCAT
 
 abbrev pub parted : ℕ → ℕ → Buffer → Buffer
 parted start end b = let last = min end (length b.items) in (if nat_le start last then unsafe_to_concat start last b else b)

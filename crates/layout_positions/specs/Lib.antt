@@ -1,13 +1,14 @@
 pub mod Edits
 pub mod Values
 pub mod Anchors
+pub mod Ways
 pub mod Attachment
 pub mod Turning
 pub mod Lookups
 pub mod Pairs
 pub mod Cursive
 pub mod Marks
-pub mod Trial
+pub mod Subtables
 pub mod Nested
 pub mod Walk
 pub mod Preserves

@@ -1,5 +1,5 @@
 -- What a subtable makes of a buffer at a place, and which glyphs it sees there.
-use Rattle.std.specs.Prelude.{ℕ, Bool, true, List, Option, Some, None, ◌+◌, ◌-◌, ◌&&◌, ◌||◌, not, length, if◌then◌else◌}
+use Rattle.std.specs.Prelude.{ℕ, Bool, true, List, Option, Some, None, ◌+◌, ◌-◌, ◌||◌, not, length, if◌then◌else◌}
 use Rattle.std.specs.Option.{option_and_then, option_map, option_map_or}
 use Rattle.shape_font.specs.Search.{first_at}
 use Rattle.shape_items.specs.Buffer.{Buffer}

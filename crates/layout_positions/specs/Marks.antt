@@ -1,5 +1,5 @@
 -- Marks attached to bases, to ligatures and to marks (OpenType, `GPOS`, lookup types 4, 5 and 6).
-use Rattle.std.specs.Prelude.{ℕ, Bool, true, false, List, Option, Some, None, ◌+◌, ◌-◌, ◌*◌, ◌&&◌, ◌||◌, not, min, length, is_some, nat_eq, nat_lt, nat_le, if◌then◌else◌}
+use Rattle.std.specs.Prelude.{ℕ, Bool, true, List, Option, Some, None, ◌+◌, ◌-◌, ◌*◌, ◌&&◌, ◌||◌, not, min, is_some, nat_eq, nat_lt, if◌then◌else◌}
 use Rattle.std.specs.Option.{option_map, option_map_or, option_and_then, option_or}
 use Rattle.std.specs.Int.RustNames.{bit_and}
 use Rattle.shape_common.specs.Wrapping.{◌-ʷ◌}

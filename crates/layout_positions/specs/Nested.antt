@@ -12,11 +12,13 @@ use Rattle.layout_matching.specs.Loops.{times}
 use Rattle.layout_matching.specs.Nesting.{lookup_with, record_at}
 use Rattle.layout_matching.specs.Seeking.{last_after}
 use Rattle.layout_matching.specs.Skipping.{nth}
+use Rattle.layout_matching.specs.Tried.{reach_of}
 use Rattle.layout_matching.specs.declared.found.Found.{Found}
 use Rattle.layout_matching.specs.declared.lookup.Lookup.{Lookup}
 use Rattle.layout_matching.specs.declared.rules.Rule.{Rule}
-use Rattle.layout_positions.specs.Edits.{broken}
-use Rattle.layout_positions.specs.Trial.{Placing, unplaced, lookup_placed}
+use Rattle.layout_matching.specs.declared.spans.Origin.{Origin}
+use Rattle.layout_positions.specs.Edits.{broken, parted}
+use Rattle.layout_positions.specs.Subtables.{Placing, unplaced, lookup_placed}
 use Rattle.layout_positions.specs.declared.bases.BaseSeen.{BaseSeen}
 
 -- ---- what a record of a rule names
@@ -48,13 +50,15 @@ abbrev pub nest_of : Nest → Placing → Nest
 nest_of s made = record { buffer = made.buffer; seen = made.seen; left = made.left; r = s.r + 1 }
 
 abbrev pub record_at_place : (Lookup → ℕ → ℕ → BaseSeen → Buffer → Placing) → Nest → Lookup → ℕ → Nest
-record_at_place next s other place = if nat_eq s.left 0 then skipped s else nest_of s (next other place (s.left - 1) s.seen s.buffer)
+record_at_place next s other place = nest_of s (next other place (s.left - 1) s.seen s.buffer)
 
 abbrev pub record_for : (Lookup → ℕ → ℕ → BaseSeen → Buffer → Placing) → Lookup → ℕ → Rule → Nest → Lookup → Nest
 record_for next l at rule s other = option_map_or (record_at_place next s other) (named_place l s.buffer.items at rule s.r) (skipped s)
 
+-- nothing is done once no lookup may be named
 abbrev pub record_step : (Lookup → ℕ → ℕ → BaseSeen → Buffer → Placing) → Lookup → ℕ → Rule → Nest → Nest
-record_step next l at rule s = option_map_or (record_for next l at rule s) (named_lookup l rule s.r) (skipped s)
+record_step next l at rule s = if nat_eq s.left 0 then skipped s
+    else option_map_or (record_for next l at rule s) (named_lookup l rule s.r) (skipped s)
 
 -- what the rule matches is unsafe to break with what is around it; it goes on after the last glyph that it matches
 abbrev pub rule_placed : (Lookup → ℕ → ℕ → BaseSeen → Buffer → Placing) → Lookup → ℕ → ℕ → BaseSeen → Buffer → Found → Placing
@@ -63,10 +67,20 @@ rule_placed next l i left seen b found =
     (record { buffer = broken found.span.start found.span.end b; seen = seen; left = left; r = 0 }) in
     record { buffer = s.buffer; next = Some (found.span.last + 1); seen = s.seen; left = s.left }
 
+abbrev pub origin_at : ℕ → Origin
+origin_at i = record { at = i; is_steady = true }
+
+-- what rules looked at in vain, up to the first that matches, is unsafe to concat
+abbrev pub tried_parted : Lookup → ℕ → Buffer → Buffer
+tried_parted l i b = let reach = reach_of l b.items (origin_at i) in
+    (if nat_lt reach.from reach.to then parted reach.from reach.to b else b)
+
+abbrev pub first_rule_placed : (Lookup → ℕ → ℕ → BaseSeen → Buffer → Placing) → Lookup → ℕ → ℕ → BaseSeen → Buffer → Placing
+first_rule_placed next l i left seen b =
+    option_map_or (rule_placed next l i left seen b) (found_of l b.items (origin_at i)) (unplaced left seen b)
+
 abbrev pub level_placed : (Lookup → ℕ → ℕ → BaseSeen → Buffer → Placing) → Lookup → ℕ → ℕ → BaseSeen → Buffer → Placing
-level_placed next l i left seen b =
-    if is_context l
-    then option_map_or (rule_placed next l i left seen b) (found_of l b.items (record { at = i; is_steady = true })) (unplaced left seen b)
+level_placed next l i left seen b = if is_context l then first_rule_placed next l i left seen (tried_parted l i b)
     else lookup_placed l i left seen b
 
 -- so many levels of lookups, each named by the one above

@@ -13,7 +13,7 @@ use Rattle.layout_matching.specs.declared.lookup.Lookup.{Lookup}
 use Rattle.layout_positions.specs.Anchors.{number_at}
 use Rattle.layout_positions.specs.Edits.{position_changed, broken, parted}
 use Rattle.layout_positions.specs.Lookups.{Applied, unapplied, glyph_after, end_after}
-use Rattle.layout_positions.specs.Values.{value_size, value_at, adjusted, has_effect}
+use Rattle.layout_positions.specs.Values.{value_size, value_at, has_bytes, value_in, adjusted, has_effect}
 use Rattle.layout_positions.specs.declared.pairs.PairValues.{PairValues}
 use Rattle.layout_positions.specs.declared.values.Adjustment.{Adjustment}
 
@@ -22,9 +22,9 @@ use Rattle.layout_positions.specs.declared.values.Adjustment.{Adjustment}
 -- format 1: the same for all glyphs; format 2: one for each
 abbrev pub single_value : List ℕ → ℕ → ℕ → Option Adjustment
 single_value t start number = let format = u16_of t (start + 4) in
-    (if nat_eq (u16_of t start) 1 then Some (value_at t format (start + 6))
+    (if nat_eq (u16_of t start) 1 then value_in t format (start + 6)
     else (if nat_eq (u16_of t start) 2 && nat_lt number (u16_of t (start + 6))
-    then Some (value_at t format (start + 8 + number * value_size format)) else None))
+    then value_in t format (start + 8 + number * value_size format) else None))
 
 abbrev pub single_of : List ℕ → ℕ → ℕ → Option Adjustment
 single_of t start glyph = option_and_then (single_value t start) (number_at t start (start + 2) glyph)
@@ -48,6 +48,9 @@ pair_at t start at = let first = u16_of t (start + 4) in
 
 abbrev pub pair_size : List ℕ → ℕ → ℕ
 pair_size t start = value_size (u16_of t (start + 4)) + value_size (u16_of t (start + 6))
+
+abbrev pub pair_if : List ℕ → ℕ → ℕ → Option PairValues
+pair_if t start at = if has_bytes t at (pair_size t start) then Some (pair_at t start at) else None
 
 -- format 1: for each first glyph a set of second ones in order, each with the two records
 abbrev pub pair_set : List ℕ → ℕ → ℕ → Option ℕ
@@ -75,7 +78,7 @@ abbrev pub classed_pair : List ℕ → ℕ → ℕ → ℕ → Option PairValues
 classed_pair t start left right = let first = class_at t start (start + 8) left in
     let second = class_at t start (start + 10) right in
     (if nat_le (u16_of t (start + 12)) first || nat_le (u16_of t (start + 14)) second then None
-    else Some (pair_at t start (start + 16 + (first * u16_of t (start + 14) + second) * pair_size t start)))
+    else pair_if t start (start + 16 + (first * u16_of t (start + 14) + second) * pair_size t start))
 
 abbrev pub pair_of : List ℕ → ℕ → ℕ → ℕ → ℕ → Option PairValues
 pair_of t start number left right = if nat_eq (u16_of t start) 1 then listed_pair t start number right

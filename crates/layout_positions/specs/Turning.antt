@@ -1,5 +1,5 @@
 -- Cursive attachment: a glyph that gets another one to follow, and the chain that it was in.
-use Rattle.std.specs.Prelude.{ℕ, ℤ, pos, Bool, true, false, Option, Some, None, ◌&&◌, not, length, nat_eq, if◌then◌else◌}
+use Rattle.std.specs.Prelude.{ℕ, ℤ, pos, Bool, true, false, Option, Some, None, length, nat_eq, if◌then◌else◌}
 use Rattle.std.specs.Option.{option_and_then, option_map_or}
 use Rattle.shape_common.specs.Direction.{is_horizontal}
 use Rattle.shape_common.specs.Wrapping.{neg_w}
@@ -50,7 +50,8 @@ turn_step end s = option_map_or (turn_at s) (turn_next end s) s
 
 -- the chain from a glyph on turned round, up to the one that the glyph is to follow
 abbrev pub turned : ℕ → ℕ → Buffer → Buffer
-turned child end b = (times (turn_step end) (length b.items) (record { buffer = freed child b; at = child; was = position_at b child })).buffer
+turned child end b =
+    (times (turn_step end) (length b.items) (record { buffer = freed child b; at = child; was = position_at b child })).buffer
 
 -- two glyphs don't follow each other
 abbrev pub follows : ℕ → ℕ → Buffer → Bool

@@ -1,18 +1,31 @@
 -- Lookups that have nothing for the glyphs of a list.
-use Rattle.std.specs.Prelude.{◌≡◌, ℕ, List, Option, Some, None, true, false, ◌+◌, All}
+use Rattle.std.specs.Prelude.{◌≡◌, ℕ, Bool, true, false, Some, ◌+◌, ◌<◌, length, is_some, nat_eq, if◌then◌else◌}
+use Rattle.shape_font.specs.Bytes.{u16_of}
 use Rattle.shape_items.specs.Buffer.{Buffer}
 use Rattle.layout_tables.specs.Lookups.{subtable_of}
 use Rattle.layout_tables.specs.declared.lookups.LookupSubtable.{LookupSubtable}
-use Rattle.layout_matching.specs.Found.{found_of, is_context}
+use Rattle.layout_matching.specs.Found.{is_chained, is_context_part, whole_rule, is_first}
 use Rattle.layout_matching.specs.Skipping.{nth}
 use Rattle.layout_matching.specs.declared.lookup.Lookup.{Lookup}
 use Rattle.layout_positions.specs.Anchors.{number_at}
 
--- no rule of a lookup of context matches at the place; no subtable of another one lists its glyph
-pub record IsUncoveredAt (l : Lookup) (b : Buffer) (i : ℕ) : Type 0 where
-  pub rules : is_context l ≡ true → found_of l b.items (record { at = i; is_steady = true }) ≡ None
-  pub lists : is_context l ≡ false → (k : ℕ) (part : LookupSubtable) → subtable_of l.table.now 9 l.place k ≡ Some part
-      → number_at l.table.now part.start (part.start + 2) (nth b.items i).glyph_id ≡ None
+-- each subtable has a list of the glyphs that it begins at
+abbrev pub is_listed_at : Lookup → LookupSubtable → ℕ → Bool
+is_listed_at l part glyph = is_some (number_at l.table.now part.start (part.start + 2) glyph)
 
-abbrev pub IsUncovered : Buffer → Lookup → Type 0
-IsUncovered b l = (i : ℕ) → IsUncoveredAt l b i
+-- a rule of format 3 has a list for each of its glyphs
+abbrev pub rule_lists : Lookup → LookupSubtable → ℕ → Bool
+rule_lists l part glyph = if nat_eq (u16_of l.table.now part.start) 3
+    then is_first l.table.now part.start (whole_rule l.table.now (is_chained l part) part.start) glyph
+    else is_listed_at l part glyph
+
+abbrev pub part_lists : Lookup → LookupSubtable → ℕ → Bool
+part_lists l part glyph = if is_context_part l part then rule_lists l part glyph else is_listed_at l part glyph
+
+abbrev pub IsUnlisted : Lookup → ℕ → Type 0
+IsUnlisted l glyph = (k : ℕ) (part : LookupSubtable) → subtable_of l.table.now 9 l.place k ≡ Some part → part_lists l part glyph ≡ false
+
+-- a lookup of positioning of which no subtable lists a glyph of the buffer
+pub record IsUncovered (b : Buffer) (l : Lookup) : Type 0 where
+  pub positioning : l.positioning ≡ true
+  pub glyphs : (i : ℕ) → i < length b.items → IsUnlisted l (nth b.items i).glyph_id

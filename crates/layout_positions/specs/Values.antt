@@ -1,5 +1,5 @@
 -- Value records (OpenType, `GPOS`, "Value record").
-use Rattle.std.specs.Prelude.{ℕ, ℤ, pos, List, Bool, true, false, ◌+◌, ◌-◌, ◌*◌, ◌||◌, not, nat_eq, if◌then◌else◌}
+use Rattle.std.specs.Prelude.{ℕ, ℤ, pos, List, Bool, true, false, Option, Some, None, ◌+◌, ◌-◌, ◌*◌, ◌||◌, not, length, nat_eq, nat_le, if◌then◌else◌}
 use Rattle.std.specs.Int.RustNames.{bit_and, count_ones}
 use Rattle.std.specs.Ordering.{int_eq}
 use Rattle.shape_common.specs.Wrapping.{◌+ʷ◌, ◌-ʷ◌}
@@ -23,6 +23,13 @@ value_at t format at = record {
   y_advance = number_for t format at 8;
 }
 
+-- a record that leads past the end of the table is none
+abbrev pub has_bytes : List ℕ → ℕ → ℕ → Bool
+has_bytes t at size = nat_le (at + size) (length t)
+
+abbrev pub value_in : List ℕ → ℕ → ℕ → Option Adjustment
+value_in t format at = if has_bytes t at (value_size format) then Some (value_at t format at) else None
+
 -- the advance along the line alone changes; down a vertical line an advance is negative
 abbrev pub adjusted : Bool → Adjustment → GlyphPosition → GlyphPosition
 adjusted true v p = record p {
@@ -41,4 +48,5 @@ advance_along horizontal v = if horizontal then v.x_advance else v.y_advance
 
 -- whether an adjustment changes something
 abbrev pub has_effect : Bool → Adjustment → Bool
-has_effect horizontal v = not (int_eq v.x_placement (pos 0)) || not (int_eq v.y_placement (pos 0)) || not (int_eq (advance_along horizontal v) (pos 0))
+has_effect horizontal v = not (int_eq v.x_placement (pos 0)) || not (int_eq v.y_placement (pos 0))
+    || not (int_eq (advance_along horizontal v) (pos 0))

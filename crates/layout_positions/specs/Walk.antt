@@ -1,13 +1,30 @@
 -- Lookups over a buffer, one after the other.
-use Rattle.std.specs.Prelude.{ℕ, List, Option, Some, None, ◌+◌, ◌<◌, ◌^◌, length, nat_lt, fold, if◌then◌else◌}
+use Rattle.std.specs.Prelude.{ℕ, pos, List, None, ◌+◌, ◌<◌, ◌^◌, length, nat_lt, fold, if◌then◌else◌}
 use Rattle.std.specs.Option.{option_map_or}
+use Rattle.shape_common.specs.declared.positions.GlyphPosition.{GlyphPosition}
 use Rattle.shape_items.specs.Buffer.{Buffer}
+use Rattle.shape_buffer.specs.PositionWalks.{positions_mapped}
 use Rattle.layout_matching.specs.Loops.{times}
 use Rattle.layout_matching.specs.Skipping.{nth, is_on}
 use Rattle.layout_matching.specs.declared.lookup.Lookup.{Lookup}
 use Rattle.layout_positions.specs.Nested.{LEVELS, most_named, nested_placed}
-use Rattle.layout_positions.specs.Trial.{Placing}
+use Rattle.layout_positions.specs.Subtables.{Placing}
 use Rattle.layout_positions.specs.declared.bases.BaseSeen.{BaseSeen}
+
+-- ---- before the first lookup: no glyph is attached to another one
+
+abbrev pub unattached : GlyphPosition → GlyphPosition
+unattached p = record p { attach_chain = pos 0; attach_type = 0 }
+
+abbrev pub started : Buffer → Buffer
+started = positions_mapped (λ _ p. unattached p)
+
+-- ---- lookups
+
+-- a buffer, and how many lookups rules may still name
+pub record Budgeted : Type 0 where
+  pub buffer : Buffer
+  pub left : ℕ
 
 pub record Walk : Type 0 where
   pub buffer : Buffer
@@ -22,18 +39,26 @@ gone_on at made = record { buffer = made.buffer; at = option_map_or (λ next. ne
 abbrev pub lookup_step : Lookup → Walk → Walk
 lookup_step l s =
     if nat_lt s.at (length s.buffer.items)
-    then (if is_on l (nth s.buffer.items s.at) then gone_on s.at (nested_placed LEVELS l s.at s.left s.seen s.buffer) else record s { at = s.at + 1 })
+    then (if is_on l (nth s.buffer.items s.at) then gone_on s.at (nested_placed LEVELS l s.at s.left s.seen s.buffer)
+    else record s { at = s.at + 1 })
     else s
 
 abbrev pub none_seen : BaseSeen
 none_seen = record { until = 0; place = None }
 
-abbrev pub lookup_applied : Buffer → Lookup → Buffer
-lookup_applied b l = (times (lookup_step l) (length b.items) (record { buffer = b; at = 0; seen = none_seen; left = most_named (length b.items) })).buffer
+abbrev pub first_walk : Budgeted → Walk
+first_walk s = record { buffer = s.buffer; at = 0; seen = none_seen; left = s.left }
 
--- lookups one after the other
+abbrev pub lookup_applied : Budgeted → Lookup → Budgeted
+lookup_applied s l = let end = times (lookup_step l) (length s.buffer.items) (first_walk s) in
+    record { buffer = end.buffer; left = end.left }
+
+-- lookups one after the other; the rules of all of them share one bound
+abbrev pub budgeted : Buffer → Budgeted
+budgeted b = record { buffer = b; left = most_named (length b.items) }
+
 abbrev pub positioned : List Lookup → Buffer → Buffer
-positioned lookups b = fold lookup_applied b lookups
+positioned lookups b = (fold lookup_applied (budgeted b) lookups).buffer
 
 -- a lookup of a list stands near the start of its table
 abbrev pub HasPlace : Lookup → Type 0

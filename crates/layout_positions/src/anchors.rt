@@ -1,8 +1,8 @@
 //! Anchors, the marks that have one, and the glyphs that marks attach to (OpenType, `GPOS`, "Anchor
 //! tables", "Mark array").
-ghost use Rattle.std.specs.Prelude.{◌≡◌, ◌<◌, ◌^◌};
+ghost use Rattle.std.specs.Prelude.{◌≡◌, ◌<◌, ◌≤◌, ◌^◌};
 ghost use Rattle.std.specs.Option.{IfSome};
-ghost use Rattle.layout_positions.specs.Anchors.{anchor_at, anchor_by, anchor_in, is_listed, class_in, mark_anchor_in, class_of_mark, anchor_of_mark, number_at};
+ghost use Rattle.layout_positions.specs.Anchors.{anchor_at, anchor_size as anchor_size_of, anchor_if as anchor_if_of, anchor_by, anchor_in, is_listed, class_in, mark_anchor_in, class_of_mark, anchor_of_mark, number_at};
 
 use crate::places::cell;
 use layout_tables::coverage::coverage_index;
@@ -30,16 +30,40 @@ fn anchor_from(table: &[u8], start: usize) -> Anchor
     }
 }
 
-/// The anchor whose offset stands at `at` and counts from `start`; none if the offset is 0.
+/// How many bytes an anchor of this format has; of another format only that is read.
+fn anchor_size(format: u16) -> usize
+    ensures value { result ≡ anchor_size_of format }
+    ensures small { result ≤ 10 }
+{
+    match format {
+        1 => 6,
+        2 => 8,
+        3 => 10,
+        _ => 2,
+    }
+}
+
+/// The anchor at `start`, if the table has room for it.
+fn anchor_if(table: &[u8], start: usize) -> Option<Anchor>
+    requires { start < 2 ^ 39 }
+    ensures { result ≡ anchor_if_of table.now start }
+{
+    if start + anchor_size(u16_at(table, start)) <= table.len() {
+        Some(anchor_from(table, start))
+    } else {
+        None
+    }
+}
+
+/// The anchor whose offset stands at `at` and counts from `start`; none if the offset is 0, or leads
+/// past the end of the table.
 pub fn anchor_there(table: &[u8], start: usize, at: usize) -> Option<Anchor>
     requires start { start < 2 ^ 38 }
     requires at { at < 2 ^ 40 }
     ensures { result ≡ anchor_by table.now start at }
 {
-    match offset16(table, start, at) {
-        Some(place) => Some(anchor_from(table, place)),
-        None => None,
-    }
+    let place = offset16(table, start, at)?;
+    anchor_if(table, place)
 }
 
 /// The anchor for a class of marks in a row of the matrix at `matrix`.

@@ -1,10 +1,12 @@
 //! Glyphs attached to others: how far away, and how they follow them once all lookups are done.
-ghost use Rattle.std.specs.Prelude.{◌≡◌, ◌<◌, ◌+◌, fold, length, nat_lt, pos, if◌then◌else◌};
+ghost use Rattle.std.specs.Prelude.{◌≡◌, ◌<◌, length, nat_lt, pos, if◌then◌else◌};
 ghost use Rattle.std.specs.Option.{IfSome};
-ghost use Rattle.layout_positions.specs.Attachment.{chain_to, place_at as place_at_of, parent_of, freed, pen_on as pen_on_of, no_way, way as way_of, way_between as way_between_of, hung as hung_of, carried, followed, settled, offsets_finished};
+ghost use Rattle.shape_buffer.specs.Outcome.{Made};
+ghost use Rattle.layout_positions.specs.Ways.{IsMeasured};
+ghost use Rattle.layout_positions.specs.Attachment.{chain_to, place_at as place_at_of, parent_of, freed, hung as hung_of, carried, followed, settled, offsets_finished};
 
 use crate::edits::{position, put};
-use crate::places::after;
+use crate::ways::{Measured, Pen, way_between};
 use shape_buffer::wrapping::{difference, sum};
 use shape_buffer::{GlyphPosition, hb_buffer_t};
 
@@ -16,13 +18,6 @@ pub const CURSIVE_ATTACHED: u8 = 2;
 
 /// How many links of a chain a glyph follows.
 const MOST_LINKS: u32 = 64;
-
-/// How far the pen moves over some glyphs, in units of the face.
-#[derive(Clone, Copy, PartialEq, Eq, Debug)]
-pub struct Pen {
-    pub x: i32,
-    pub y: i32,
-}
 
 /// The distance of two places that are no more than 32767 apart, else 0.
 fn near(distance: usize) -> i16
@@ -74,53 +69,6 @@ pub fn free(buffer: &mut hb_buffer_t, i: usize)
     put(buffer, i, there);
 }
 
-/// The pen after one more glyph.
-fn pen_on(pen: Pen, there: GlyphPosition) -> Pen
-    ensures { result ≡ pen_on_of pen there }
-{
-    Pen {
-        x: sum(pen.x, there.x_advance),
-        y: sum(pen.y, there.y_advance),
-    }
-}
-
-/// The way of the pen over these glyphs.
-fn way_over(positions: &[GlyphPosition]) -> Pen
-    ensures { result ≡ fold pen_on_of no_way positions.now }
-{
-    let mut pen = Pen { x: 0, y: 0 };
-    for there in positions {
-        pen = pen_on(pen, *there);
-    }
-    pen
-}
-
-/// The way of the pen from place `from` up to place `to`.
-fn way(buffer: &hb_buffer_t, from: usize, to: usize) -> Pen
-    ensures { result ≡ way_of buffer.now from to }
-{
-    let end = to.min(buffer.len());
-    if from < end {
-        way_over(&buffer.positions()[from..end])
-    } else {
-        Pen { x: 0, y: 0 }
-    }
-}
-
-/// The way of the pen between the glyph at place `j` and the mark at place `i`.
-fn way_between(buffer: &hb_buffer_t, i: usize, j: usize) -> Pen
-    requires i { i < length buffer.now.items }
-    requires j { j < length buffer.now.items }
-    ensures { result ≡ way_between_of buffer.now i j }
-{
-    let count = buffer.len();
-    if buffer.direction().is_forward() {
-        way(buffer, j, i)
-    } else {
-        way(buffer, after(count, j), after(count, i))
-    }
-}
-
 /// The position of a mark that is attached to a glyph, over so long a way of the pen.
 fn hung(forward: bool, way: Pen, there: &GlyphPosition, mark: GlyphPosition) -> GlyphPosition
     ensures { result ≡ hung_of forward way there.now mark }
@@ -151,52 +99,67 @@ fn carried_by(horizontal: bool, there: &GlyphPosition, position: GlyphPosition) 
     position
 }
 
-/// Moves the glyph at place `i` as the one at place `j` that it is attached to.
-fn follow(buffer: &mut hb_buffer_t, i: usize, j: usize)
+/// Moves the glyph at place `i` as the one at place `j` that it is attached to. Takes the way that
+/// was measured last, and returns the one to go on from.
+fn follow(buffer: &mut hb_buffer_t, i: usize, j: usize, last: Measured) -> Measured
     requires i { i < length buffer.old.items }
     requires j { j < length buffer.old.items }
+    requires last { IsMeasured buffer.old last }
     ensures made { buffer.new ≡ followed i j buffer.old }
     ensures items { buffer.new.items ≡ buffer.old.items }
+    ensures measured { IsMeasured buffer.new result }
 {
     let here = position(buffer, i);
     let there = position(buffer, j);
     let direction = buffer.direction();
-    let moved = if here.attach_type == CURSIVE_ATTACHED {
-        carried_by(direction.is_horizontal(), &there, here)
-    } else {
-        let way = way_between(buffer, i, j);
-        hung(direction.is_forward(), way, &there, here)
-    };
-    put(buffer, i, moved);
+    if here.attach_type == CURSIVE_ATTACHED {
+        put(buffer, i, carried_by(direction.is_horizontal(), &there, here));
+        return last;
+    }
+    let measured = way_between(buffer, i, j, last);
+    put(buffer, i, hung(direction.is_forward(), measured.pen, &there, here));
+    if measured.is_short() { last } else { measured }
 }
 
 /// The glyph at place `i` follows the one that it is attached to, after that one has followed its
 /// own, over so many links.
-#[tactic(auto, using(crate::proofs::SettleLemmas::settled_free, crate::proofs::SettleLemmas::settled_out, crate::proofs::SettleLemmas::settled_on))]
-fn settle(buffer: &mut hb_buffer_t, level: u32, i: usize)
-    requires { i < length buffer.old.items }
+#[tactic(auto, using(crate::proofs::SettleLemmas::settled_free, crate::proofs::SettleLemmas::settled_out, crate::proofs::SettleLemmas::settled_on, crate::proofs::WayLemmas::measured_freed))]
+fn settle(buffer: &mut hb_buffer_t, level: u32, i: usize, last: Measured) -> Measured
+    requires inside { i < length buffer.old.items }
+    requires last { IsMeasured buffer.old last }
     ensures made { buffer.new ≡ settled level i buffer.old }
     ensures items { buffer.new.items ≡ buffer.old.items }
+    ensures measured { IsMeasured buffer.new result }
 {
     let found = parent(buffer, i);
     free(buffer, i);
     match found {
         Some(j) if level != 0 => {
-            settle(buffer, level - 1, j);
-            follow(buffer, i, j);
+            let last = settle(buffer, level - 1, j, last);
+            follow(buffer, i, j, last)
         }
-        _ => {}
+        _ => last,
     }
 }
 
-/// Glyphs that are attached follow what they are attached to, and are attached no more. A chain
-/// that goes round or out of the list ends there. Takes no memory.
-#[tactic(auto, using(crate::proofs::SettleLemmas::each_step))]
-pub fn finish_offsets(buffer: &mut hb_buffer_t)
+/// Each glyph follows the one that it is attached to. A run of marks on one base takes a step for
+/// each mark.
+#[tactic(auto, using(crate::proofs::SettleLemmas::each_step, crate::proofs::WayLemmas::measured_none))]
+fn settle_each(buffer: &mut hb_buffer_t)
     ensures made { buffer.new ≡ offsets_finished buffer.old }
     ensures items { buffer.new.items ≡ buffer.old.items }
 {
+    let mut last = Measured::none();
     for i in 0..buffer.len() {
-        settle(buffer, MOST_LINKS, i);
+        last = settle(buffer, MOST_LINKS, i, last);
     }
+}
+
+/// Ends positioning: glyphs that are attached follow what they are attached to, and are attached no
+/// more. A chain that goes round or out of the list ends there. Takes no memory, and refuses
+/// nothing.
+pub fn finish_offsets(buffer: &mut hb_buffer_t)
+    ensures { Made offsets_finished buffer.old buffer.new }
+{
+    settle_each(buffer);
 }

@@ -1,9 +1,10 @@
 //! Edits of a buffer's positions and flags, by places. Past the end nothing changes, so that no
 //! caller has to show that a place is inside.
 ghost use Rattle.std.specs.Prelude.{◌≡◌, length};
-ghost use Rattle.layout_positions.specs.Edits.{position_at, position_put, broken, parted};
+ghost use Rattle.layout_positions.specs.Edits.{position_at, position_put, asks_for_concat as asks_for_concat_of, broken, parted};
 
-use shape_buffer::{GlyphPosition, hb_buffer_t};
+use bitflags::Flags;
+use shape_buffer::{BufferFlags, GlyphPosition, hb_buffer_t};
 
 /// The position at place `i`, one that moves nothing past the end.
 pub fn position(buffer: &hb_buffer_t, i: usize) -> GlyphPosition
@@ -36,6 +37,13 @@ pub fn break_between(buffer: &mut hb_buffer_t, start: usize, end: usize)
     if start <= last {
         buffer.unsafe_to_break(start, last);
     }
+}
+
+/// Whether the buffer asks for marks of what is unsafe to concat.
+pub fn asks_for_concat(buffer: &hb_buffer_t) -> bool
+    ensures { result ≡ asks_for_concat_of buffer.now }
+{
+    buffer.flags().contains(BufferFlags::PRODUCE_UNSAFE_TO_CONCAT)
 }
 
 /// Marks the items from `start` up to `end`, or to the end of the list, unsafe to concat, if the

@@ -5,16 +5,17 @@
 //! again where a record names it, and no list of places is kept.
 ghost use Rattle.std.specs.Prelude.{◌≡◌, ◌<◌, ◌+◌, ◌^◌, length};
 ghost use Rattle.std.specs.Option.{IfSome};
-ghost use Rattle.layout_positions.specs.Nested.{matched_place as matched_place_of, named_place as named_place_of, named_lookup as named_lookup_of, record_step, rule_placed, level_placed, nested_placed, most_named as most_named_of};
+ghost use Rattle.layout_positions.specs.Nested.{matched_place as matched_place_of, named_place as named_place_of, named_lookup as named_lookup_of, record_step, rule_placed, origin_at as origin_at_of, tried_parted, first_rule_placed, level_placed, nested_placed, most_named as most_named_of};
 ghost use Rattle.layout_matching.specs.Loops.{times};
 
-use crate::edits::break_between;
+use crate::edits::{asks_for_concat, break_between, part_between};
 use crate::places::after;
-use crate::trial::{Carried, Outcome, apply_lookup};
+use crate::subtables::{Carried, Outcome, apply_lookup};
 use layout_matching::found::{Found, find, is_context};
 use layout_matching::input::seek_input;
 use layout_matching::lookup::Lookup;
 use layout_matching::nesting::{record_at, with_place};
+use layout_matching::reaching::reach_at;
 use layout_matching::rules::Rule;
 use layout_matching::seeking::last_after;
 use layout_matching::skipping::item_at;
@@ -31,8 +32,8 @@ pub struct Site<'a> {
     pub at: usize,
 }
 
-/// How many lookups the rules may name in a list of so many glyphs: a bound on the time that a font
-/// can take.
+/// How many lookups the rules of all lookups may name in a list of so many glyphs: a bound on the
+/// time that a font can take.
 pub fn most_named(count: usize) -> usize
     ensures { result ≡ most_named_of count }
 {
@@ -90,18 +91,21 @@ fn apply_record(
         (record { buffer = buffer.old; seen = carried.seen; left = carried.left; r = r }) }
     ensures len { length buffer.new.items ≡ length buffer.old.items }
 {
+    if carried.left == 0 {
+        return carried;
+    }
     let Some(other) = named_lookup(site, r) else {
         return carried;
     };
     match named_place(site, buffer.infos(), r) {
-        Some(place) if carried.left != 0 => {
+        Some(place) => {
             let fewer = Carried {
                 seen: carried.seen,
                 left: carried.left - 1,
             };
             apply_nested(level, &other, buffer, place, fewer).carried
         }
-        _ => carried,
+        None => carried,
     }
 }
 
@@ -189,7 +193,63 @@ pub fn apply_nested(
     apply_level(level - 1, here, buffer, at, carried)
 }
 
-/// The same, where a level is left and the place is inside.
+/// A place at which rules are tried.
+fn origin_at(at: usize) -> Origin
+    ensures { result ≡ origin_at_of at }
+{
+    Origin {
+        at,
+        is_steady: true,
+    }
+}
+
+/// Marks what the rules that are tried at place `at` look at in vain unsafe to concat, up to the first
+/// that matches, if the buffer asks for that.
+#[tactic(auto, using(crate::proofs::NestedLemmas::tried_unasked))]
+fn mark_tried(here: &Lookup<'_>, buffer: &mut hb_buffer_t, at: usize)
+    requires place { here.now.place < 2 ^ 17 }
+    requires inside { at < length buffer.old.items }
+    ensures made { buffer.new ≡ tried_parted here.now at buffer.old }
+    ensures len { length buffer.new.items ≡ length buffer.old.items }
+{
+    if !asks_for_concat(buffer) {
+        return;
+    }
+    let reach = reach_at(here, buffer.infos(), origin_at(at));
+    if reach.from < reach.to {
+        part_between(buffer, reach.from, reach.to);
+    }
+}
+
+/// Applies the first rule that matches at place `at`.
+#[cycle(nesting)]
+fn apply_first(
+    level: u32,
+    here: &Lookup<'_>,
+    buffer: &mut hb_buffer_t,
+    at: usize,
+    carried: Carried,
+) -> Outcome
+    requires place { here.now.place < 2 ^ 17 }
+    requires inside { at < length buffer.old.items }
+    ensures made { record {
+      buffer = buffer.new;
+      next = result.next;
+      seen = result.carried.seen;
+      left = result.carried.left;
+    } ≡ first_rule_placed (nested_placed level) here.now at carried.left carried.seen buffer.old }
+    ensures len { length buffer.new.items ≡ length buffer.old.items }
+{
+    match find(here, buffer.infos(), origin_at(at)) {
+        Some(found) => apply_rule(level, here, buffer, at, carried, found),
+        None => Outcome {
+            next: None,
+            carried,
+        },
+    }
+}
+
+/// Applies a lookup where a level is left and the place is inside.
 #[cycle(nesting)]
 fn apply_level(
     level: u32,
@@ -211,15 +271,6 @@ fn apply_level(
     if !is_context(here) {
         return apply_lookup(here, buffer, at, carried);
     }
-    let origin = Origin {
-        at,
-        is_steady: true,
-    };
-    match find(here, buffer.infos(), origin) {
-        Some(found) => apply_rule(level, here, buffer, at, carried, found),
-        None => Outcome {
-            next: None,
-            carried,
-        },
-    }
+    mark_tried(here, buffer, at);
+    apply_first(level, here, buffer, at, carried)
 }

@@ -2,11 +2,11 @@
 //! glyph, or for two.
 ghost use Rattle.std.specs.Prelude.{◌≡◌, ◌<◌, ◌≤◌, ◌^◌};
 ghost use Rattle.std.specs.Option.{IfSome};
-ghost use Rattle.layout_positions.specs.Pairs.{single_value, single_of, pair_at as pair_at_of, pair_size as pair_size_of, pair_set as pair_set_of, side_of_second, second_in as second_in_of, pair_in_set, listed_pair as listed_pair_of, class_at as class_at_of, classed_pair as classed_pair_of, pair_of};
+ghost use Rattle.layout_positions.specs.Pairs.{single_value, single_of, pair_at as pair_at_of, pair_size as pair_size_of, pair_if as pair_if_of, pair_set as pair_set_of, side_of_second, second_in as second_in_of, pair_in_set, listed_pair as listed_pair_of, class_at as class_at_of, classed_pair as classed_pair_of, pair_of};
 
 use crate::anchors::number_there;
 use crate::places::{cell, record_offset};
-use crate::values::{Adjustment, size, value_record};
+use crate::values::{Adjustment, has_bytes, size, value_in, value_record};
 use layout_tables::classes::class;
 use layout_tables::offsets::offset16;
 use shape_font::bytes::{records, u16_at};
@@ -28,10 +28,10 @@ fn single_record(table: &[u8], start: usize, number: u32) -> Option<Adjustment>
 {
     let format = u16_at(table, start + 4);
     match u16_at(table, start) {
-        1 => Some(value_record(table, format, start + 6)),
+        1 => value_in(table, format, start + 6),
         2 if number < u32::from(u16_at(table, start + 6)) => {
             let offset = record_offset(number as usize, size(format));
-            Some(value_record(table, format, start + 8 + offset))
+            value_in(table, format, start + 8 + offset)
         }
         _ => None,
     }
@@ -68,6 +68,19 @@ fn pair_size(table: &[u8], start: usize) -> usize
     ensures small { result ≤ 64 }
 {
     size(u16_at(table, start + 4)) + size(u16_at(table, start + 6))
+}
+
+/// The two records at `at`, if the table has room for them.
+fn pair_if(table: &[u8], start: usize, at: usize) -> Option<PairValues>
+    requires start { start < 2 ^ 34 }
+    requires at { at < 480000000000 }
+    ensures { result ≡ pair_if_of table.now start at }
+{
+    if has_bytes(table, at, pair_size(table, start)) {
+        Some(pair_at(table, start, at))
+    } else {
+        None
+    }
 }
 
 /// Where the pairs of glyph number `number` stand.
@@ -150,7 +163,7 @@ fn classed_pair(table: &[u8], start: usize, left: u32, right: u32) -> Option<Pai
     }
     let n = cell(u32::from(first), u32::from(columns), u32::from(second));
     let offset = record_offset(n, pair_size(table, start));
-    Some(pair_at(table, start, start + 16 + offset))
+    pair_if(table, start, start + 16 + offset)
 }
 
 /// What the subtable of pair adjustment at `start` has for two glyphs; `number` is that of the

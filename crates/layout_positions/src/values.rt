@@ -1,7 +1,7 @@
 //! Value records: how far a glyph is moved, and its advance changed (OpenType, `GPOS`, "Value
 //! record").
 ghost use Rattle.std.specs.Prelude.{◌≡◌, ◌<◌, ◌≤◌, ◌^◌};
-ghost use Rattle.layout_positions.specs.Values.{value_size, number_for, value_at, adjusted as adjusted_of, advance_along as advance_along_of, has_effect as has_effect_of};
+ghost use Rattle.layout_positions.specs.Values.{value_size, number_for, value_at, has_bytes as has_bytes_of, value_in as value_in_of, adjusted as adjusted_of, advance_along as advance_along_of, has_effect as has_effect_of};
 
 use shape_buffer::GlyphPosition;
 use shape_buffer::wrapping::{difference, sum};
@@ -49,6 +49,27 @@ pub fn value_record(table: &[u8], format: u16, at: usize) -> Adjustment
         y_placement: number(table, format, at, 2),
         x_advance: number(table, format, at, 4),
         y_advance: number(table, format, at, 8),
+    }
+}
+
+/// Whether the table has so many bytes at `at`.
+pub fn has_bytes(table: &[u8], at: usize, size: usize) -> bool
+    requires at { at < 2 ^ 39 }
+    requires size { size ≤ 64 }
+    ensures { result ≡ has_bytes_of table.now at size }
+{
+    at + size <= table.len()
+}
+
+/// The record of this format at `at`, if the table has room for it.
+pub fn value_in(table: &[u8], format: u16, at: usize) -> Option<Adjustment>
+    requires { at < 2 ^ 39 }
+    ensures { result ≡ value_in_of table.now format at }
+{
+    if has_bytes(table, at, size(format)) {
+        Some(value_record(table, format, at))
+    } else {
+        None
     }
 }
 

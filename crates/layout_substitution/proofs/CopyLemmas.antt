@@ -54,7 +54,8 @@ length_several l list at b inside =
 -- ---- a cluster handed back
 
 pub handed_on : (cluster : ℕ) (s : Handing) → is_handed cluster s ≡ true
-    → handed_step cluster s ≡ record { buffer = put_at (s.at - 1) (hand_over (item_at s.buffer s.at) (item_at s.buffer (s.at - 1))) s.buffer; at = s.at - 1 }
+    → handed_step cluster s ≡ record { buffer = put_at (s.at - 1)
+        (hand_over (item_at s.buffer s.at) (item_at s.buffer (s.at - 1))) s.buffer; at = s.at - 1 }
 handed_on cluster s goes = rw goes refl
 
 pub handed_stops : (cluster n i : ℕ) (first s : Handing) → i ≤ n → s ≡ times (handed_step cluster) i first → is_handed cluster s ≡ false

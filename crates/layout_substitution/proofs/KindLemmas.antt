@@ -48,7 +48,8 @@ pub parts_found : (l : Lookup) (spot : Spot) (n i : ℕ) (b : Buffer) (there : S
 parts_found l spot n i b there more is =
     let e : n - i ≡ suc (n - (i + 1)) = omega (arith, more) in
     let P : Bool → Type 0 = λ t. (if t then part_applied l i spot b
-    else or_else (parts_applied l spot (n - (i + 1)) (suc i)) (part_applied l i spot b) (part_applied l i spot b).next) ≡ part_applied l i spot b in
+    else or_else (parts_applied l spot (n - (i + 1)) (suc i)) (part_applied l i spot b)
+        (part_applied l i spot b).next) ≡ part_applied l i spot b in
     let cases : P (is_past (part_applied l i spot b).buffer) = elim (is_past (part_applied l i spot b).buffer) as P [
       | true ↦ refl
       | false ↦ ap (or_else (parts_applied l spot (n - (i + 1)) (suc i)) (part_applied l i spot b)) is

@@ -1,8 +1,8 @@
 -- Ligatures, step by step.
-use Rattle.std.proofs.Common.{◌≡◌, ℕ, suc, ◌+◌, ◌-◌, ◌<◌, ◌≤◌, Bool, true, false, not, refl, sym, ap, ◌∙◌, nat_eq, arith}
+use Rattle.std.proofs.Common.{◌≡◌, ℕ, suc, ◌+◌, ◌-◌, ◌<◌, ◌≤◌, Bool, true, false, not, refl, sym, ap, ◌∙◌, nat_eq, length, arith}
 use Rattle.shape_items.specs.Buffer.{Buffer}
 use Rattle.layout_matching.specs.Loops.{times}
-use Rattle.layout_substitution.specs.Ligatures.{Joined, between_stays, follows, follow_step}
+use Rattle.layout_substitution.specs.Ligatures.{Joined, between_stays, follows, follow_step, id_given}
 use Rattle.layout_substitution.specs.declared.ligature.Joining.{Joining}
 use Rattle.layout_matching.proofs.LoopLemmas.{times_stays}
 
@@ -24,3 +24,9 @@ buffer_of b w s e = ap (λ (j : Joined). j.buffer) e
 
 pub walk_of : (b : Buffer) (w : Joining) (s : Joined) → record { buffer = b; walk = w } ≡ s → w ≡ s.walk
 walk_of b w s e = ap (λ (j : Joined). j.walk) e
+
+-- an id leaves the items
+
+pub length_given : (own : Bool) (b : Buffer) → length (id_given own b).items ≡ length b.items
+length_given true b = refl
+length_given false b = refl

@@ -1,23 +1,24 @@
 -- What edits of a buffer preserve: clusters are drawn from those there were, in order, flags are seen, and settings stay.
 use Prim.Native.Nat.{zero}
-use Rattle.std.proofs.Common.{◌≡◌, ℕ, suc, ◌+◌, ◌-◌, ◌<◌, ◌≤◌, ◌==◌, ◌||◌, ◌&&◌, Bool, true, false, List, [], ◌∷◌, ◌++◌, map, length, take, drop, nat_lt, nat_le, nat_eq, refl, ap, sym, ◌∙◌, inl, subst, arith, if◌then◌else◌, slice_set, slice_index_or}
+use Rattle.std.proofs.Common.{◌≡◌, ℕ, suc, ◌+◌, ◌-◌, ◌<◌, ◌≤◌, ◌==◌, ◌||◌, ◌&&◌, Bool, true, false, List, [], ◌∷◌, ◌++◌, map, length, take, drop, nat_lt, nat_le, nat_eq, refl, ap, sym, ◌∙◌, inl, inr, subst, arith, if◌then◌else◌, slice_set, slice_index_or}
 use Rattle.std.proofs.lemmas.Bool.Decides.{nat_tests}
 use Rattle.std.proofs.lemmas.Nat.{and_assoc, and_or_apart, or_comm}
 use Rattle.std.proofs.Math.Seq.{map-set_same}
 use Rattle.std.specs.Int.RustNames.{bit_and, bit_or}
 use Rattle.std.specs.List.{list_any, remove, insert}
 use Rattle.shape_items.specs.Buffer.{Buffer, limit_of}
-use Rattle.shape_items.specs.BufferClusters.{merge_clusters, unsafe_to_break}
-use Rattle.shape_items.specs.Clusters.{clusters}
+use Rattle.shape_items.specs.BufferClusters.{merge_clusters, unsafe_to_break, unsafe_to_concat, with_glyph_flags}
+use Rattle.shape_items.specs.Clusters.{clusters, map_range, mark_concat}
 use Rattle.shape_items.specs.Items.{Item, new_item, feature_bits}
 use Rattle.shape_items.specs.PreservesFlags.{PreservesFlags, IsDefinedFlag, has_flag, some_has}
 use Rattle.shape_items.specs.Delete.{hand_over}
 use Rattle.shape_items.proofs.Deletion.DeletePreserves.{Draws, merge_clusters_draws, unsafe_to_break_draws}
-use Rattle.shape_items.proofs.Flags.FlagLemmas.{PreservesFlags-same, PreservesFlags-then, merge_clusters_preserves, unsafe_to_break_preserves, no_flag, defined_flag}
-use Rattle.shape_items.proofs.Merging.KeyLemmas.{without_items-merge_clusters, without_items-unsafe_to_break}
+use Rattle.shape_items.proofs.Flags.FlagLemmas.{glyph_flags_set, PreservesFlags-same, PreservesFlags-then, merge_clusters_preserves, unsafe_to_break_preserves, no_flag, defined_flag}
+use Rattle.shape_items.proofs.Merging.KeyLemmas.{keys-map_range, without_items-merge_clusters, without_items-unsafe_to_break}
 use Rattle.shape_items.proofs.Order.DrawsInOrder.{DrawsInOrder, DrawsInOrder-same, DrawsInOrder-then, DrawsInOrder-after, DrawsInOrder-again}
 use Rattle.shape_common.specs.Positions.{zero_position}
-use Rattle.layout_substitution.specs.Edits.{item_at, is_inside, put_at, put_after, taken_out, merged, broken}
+use Rattle.layout_substitution.specs.Edits.{item_at, is_inside, put_at, put_after, taken_out, merged, broken, asks_for_concat, parted}
+use Rattle.layout_matching.specs.declared.tried.Reach.{Reach}
 use Rattle.layout_matching.specs.Loops.{times}
 
 pub record Preserves (b c : Buffer) : Type 0 where
@@ -28,7 +29,8 @@ pub record Preserves (b c : Buffer) : Type 0 where
   pub limit : c.length_limit ≡ b.length_limit
 
 pub Preserves-same : (b : Buffer) → Preserves b b
-Preserves-same b = record { draws = DrawsInOrder-same (clusters b.items); flags = PreservesFlags-same b; direction = refl; level = refl; limit = refl }
+Preserves-same b = record { draws = DrawsInOrder-same (clusters b.items); flags = PreservesFlags-same b; direction =
+    refl; level = refl; limit = refl }
 
 pub Preserves-then : (a b c : Buffer) → Preserves a b → Preserves b c → Preserves a c
 Preserves-then a b c first later = record {
@@ -125,7 +127,8 @@ before-draws (x ∷ xs) (suc i) y inside same =
     (DrawsInOrder-after x.cluster (clusters xs) (clusters (slice_set xs i y)) (before-draws xs i y (omega (arith, inside)) same))
 
 before-some : (flag : ℕ) (xs : List Item) (i : ℕ) (y : Item) → suc i < length xs
-    → has_flag flag y ≡ has_flag flag (slice_index_or xs (suc i) (new_item 0 0)) → some_has flag (slice_set xs i y) ≡ true → some_has flag xs ≡ true
+    → has_flag flag y ≡ has_flag flag (slice_index_or xs (suc i) (new_item 0 0))
+        → some_has flag (slice_set xs i y) ≡ true → some_has flag xs ≡ true
 before-some flag [] i y inside same some = absurd (omega (arith, inside))
 before-some flag (x ∷ []) zero y inside same some = absurd (omega (arith, inside))
 before-some flag (x ∷ z ∷ xs) zero y inside same some =
@@ -133,7 +136,8 @@ before-some flag (x ∷ z ∷ xs) zero y inside same some =
     (or_same (has_flag flag y) (has_flag flag z) (some_has flag xs) same
     (or_twice (has_flag flag y) (has_flag flag z) (some_has flag xs) (sym same) some))
 before-some flag (x ∷ xs) (suc i) y inside same some =
-    or_left (has_flag flag x) (some_has flag (slice_set xs i y)) (some_has flag xs) (before-some flag xs i y (omega (arith, inside)) same) some
+    or_left (has_flag flag x) (some_has flag (slice_set xs i y)) (some_has flag xs)
+        (before-some flag xs i y (omega (arith, inside)) same) some
 
 -- a flag of an item that took the cluster of another one is a flag of that one
 hand_over-flag : (picked x : Item) (flag : ℕ) → IsDefinedFlag flag → bit_and (hand_over picked x).mask flag ≡ bit_and picked.mask flag
@@ -152,7 +156,8 @@ before-preserves i b inside =
       flags = record {
         flags = refl;
         stays_set = λ e. e;
-        none_new = λ flag is some. inl (before-some flag b.items i y inside (ap (λ m. nat_lt 0 m) (hand_over-flag next (item_at b i) flag is)) some);
+        none_new = λ flag is some. inl (before-some flag b.items i y inside
+            (ap (λ m. nat_lt 0 m) (hand_over-flag next (item_at b i) flag is)) some);
       };
       direction = refl;
       level = refl;
@@ -238,7 +243,8 @@ pub Preserves-put_after : (i : ℕ) (item : Item) (b : Buffer) → IsLike (item_
 Preserves-put_after i item b like =
     let e : suc i ≡ i + 1 = omega arith in
     let P : Bool → Type 0 = λ t. is_inside i b ≡ t
-    → Preserves b (if t then record b { items = insert b.items (i + 1) item; positions = insert b.positions (i + 1) zero_position } else b) in
+    → Preserves b (if t then record b { items = insert b.items (i + 1) item; positions = insert b.positions
+        (i + 1) zero_position } else b) in
     let cases : P (is_inside i b) = elim (is_inside i b) as P [
       | true ↦ λ t. subst (λ k. Preserves b (record b { items = insert b.items k item; positions = insert b.positions k zero_position })) e
           (copy-preserves i item b t like)
@@ -262,7 +268,8 @@ merge-preserves start end b within =
 
 pub Preserves-merged : (start end : ℕ) (b : Buffer) → Preserves b (merged start end b)
 Preserves-merged start end b =
-    let P : Bool → Type 0 = λ t. (nat_le start end && nat_le end (length b.items)) ≡ t → Preserves b (if t then merge_clusters start end b else b) in
+    let P : Bool → Type 0 = λ t. (nat_le start end && nat_le end (length b.items)) ≡ t
+        → Preserves b (if t then merge_clusters start end b else b) in
     let cases : P (nat_le start end && nat_le end (length b.items)) = elim (nat_le start end && nat_le end (length b.items)) as P [
       | true ↦ λ t. merge-preserves start end b (grind (arith, nat_tests, t))
       | false ↦ λ t. Preserves-same b
@@ -285,4 +292,32 @@ break-preserves start end b =
 
 pub Preserves-broken : (start end : ℕ) (b : Buffer) → Preserves b (broken start end b)
 Preserves-broken start end b =
-    Preserves-if (nat_le start end && nat_le end (length b.items)) b (unsafe_to_break start end b) b (break-preserves start end b) (Preserves-same b)
+    Preserves-if (nat_le start end && nat_le end (length b.items)) b (unsafe_to_break start end b) b
+        (break-preserves start end b) (Preserves-same b)
+
+-- ---- what was looked at in vain marked unsafe to concat
+
+concat-preserves : (start end : ℕ) (b : Buffer) → start ≤ end → Preserves b (unsafe_to_concat start end b)
+concat-preserves start end b ordered =
+    let marked = map_range mark_concat start end b.items in
+    let same : clusters marked ≡ clusters b.items =
+    keys-map_range (λ (x : Item). x.cluster) mark_concat (λ x. refl) start end b.items ordered in
+    Preserves-if (asks_for_concat b) b (record (with_glyph_flags b) { items = marked }) b
+    (record {
+      draws = draws_equal b.items marked same;
+      flags = record { flags = refl; stays_set = λ e. glyph_flags_set b; none_new = λ flag d some. inr (glyph_flags_set b) };
+      direction = refl;
+      level = refl;
+      limit = refl;
+    })
+    (Preserves-same b)
+
+pub Preserves-parted : (r : Reach) (b : Buffer) → Preserves b (parted r b)
+Preserves-parted r b =
+    let P : Bool → Type 0 = λ t. (nat_lt r.from r.to && nat_le r.to (length b.items)) ≡ t
+    → Preserves b (if t then unsafe_to_concat r.from r.to b else b) in
+    let cases : P (nat_lt r.from r.to && nat_le r.to (length b.items)) = elim (nat_lt r.from r.to && nat_le r.to (length b.items)) as P [
+      | true ↦ λ t. concat-preserves r.from r.to b (grind (arith, nat_tests, t))
+      | false ↦ λ t. Preserves-same b
+    ] in
+    cases refl

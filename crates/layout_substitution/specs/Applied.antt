@@ -1,5 +1,5 @@
 -- What a part of a lookup makes of a buffer at a place: kinds 1, 2 and 3.
-use Rattle.std.specs.Prelude.{ℕ, Bool, Option, Some, None, ◌+◌, ◌-◌, ◌/◌, ◌&&◌, ◌||◌, not, length, nat_eq, nat_lt, if◌then◌else◌}
+use Rattle.std.specs.Prelude.{ℕ, Bool, Option, Some, None, ◌+◌, ◌-◌, ◌*◌, ◌/◌, ◌%◌, ◌&&◌, ◌||◌, not, length, nat_eq, nat_lt, if◌then◌else◌}
 use Rattle.std.specs.Option.{option_map_or}
 use Rattle.std.specs.Int.RustNames.{bit_and}
 use Rattle.shape_items.specs.Buffer.{Buffer}
@@ -7,7 +7,7 @@ use Rattle.shape_items.specs.Delete.{hand_over}
 use Rattle.shape_items.specs.Items.{Item}
 use Rattle.layout_matching.specs.Loops.{times}
 use Rattle.layout_matching.specs.declared.lookup.Lookup.{Lookup}
-use Rattle.layout_substitution.specs.Edits.{item_at, is_inside, put_at, put_after, taken_out, merged}
+use Rattle.layout_substitution.specs.Edits.{item_at, is_inside, put_at, put_after, taken_out, merged, broken}
 use Rattle.layout_substitution.specs.Replaced.{replaced, taken_apart}
 use Rattle.layout_substitution.specs.Substitutes.{single_of, set_of, alternate_of, listed_count, listed_at}
 use Rattle.layout_substitution.specs.declared.apply.Spot.{Spot}
@@ -33,9 +33,28 @@ single_applied l start spot b = option_map_or (put_one l spot b) (single_of l.ta
 abbrev pub value_of : Lookup → Item → ℕ
 value_of l item = if nat_eq l.unit 0 then 0 else bit_and item.mask l.mask / l.unit
 
+-- the greatest value asks for an alternate at random, if the feature lets it
+abbrev pub is_random : Lookup → Item → Bool
+is_random l item = l.random && nat_eq (value_of l item) 255
+
+-- the minimal standard generator, whose products HarfBuzz cuts to 32 bits
+abbrev pub next_random : ℕ → ℕ
+next_random state = state * 48271 % 4294967296 % 2147483647
+
+-- the alternate depends on all that was shaped before: the whole list is unsafe to break
+abbrev pub random_put : Lookup → Spot → Buffer → ℕ → Applied
+random_put l spot b set = let count = listed_count l.table.now set in
+    let state = next_random spot.random in
+    (if nat_eq count 0 then unapplied b
+    else put_one l (record spot { random = state }) (broken 0 (length b.items) b) (listed_at l.table.now set (state % count)))
+
+abbrev pub random_applied : Lookup → ℕ → Spot → Buffer → Applied
+random_applied l start spot b = option_map_or (random_put l spot b) (set_of l.table.now start (item_at b spot.at).glyph_id) (unapplied b)
+
 abbrev pub alternate_applied : Lookup → ℕ → Spot → Buffer → Applied
 alternate_applied l start spot b = let item = item_at b spot.at in
-    option_map_or (put_one l spot b) (alternate_of l.table.now start item.glyph_id (value_of l item)) (unapplied b)
+    (if is_random l item then random_applied l start spot b
+    else option_map_or (put_one l spot b) (alternate_of l.table.now start item.glyph_id (value_of l item)) (unapplied b))
 
 -- ---- several for one
 

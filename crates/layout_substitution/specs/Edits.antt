@@ -1,10 +1,13 @@
 -- edits of a buffer at a place; past the end nothing changes
-use Rattle.std.specs.Prelude.{ℕ, ◌+◌, ◌&&◌, Bool, length, nat_lt, nat_le, insert, remove, slice_set, if◌then◌else◌}
+use Rattle.std.specs.Prelude.{ℕ, ◌+◌, ◌&&◌, ◌==◌, Bool, length, nat_lt, nat_le, insert, remove, slice_set, if◌then◌else◌}
 use Rattle.shape_items.specs.Buffer.{Buffer, limit_of}
-use Rattle.shape_items.specs.BufferClusters.{merge_clusters, unsafe_to_break}
+use Rattle.shape_items.specs.BufferClusters.{merge_clusters, unsafe_to_break, unsafe_to_concat}
 use Rattle.shape_items.specs.Items.{Item}
+use Rattle.std.specs.Int.RustNames.{bit_and}
+use Rattle.shape_common.specs.FlagNames.{PRODUCE_UNSAFE_TO_CONCAT}
 use Rattle.shape_common.specs.Positions.{zero_position}
 use Rattle.layout_matching.specs.Skipping.{nth}
+use Rattle.layout_matching.specs.declared.tried.Reach.{Reach}
 
 abbrev pub item_at : Buffer → ℕ → Item
 item_at b i = nth b.items i
@@ -38,6 +41,13 @@ merged start end b = if nat_le start end && nat_le end (length b.items) then mer
 -- a span marked unsafe to break
 abbrev pub broken : ℕ → ℕ → Buffer → Buffer
 broken start end b = if nat_le start end && nat_le end (length b.items) then unsafe_to_break start end b else b
+
+abbrev pub asks_for_concat : Buffer → Bool
+asks_for_concat b = bit_and b.flags.0 PRODUCE_UNSAFE_TO_CONCAT == PRODUCE_UNSAFE_TO_CONCAT
+
+-- what was looked at in vain marked unsafe to concat, if the buffer asks for that
+abbrev pub parted : Reach → Buffer → Buffer
+parted r b = if nat_lt r.from r.to && nat_le r.to (length b.items) then unsafe_to_concat r.from r.to b else b
 
 -- more items than the run may have
 abbrev pub is_past : Buffer → Bool

@@ -4,4 +4,6 @@ pub mod Replaced
 pub mod Applied
 pub mod Ligatures
 pub mod Kinds
+pub mod Start
+pub mod Off
 pub mod Worked

@@ -1,5 +1,5 @@
 -- Glyphs put in place of others.
-use Rattle.std.specs.Prelude.{ℕ, Bool, true, false, ◌%◌, nat_eq, nat_lt, if◌then◌else◌}
+use Rattle.std.specs.Prelude.{ℕ, Bool, true, false, ◌/◌, ◌%◌, nat_eq, nat_lt, if◌then◌else◌}
 use Rattle.std.specs.Int.RustNames.{bit_and}
 use Rattle.shape_common.specs.declared.general_category.hb_unicode_general_category_t.{hb_unicode_general_category_t}
 use Rattle.shape_common.specs.declared.general_category.hb_unicode_general_category_t.TheVariants.{NonspacingMark, OtherLetter}
@@ -8,8 +8,11 @@ use Rattle.layout_tables.specs.Gdef.{has_glyph_classes, glyph_props}
 use Rattle.layout_matching.specs.Skipping.{shares}
 use Rattle.layout_matching.specs.declared.lookup.Lookup.{Lookup}
 
+-- the class of a glyph, and in the upper byte of its properties its mark attachment class
 abbrev pub with_class : ℕ → Item → Item
-with_class class item = record item { properties = record item.properties { glyph_class = record { 0 = bit_and class 14 } } }
+with_class props item = record item {
+  properties = record item.properties { glyph_class = record { 0 = bit_and props 14 }; mark_attachment_class = props / 256 };
+}
 
 abbrev pub with_glyph : ℕ → Item → Item
 with_glyph glyph item = record item { glyph_id = glyph; properties = record item.properties { substituted = true } }
@@ -42,7 +45,12 @@ abbrev pub letter_of : hb_unicode_general_category_t → hb_unicode_general_cate
 letter_of NonspacingMark = OtherLetter
 letter_of category = category
 
--- a ligature with its number, of so many parts, which isn't a mark any more
+-- a letter has no combining class
+abbrev pub letter_ccc : hb_unicode_general_category_t → ℕ → ℕ
+letter_ccc NonspacingMark ccc = 0
+letter_ccc category ccc = ccc
+
+-- a ligature with its id, of so many parts, which isn't a mark any more
 abbrev pub with_parts : ℕ → ℕ → Item → Item
 with_parts id parts item = record item {
   properties = record item.properties {
@@ -50,6 +58,7 @@ with_parts id parts item = record item {
     ligature_component = 0;
     number_of_components = parts % 16;
     general_category = letter_of item.properties.general_category;
+    modified_ccc = letter_ccc item.properties.general_category item.properties.modified_ccc;
   };
 }
 
@@ -58,6 +67,6 @@ abbrev pub is_ligated : Item → Item
 is_ligated item = record item { properties = record item.properties { ligated = true; multiplied = false } }
 
 -- the ligature in place of its first component; a ligature of marks, or of a base and marks, keeps what the component was
-abbrev pub as_ligature : Lookup → Bool → ℕ → ℕ → ℕ → Item → Item
+unfoldable pub as_ligature : Lookup → Bool → ℕ → ℕ → ℕ → Item → Item
 as_ligature l own id parts glyph item =
     is_ligated (replaced l (if own then 4 else 0) glyph (if own then with_parts id parts item else item))

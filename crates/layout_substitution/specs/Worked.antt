@@ -1,11 +1,13 @@
 -- Ligatures on tables of 16-bit words, and what becomes of items, computed by hand.
-use Rattle.std.specs.Prelude.{◌≡◌, ℕ, Bool, [], ◌∷◌, None, true, false, refl}
+use Rattle.std.specs.Prelude.{◌≡◌, ℕ, Bool, List, [], ◌∷◌, None, true, false, refl}
 use Rattle.shape_font.specs.Worked.Glyphs.{words}
+use Rattle.shape_common.specs.declared.general_category.hb_unicode_general_category_t.TheVariants.{NonspacingMark, OtherLetter}
 use Rattle.shape_items.specs.Buffer.{Buffer}
 use Rattle.shape_items.specs.Items.{Item, new_item, new_properties}
 use Rattle.layout_matching.specs.declared.lookup.Lookup.{Lookup}
 use Rattle.layout_substitution.specs.Ligatures.{ligature_matched}
-use Rattle.layout_substitution.specs.Replaced.{replaced, is_multiplied, taken_apart, as_ligature}
+use Rattle.layout_substitution.specs.Replaced.{replaced, is_multiplied, taken_apart, with_parts, as_ligature}
+use Rattle.layout_substitution.specs.Start.{begun_item}
 use Rattle.layout_substitution.specs.Substitutes.{has_components}
 
 pub record WorkedLigatures : Type 0 where
@@ -46,7 +48,7 @@ pub record WorkedPasts : Type 0 where
   pub replaced_glyph : Holds (λ l. (replaced l 0 52 (with_past false false)).properties.multiplied ≡ false)
 
 pub worked_pasts : WorkedPasts
-unfolding is_multiplied
+unfolding is_multiplied as_ligature
 worked_pasts = record {
   first_part = λ l g. refl;
   second_part = λ l g. refl;
@@ -56,4 +58,56 @@ worked_pasts = record {
   ligature_of_marks = λ l g. refl;
   replaced_part = λ l g. rw g refl;
   replaced_glyph = λ l g. rw g refl;
+}
+
+-- a nonspacing mark of class 230
+abbrev pub mark_above : Item
+mark_above = record (new_item 0 0) { properties = record new_properties { general_category = NonspacingMark; modified_ccc = 230 } }
+
+abbrev pub letter_above : Item
+letter_above = record (new_item 0 0) { properties = record new_properties { general_category = OtherLetter; modified_ccc = 7 } }
+
+-- GDEF: glyph 9 is a mark, of mark attachment class 3; glyph 5 is a base
+abbrev pub two_glyphs : List ℕ
+two_glyphs = words (1 ∷ 0 ∷ 12 ∷ 0 ∷ 0 ∷ 32 ∷ 2 ∷ 2 ∷ 5 ∷ 5 ∷ 1 ∷ 9 ∷ 9 ∷ 3 ∷ 0 ∷ 0 ∷ 1 ∷ 9 ∷ 1 ∷ 3 ∷ [])
+
+-- the same with a NULL GlyphClassDef
+abbrev pub no_classes : List ℕ
+no_classes = words (1 ∷ 0 ∷ 0 ∷ 0 ∷ 0 ∷ 32 ∷ 2 ∷ 2 ∷ 5 ∷ 5 ∷ 1 ∷ 9 ∷ 9 ∷ 3 ∷ 0 ∷ 0 ∷ 1 ∷ 9 ∷ 1 ∷ 3 ∷ [])
+
+-- a glyph that lookups had made
+abbrev pub made_before : ℕ → Item
+made_before g = record (new_item 0 0) {
+  glyph_id = g;
+  properties = record new_properties { substituted = true; multiplied = true; ligature_id = 2; ligature_component = 1; number_of_components = 3 };
+}
+
+pub record WorkedBeginnings : Type 0 where
+  -- a mark that becomes a letter has no combining class
+  pub letter_has_no_class : (with_parts 1 2 mark_above).properties.modified_ccc ≡ 0
+  pub class_of_a_letter_stays : (with_parts 1 2 letter_above).properties.modified_ccc ≡ 7
+  pub mark : (begun_item two_glyphs (made_before 9)).properties.glyph_class.0 ≡ 8
+  pub mark_class : (begun_item two_glyphs (made_before 9)).properties.mark_attachment_class ≡ 3
+  pub base : (begun_item two_glyphs (made_before 5)).properties.glyph_class.0 ≡ 2
+  pub base_class : (begun_item two_glyphs (made_before 5)).properties.mark_attachment_class ≡ 0
+  pub no_glyph_classes : (begun_item no_classes (made_before 9)).properties.mark_attachment_class ≡ 0
+  pub not_substituted : (begun_item two_glyphs (made_before 9)).properties.substituted ≡ false
+  pub of_no_ligature : (begun_item two_glyphs (made_before 9)).properties.ligature_id ≡ 0
+  -- a glyph that is put in place has the class of GDEF
+  pub replaced_mark : (l : Lookup) → l.gdef.now ≡ two_glyphs → (replaced l 0 9 (made_before 5)).properties.mark_attachment_class ≡ 3
+  pub replaced_base : (l : Lookup) → l.gdef.now ≡ two_glyphs → (replaced l 0 5 (replaced l 0 9 (made_before 5))).properties.mark_attachment_class ≡ 0
+
+pub worked_beginnings : WorkedBeginnings
+worked_beginnings = record {
+  letter_has_no_class = refl;
+  class_of_a_letter_stays = refl;
+  mark = refl;
+  mark_class = refl;
+  base = refl;
+  base_class = refl;
+  no_glyph_classes = refl;
+  not_substituted = refl;
+  of_no_ligature = refl;
+  replaced_mark = λ l g. rw g refl;
+  replaced_base = λ l g. rw g refl;
 }

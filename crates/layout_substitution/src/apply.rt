@@ -1,17 +1,19 @@
 //! Parts of lookups, applied at a place of a buffer.
-ghost use Rattle.std.specs.Prelude.{◌≡◌, ◌<◌, ◌-◌, ◌+◌, ◌^◌, length, OnOk, IfOk, IsErrOf, IsTrue};
+ghost use Rattle.std.specs.Prelude.{◌≡◌, ◌≢◌, ◌<◌, ◌-◌, ◌+◌, ◌^◌, length, None, OnOk, IfOk, IsErrOf, IsTrue};
 ghost use Rattle.shape_items.specs.Buffer.{limit_of};
 ghost use Rattle.shape_buffer.specs.declared.buffer.error.ShapeError.TheVariants.{Length};
-ghost use Rattle.layout_substitution.specs.Applied.{put_one, single_applied, value_of, alternate_applied, cluster_at, is_left_in, is_handed as is_handed_of, Handing, handed_step, handed_back, left_to_neighbours, gone as gone_of, copy_like, copies_put, first_put, several_put, list_put, sequence_put, multiple_applied};
-ghost use Rattle.layout_substitution.specs.Ligatures.{ligature_made, ligature_applied};
+ghost use Rattle.layout_substitution.specs.Applied.{put_one, single_applied, cluster_at, is_left_in, is_handed as is_handed_of, Handing, handed_step, handed_back, left_to_neighbours, gone as gone_of, copy_like, copies_put, first_put, several_put, list_put, sequence_put, multiple_applied};
+ghost use Rattle.layout_substitution.specs.Ligatures.{ligature_made, one_ligated, set_ligated, ligature_applied};
 ghost use Rattle.shape_items.specs.Delete.{hand_over};
 ghost use Rattle.layout_matching.specs.Loops.{times};
 ghost use Rattle.layout_substitution.specs.Edits.{item_at, put_at};
+ghost use Rattle.layout_substitution.specs.Replaced.{replaced as replaced_of};
 
 use crate::edits::{insert_after, item, merge, next_place, put, take_out};
 use crate::ligature::{Components, found, put_ligature};
+use crate::ligature_reach::mark_tried;
 use crate::replaced::{replaced, taken_apart};
-use crate::substitutes::{alternate, components, count, ligature_glyph, listed, set, single};
+use crate::substitutes::{components, count, ligature_glyph, listed, set, single};
 use layout_matching::lookup::Lookup;
 use shape_buffer::{ShapeError, hb_buffer_t, hb_glyph_info_t};
 
@@ -19,23 +21,31 @@ use shape_buffer::{ShapeError, hb_buffer_t, hb_glyph_info_t};
 #[derive(Clone, Copy, PartialEq, Eq, Debug)]
 pub struct Spot {
     pub at: usize,
-    /// The number of the last ligature that was made, 0 if there is none.
-    pub serial: u8,
+    /// The random state, by which alternates are picked.
+    pub random: u32,
     /// How many more nested lookups may be applied.
     pub left: usize,
     /// How many items there were when the lookup began.
     pub whole: usize,
 }
 
+/// Puts another glyph at a place.
+pub fn put_glyph(lookup: &Lookup<'_>, buffer: &mut hb_buffer_t, at: usize, glyph: u32)
+    ensures { buffer.new ≡ put_at at (replaced_of lookup.now 0 glyph (item_at buffer.old at)) buffer.old }
+{
+    let there = item(buffer, at);
+    put(buffer, at, replaced(lookup, 0, glyph, there));
+}
+
 /// Puts another glyph at the place. Returns the next one.
-fn replace(lookup: &Lookup<'_>, buffer: &mut hb_buffer_t, spot: Spot, glyph: u32) -> Option<Spot>
+pub(crate) fn replace(lookup: &Lookup<'_>, buffer: &mut hb_buffer_t, spot: Spot, glyph: u32) -> Option<Spot>
     requires { spot.at < length buffer.old.items }
     ensures made { buffer.new ≡ (put_one lookup.now spot buffer.old glyph).buffer }
     ensures next { result ≡ (put_one lookup.now spot buffer.old glyph).next }
+    ensures some { result ≢ None }
 {
     let count = buffer.len();
-    let there = item(buffer, spot.at);
-    put(buffer, spot.at, replaced(lookup, 0, glyph, there));
+    put_glyph(lookup, buffer, spot.at, glyph);
     let mut next = spot;
     next.at = next_place(count, spot.at);
     Some(next)
@@ -55,36 +65,6 @@ pub fn apply_single(
 {
     let there = item(buffer, spot.at);
     match single(lookup.table, start, there.glyph_id) {
-        Some(glyph) => replace(lookup, buffer, spot, glyph),
-        None => None,
-    }
-}
-
-/// The value that a mask has for the lookup.
-fn value(lookup: &Lookup<'_>, there: &hb_glyph_info_t) -> u32
-    ensures { result ≡ value_of lookup.now there.now }
-{
-    if lookup.unit == 0 {
-        0
-    } else {
-        (there.mask & lookup.mask) / lookup.unit
-    }
-}
-
-/// An alternate, by the value of the mask.
-pub fn apply_alternate(
-    lookup: &Lookup<'_>,
-    start: usize,
-    buffer: &mut hb_buffer_t,
-    spot: Spot,
-) -> Option<Spot>
-    requires near { start < 2 ^ 35 }
-    requires inside { spot.at < length buffer.old.items }
-    ensures made { buffer.new ≡ (alternate_applied lookup.now start spot buffer.old).buffer }
-    ensures next { result ≡ (alternate_applied lookup.now start spot buffer.old).next }
-{
-    let there = item(buffer, spot.at);
-    match alternate(lookup.table, start, there.glyph_id, value(lookup, &there)) {
         Some(glyph) => replace(lookup, buffer, spot, glyph),
         None => None,
     }
@@ -260,9 +240,7 @@ fn put_list(
             Ok(())
         }
         1 => {
-            let glyph = u32::from(listed(lookup.table, list, 0));
-            let there = item(buffer, at);
-            put(buffer, at, replaced(lookup, 0, glyph, there));
+            put_glyph(lookup, buffer, at, u32::from(listed(lookup.table, list, 0)));
             Ok(())
         }
         _ => put_several(lookup, buffer, list, at),
@@ -323,6 +301,7 @@ fn make_ligature(
     requires inside { spot.at < length buffer.old.items }
     ensures made { buffer.new ≡ (ligature_made lookup.now spot buffer.old one).buffer }
     ensures next { result ≡ (ligature_made lookup.now spot buffer.old one).next }
+    ensures some { result ≢ None }
 {
     if components(lookup.table, one.ligature) == 1 {
         let glyph = u32::from(ligature_glyph(lookup.table, one.ligature));
@@ -330,6 +309,43 @@ fn make_ligature(
     } else {
         Some(put_ligature(lookup, buffer, spot, one))
     }
+}
+
+/// The first ligature of a set that stands there.
+fn ligate_first(
+    lookup: &Lookup<'_>,
+    buffer: &mut hb_buffer_t,
+    spot: Spot,
+    set: usize,
+) -> Option<Spot>
+    requires near { set < 2 ^ 36 }
+    requires inside { spot.at < length buffer.old.items }
+    ensures made { buffer.new ≡ (one_ligated lookup.now spot set buffer.old).buffer }
+    ensures next { result ≡ (one_ligated lookup.now spot set buffer.old).next }
+    ensures still { result ≡ None → buffer.new ≡ buffer.old }
+{
+    match found(lookup, buffer, spot.at, set) {
+        Some(one) => make_ligature(lookup, buffer, spot, one),
+        None => None,
+    }
+}
+
+/// The same, after what was looked at in vain is marked.
+fn apply_set(
+    lookup: &Lookup<'_>,
+    buffer: &mut hb_buffer_t,
+    spot: Spot,
+    set: usize,
+) -> Option<Spot>
+    requires near { set < 2 ^ 36 }
+    requires inside { spot.at < length buffer.old.items }
+    ensures made { buffer.new ≡ (set_ligated lookup.now spot buffer.old set).buffer }
+    ensures next { result ≡ (set_ligated lookup.now spot buffer.old set).next }
+    ensures as_many { result ≡ None → length buffer.new.items ≡ length buffer.old.items }
+    ensures limit { result ≡ None → limit_of buffer.new ≡ limit_of buffer.old }
+{
+    mark_tried(lookup, buffer, spot.at, set);
+    ligate_first(lookup, buffer, spot, set)
 }
 
 /// One glyph for several.
@@ -343,11 +359,12 @@ pub fn apply_ligature(
     requires inside { spot.at < length buffer.old.items }
     ensures made { buffer.new ≡ (ligature_applied lookup.now start spot buffer.old).buffer }
     ensures next { result ≡ (ligature_applied lookup.now start spot buffer.old).next }
+    ensures as_many { result ≡ None → length buffer.new.items ≡ length buffer.old.items }
+    ensures limit { result ≡ None → limit_of buffer.new ≡ limit_of buffer.old }
 {
     let there = item(buffer, spot.at);
-    let set = set(lookup.table, start, there.glyph_id)?;
-    match found(lookup, buffer, spot.at, set) {
-        Some(one) => make_ligature(lookup, buffer, spot, one),
+    match set(lookup.table, start, there.glyph_id) {
+        Some(set) => apply_set(lookup, buffer, spot, set),
         None => None,
     }
 }

@@ -5,9 +5,12 @@ ghost use Rattle.std.specs.Prelude.{◌≡◌, ◌<◌, ◌≤◌, ◌+◌, leng
 ghost use Rattle.shape_items.specs.Buffer.{limit_of};
 ghost use Rattle.shape_buffer.specs.declared.buffer.error.ShapeError.TheVariants.{Length};
 ghost use Rattle.layout_substitution.specs.Edits.{item_at as item_at_of, put_at, put_after, taken_out, merged, broken};
+ghost use Rattle.layout_substitution.specs.Edits.{asks_for_concat as asks_for_concat_of, parted};
 
+use bitflags::Flags;
 use layout_matching::skipping::item_at;
-use shape_buffer::{ShapeError, hb_buffer_t, hb_glyph_info_t};
+use layout_matching::tried::Reach;
+use shape_buffer::{BufferFlags, ShapeError, hb_buffer_t, hb_glyph_info_t};
 
 /// The item at a place, a new one past the end.
 pub fn item(buffer: &hb_buffer_t, i: usize) -> hb_glyph_info_t
@@ -62,11 +65,32 @@ pub fn merge(buffer: &mut hb_buffer_t, start: usize, end: usize)
 }
 
 /// Marks a span unsafe to break.
+#[tactic(auto, using(crate::proofs::EditLemmas::length_broken))]
 pub fn break_span(buffer: &mut hb_buffer_t, start: usize, end: usize)
-    ensures { buffer.new ≡ broken start end buffer.old }
+    ensures made { buffer.new ≡ broken start end buffer.old }
+    ensures as_many { length buffer.new.items ≡ length buffer.old.items }
 {
     if start <= end && end <= buffer.len() {
         buffer.unsafe_to_break(start, end);
+    }
+}
+
+/// Whether the buffer asks for marks of what is unsafe to concat.
+pub fn asks_for_concat(buffer: &hb_buffer_t) -> bool
+    ensures { result ≡ asks_for_concat_of buffer.now }
+{
+    buffer.flags().contains(BufferFlags::PRODUCE_UNSAFE_TO_CONCAT)
+}
+
+/// Marks what was looked at in vain unsafe to concat, if the buffer asks for that.
+#[tactic(auto, using(crate::proofs::EditLemmas::length_parted, crate::proofs::EditLemmas::limit_parted))]
+pub fn part_span(buffer: &mut hb_buffer_t, reach: Reach)
+    ensures made { buffer.new ≡ parted reach buffer.old }
+    ensures as_many { length buffer.new.items ≡ length buffer.old.items }
+    ensures limit { limit_of buffer.new ≡ limit_of buffer.old }
+{
+    if reach.from < reach.to && reach.to <= buffer.len() {
+        buffer.unsafe_to_concat(reach.from, reach.to);
     }
 }
 

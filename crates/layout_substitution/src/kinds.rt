@@ -1,11 +1,13 @@
 //! Lookups of kinds 1 to 4 at a place: of their parts the first that applies.
 ghost use Rattle.std.specs.Prelude.{◌≡◌, ◌<◌, ◌-◌, ◌^◌, length, true, None, IfOk, IsErrOf, OnOk};
+ghost use Rattle.shape_items.specs.Buffer.{limit_of};
 ghost use Rattle.shape_buffer.specs.Outcome.{IsWithinLimit};
 ghost use Rattle.shape_buffer.specs.declared.buffer.error.ShapeError.TheVariants.{Length};
 ghost use Rattle.layout_substitution.specs.Edits.{is_past};
 ghost use Rattle.layout_substitution.specs.Kinds.{kind_applied, part_applied, parts_applied, lookup_applied};
 
-use crate::apply::{Spot, apply_alternate, apply_ligature, apply_multiple, apply_single};
+use crate::alternate::apply_alternate;
+use crate::apply::{Spot, apply_ligature, apply_multiple, apply_single};
 use layout_matching::lookup::Lookup;
 use layout_tables::lookups::{LookupSubtable, subtable, subtable_count};
 use shape_buffer::{ShapeError, hb_buffer_t};
@@ -22,7 +24,8 @@ fn apply_kind(
     requires inside { spot.at < length buffer.old.items }
     ensures made { OnOk result (buffer.new ≡ (kind_applied lookup.now spot buffer.old part).buffer) }
     ensures next { IfOk result (λ next. next ≡ (kind_applied lookup.now spot buffer.old part).next) }
-    ensures still { IfOk result (λ next. next ≡ None → buffer.new ≡ buffer.old) }
+    ensures as_many { IfOk result (λ next. next ≡ None → length buffer.new.items ≡ length buffer.old.items) }
+    ensures limit { IfOk result (λ next. next ≡ None → limit_of buffer.new ≡ limit_of buffer.old) }
     ensures length { IsErrOf result Length
         → is_past (kind_applied lookup.now spot buffer.old part).buffer ≡ true }
 {
@@ -47,7 +50,8 @@ fn apply_part(
     requires inside { spot.at < length buffer.old.items }
     ensures made { OnOk result (buffer.new ≡ (part_applied lookup.now i spot buffer.old).buffer) }
     ensures next { IfOk result (λ next. next ≡ (part_applied lookup.now i spot buffer.old).next) }
-    ensures still { IfOk result (λ next. next ≡ None → buffer.new ≡ buffer.old) }
+    ensures as_many { IfOk result (λ next. next ≡ None → length buffer.new.items ≡ length buffer.old.items) }
+    ensures limit { IfOk result (λ next. next ≡ None → limit_of buffer.new ≡ limit_of buffer.old) }
     ensures length { IsErrOf result Length
         → is_past (part_applied lookup.now i spot buffer.old).buffer ≡ true }
 {

@@ -5,16 +5,19 @@
 ghost use Rattle.std.specs.Prelude.{◌≡◌, ◌<◌, ◌-◌, ◌+◌, ◌^◌, Some, length, true, IsTrue};
 ghost use Rattle.std.specs.Option.{IfSome};
 ghost use Rattle.layout_matching.specs.Loops.{times, first_some};
-ghost use Rattle.layout_substitution.specs.Ligatures.{component_row as component_row_of, ligature_matched, ligature_in, ligature_found, part_among, Joined, between_stays, component_gone, looked_for as looked_for_of, join_step, follows as follows_of, follow_step, followed, number_after as number_after_of, first_joined, joined, is_own as is_own_of, ligation_of, ligature_put};
+ghost use Rattle.layout_substitution.specs.Ligatures.{component_row as component_row_of, ligature_matched, ligature_in, ligature_found, part_among, Joined, between_stays, component_gone, looked_for as looked_for_of, stays as stays_of, join_step, follows as follows_of, follow_step, followed, first_joined, joined, ligature_over, ligated, ligature_put};
+ghost use Rattle.layout_substitution.specs.Applied.{with_as_many_after};
 
 use crate::apply::Spot;
+use crate::ligation::how_to_ligate;
 use crate::edits::{item, merge, next_place, put, take_out};
 use crate::replaced::{as_ligature, as_part, parts_of};
 use crate::substitutes::{components, count, has_components, ligature_at, ligature_glyph};
-use layout_matching::input::{is_mark_glyph, match_input, seek_input};
+use layout_matching::input::match_input;
 use layout_matching::lookup::Lookup;
 use layout_matching::rules::{Row, Test};
-use layout_matching::seeking::{Seek, is_between};
+use layout_matching::seeking::{Seek, fits};
+use layout_matching::skipping::is_skipped;
 use shape_buffer::{hb_buffer_t, hb_glyph_info_t};
 
 /// A ligature whose components were found: where the last one stands, and whether all after the first are marks.
@@ -47,7 +50,7 @@ pub struct Joining {
 }
 
 /// The components of a ligature, as a row of glyphs whose count has the first one too.
-fn component_row(lookup: &Lookup<'_>, ligature: usize) -> Row
+pub(crate) fn component_row(lookup: &Lookup<'_>, ligature: usize) -> Row
     requires { ligature < 2 ^ 37 }
     ensures { result ≡ component_row_of lookup.now ligature }
 {
@@ -182,6 +185,14 @@ fn looked_for(made: &Ligation, walk: Joining) -> u32
     )
 }
 
+/// Whether the item at the walk stays: the lookup skips it, or it isn't the component that is looked for.
+fn stays(lookup: &Lookup<'_>, buffer: &hb_buffer_t, made: &Ligation, walk: Joining) -> bool
+    ensures { result ≡ stays_of lookup.now made.now (record { buffer = buffer.now; walk = walk }) }
+{
+    let there = item(buffer, walk.at);
+    is_skipped(lookup, &there) || !fits(lookup, &made.seek, looked_for(made, walk), &there)
+}
+
 /// Goes over one item after the first component.
 fn join_one(
     lookup: &Lookup<'_>,
@@ -195,8 +206,7 @@ fn join_one(
     if buffer.len() <= walk.at {
         return walk;
     }
-    let k = looked_for(made, walk);
-    if is_between(lookup, &made.seek, k, &item(buffer, walk.at)) {
+    if stays(lookup, buffer, made, walk) {
         leave_between(buffer, made.own, made.id, walk)
     } else {
         drop_component(buffer, walk)
@@ -262,13 +272,6 @@ fn follow(buffer: &mut hb_buffer_t, made: &Ligation, walk: Joining) -> Joining
     follow_all(buffer, made.id, walk)
 }
 
-/// The number of the ligature after the one with this number.
-fn number_after(serial: u8) -> u8
-    ensures { result ≡ number_after_of serial }
-{
-    serial % 7 + 1
-}
-
 /// Puts all components into one cluster, and takes all after the first one out.
 fn join(
     lookup: &Lookup<'_>,
@@ -299,35 +302,67 @@ fn join(
     follow(buffer, made, walk)
 }
 
-/// Whether the ligature isn't one of marks, or of a base and marks.
-fn is_own(found: Components, first: &hb_glyph_info_t) -> bool
-    ensures { result ≡ is_own_of found first.now }
+/// Puts the ligature in place of its first component, after a walk over the others.
+fn put_over(
+    lookup: &Lookup<'_>,
+    buffer: &mut hb_buffer_t,
+    made: &Ligation,
+    found: Components,
+    at: usize,
+    walk: Joining,
+)
+    requires { found.ligature < 2 ^ 37 }
+    ensures { buffer.new ≡ ligature_over lookup.now made.now found at (record { buffer = buffer.old; walk = walk }) }
 {
-    !(found.all_marks && first._hb_glyph_info_get_glyph_class().0 & 10 != 0)
+    let glyph = u32::from(ligature_glyph(lookup.table, found.ligature));
+    let now = item(buffer, at);
+    let parts = u32::from(walk.so_far);
+    put(
+        buffer,
+        at,
+        as_ligature(lookup, made.own, made.id, parts, glyph, now),
+    );
 }
 
-/// How the ligature is made.
-fn how_to_ligate(
-    lookup: &Lookup<'_>,
-    buffer: &hb_buffer_t,
-    spot: Spot,
-    found: Components,
-) -> Ligation
-    requires near { found.ligature < 2 ^ 37 }
-    ensures { result ≡ ligation_of lookup.now spot buffer.now found }
+/// The spot where so many items are left.
+fn with_left(buffer: &hb_buffer_t, spot: Spot, left: usize) -> Spot
+    ensures { result ≡ with_as_many_after left spot buffer.now }
 {
-    let first = item(buffer, spot.at);
-    let own = is_own(found, &first);
-    Ligation {
-        seek: seek_input(lookup, &first, component_row(lookup, found.ligature)),
-        own,
-        marks: found.all_marks && is_mark_glyph(&first),
-        id: if own { number_after(spot.serial) } else { 0 },
-    }
+    let mut next = spot;
+    next.at = buffer.len().saturating_sub(left);
+    next
+}
+
+/// Puts a ligature, made in this way, in place of its components. Returns where the lookup goes on: with `left` items after it.
+fn ligate(
+    lookup: &Lookup<'_>,
+    buffer: &mut hb_buffer_t,
+    spot: Spot,
+    made: &Ligation,
+    found: Components,
+    left: usize,
+) -> Spot
+    requires near { found.ligature < 2 ^ 37 }
+    requires last { found.last < length buffer.old.items }
+    requires inside { spot.at < length buffer.old.items }
+    ensures made { buffer.new ≡ (ligated lookup.now spot made.now found left buffer.old).buffer }
+    ensures next { Some result ≡ (ligated lookup.now spot made.now found left buffer.old).next }
+{
+    let walk = join(lookup, buffer, made, found, spot.at);
+    put_over(lookup, buffer, made, found, spot.at, walk);
+    with_left(buffer, spot, left)
+}
+
+/// How many items are after the one at `last`.
+fn left_after(buffer: &hb_buffer_t, last: usize) -> usize
+    requires { last < length buffer.now.items }
+    ensures { result ≡ length buffer.now.items - (last + 1) }
+{
+    let count = buffer.len();
+    count.saturating_sub(next_place(count, last))
 }
 
 /// Puts a ligature in place of its components. Returns where the lookup goes on.
-#[tactic(auto, using(crate::proofs::LigatureLemmas::buffer_of, crate::proofs::LigatureLemmas::walk_of))]
 pub fn put_ligature(
     lookup: &Lookup<'_>,
     buffer: &mut hb_buffer_t,
@@ -340,21 +375,7 @@ pub fn put_ligature(
     ensures made { buffer.new ≡ (ligature_put lookup.now spot buffer.old found).buffer }
     ensures next { Some result ≡ (ligature_put lookup.now spot buffer.old found).next }
 {
-    let made = how_to_ligate(lookup, buffer, spot, found);
-    let after = buffer
-        .len()
-        .saturating_sub(next_place(buffer.len(), found.last));
-    let walk = join(lookup, buffer, &made, found, spot.at);
-    let glyph = u32::from(ligature_glyph(lookup.table, found.ligature));
-    let now = item(buffer, spot.at);
-    let parts = u32::from(walk.so_far);
-    put(
-        buffer,
-        spot.at,
-        as_ligature(lookup, made.own, made.id, parts, glyph, now),
-    );
-    let mut next = spot;
-    next.at = buffer.len().saturating_sub(after);
-    next.serial = if made.own { made.id } else { spot.serial };
-    next
+    let left = left_after(buffer, found.last);
+    let made = how_to_ligate(lookup, buffer, spot.at, found);
+    ligate(lookup, buffer, spot, &made, found, left)
 }

@@ -1,11 +1,21 @@
 //! Glyphs put in place of others.
 ghost use Rattle.std.specs.Prelude.{◌≡◌};
-ghost use Rattle.layout_substitution.specs.Replaced.{parts_of as parts_of_item, replaced as replaced_of, as_part as as_part_of, taken_apart as taken_apart_of, with_parts as with_parts_of, as_ligature as as_ligature_of};
+ghost use Rattle.layout_substitution.specs.Replaced.{parts_of as parts_of_item, with_class as with_class_of, replaced as replaced_of, as_part as as_part_of, taken_apart as taken_apart_of, with_parts as with_parts_of, as_ligature as as_ligature_of};
 
 use layout_matching::lookup::Lookup;
 use layout_tables::gdef::{glyph_props, has_glyph_classes};
 use shape_buffer::hb_glyph_info_t;
 use shape_common::{GlyphPropsFlags, hb_unicode_general_category_t};
+
+/// An item with the class of its glyph, and with the mark attachment class in the upper byte of `props`.
+pub fn with_class(props: u16, item: hb_glyph_info_t) -> hb_glyph_info_t
+    ensures { result ≡ with_class_of props item }
+{
+    let mut item = item;
+    item._hb_glyph_info_set_glyph_class(GlyphPropsFlags(props));
+    item._hb_glyph_info_set_mark_attachment_class((props / 256) as u8);
+    item
+}
 
 /// Another glyph, of the class that the font says, or else of the one that is guessed, if it isn't 0.
 pub fn replaced(
@@ -20,9 +30,10 @@ pub fn replaced(
     item.glyph_id = glyph;
     item._hb_glyph_info_set_substituted(true);
     if has_glyph_classes(lookup.gdef) {
-        item._hb_glyph_info_set_glyph_class(GlyphPropsFlags(glyph_props(lookup.gdef, glyph)));
-    } else if guess != 0 {
-        item._hb_glyph_info_set_glyph_class(GlyphPropsFlags(guess));
+        return with_class(glyph_props(lookup.gdef, glyph), item);
+    }
+    if guess != 0 {
+        return with_class(guess, item);
     }
     item
 }
@@ -73,7 +84,7 @@ pub fn taken_apart(
     part
 }
 
-/// A ligature with its number, of so many parts, which isn't a mark any more.
+/// A ligature with its id, of so many parts, which isn't a mark any more.
 fn with_parts(id: u8, parts: u32, item: hb_glyph_info_t) -> hb_glyph_info_t
     ensures { result ≡ with_parts_of id parts item }
 {
@@ -83,12 +94,14 @@ fn with_parts(id: u8, parts: u32, item: hb_glyph_info_t) -> hb_glyph_info_t
     item._hb_glyph_info_set_number_of_components((parts % 16) as u8);
     if item._hb_glyph_info_get_general_category() == hb_unicode_general_category_t::NonspacingMark {
         item._hb_glyph_info_set_general_category(hb_unicode_general_category_t::OtherLetter);
+        item._hb_glyph_info_set_modified_combining_class(0);
     }
     item
 }
 
 /// The ligature in place of its first component, which isn't multiplied any more. `own` if it isn't one of marks, or of a base
 /// and marks.
+#[tactic(auto, unfolding(crate::specs::Replaced::as_ligature))]
 pub fn as_ligature(
     lookup: &Lookup<'_>,
     own: bool,

@@ -1,5 +1,5 @@
 //! The definitions, computed by hand.
-ghost use Rattle.layout_substitution.specs.Worked.{WorkedLigatures, WorkedPasts};
+ghost use Rattle.layout_substitution.specs.Worked.{WorkedLigatures, WorkedPasts, WorkedBeginnings};
 
 /// Ligatures: their components, and one that leads past the end of the table.
 pub fn ligatures_meet_worked_cases()
@@ -7,7 +7,12 @@ pub fn ligatures_meet_worked_cases()
 {}
 
 /// What becomes of items: which are ligated, and which multiplied.
-#[tactic(auto, unfolding(crate::specs::Replaced::is_multiplied))]
+#[tactic(auto, unfolding(crate::specs::Replaced::is_multiplied, crate::specs::Replaced::as_ligature))]
 pub fn items_meet_worked_cases()
     ensures { WorkedPasts }
+{}
+
+/// What glyphs are as substitution begins, and what a ligature of marks is.
+pub fn beginnings_meet_worked_cases()
+    ensures { WorkedBeginnings }
 {}

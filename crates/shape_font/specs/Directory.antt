@@ -14,10 +14,18 @@ font_start bytes index = if nat_eq (u32_of bytes 0) 0x74746366
 abbrev pub slice_of : List ℕ → ℕ → ℕ → Option (List ℕ)
 slice_of bytes at len = if nat_le (at + len) (length bytes) then Some (slice_range bytes at (at + len)) else None
 
--- the table of the first record with this tag, of the font that begins at `start`
+-- the table of the first of `count` records with this tag, of the font that begins at `start`
+abbrev pub table_among : List ℕ → ℕ → ℕ → ℕ → Option (List ℕ)
+table_among bytes start count tag =
+    option_and_then (λ i. slice_of bytes (u32_of bytes (start + 20 + 16 * i)) (u32_of bytes (start + 24 + 16 * i)))
+    (first_at (λ i. nat_eq (u32_of bytes (start + 12 + 16 * i)) tag) count 0)
+
+-- how many records the directory of the font that begins at `start` has
+abbrev pub record_count : List ℕ → ℕ → ℕ
+record_count bytes start = fitting bytes (u16_of bytes (start + 4)) (start + 12) 16
+
 abbrev pub table_at : List ℕ → ℕ → ℕ → Option (List ℕ)
-table_at bytes start tag = option_and_then (λ i. slice_of bytes (u32_of bytes (start + 20 + 16 * i)) (u32_of bytes (start + 24 + 16 * i)))
-    (first_at (λ i. nat_eq (u32_of bytes (start + 12 + 16 * i)) tag) (fitting bytes (u16_of bytes (start + 4)) (start + 12) 16) 0)
+table_at bytes start tag = table_among bytes start (record_count bytes start) tag
 
 -- the table with this tag, of the font with this number
 abbrev pub table_of : List ℕ → ℕ → ℕ → Option (List ℕ)

@@ -39,6 +39,10 @@ ascender_of os2 hhea = unsigned_abs (cond (typographic os2) (i16_of os2 68) (i16
 abbrev pub descender_of : List ℕ → List ℕ → ℕ
 descender_of os2 hhea = unsigned_abs (cond (typographic os2) (i16_of os2 70) (i16_of hhea 6))
 
+-- how far lines stand apart beside that, with its sign
+abbrev pub line_gap_of : List ℕ → List ℕ → ℤ
+line_gap_of os2 hhea = cond (typographic os2) (i16_of os2 72) (i16_of hhea 8)
+
 -- where the outline of a glyph begins
 abbrev pub place_of : List ℕ → Bool → ℕ → ℕ
 place_of loca long glyph = cond long (u32_of loca (4 * glyph)) (2 * u16_of loca (2 * glyph))

@@ -1,9 +1,10 @@
 //! Glyphs of characters: formats 0, 4, 6, 10, 12 and 13 of the table `cmap`.
 ghost use Rattle.std.specs.Prelude.{◌≡◌, ◌<◌, ◌^◌};
+ghost use Rattle.std.specs.Option.{IfSome};
 ghost use Rattle.shape_font.specs.Cmap.{glyph_0, side_of_segment, segment_of, segment_glyph, glyph_of_segments, listed_glyph, side_of_group, group_of, group_glyph, groups_of, glyph_of_groups, cmap_glyph, mapped_glyph};
 
-use crate::bytes::{records, u8_at, u16_at, u32_at};
-use crate::search::{found, side, side_by_end};
+use crate::bytes::{long, records, u8_at, u16_at, u32_at};
+use crate::search::{found, found_within, side, side_by_end};
 use std::cmp::Ordering;
 
 /// The glyph of a character by a table of format 0, or 0.
@@ -87,25 +88,33 @@ fn groups(table: &[u8]) -> u32
 
 /// Where a character stands to group `i`.
 fn group_side(table: &[u8], c: u32, i: u32) -> Ordering
+    requires { i < groups_of table.now }
     ensures { result ≡ side_of_group table.now c i }
 {
     let at = 16 + 12 * i as usize;
-    side(c, u32_at(table, at), u32_at(table, at + 4))
+    side(c, long(table, at), long(table, at + 4))
 }
 
 /// The group that holds the character.
 fn group(table: &[u8], c: u32) -> Option<u32>
-    ensures { result ≡ group_of table.now c }
+    ensures found { result ≡ group_of table.now c }
+    ensures within { IfSome result (λ i. i < groups_of table.now) }
 {
-    found(groups(table), |i| group_side(table, c, i))
+    found_within(
+        groups(table),
+        |i|
+            requires { i < groups_of table.now }
+        { group_side(table, c, i) },
+    )
 }
 
 /// The glyph that group `i` gives a character of its own, as 32 bits hold it; `one` if a group has one glyph for all.
 fn in_group(table: &[u8], one: bool, c: u32, i: u32) -> u32
+    requires { i < groups_of table.now }
     ensures { result ≡ group_glyph table.now one c i }
 {
-    let start = u32_at(table, 16 + 12 * i as usize);
-    let first = u64::from(u32_at(table, 24 + 12 * i as usize));
+    let start = long(table, 16 + 12 * i as usize);
+    let first = u64::from(long(table, 24 + 12 * i as usize));
     let further = if one {
         0
     } else {

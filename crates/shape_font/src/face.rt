@@ -2,59 +2,29 @@
 ghost use Rattle.std.specs.Prelude.{◌≡◌, ◌≤ℤ◌, ◌&&◌, pos, negsuc, is_some, nat_lt};
 ghost use Rattle.std.specs.Option.{IfSome, option_map};
 ghost use Rattle.shape_font.specs.Bytes.{u16_of};
+ghost use Rattle.shape_font.specs.Cmap.{mapped_glyph};
 ghost use Rattle.shape_font.specs.Subtables.{chosen_subtable, symbols_of};
 ghost use Rattle.shape_font.specs.Variations.{sequences_of};
 ghost use Rattle.shape_font.specs.Directory.{bytes_of, has_table};
 ghost use Rattle.shape_font.specs.Metrics.{long_metrics};
 ghost use Rattle.shape_font.specs.Names.{glyph_name as glyph_name_of};
 ghost use Rattle.shape_font.specs.declared.names.TheConstants.{STANDARD};
+ghost use Rattle.shape_font.specs.declared.tags.TheConstants.{HEAD, HHEA, MAXP, HMTX, VHEA, VMTX, VORG, OS2, CMAP, LOCA, GLYF, GSUB, GPOS, GDEF, MORX, KERX, TRAK, KERN, POST};
 ghost use Rattle.shape_font.specs.Face.{font_face, numbered as numbered_of, glyph_of, variant_of, h_advance_of, line_height, v_advance_of, inked_of, extents_of, half_room, origin_over, v_origin_of};
 
 use crate::bytes::{u16_at, u32_at};
-use crate::directory::{has, table_or_empty};
+use crate::directory::Directory;
 use crate::subtables::{chosen, symbols};
+use crate::tags::{
+    CMAP, GDEF, GLYF, GPOS, GSUB, HEAD, HHEA, HMTX, KERN, KERX, LOCA, MAXP, MORX, OS2, POST, TRAK,
+    VHEA, VMTX, VORG,
+};
 use crate::variations::{GlyphVariant, variation};
 use crate::{cmap, metrics, names, variations};
 use shape_buffer::wrapping::{half, sum};
 use shape_buffer::{GlyphId, hb_font_t, hb_glyph_extents_t, hb_tables_t};
 
-const HEAD: u32 = 0x6865_6164;
-
-const HHEA: u32 = 0x6868_6561;
-
-const MAXP: u32 = 0x6d61_7870;
-
-const HMTX: u32 = 0x686d_7478;
-
-const VHEA: u32 = 0x7668_6561;
-
-const VMTX: u32 = 0x766d_7478;
-
-const VORG: u32 = 0x564f_5247;
-
-const OS2: u32 = 0x4f53_2f32;
-
-const CMAP: u32 = 0x636d_6170;
-
-const LOCA: u32 = 0x6c6f_6361;
-
-const GLYF: u32 = 0x676c_7966;
-
-const GSUB: u32 = 0x4753_5542;
-
-const GPOS: u32 = 0x4750_4f53;
-
-const GDEF: u32 = 0x4744_4546;
-
-const MORX: u32 = 0x6d6f_7278;
-
-const KERX: u32 = 0x6b65_7278;
-
-const TRAK: u32 = 0x7472_616b;
-
-const KERN: u32 = 0x6b65_726e;
-
-const POST: u32 = 0x706f_7374;
+mod lines;
 
 /// A face over the bytes of an OpenType or TrueType file, in its units. A table that the file lacks reads as an empty
 /// one. A font whose outlines stand in another table than `glyf` (`CFF`) has no boxes.
@@ -96,19 +66,19 @@ fn numbered(glyph: u32) -> Option<GlyphId>
 }
 
 /// Which tables of lookups the font has.
-fn lookups(bytes: &[u8], index: u32) -> hb_tables_t
-    ensures gsub { result.gsub ≡ has_table bytes.now index GSUB }
-    ensures gpos { result.gpos ≡ has_table bytes.now index GPOS }
-    ensures morx { result.morx ≡ has_table bytes.now index MORX }
-    ensures kerx { result.kerx ≡ has_table bytes.now index KERX }
-    ensures trak { result.trak ≡ has_table bytes.now index TRAK }
+fn lookups(font: &Directory<'_>) -> hb_tables_t
+    ensures gsub { result.gsub ≡ has_table font.now.bytes.now font.now.index GSUB }
+    ensures gpos { result.gpos ≡ has_table font.now.bytes.now font.now.index GPOS }
+    ensures morx { result.morx ≡ has_table font.now.bytes.now font.now.index MORX }
+    ensures kerx { result.kerx ≡ has_table font.now.bytes.now font.now.index KERX }
+    ensures trak { result.trak ≡ has_table font.now.bytes.now font.now.index TRAK }
 {
     hb_tables_t {
-        gsub: has(bytes, index, GSUB),
-        gpos: has(bytes, index, GPOS),
-        morx: has(bytes, index, MORX),
-        kerx: has(bytes, index, KERX),
-        trak: has(bytes, index, TRAK),
+        gsub: font.has(GSUB),
+        gpos: font.has(GPOS),
+        morx: font.has(MORX),
+        kerx: font.has(KERX),
+        trak: font.has(TRAK),
     }
 }
 
@@ -152,43 +122,38 @@ impl<'a> FontFace<'a> {
         ensures gsub_table { IfSome result (λ f. f.gsub.now ≡ bytes_of bytes.now index GSUB) }
         ensures gpos_table { IfSome result (λ f. f.gpos.now ≡ bytes_of bytes.now index GPOS) }
     {
-        let head = table_or_empty(bytes, index, HEAD);
+        let font = Directory::of(bytes, index);
+        let head = font.table_or_empty(HEAD);
         let units_per_em = u16_at(head, 18);
         if units_per_em == 0 {
             return None;
         }
-        let (hhea, vhea) = (
-            table_or_empty(bytes, index, HHEA),
-            table_or_empty(bytes, index, VHEA),
-        );
-        let (hmtx, vmtx) = (
-            table_or_empty(bytes, index, HMTX),
-            table_or_empty(bytes, index, VMTX),
-        );
-        let cmap = table_or_empty(bytes, index, CMAP);
+        let (hhea, vhea) = (font.table_or_empty(HHEA), font.table_or_empty(VHEA));
+        let (hmtx, vmtx) = (font.table_or_empty(HMTX), font.table_or_empty(VMTX));
+        let cmap = font.table_or_empty(CMAP);
         Some(FontFace {
             units_per_em,
-            glyph_count: u16_at(table_or_empty(bytes, index, MAXP), 4),
+            glyph_count: u16_at(font.table_or_empty(MAXP), 4),
             h_count: metrics::metrics_in(hmtx, u16_at(hhea, 34)),
             v_count: metrics::metrics_in(vmtx, u16_at(vhea, 34)),
             long_places: u16_at(head, 50) != 0,
-            outlines: has(bytes, index, GLYF),
+            outlines: font.has(GLYF),
             symbols: symbols(cmap),
-            tables: lookups(bytes, index),
+            tables: lookups(&font),
             cmap: chosen(cmap),
             sequences: variations::sequences(cmap),
             hmtx,
             vmtx,
-            vorg: table_or_empty(bytes, index, VORG),
-            loca: table_or_empty(bytes, index, LOCA),
-            glyf: table_or_empty(bytes, index, GLYF),
+            vorg: font.table_or_empty(VORG),
+            loca: font.table_or_empty(LOCA),
+            glyf: font.table_or_empty(GLYF),
             hhea,
-            os2: table_or_empty(bytes, index, OS2),
-            kern: table_or_empty(bytes, index, KERN),
-            post: table_or_empty(bytes, index, POST),
-            gdef: table_or_empty(bytes, index, GDEF),
-            gsub: table_or_empty(bytes, index, GSUB),
-            gpos: table_or_empty(bytes, index, GPOS),
+            os2: font.table_or_empty(OS2),
+            kern: font.table_or_empty(KERN),
+            post: font.table_or_empty(POST),
+            gdef: font.table_or_empty(GDEF),
+            gsub: font.table_or_empty(GSUB),
+            gpos: font.table_or_empty(GPOS),
         })
     }
 
@@ -235,11 +200,25 @@ impl<'a> FontFace<'a> {
         names::glyph_name(self.post, glyph.0)
     }
 
+    /// The subtable of `cmap` that has the glyphs of characters; an empty one if the font has none.
+    pub fn character_map(&self) -> &'a [u8]
+        ensures { result.now ≡ self.now.cmap.now }
+    {
+        self.cmap
+    }
+
+    /// The number of the glyph that `cmap` gives the character with this number, 0 if it gives none.
+    pub fn glyph_number(&self, c: u32) -> u32
+        ensures { result ≡ mapped_glyph self.now.cmap.now self.now.symbols c }
+    {
+        cmap::mapped(self.cmap, self.symbols, c)
+    }
+
     /// The glyph of a character by `cmap`. It may be past the last glyph of the font.
     fn glyph(&self, c: char) -> Option<GlyphId>
         ensures { result ≡ glyph_of self.now c }
     {
-        numbered(cmap::mapped(self.cmap, self.symbols, u32::from(c)))
+        numbered(self.glyph_number(u32::from(c)))
     }
 
     /// The glyph of a character before a selector: its own, or the character's if it looks as it does alone.

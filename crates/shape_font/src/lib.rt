@@ -17,6 +17,7 @@ pub mod metrics;
 pub mod names;
 pub mod search;
 pub mod subtables;
+mod tags;
 pub mod variations;
 pub mod worked;
 

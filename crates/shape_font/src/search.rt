@@ -5,6 +5,7 @@
 //! among ranges in order it finds what a walk finds is a law. In `cmap` format 4 the end of a
 //! segment decides before its start, in groups the start before the end.
 ghost use Rattle.std.specs.Prelude.{◌≡◌, ℕ, ◌<◌, Option};
+ghost use Rattle.std.specs.Option.{IfSome};
 ghost use Rattle.std.specs.declared.cmp.Ordering.{Ordering};
 ghost use Rattle.shape_font.specs.Search.{found_by, side_of, side_from_end};
 
@@ -45,6 +46,19 @@ where
     ensures { (says : ℕ → Ordering)
         → ((i : ℕ) (o : Ordering) → i < count → F.post side i o → o ≡ says i)
         → result ≡ found_by says count }
+{
+    found_within(count, side)
+}
+
+/// The same, but `side` is called at places below `count` alone, so it may rely on the list's having room for them.
+pub fn found_within<F: Fn(u32) -> Ordering>(count: u32, side: F) -> Option<u32>
+where
+    F: Drop,
+    requires { (i : ℕ) → i < count → F.pre side i }
+    ensures found { (says : ℕ → Ordering)
+        → ((i : ℕ) (o : Ordering) → i < count → F.post side i o → o ≡ says i)
+        → result ≡ found_by says count }
+    ensures within { IfSome result (λ i. i < count) }
 {
     let (mut start, mut end) = (0, count);
     while start < end {

@@ -3,3 +3,5 @@ pub mod Feature
 pub mod Names
 pub mod Serialize
 pub mod Worked
+pub mod Json
+pub mod FontNames

@@ -252,7 +252,7 @@ fn append_entry<F: hb_font_t, N: glyph_names>(
 }
 
 /// Where the pen stands after a glyph.
-fn pen_after(flags: SerializeFlags, pen: Pen, position: &GlyphPosition) -> Pen
+pub(crate) fn pen_after(flags: SerializeFlags, pen: Pen, position: &GlyphPosition) -> Pen
     ensures { result ≡ pen_after flags.0 pen position.now }
 {
     if flags.asks(SerializeFlags::NO_ADVANCES) {
@@ -302,8 +302,34 @@ fn append_glyphs<F: hb_font_t, N: glyph_names>(
     Ok(())
 }
 
-/// The glyphs as text, as `hb-shape` writes them: an empty text for no glyphs, which takes no memory. Refuses only if a
-/// growth of that text was refused.
+/// Glyphs at these positions as text, as `hb-shape` writes them: an empty text for no glyphs, which takes no memory.
+/// Boxes are the face's. Refuses only if a growth of that text was refused.
+pub fn serialize_placed<F: hb_font_t, N: glyph_names>(
+    alloc: Global,
+    infos: &[hb_glyph_info_t],
+    positions: &[GlyphPosition],
+    face: &F,
+    names: &N,
+    flags: SerializeFlags,
+) -> Result<String, AllocError>
+    requires { length positions.now ≡ length infos.now }
+    ensures text { IfOk result (λ text. string_bytes text ≡ serialized (record {
+      flags = flags.0;
+      name = N.name names.now;
+      extents = (F.face face.now).extents;
+    }) infos.now positions.now) }
+    ensures empty { infos.now ≡ [] → IsOk result }
+{
+    let mut out = String::new(alloc);
+    if infos.is_empty() {
+        return Ok(out);
+    }
+    append_glyphs(&mut out, flags, face, names, infos, positions)?;
+    Ok(out)
+}
+
+/// The glyphs of a run as text, as [`serialize_placed`] writes them where they stand. Refuses only if a growth of that
+/// text was refused.
 pub fn serialize<F: hb_font_t, N: glyph_names>(
     alloc: Global,
     glyphs: &GlyphBuffer,
@@ -318,17 +344,6 @@ pub fn serialize<F: hb_font_t, N: glyph_names>(
     }) glyphs.now.items glyphs.now.positions) }
     ensures empty { glyphs.now.items ≡ [] → IsOk result }
 {
-    let mut out = String::new(alloc);
-    if glyphs.is_empty() {
-        return Ok(out);
-    }
-    append_glyphs(
-        &mut out,
-        flags,
-        face,
-        names,
-        glyphs.glyph_infos(),
-        glyphs.glyph_positions(),
-    )?;
-    Ok(out)
+    let infos = glyphs.glyph_infos();
+    serialize_placed(alloc, infos, glyphs.glyph_positions(), face, names, flags)
 }

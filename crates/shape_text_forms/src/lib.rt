@@ -11,11 +11,14 @@
 #![allow(non_camel_case_types)]
 
 pub mod feature;
+pub mod font_names;
+pub mod glyph_json;
 pub mod glyph_text;
 pub mod names;
 pub mod scan;
 pub mod worked;
 
 pub use feature::feature_from_string;
-pub use glyph_text::{NoNames, SerializeFlags, glyph_names, serialize};
+pub use glyph_json::{serialize_json, serialize_placed_json};
+pub use glyph_text::{NoNames, SerializeFlags, glyph_names, serialize, serialize_placed};
 pub use names::{direction_from_string, language_from_string, script_from_string, tag_from_string};

@@ -26,6 +26,61 @@ part len coverage said = 0 ∷ 0 ∷ 0 ∷ len ∷ 0 ∷ coverage ∷ 0 ∷ said
 abbrev pub table : ℕ → ℕ → List ℕ
 table count coverage = 0 ∷ 0 ∷ 0 ∷ count ∷ part 26 coverage 2
 
+-- a part of format 2 whose rows for glyphs 2 and 3 stand so far from its start, 30 and 34 if they are in the array; right glyph 2
+-- has the column at 0, right glyph 3 the one that is given
+abbrev pub classes_with : ℕ → ℕ → ℕ → List ℕ
+classes_with row_of_2 row_of_3 column_of_3 = 0 ∷ 0 ∷ 0 ∷ 38 ∷ 2 ∷ 1 ∷ 0 ∷ 4 ∷ 0 ∷ 14 ∷ 0 ∷ 22 ∷ 0 ∷ 30
+    ∷ 0 ∷ 2 ∷ 0 ∷ 2 ∷ 0 ∷ row_of_2 ∷ 0 ∷ row_of_3
+    ∷ 0 ∷ 2 ∷ 0 ∷ 2 ∷ 0 ∷ 0 ∷ 0 ∷ column_of_3
+    ∷ 0 ∷ 0 ∷ 0xFF ∷ 0xCE ∷ 0xFF ∷ 0xDD ∷ 0 ∷ 7 ∷ []
+
+-- the first row has 0 and -50, the second one -35 and 7
+abbrev pub classes : ℕ → ℕ → List ℕ
+classes row_of_2 row_of_3 = classes_with row_of_2 row_of_3 2
+
+abbrev pub class_table : ℕ → ℕ → List ℕ
+class_table row_of_2 row_of_3 = 0 ∷ 0 ∷ 0 ∷ 1 ∷ classes row_of_2 row_of_3
+
+pub record WorkedClasses : Type 0 where
+  pub first_row : value_of (class_table 30 34) 4 2 3 ≡ negsuc 49
+  pub second_row : value_of (class_table 30 34) 4 3 2 ≡ negsuc 34
+  pub last : value_of (class_table 30 34) 4 3 3 ≡ pos 7
+  pub left_of_no_class : value_of (class_table 30 34) 4 4 3 ≡ pos 0
+  pub right_of_no_class : value_of (class_table 30 34) 4 2 4 ≡ pos 0
+  pub before_the_first_glyph : value_of (class_table 30 34) 4 1 3 ≡ pos 0
+  pub past_all_glyphs : value_of (class_table 30 34) 4 65538 3 ≡ pos 0
+  pub both_in_one_row : value_of (class_table 34 34) 4 2 3 ≡ pos 7
+  -- 28 and 2 lead to the first value, 27 and 2 before it
+  pub before_the_row : value_of (class_table 28 34) 4 2 3 ≡ pos 0
+  pub before_the_array : value_of (class_table 27 34) 4 2 3 ≡ pos 0
+  -- 33 bytes are one value and a half after 30
+  pub odd : value_of (class_table 33 34) 4 2 2 ≡ negsuc 49
+  -- 35 bytes would be -35
+  pub class_1_is_none : value_of (0 ∷ 0 ∷ 0 ∷ 1 ∷ classes_with 30 34 1) 4 3 3 ≡ pos 0
+  pub past_the_table : value_of (class_table 30 200) 4 3 3 ≡ pos 0
+  pub of_this_line : is_read (class_table 30 34) 4 true ≡ true
+  pub of_the_other_line : is_read (class_table 30 34) 4 false ≡ false
+
+pub worked_classes : WorkedClasses
+unfolding i16_of
+worked_classes = record {
+  first_row = refl;
+  second_row = refl;
+  last = refl;
+  left_of_no_class = refl;
+  right_of_no_class = refl;
+  before_the_first_glyph = refl;
+  past_all_glyphs = refl;
+  both_in_one_row = refl;
+  before_the_row = refl;
+  before_the_array = refl;
+  odd = refl;
+  class_1_is_none = refl;
+  past_the_table = refl;
+  of_this_line = refl;
+  of_the_other_line = refl;
+}
+
 pub record WorkedValues : Type 0 where
   pub first : value_of (table 1 1) 4 2 3 ≡ negsuc 49
   pub second : value_of (table 1 1) 4 3 2 ≡ negsuc 34
@@ -39,7 +94,7 @@ pub record WorkedValues : Type 0 where
   pub not_across_it : is_read (table 1 5) 4 true ≡ false
   pub not_in_the_other_line : is_read (table 1 1) 4 false ≡ false
   pub vertical : is_read (table 1 0) 4 false ≡ true
-  pub other_format : is_read (0 ∷ 0 ∷ 0 ∷ 1 ∷ 0 ∷ 0 ∷ 0 ∷ 14 ∷ 2 ∷ 1 ∷ []) 4 true ≡ false
+  pub other_format : is_read (0 ∷ 0 ∷ 0 ∷ 1 ∷ 0 ∷ 0 ∷ 0 ∷ 14 ∷ 3 ∷ 1 ∷ []) 4 true ≡ false
   pub parts : parts_of (table 3 1) ≡ 3
   pub other_version : parts_of (0 ∷ 1 ∷ 0 ∷ 0 ∷ 0 ∷ 0 ∷ 0 ∷ 1 ∷ []) ≡ 0
   pub minimum_too : is_read (table 1 3) 4 true ≡ true
@@ -142,8 +197,12 @@ pub record WorkedLines : Type 0 where
       ≡ (pos 550, pos 0) ∷ (pos 550, negsuc 49) ∷ []
   pub short_part : along (table_kerned (0 ∷ 0 ∷ 0 ∷ 1 ∷ part 5 1 2) 16 (line LeftToRight (on 2 0 ∷ on 3 1 ∷ []))) ≡ still ∷ still ∷ []
   pub no_mask : along (table_kerned (table 1 1) 0 (line LeftToRight (on 2 0 ∷ on 3 1 ∷ []))) ≡ still ∷ still ∷ []
+  pub by_classes : along (table_kerned (class_table 30 34) 16 (line LeftToRight (on 2 0 ∷ on 3 1 ∷ on 2 2 ∷ [])))
+      ≡ (pos 575, pos 0) ∷ (pos 557, negsuc 24) ∷ (pos 583, negsuc 16) ∷ []
+  pub by_pairs_and_by_classes : along (table_kerned (table 2 1 ++ classes 30 34) 16 (line LeftToRight (on 2 0 ∷ on 3 1 ∷ [])))
+      ≡ (pos 550, pos 0) ∷ (pos 550, negsuc 49) ∷ []
   -- six bytes of another format, and a part after them
-  pub after_a_short_part : along (table_kerned (0 ∷ 0 ∷ 0 ∷ 2 ∷ 0 ∷ 0 ∷ 0 ∷ 6 ∷ 2 ∷ 1 ∷ part 26 1 2) 16
+  pub after_a_short_part : along (table_kerned (0 ∷ 0 ∷ 0 ∷ 2 ∷ 0 ∷ 0 ∷ 0 ∷ 6 ∷ 1 ∷ 1 ∷ part 26 1 2) 16
       (line LeftToRight (on 2 0 ∷ on 3 1 ∷ []))) ≡ (pos 575, pos 0) ∷ (pos 575, negsuc 24) ∷ []
   pub over_a_mark_of_two_classes : along (by_part (on 2 0 ∷ in_classes 10 0 ∷ on 3 1 ∷ []))
       ≡ (pos 575, pos 0) ∷ still ∷ (pos 575, negsuc 24) ∷ []
@@ -173,6 +232,8 @@ worked_lines = record {
   two_parts = refl;
   short_part = refl;
   no_mask = refl;
+  by_classes = refl;
+  by_pairs_and_by_classes = refl;
   after_a_short_part = refl;
   over_a_mark_of_two_classes = refl;
 }

@@ -5,7 +5,7 @@ use Rattle.shape_items.specs.Buffer.{Buffer}
 use Rattle.shape_items.specs.Clusters.{merge}
 use Rattle.shape_items.specs.Items.{Item, new_properties}
 use Rattle.layout_matching.specs.declared.lookup.Lookup.{Lookup}
-use Rattle.layout_substitution.specs.Replaced.{is_multiplied}
+use Rattle.layout_substitution.specs.Replaced.{is_multiplied, as_ligature}
 use Rattle.layout_context.specs.Worked.Lookups.{words, three_for_one, ligatures, on, glyph, mark, glyphs, after}
 
 -- a table with a header and two lookups; the first stands at place 16, and the second, which makes 30 31 32 of 5, so many bytes
@@ -29,9 +29,11 @@ chained_lists = with_second 52 (6 ∷ 0 ∷ 1 ∷ 8 ∷ 3 ∷ 1 ∷ 20 ∷ 1 ∷
 abbrev pub one_set : List ℕ
 one_set = words (1 ∷ 2 ∷ 0 ∷ 0 ∷ 0 ∷ 0 ∷ 14 ∷ 1 ∷ 1 ∷ 0 ∷ 8 ∷ 1 ∷ 1 ∷ 9 ∷ [])
 
--- GDEF: mark 9 is of mark attachment class 1, mark 10 of class 2
-abbrev pub two_classes : List ℕ
-two_classes = words (1 ∷ 0 ∷ 0 ∷ 0 ∷ 0 ∷ 12 ∷ 1 ∷ 9 ∷ 2 ∷ 1 ∷ 2 ∷ [])
+-- a mark of a mark attachment class
+abbrev pub classed_mark : ℕ → ℕ → ℕ → Item
+classed_mark g class cluster = record (mark g cluster) {
+  properties = record (mark g cluster).properties { mark_attachment_class = class };
+}
 
 abbrev pub in_syllable : ℕ → Item → Item
 in_syllable s item = record item { properties = record new_properties { syllable = s } }
@@ -101,25 +103,30 @@ worked_chains_elsewhere = record {
 
 pub record WorkedMarkSets : Type 0 where
   pub mark_of_the_set : HoldsOf ligatures one_set (λ l. glyphs (after (on l 0 16) (glyph 5 0 ∷ mark 9 1 ∷ glyph 6 2 ∷ [])) ≡ 5 ∷ 9 ∷ 6 ∷ [])
-  pub mark_out_of_the_set : HoldsOf ligatures one_set (λ l. glyphs (after (on l 0 16) (glyph 5 0 ∷ mark 10 1 ∷ glyph 6 2 ∷ [])) ≡ 51 ∷ 10 ∷ [])
+  pub mark_out_of_the_set : HoldsOf ligatures one_set (λ l. glyphs
+      (after (on l 0 16) (glyph 5 0 ∷ mark 10 1 ∷ glyph 6 2 ∷ [])) ≡ 51 ∷ 10 ∷ [])
 
 pub worked_mark_sets : WorkedMarkSets
-unfolding merge
+unfolding merge as_ligature
 worked_mark_sets = record {
   mark_of_the_set = λ l t g. rw (t, g) refl;
   mark_out_of_the_set = λ l t g. rw (t, g) refl;
 }
 
 pub record WorkedMarkClasses : Type 0 where
-  pub mark_of_the_class : HoldsOf ligatures two_classes (λ l. glyphs (after (on l 0 256) (glyph 5 0 ∷ mark 9 1 ∷ glyph 6 2 ∷ [])) ≡ 5 ∷ 9 ∷ 6 ∷ [])
-  pub mark_of_another_class : HoldsOf ligatures two_classes
-      (λ l. glyphs (after (on l 0 256) (glyph 5 0 ∷ mark 10 1 ∷ glyph 6 2 ∷ [])) ≡ 51 ∷ 10 ∷ [])
+  pub mark_of_the_class : HoldsOf ligatures []
+      (λ l. glyphs (after (on l 0 256) (glyph 5 0 ∷ classed_mark 9 1 1 ∷ glyph 6 2 ∷ [])) ≡ 5 ∷ 9 ∷ 6 ∷ [])
+  pub mark_of_another_class : HoldsOf ligatures []
+      (λ l. glyphs (after (on l 0 256) (glyph 5 0 ∷ classed_mark 10 2 1 ∷ glyph 6 2 ∷ [])) ≡ 51 ∷ 10 ∷ [])
+  pub mark_of_no_class : HoldsOf ligatures []
+      (λ l. glyphs (after (on l 0 256) (glyph 5 0 ∷ mark 9 1 ∷ glyph 6 2 ∷ [])) ≡ 51 ∷ 9 ∷ [])
 
 pub worked_mark_classes : WorkedMarkClasses
-unfolding merge
+unfolding merge as_ligature
 worked_mark_classes = record {
-  mark_of_the_class = λ l t g. rw (t, g) refl;
+  mark_of_the_class = λ l t g. rw t refl;
   mark_of_another_class = λ l t g. rw (t, g) refl;
+  mark_of_no_class = λ l t g. rw (t, g) refl;
 }
 
 pub record WorkedSyllables : Type 0 where
@@ -129,7 +136,7 @@ pub record WorkedSyllables : Type 0 where
       (λ l. glyphs (after (per_syllable (on l 0 0)) (in_syllable 1 (glyph 5 0) ∷ in_syllable 2 (glyph 6 1) ∷ [])) ≡ 5 ∷ 6 ∷ [])
 
 pub worked_syllables : WorkedSyllables
-unfolding merge
+unfolding merge as_ligature
 worked_syllables = record {
   in_one_syllable = λ l t g. rw (t, g) refl;
   in_two_syllables = λ l t g. rw t refl;
@@ -141,7 +148,7 @@ pub record WorkedComponents : Type 0 where
       (λ l. components_of (after (on l 0 8) (glyph 5 0 ∷ mark 9 1 ∷ glyph 6 2 ∷ mark 9 3 ∷ [])) ≡ 0 ∷ 1 ∷ 0 ∷ [])
 
 pub worked_components : WorkedComponents
-unfolding merge
+unfolding merge as_ligature
 worked_components = record {
   mark_of_a_ligature = λ l t g. rw (t, g) refl;
   mark_on_the_first_component = λ l t g. rw (t, g) refl;

@@ -5,7 +5,7 @@ use Rattle.shape_items.specs.Clusters.{merge}
 use Rattle.shape_items.specs.Items.{Item, new_item, new_properties}
 use Rattle.shape_common.specs.Positions.{zero_position}
 use Rattle.layout_matching.specs.declared.lookup.Lookup.{Lookup}
-use Rattle.layout_substitution.specs.Replaced.{is_multiplied}
+use Rattle.layout_substitution.specs.Replaced.{is_multiplied, as_ligature}
 use Rattle.layout_context.specs.Stages.{Walk, looked_up}
 
 abbrev pub words : List ℕ → List ℕ
@@ -92,7 +92,8 @@ clusters_of b = map (λ (x : Item). x.cluster) b.items
 
 -- after the lookup has gone over the list, with so many nested lookups left
 abbrev pub after_with : ℕ → Lookup → List Item → Buffer
-after_with left l items = (looked_up 3 l (record { buffer = list items; spot = record { at = 0; serial = 0; left = left; whole = 0 } })).buffer
+after_with left l items = (looked_up 3 l (record { buffer = list items; spot =
+    record { at = 0; random = 1; left = left; whole = 0 } })).buffer
 
 abbrev pub after : Lookup → List Item → Buffer
 after l items = after_with 9 l items
@@ -126,7 +127,7 @@ pub record WorkedLookups : Type 0 where
   pub from_the_end : Holds backwards (λ l. glyphs (after (on l 0 0) (glyph 9 0 ∷ glyph 5 1 ∷ glyph 5 2 ∷ [])) ≡ 9 ∷ 60 ∷ 5 ∷ [])
 
 pub worked_lookups : WorkedLookups
-unfolding merge is_multiplied
+unfolding merge is_multiplied as_ligature
 worked_lookups = record {
   distance = λ l t g. rw (t, g) refl;
   one_for_one = λ l t g. rw (t, g) refl;

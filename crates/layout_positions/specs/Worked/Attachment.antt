@@ -1,13 +1,13 @@
 -- Glyphs that follow others, on positions that were read by hand.
-use Rattle.std.specs.Prelude.{◌≡◌, ℕ, ℤ, pos, negsuc, List, [], ◌∷◌, map, Some, None, refl}
+use Rattle.std.specs.Prelude.{◌≡◌, ℤ, pos, negsuc, List, [], ◌∷◌, map, Some, None, refl}
 use Rattle.std.specs.Int.{int_wrap}
 use Rattle.shape_common.specs.Wrapping.{◌+ʷ◌, ◌-ʷ◌, neg_w}
 use Rattle.shape_common.specs.Positions.{zero_position}
 use Rattle.shape_common.specs.declared.positions.GlyphPosition.{GlyphPosition}
 use Rattle.shape_common.specs.declared.text_types.Direction.{Direction}
-use Rattle.shape_common.specs.declared.text_types.Direction.TheVariants.{LeftToRight, RightToLeft, TopToBottom, BottomToTop}
+use Rattle.shape_common.specs.declared.text_types.Direction.TheVariants.{LeftToRight, RightToLeft, TopToBottom}
 use Rattle.shape_items.specs.Buffer.{Buffer, new_buffer}
-use Rattle.shape_items.specs.Items.{Item, new_item}
+use Rattle.shape_items.specs.Items.{new_item}
 use Rattle.layout_positions.specs.Attachment.{chain_to, place_at, offsets_finished}
 use Rattle.layout_positions.specs.Turning.{attached}
 use Rattle.layout_positions.specs.Worked.Lines.{offsets, chains}
@@ -59,7 +59,8 @@ pub record WorkedAttachment : Type 0 where
   pub mark_on_a_cursive_glyph : finished LeftToRight
       (at (pos 0) (pos 100) (pos 600) ∷ joins (pos 0) (pos 10) (negsuc 0) ∷ hangs (pos 290) (pos 5) (pos 0) (negsuc 0) ∷ [])
       ≡ (pos 0, pos 100) ∷ (pos 0, pos 110) ∷ (negsuc 309, pos 115) ∷ []
-  pub round : finished RightToLeft (joins (pos 0) (pos 1) (pos 1) ∷ joins (pos 0) (pos 10) (negsuc 0) ∷ []) ≡ (pos 0, pos 12) ∷ (pos 0, pos 11) ∷ []
+  pub round : finished RightToLeft (joins (pos 0) (pos 1) (pos 1) ∷ joins (pos 0) (pos 10) (negsuc 0) ∷ [])
+      ≡ (pos 0, pos 12) ∷ (pos 0, pos 11) ∷ []
   pub out_of_the_list : finished RightToLeft (joins (pos 0) (pos 1) (pos 9) ∷ []) ≡ (pos 0, pos 1) ∷ []
   pub no_more_attached : chains (offsets_finished (placed RightToLeft (joins (pos 0) (pos 1) (pos 1) ∷ at (pos 0) (pos 30) (pos 600) ∷ [])))
       ≡ pos 0 ∷ pos 0 ∷ []

@@ -1,12 +1,10 @@
 -- Cursive attachment, on a subtable that was read by hand.
-use Rattle.std.specs.Prelude.{◌≡◌, ℕ, ℤ, pos, negsuc, List, [], ◌∷◌, map, Some, None, true, false, refl}
+use Rattle.std.specs.Prelude.{◌≡◌, ℕ, pos, negsuc, List, [], ◌∷◌, Some, None, refl}
 use Rattle.std.specs.Int.{int_wrap}
 use Rattle.shape_common.specs.Wrapping.{◌+ʷ◌, ◌-ʷ◌, neg_w}
-use Rattle.shape_common.specs.Positions.{zero_position}
 use Rattle.shape_common.specs.declared.text_types.Direction.{Direction}
 use Rattle.shape_common.specs.declared.text_types.Direction.TheVariants.{LeftToRight, RightToLeft, TopToBottom, BottomToTop}
 use Rattle.shape_font.specs.Bytes.{i16_of}
-use Rattle.shape_items.specs.Items.{Item}
 use Rattle.layout_matching.specs.declared.lookup.Lookup.{Lookup}
 use Rattle.layout_positions.specs.Cursive.{cursive_applied}
 use Rattle.layout_positions.specs.Lookups.{Applied}
@@ -25,7 +23,8 @@ pub record WorkedCursive : Type 0 where
   -- the advance of the first glyph reaches to its exit, and the second one begins at its entry
   pub to_the_right : (l : Lookup) → IsLookup l joins 0 → advances (joined l LeftToRight).buffer ≡ (pos 500, pos 0) ∷ (pos 580, pos 0) ∷ []
   -- and follows the first one, 30 below it
-  pub second_follows : (l : Lookup) → IsLookup l joins 0 → offsets (joined l LeftToRight).buffer ≡ (pos 0, pos 0) ∷ (negsuc 19, negsuc 29) ∷ []
+  pub second_follows : (l : Lookup) → IsLookup l joins 0
+      → offsets (joined l LeftToRight).buffer ≡ (pos 0, pos 0) ∷ (negsuc 19, negsuc 29) ∷ []
   pub linked_back : (l : Lookup) → IsLookup l joins 0 → chains (joined l LeftToRight).buffer ≡ pos 0 ∷ negsuc 0 ∷ []
   pub goes_on : (l : Lookup) → IsLookup l joins 0 → (joined l LeftToRight).next ≡ Some 2
   pub unsafe_between : (l : Lookup) → IsLookup l joins 0 → masks (joined l LeftToRight).buffer ≡ 16 ∷ 19 ∷ []
@@ -36,7 +35,8 @@ pub record WorkedCursive : Type 0 where
   -- the flag alone decides that, not the direction
   pub by_the_flag : (l : Lookup) → IsLookup l joins 1 → chains (joined l LeftToRight).buffer ≡ pos 1 ∷ pos 0 ∷ []
   pub downwards : (l : Lookup) → IsLookup l joins 0 → advances (joined l TopToBottom).buffer ≡ (pos 600, pos 50) ∷ (pos 600, negsuc 79) ∷ []
-  pub downwards_across : (l : Lookup) → IsLookup l joins 0 → offsets (joined l TopToBottom).buffer ≡ (pos 0, pos 0) ∷ (pos 480, negsuc 79) ∷ []
+  pub downwards_across : (l : Lookup) → IsLookup l joins 0
+      → offsets (joined l TopToBottom).buffer ≡ (pos 0, pos 0) ∷ (pos 480, negsuc 79) ∷ []
   pub upwards : (l : Lookup) → IsLookup l joins 0 → advances (joined l BottomToTop).buffer ≡ (pos 600, negsuc 49) ∷ (pos 600, pos 80) ∷ []
   pub no_exit : (l : Lookup) → IsLookup l joins 0 → (cursive_applied l 0 1 (line LeftToRight (base 3 0 ∷ base 3 1 ∷ []))).next ≡ None
   pub no_entry : (l : Lookup) → IsLookup l joins 0 → (cursive_applied l 0 1 (line LeftToRight (base 2 0 ∷ base 2 1 ∷ []))).next ≡ None

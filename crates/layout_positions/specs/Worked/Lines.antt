@@ -1,5 +1,5 @@
 -- Glyphs of the worked cases, and what is read of a buffer.
-use Rattle.std.specs.Prelude.{ℕ, ℤ, true, pos, List, [], ◌∷◌, map}
+use Rattle.std.specs.Prelude.{ℕ, ℤ, true, pos, List, map}
 use Rattle.shape_common.specs.Positions.{zero_position}
 use Rattle.shape_common.specs.declared.positions.GlyphPosition.{GlyphPosition}
 use Rattle.shape_common.specs.declared.text_types.Direction.{Direction}

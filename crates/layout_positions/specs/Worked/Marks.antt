@@ -1,5 +1,5 @@
 -- Marks attached to bases, ligatures and marks, on subtables that were read by hand.
-use Rattle.std.specs.Prelude.{◌≡◌, ℕ, ℤ, pos, negsuc, List, [], ◌∷◌, ◌++◌, Option, Some, None, true, false, length, refl}
+use Rattle.std.specs.Prelude.{◌≡◌, ℕ, pos, negsuc, List, [], ◌∷◌, ◌++◌, Option, Some, None, false, length, refl}
 use Rattle.shape_common.specs.Wrapping.{◌-ʷ◌}
 use Rattle.std.specs.Int.{int_wrap}
 use Rattle.shape_common.specs.declared.text_types.Direction.TheVariants.{LeftToRight}
@@ -8,7 +8,7 @@ use Rattle.shape_items.specs.Items.{Item}
 use Rattle.layout_tables.specs.declared.lookups.LookupSubtable.{LookupSubtable}
 use Rattle.layout_matching.specs.declared.lookup.Lookup.{Lookup}
 use Rattle.layout_positions.specs.Lookups.{Applied}
-use Rattle.layout_positions.specs.Marks.{base_of, component_of, are_together, mark_base_applied, mark_ligature_applied, mark_mark_applied}
+use Rattle.layout_positions.specs.Marks.{base_of, mark_base_applied, mark_ligature_applied, mark_mark_applied}
 use Rattle.layout_positions.specs.Walk.{none_seen}
 use Rattle.layout_positions.specs.Worked.Lines.{base, mark, ligature, mark_on, part_of, ignorable, line, offsets, chains, masks}
 use Rattle.layout_positions.specs.Worked.Pairs.{IsLookup}
@@ -36,7 +36,8 @@ on_mark l x y = mark_mark_applied l 0 1 (line LeftToRight (x ∷ y ∷ []))
 pub record WorkedMarks : Type 0 where
   pub anchors_meet : (l : Lookup) → IsLookup l on_bases 0
       → offsets (on_base l (base 2 0 ∷ mark 8 0 ∷ [])).buffer ≡ (pos 0, pos 0) ∷ (pos 290, pos 480) ∷ []
-  pub attached_to_the_base : (l : Lookup) → IsLookup l on_bases 0 → chains (on_base l (base 2 0 ∷ mark 8 0 ∷ [])).buffer ≡ pos 0 ∷ negsuc 0 ∷ []
+  pub attached_to_the_base : (l : Lookup) → IsLookup l on_bases 0
+      → chains (on_base l (base 2 0 ∷ mark 8 0 ∷ [])).buffer ≡ pos 0 ∷ negsuc 0 ∷ []
   pub goes_on : (l : Lookup) → IsLookup l on_bases 0 → (on_base l (base 2 0 ∷ mark 8 0 ∷ [])).next ≡ Some 2
   pub unsafe_between : (l : Lookup) → IsLookup l on_bases 0 → masks (on_base l (base 2 0 ∷ mark 8 1 ∷ [])).buffer ≡ 16 ∷ 19 ∷ []
   pub other_base : (l : Lookup) → IsLookup l on_bases 0 → (on_base l (base 3 0 ∷ mark 8 0 ∷ [])).next ≡ None
@@ -148,13 +149,19 @@ worked_parts = record {
 -- ---- components, and marks on marks
 
 pub record WorkedComponents : Type 0 where
-  pub first : (l : Lookup) → IsLookup l on_ligatures 0 → offsets (on_ligature l (mark_on 8 5 1 0)).buffer ≡ (pos 0, pos 0) ∷ (pos 90, pos 0) ∷ []
-  pub second : (l : Lookup) → IsLookup l on_ligatures 0 → offsets (on_ligature l (mark_on 8 5 2 0)).buffer ≡ (pos 0, pos 0) ∷ (pos 190, pos 0) ∷ []
-  pub third : (l : Lookup) → IsLookup l on_ligatures 0 → offsets (on_ligature l (mark_on 8 5 3 0)).buffer ≡ (pos 0, pos 0) ∷ (pos 290, pos 0) ∷ []
+  pub first : (l : Lookup) → IsLookup l on_ligatures 0
+      → offsets (on_ligature l (mark_on 8 5 1 0)).buffer ≡ (pos 0, pos 0) ∷ (pos 90, pos 0) ∷ []
+  pub second : (l : Lookup) → IsLookup l on_ligatures 0
+      → offsets (on_ligature l (mark_on 8 5 2 0)).buffer ≡ (pos 0, pos 0) ∷ (pos 190, pos 0) ∷ []
+  pub third : (l : Lookup) → IsLookup l on_ligatures 0
+      → offsets (on_ligature l (mark_on 8 5 3 0)).buffer ≡ (pos 0, pos 0) ∷ (pos 290, pos 0) ∷ []
   -- a mark past the components, of another ligature, or that came after, stands on the last one
-  pub past_them : (l : Lookup) → IsLookup l on_ligatures 0 → offsets (on_ligature l (mark_on 8 5 4 0)).buffer ≡ (pos 0, pos 0) ∷ (pos 290, pos 0) ∷ []
-  pub of_another : (l : Lookup) → IsLookup l on_ligatures 0 → offsets (on_ligature l (mark_on 8 6 1 0)).buffer ≡ (pos 0, pos 0) ∷ (pos 290, pos 0) ∷ []
-  pub after_it : (l : Lookup) → IsLookup l on_ligatures 0 → offsets (on_ligature l (mark 8 0)).buffer ≡ (pos 0, pos 0) ∷ (pos 290, pos 0) ∷ []
+  pub past_them : (l : Lookup) → IsLookup l on_ligatures 0
+      → offsets (on_ligature l (mark_on 8 5 4 0)).buffer ≡ (pos 0, pos 0) ∷ (pos 290, pos 0) ∷ []
+  pub of_another : (l : Lookup) → IsLookup l on_ligatures 0
+      → offsets (on_ligature l (mark_on 8 6 1 0)).buffer ≡ (pos 0, pos 0) ∷ (pos 290, pos 0) ∷ []
+  pub after_it : (l : Lookup) → IsLookup l on_ligatures 0
+      → offsets (on_ligature l (mark 8 0)).buffer ≡ (pos 0, pos 0) ∷ (pos 290, pos 0) ∷ []
   pub on_the_mark_before : (l : Lookup) → IsLookup l on_bases 0
       → offsets (on_mark l (mark 2 0) (mark 8 0)).buffer ≡ (pos 0, pos 0) ∷ (pos 290, pos 480) ∷ []
   pub not_on_a_base : (l : Lookup) → IsLookup l on_bases 0 → (on_mark l (base 2 0) (mark 8 0)).next ≡ None

@@ -1,6 +1,5 @@
 -- Single and pair adjustment, on subtables that were read by hand.
 use Rattle.std.specs.Prelude.{◌≡◌, ℕ, ℤ, pos, negsuc, List, [], ◌∷◌, ◌++◌, Some, None, true, false, refl}
-use Rattle.std.specs.Option.{option_map}
 use Rattle.std.specs.Int.{int_wrap}
 use Rattle.std.specs.Int.Count.{ones}
 use Rattle.shape_common.specs.Wrapping.{◌+ʷ◌, ◌-ʷ◌}
@@ -11,7 +10,6 @@ use Rattle.layout_matching.specs.declared.lookup.Lookup.{Lookup}
 use Rattle.layout_positions.specs.Lookups.{Applied}
 use Rattle.layout_positions.specs.Pairs.{single_of, single_applied, pair_of, pair_applied}
 use Rattle.layout_positions.specs.Worked.Lines.{base, mark, ignorable, line, advances, offsets, masks}
-use Rattle.layout_positions.specs.declared.pairs.PairValues.{PairValues}
 use Rattle.layout_positions.specs.declared.values.Adjustment.{Adjustment}
 
 -- a list of glyphs 2 and 3
@@ -47,13 +45,15 @@ pairs_two = 0 ∷ 2 ∷ 0 ∷ 24 ∷ 0 ∷ 4 ∷ 0 ∷ 0 ∷ 0 ∷ 32 ∷ 0 ∷ 
     ∷ (list ++ (0 ∷ 1 ∷ 0 ∷ 3 ∷ 0 ∷ 1 ∷ 0 ∷ 1 ∷ 0 ∷ 1 ∷ 0 ∷ 5 ∷ 0 ∷ 1 ∷ 0 ∷ 1 ∷ []))
 
 pub record WorkedTables : Type 0 where
-  pub same_for_all : single_of single_one 0 3 ≡ Some (record { x_placement = pos 10; y_placement = pos 0; x_advance = negsuc 49; y_advance = pos 0 })
+  pub same_for_all : single_of single_one 0 3
+      ≡ Some (record { x_placement = pos 10; y_placement = pos 0; x_advance = negsuc 49; y_advance = pos 0 })
   pub not_covered : single_of single_one 0 4 ≡ None
   pub one_for_each : single_of single_two 0 3 ≡ Some (upwards (pos 20))
   pub past_the_records : single_of single_two 0 4 ≡ None
   pub listed : pair_of pairs_one 0 0 2 3 ≡ Some (record { first = wider (negsuc 49); second = wider (pos 0); has_second = false })
   pub listed_after_it : pair_of pairs_one 0 0 2 5 ≡ Some (record { first = wider (negsuc 59); second = wider (pos 0); has_second = false })
-  pub listed_in_the_second_set : pair_of pairs_one 0 1 3 3 ≡ Some (record { first = wider (negsuc 69); second = wider (pos 0); has_second = false })
+  pub listed_in_the_second_set : pair_of pairs_one 0 1 3 3
+      ≡ Some (record { first = wider (negsuc 69); second = wider (pos 0); has_second = false })
   pub not_listed : pair_of pairs_one 0 0 2 4 ≡ None
   pub past_the_sets : pair_of pairs_one 0 2 4 3 ≡ None
   pub second_record : pair_of pairs_both 0 0 2 3 ≡ Some (record {
@@ -108,7 +108,8 @@ pub record WorkedLines : Type 0 where
   pub goes_on_at_the_second : (l : Lookup) → IsLookup l pairs_one 0 → (pair_by l (base 2 0 ∷ base 3 1 ∷ [])).next ≡ Some 1
   pub over_an_ignorable : (l : Lookup) → IsLookup l pairs_one 0
       → advances (pair_by l (base 2 0 ∷ ignorable 0 ∷ base 3 1 ∷ [])).buffer ≡ (pos 550, pos 0) ∷ (pos 600, pos 0) ∷ (pos 600, pos 0) ∷ []
-  pub unsafe_between : (l : Lookup) → IsLookup l pairs_one 0 → masks (pair_by l (base 2 0 ∷ base 3 1 ∷ base 7 2 ∷ [])).buffer ≡ 16 ∷ 19 ∷ 16 ∷ []
+  pub unsafe_between : (l : Lookup) → IsLookup l pairs_one 0
+      → masks (pair_by l (base 2 0 ∷ base 3 1 ∷ base 7 2 ∷ [])).buffer ≡ 16 ∷ 19 ∷ 16 ∷ []
   pub not_over_a_mark : (l : Lookup) → IsLookup l pairs_one 0 → (pair_by l (base 2 0 ∷ mark 8 0 ∷ base 3 1 ∷ [])).next ≡ None
   pub over_a_mark_by_the_flag : (l : Lookup) → IsLookup l pairs_one 8
       → (pair_by l (base 2 0 ∷ mark 8 0 ∷ base 3 1 ∷ [])).next ≡ Some 2

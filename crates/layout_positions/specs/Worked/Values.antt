@@ -6,7 +6,7 @@ use Rattle.shape_common.specs.Positions.{zero_position}
 use Rattle.shape_common.specs.Wrapping.{◌+ʷ◌, ◌-ʷ◌}
 use Rattle.shape_font.specs.Bytes.{i16_of}
 use Rattle.layout_positions.specs.Anchors.{anchor_at, anchor_by, anchor_in, class_of_mark, anchor_of_mark, number_at}
-use Rattle.layout_positions.specs.Values.{value_size, value_at, adjusted, has_effect}
+use Rattle.layout_positions.specs.Values.{value_size, value_at, value_in, adjusted, has_effect}
 use Rattle.layout_positions.specs.declared.values.Adjustment.{Adjustment}
 
 abbrev adjustment : ℤ → ℤ → ℤ → ℤ → Adjustment
@@ -25,10 +25,14 @@ pub record WorkedValues : Type 0 where
   pub lower_bits_first : value_at numbers 10 0 ≡ adjustment (pos 0) (pos 10) (pos 0) (negsuc 19)
   pub devices_passed_over : value_at numbers 0xF5 0 ≡ adjustment (pos 10) (pos 0) (negsuc 19) (pos 0)
   pub past_the_end : value_at numbers 3 6 ≡ adjustment (negsuc 39) (pos 0) (pos 0) (pos 0)
-  pub along_a_horizontal_line : adjusted true (adjustment (pos 1) (pos 2) (pos 3) (pos 4)) (record zero_position { x_advance = pos 600; y_advance = pos 7 })
+  pub whole_record : value_in numbers 3 4 ≡ Some (adjustment (pos 30) (negsuc 39) (pos 0) (pos 0))
+  pub no_whole_record : value_in numbers 3 6 ≡ None
+  pub along_a_horizontal_line : adjusted true (adjustment (pos 1) (pos 2) (pos 3) (pos 4))
+      (record zero_position { x_advance = pos 600; y_advance = pos 7 })
       ≡ record zero_position { x_advance = pos 603; y_advance = pos 7; x_offset = pos 1; y_offset = pos 2 }
   -- down a vertical line advances are negative, so that a greater one grows down
-  pub down_a_vertical_line : adjusted false (adjustment (pos 1) (pos 2) (pos 3) (pos 4)) (record zero_position { x_advance = pos 600; y_advance = negsuc 999 })
+  pub down_a_vertical_line : adjusted false (adjustment (pos 1) (pos 2) (pos 3) (pos 4))
+      (record zero_position { x_advance = pos 600; y_advance = negsuc 999 })
       ≡ record zero_position { x_advance = pos 600; y_advance = negsuc 1003; x_offset = pos 1; y_offset = pos 2 }
   pub sums_wrap : adjusted true (adjustment (pos 0) (pos 0) (pos 1) (pos 0)) (record zero_position { x_advance = pos 2147483647 })
       ≡ record zero_position { x_advance = negsuc 2147483647 }
@@ -48,6 +52,8 @@ worked_values = record {
   lower_bits_first = refl;
   devices_passed_over = refl;
   past_the_end = refl;
+  whole_record = refl;
+  no_whole_record = refl;
   along_a_horizontal_line = refl;
   down_a_vertical_line = refl;
   sums_wrap = refl;
@@ -77,6 +83,10 @@ pub record WorkedAnchors : Type 0 where
   pub format_3 : anchor_at (anchor 3) 0 ≡ record { x = pos 100; y = negsuc 4 }
   pub other_format : anchor_at (anchor 4) 0 ≡ record { x = pos 0; y = pos 0 }
   pub no_offset : anchor_by (0 ∷ 0 ∷ anchor 1) 0 0 ≡ None
+  pub at_the_end : anchor_by (0 ∷ 2 ∷ anchor 1) 0 0 ≡ Some (record { x = pos 100; y = negsuc 4 })
+  -- formats 2 and 3 have a point of the outline, or two devices, after the coordinates
+  pub past_the_end : anchor_by (0 ∷ 2 ∷ anchor 2) 0 0 ≡ None
+  pub cut_short : anchor_by (0 ∷ 2 ∷ 0 ∷ 1 ∷ 0 ∷ 100 ∷ 0xFF ∷ []) 0 0 ≡ None
   pub in_the_matrix : anchor_in matrix 2 1 1 0 ≡ Some (record { x = pos 7; y = pos 8 })
   pub none_for_the_class : anchor_in matrix 2 1 0 0 ≡ None
   pub past_the_rows : anchor_in matrix 2 2 0 0 ≡ None
@@ -96,6 +106,9 @@ worked_anchors = record {
   format_3 = refl;
   other_format = refl;
   no_offset = refl;
+  at_the_end = refl;
+  past_the_end = refl;
+  cut_short = refl;
   in_the_matrix = refl;
   none_for_the_class = refl;
   past_the_rows = refl;

@@ -8,8 +8,8 @@ use Rattle.shape_font.specs.Bytes.{i16_of}
 use Rattle.shape_items.specs.Buffer.{Buffer}
 use Rattle.shape_items.specs.Items.{Item}
 use Rattle.layout_matching.specs.declared.lookup.Lookup.{Lookup}
-use Rattle.layout_positions.specs.Walk.{lookup_applied}
-use Rattle.layout_positions.specs.Worked.Lines.{base, mark, part_of, line, advances, offsets, chains}
+use Rattle.layout_positions.specs.Walk.{positioned}
+use Rattle.layout_positions.specs.Worked.Lines.{base, mark, part_of, line, advances, offsets, chains, masks}
 use Rattle.layout_positions.specs.Worked.Marks.{on_bases}
 use Rattle.layout_positions.specs.Worked.Pairs.{single_one, single_two, pairs_one, pairs_both, IsLookup}
 
@@ -30,7 +30,11 @@ in_context = 0 ∷ 1 ∷ 0 ∷ 0 ∷ 0 ∷ 0 ∷ 0 ∷ 0 ∷ 0 ∷ 10 ∷ 0 ∷ 
     0 ∷ 3 ∷ 0 ∷ 2 ∷ 0 ∷ 1 ∷ 0 ∷ 14 ∷ 0 ∷ 14 ∷ 0 ∷ 1 ∷ 0 ∷ 1 ∷ 0 ∷ 1 ∷ 0 ∷ 2 ∷ 0 ∷ 2 ∷ 0 ∷ 3 ∷ one_part 1 single_one)
 
 abbrev over : Lookup → List Item → Buffer
-over l items = lookup_applied (line LeftToRight items) l
+over l items = positioned (l ∷ []) (line LeftToRight items)
+
+-- what is unsafe to concat is asked for
+abbrev asking : List Item → Buffer
+asking items = record (line LeftToRight items) { flags = record { 0 = 64 } }
 
 -- the same glyph, for which the lookup is off
 abbrev off : ℕ → ℕ → Item
@@ -56,6 +60,11 @@ pub record WorkedWalk : Type 0 where
       → chains (over l (part_of 0 (base 3 0) ∷ part_of 1 (base 2 0) ∷ mark 8 0 ∷ [])) ≡ pos 0 ∷ pos 0 ∷ negsuc 0 ∷ []
   pub named_glyph_alone : (l : Lookup) → IsLookup l in_context 0 → l.place ≡ 16
       → offsets (over l (base 2 0 ∷ base 3 1 ∷ base 7 2 ∷ [])) ≡ still ∷ (pos 10, pos 0) ∷ still ∷ []
+  -- at 0 glyph 7 is looked at in vain, at 2 the end of the list
+  pub in_vain : (l : Lookup) → IsLookup l in_context 0 → l.place ≡ 16
+      → masks (positioned (l ∷ []) (asking (base 2 0 ∷ base 7 1 ∷ base 7 2 ∷ base 3 3 ∷ []))) ≡ 18 ∷ 18 ∷ 16 ∷ 18 ∷ []
+  pub in_vain_unasked : (l : Lookup) → IsLookup l in_context 0 → l.place ≡ 16
+      → masks (over l (base 2 0 ∷ base 7 1 ∷ base 7 2 ∷ base 3 3 ∷ [])) ≡ 16 ∷ 16 ∷ 16 ∷ 16 ∷ []
   pub out_of_context : (l : Lookup) → IsLookup l in_context 0 → l.place ≡ 16
       → offsets (over l (base 2 0 ∷ base 7 1 ∷ base 3 2 ∷ [])) ≡ still ∷ still ∷ still ∷ []
 
@@ -71,5 +80,7 @@ worked_walk = record {
   mark_on_the_first_part = λ l is p. rw (is.table, is.flags, is.mask, is.positioning, p) refl;
   mark_on_the_listed_part = λ l is p. rw (is.table, is.flags, is.mask, is.positioning, p) refl;
   named_glyph_alone = λ l is p. rw (is.table, is.flags, is.mask, is.positioning, is.syllables, p) refl;
+  in_vain = λ l is p. rw (is.table, is.flags, is.mask, is.positioning, is.syllables, p) refl;
+  in_vain_unasked = λ l is p. rw (is.table, is.flags, is.mask, is.positioning, is.syllables, p) refl;
   out_of_context = λ l is p. rw (is.table, is.flags, is.mask, is.positioning, is.syllables, p) refl;
 }

@@ -1,19 +1,19 @@
 -- Vertical lines, on tables that were read by hand.
 use Rattle.std.specs.Prelude.{◌≡◌, ℕ, pos, negsuc, List, [], ◌∷◌, ◌++◌, false, replicate, refl}
 use Rattle.shape_font.specs.Bytes.{i16_of}
-use Rattle.shape_font.specs.Metrics.{listed_origin, typographic, ascender_of, descender_of, half_down}
+use Rattle.shape_font.specs.Metrics.{listed_origin, typographic, ascender_of, descender_of, line_gap_of, half_down}
 use Rattle.shape_font.specs.Worked.Glyphs.{words}
 
 -- `VORG` that states so many records: origins at 880, except for glyph 3 at 900 and glyph 5 at -1
 abbrev pub origins : ℕ → List ℕ
 origins said = words (1 ∷ 0 ∷ 880 ∷ said ∷ 3 ∷ 900 ∷ 5 ∷ 65535 ∷ [])
 
--- `hhea`: 800 up, 200 down; `OS/2`: 700 up, 300 down, with these selections
+-- `hhea`: 800 up, 200 down, a gap of 90; `OS/2`: 700 up, 300 down, a gap of -1, with these selections
 abbrev pub plain_line : List ℕ
-plain_line = words (1 ∷ 0 ∷ 800 ∷ 65336 ∷ [])
+plain_line = words (1 ∷ 0 ∷ 800 ∷ 65336 ∷ 90 ∷ [])
 
 abbrev pub designed_line : ℕ → List ℕ
-designed_line selections = replicate 62 0 ++ words (selections ∷ 0 ∷ 0 ∷ 700 ∷ 65236 ∷ [])
+designed_line selections = replicate 62 0 ++ words (selections ∷ 0 ∷ 0 ∷ 700 ∷ 65236 ∷ 65535 ∷ [])
 
 pub record WorkedLines : Type 0 where
   pub first_record : listed_origin (origins 2) 3 ≡ pos 900
@@ -24,6 +24,9 @@ pub record WorkedLines : Type 0 where
   pub down : descender_of [] plain_line ≡ 200
   pub up_as_designed : ascender_of (designed_line 128) plain_line ≡ 700
   pub down_as_designed : descender_of (designed_line 128) plain_line ≡ 300
+  pub gap : line_gap_of [] plain_line ≡ pos 90
+  pub gap_as_designed : line_gap_of (designed_line 128) plain_line ≡ negsuc 0
+  pub no_gap : line_gap_of (designed_line 0) [] ≡ pos 0
   pub bit_7 : typographic (designed_line 0xFF7F) ≡ false
   pub up_with_any_sign : ascender_of [] (words (1 ∷ 0 ∷ 64736 ∷ [])) ≡ 800
   pub down_with_any_sign : descender_of [] (words (1 ∷ 0 ∷ 0 ∷ 200 ∷ [])) ≡ 200
@@ -44,6 +47,9 @@ worked_lines = record {
   down = refl;
   up_as_designed = refl;
   down_as_designed = refl;
+  gap = refl;
+  gap_as_designed = refl;
+  no_gap = refl;
   bit_7 = refl;
   up_with_any_sign = refl;
   down_with_any_sign = refl;

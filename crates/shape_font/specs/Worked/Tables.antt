@@ -3,7 +3,7 @@ use Rattle.std.specs.Prelude.{◌≡◌, ℕ, pos, negsuc, List, [], ◌∷◌, 
 use Rattle.shape_font.specs.Bytes.{u16_of, u32_of, i16_of, fitting}
 use Rattle.shape_font.specs.Directory.{font_start, slice_of, table_at, table_of, has_table, bytes_of}
 use Rattle.shape_font.specs.Subtables.{subtable_of, chosen_subtable, symbols_of}
-use Rattle.shape_font.specs.declared.face.TheConstants.{HEAD, HHEA, MAXP, HMTX, VHEA, VMTX, VORG, OS2, CMAP, LOCA, GLYF, GSUB, GPOS, MORX, KERX, TRAK, KERN, POST}
+use Rattle.shape_font.specs.declared.tags.TheConstants.{HEAD, HHEA, MAXP, HMTX, VHEA, VMTX, VORG, OS2, CMAP, LOCA, GLYF, GSUB, GPOS, MORX, KERX, TRAK, KERN, POST}
 
 pub record WorkedNumbers : Type 0 where
   pub two_bytes : u16_of (7 ∷ 1 ∷ 2 ∷ []) 1 ≡ 258

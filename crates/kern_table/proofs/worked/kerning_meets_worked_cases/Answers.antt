@@ -1,9 +1,12 @@
 use Rattle.kern_table.specs.Worked.Engine.{worked_engine}
-use Rattle.kern_table.specs.Worked.Kern.{worked_values, worked_lines, worked_maps}
+use Rattle.kern_table.specs.Worked.Kern.{worked_values, worked_classes, worked_lines, worked_maps}
 use Rattle.kern_table.proofs.worked.kerning_meets_worked_cases.Goals as goal
 
 pub returns-clause-values : goal.returns-clause-values
 returns-clause-values c = worked_values
+
+pub returns-clause-classes : goal.returns-clause-classes
+returns-clause-classes c = worked_classes
 
 pub returns-clause-lines : goal.returns-clause-lines
 returns-clause-lines c = worked_lines

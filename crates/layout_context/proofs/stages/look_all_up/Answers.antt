@@ -7,7 +7,8 @@ use Rattle.layout_context.proofs.stages.look_all_up.Goals as goal
 
 pub returns-in-Err-clause-length : goal.returns-in-Err-clause-length
 returns-in-Err-clause-length c =
-    let first : Walk = record { buffer = c.args.buffer.now; spot = record { at = 0; serial = 0; left = most_nested (length c.args.buffer.now.items); whole = 0 } } in
+    let first : Walk = record { buffer = c.args.buffer.now; spot =
+        record { at = 0; random = 1; left = most_nested (length c.args.buffer.now.items); whole = 0 } } in
     let here : Walk = record { buffer = c.loop-lookup.buffer; spot = c.loop-lookup.spot } in
     λ is. past_from c.args.levels c.args.lookups.now c.loop-lookup.lookup-index here first _ c.loop-lookup-test.true c.loop-lookup.invariant
     (c.in-Err.ensures.length (same_error c.in-Err.error Length is))

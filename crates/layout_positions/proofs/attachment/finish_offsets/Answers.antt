@@ -1,10 +1,5 @@
-use Rattle.std.proofs.Common.{◌∙◌}
-use Rattle.layout_positions.specs.Attachment.{settled, MOST_LINKS}
-use Rattle.layout_positions.proofs.SettleLemmas.{each_step}
+use Rattle.layout_positions.proofs.MadeLemmas.{finished_made}
 use Rattle.layout_positions.proofs.attachment.finish_offsets.Goals as goal
 
-pub loop-i-preserved : goal.loop-i-preserved
-loop-i-preserved c = record {
-  made = each_step (settled MOST_LINKS) c.loop-i.i c.args.buffer.now c.loop-i.buffer c.settle.new.buffer c.loop-i.invariant.made c.settle.ensures.made;
-  items = c.settle.ensures.items ∙ c.loop-i.invariant.items;
-}
+pub returns : goal.returns
+returns c = finished_made c.args.buffer.now c.settle_each.new.buffer c.settle_each.ensures.made

@@ -1,5 +1,11 @@
-use Rattle.layout_positions.proofs.PreservationLemmas.{positioned-clusters, positioned-flags, finished-clusters, finished-flags}
+use Rattle.layout_positions.proofs.PreservationLemmas.{started-clusters, started-flags, positioned-clusters, positioned-flags, finished-clusters, finished-flags}
 use Rattle.layout_positions.proofs.laws.positions_are_keepers.Goals as goal
+
+pub returns-clause-start_clusters : goal.returns-clause-start_clusters
+returns-clause-start_clusters c = started-clusters
+
+pub returns-clause-start_flags : goal.returns-clause-start_flags
+returns-clause-start_flags c = started-flags
 
 pub returns-clause-clusters : goal.returns-clause-clusters
 returns-clause-clusters c = positioned-clusters

@@ -5,19 +5,22 @@ use Rattle.layout_positions.proofs.nested.+nesting.Given as goal
 
 -- from a lookup to its rule, its records and each of them, and from there to a lookup one level below
 abbrev pub decreases-apply_nested : goal.decreases-apply_nested
-decreases-apply_nested l = 5 * l.level
+decreases-apply_nested l = 6 * l.level
 
 abbrev pub decreases-apply_level : goal.decreases-apply_level
-decreases-apply_level l = 5 * l.level + 4
+decreases-apply_level l = 6 * l.level + 5
+
+abbrev pub decreases-apply_first : goal.decreases-apply_first
+decreases-apply_first l = 6 * l.level + 4
 
 abbrev pub decreases-apply_rule : goal.decreases-apply_rule
-decreases-apply_rule l = 5 * l.level + 3
+decreases-apply_rule l = 6 * l.level + 3
 
 abbrev pub decreases-apply_records : goal.decreases-apply_records
-decreases-apply_records l = 5 * l.level + 2
+decreases-apply_records l = 6 * l.level + 2
 
 abbrev pub decreases-apply_record : goal.decreases-apply_record
-decreases-apply_record l = 5 * l.level + 1
+decreases-apply_record l = 6 * l.level + 1
 
 -- so many records are done
 abbrev pub invariant-apply_records-loop-r : goal.invariant-apply_records-loop-r

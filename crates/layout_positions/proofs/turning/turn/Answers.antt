@@ -1,7 +1,7 @@
-use Rattle.std.proofs.Common.{◌≡◌, ◌≤◌, None, length, refl, sym, ap, ◌∙◌, arith}
+use Rattle.std.proofs.Common.{◌≡◌, ◌≤◌, length, refl, sym, ap, ◌∙◌, arith}
 use Rattle.layout_positions.specs.Edits.{position_at}
 use Rattle.layout_positions.specs.Attachment.{freed}
-use Rattle.layout_positions.specs.Turning.{Turn, turn_next}
+use Rattle.layout_positions.specs.Turning.{Turn}
 use Rattle.layout_positions.proofs.TurnLemmas.{turned_still}
 use Rattle.layout_positions.proofs.turning.turn.Goals as goal
 

@@ -1,13 +1,18 @@
-use Rattle.std.proofs.Common.{length}
+use Rattle.std.proofs.Common.{◌≡◌, ap, ◌∙◌, arith}
+use Rattle.layout_matching.specs.Loops.{times}
 use Rattle.layout_matching.proofs.LoopLemmas.{times_step}
-use Rattle.layout_positions.specs.Nested.{most_named}
-use Rattle.layout_positions.specs.Walk.{Walk, lookup_step, none_seen}
+use Rattle.layout_positions.specs.Walk.{Walk, Budgeted, lookup_step, first_walk}
 use Rattle.layout_positions.proofs.walk.apply_over.Goals as goal
 
 pub loop-i-preserved : goal.loop-i-preserved
 loop-i-preserved c =
-    let first : Walk = record { buffer = c.args.buffer.now; at = 0; seen = none_seen; left = most_named (length c.args.buffer.now.items) } in
-    let here : Walk = record { buffer = c.loop-i.buffer; at = c.loop-i.spot.at; seen = c.loop-i.spot.carried.seen; left = c.loop-i.spot.carried.left } in
+    let first : Walk = first_walk (record { buffer = c.args.buffer.now; left = c.args.left }) in
+    let here : Walk = record {
+      buffer = c.loop-i.buffer;
+      at = c.loop-i.spot.at;
+      seen = c.loop-i.spot.carried.seen;
+      left = c.loop-i.spot.carried.left;
+    } in
     let there : Walk = record {
       buffer = c.step_on-spot.new.buffer;
       at = c.step_on-spot.result.at;
@@ -15,3 +20,10 @@ loop-i-preserved c =
       left = c.step_on-spot.result.carried.left;
     } in
     times_step (lookup_step c.args.lookup.now) c.loop-i._i first here there c.loop-i.invariant c.step_on-spot.ensures
+
+pub returns : goal.returns
+returns c =
+    let view : Walk → Budgeted = λ w. record { buffer = w.buffer; left = w.left } in
+    let first : Walk = first_walk (record { buffer = c.args.buffer.now; left = c.args.left }) in
+    let all : c.loop-i._i ≡ c.len-i-end.result = omega (arith, c.loop-i.auto._i-end, c.loop-i-test.false) in
+    ap view c.loop-i.invariant ∙ ap (λ n. view (times (lookup_step c.args.lookup.now) n first)) (all ∙ c.len-i-end.ensures.items)

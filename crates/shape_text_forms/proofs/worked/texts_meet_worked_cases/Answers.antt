@@ -1,4 +1,5 @@
 use Rattle.shape_text_forms.specs.Worked.Texts.{worked_names, worked_texts}
+use Rattle.shape_text_forms.specs.Worked.Json.{worked_lists}
 use Rattle.shape_text_forms.proofs.worked.texts_meet_worked_cases.Goals as goal
 
 pub returns-clause-names : goal.returns-clause-names
@@ -6,3 +7,6 @@ returns-clause-names c = worked_names
 
 pub returns-clause-texts : goal.returns-clause-texts
 returns-clause-texts c = worked_texts
+
+pub returns-clause-lists : goal.returns-clause-lists
+returns-clause-lists c = worked_lists

@@ -1,0 +1,132 @@
+//! What is written of a line.
+use crate::line::Line;
+use crate::options::{Format, Options};
+use crate::size::Scale;
+use shape_font::FontFace;
+use shape_pipeline::{GlyphBuffer, GlyphPosition, hb_font_t};
+use shape_text_forms::{serialize_placed, serialize_placed_json};
+use std::alloc::{AllocError, Global};
+
+/// The characters of a line with their clusters, as `<U+0041=0|U+0042=1>`.
+fn unicode_text(alloc: Global, line: &Line) -> Result<String, AllocError> {
+    let mut out = String::new(alloc);
+    let mut separator = '<';
+    for character in line.characters() {
+        let (number, cluster) = (u32::from(character.c), character.cluster);
+        write!(out, "{separator}U+{number:04X}={cluster}")?;
+        separator = '|';
+    }
+    if !out.is_empty() {
+        out.push('>')?;
+    }
+    Ok(out)
+}
+
+/// The glyphs at these positions, with the boxes of this face.
+fn glyph_text<F: hb_font_t>(
+    alloc: Global,
+    options: &Options,
+    names: &FontFace,
+    boxes: &F,
+    glyphs: &GlyphBuffer,
+    positions: &[GlyphPosition],
+) -> Result<String, AllocError> {
+    let infos = glyphs.glyph_infos();
+    if positions.len() != infos.len() {
+        return Ok(String::new(alloc));
+    }
+    match options.format() {
+        Format::Json => serialize_placed_json(
+            alloc,
+            infos,
+            positions,
+            boxes,
+            names,
+            options.form(),
+        ),
+        _ => serialize_placed(alloc, infos, positions, boxes, names, options.form()),
+    }
+}
+
+/// The glyphs of a line, in the size that is asked for.
+pub fn glyphs_text(
+    alloc: Global,
+    options: &Options,
+    face: &FontFace,
+    glyphs: &GlyphBuffer,
+) -> Result<String, AllocError> {
+    match options.size() {
+        Some(size) => {
+            let scale = Scale::new(size, face.units_per_em());
+            let positions = scale.positions(alloc, face, glyphs)?;
+            let boxes = scale.boxes(alloc, face, glyphs)?;
+            glyph_text(alloc, options, face, &boxes, glyphs, positions.as_slice())
+        }
+        None => glyph_text(alloc, options, face, face, glyphs, glyphs.glyph_positions()),
+    }
+}
+
+/// What is written of one line, byte by byte.
+#[derive(Drop)]
+pub struct Output {
+    bytes: Vec<u8>,
+    number: Option<usize>,
+}
+
+impl Output {
+    /// Nothing yet; parts begin with this number if there is one.
+    fn new(alloc: Global, number: Option<usize>) -> Output {
+        Output {
+            bytes: Vec::new(alloc),
+            number,
+        }
+    }
+
+    /// What is to be written.
+    pub fn bytes(&self) -> &[u8] {
+        self.bytes.as_slice()
+    }
+
+    /// Appends the number of the line and a part, between these two, and the end of a line.
+    fn append(
+        &mut self,
+        alloc: Global,
+        open: &str,
+        part: &[u8],
+        close: &str,
+    ) -> Result<(), AllocError> {
+        if let Some(number) = self.number {
+            let number = format!(in alloc; "{number}: ")?;
+            self.bytes.extend_from_slice(number.as_bytes())?;
+        }
+        self.bytes.extend_from_slice(open.as_bytes())?;
+        self.bytes.extend_from_slice(part)?;
+        self.bytes.extend_from_slice(close.as_bytes())?;
+        self.bytes.push(b'\n')?;
+        Ok(())
+    }
+}
+
+/// What is written of a line: its text and its characters, if they are asked for, and its glyphs.
+pub fn written(
+    alloc: Global,
+    options: &Options,
+    face: &FontFace,
+    text: &[u8],
+    line: &Line,
+    number: usize,
+    glyphs: &GlyphBuffer,
+) -> Result<Output, AllocError> {
+    let shown = options.shown();
+    let mut output = Output::new(alloc, if shown.line_num { Some(number) } else { None });
+    if shown.text {
+        output.append(alloc, "(", text, ")")?;
+    }
+    if shown.unicode {
+        let characters = unicode_text(alloc, line)?;
+        output.append(alloc, "", characters.as_bytes(), "")?;
+    }
+    let glyphs = glyphs_text(alloc, options, face, glyphs)?;
+    output.append(alloc, "", glyphs.as_bytes(), "")?;
+    Ok(output)
+}

@@ -1,0 +1,133 @@
+-- How far rules look that are tried at a place, up to the first that matches: what they looked at in vain is unsafe to concat.
+use Prim.Native.Nat.{zero}
+use Rattle.std.specs.Prelude.{ℕ, suc, Bool, true, false, List, is_some, ◌+◌, ◌-◌, ◌||◌, not, min, max, length, nat_eq, nat_lt, if◌then◌else◌}
+use Rattle.std.specs.Option.{option_map_or}
+use Rattle.shape_font.specs.Bytes.{u16_of, fitting}
+use Rattle.shape_font.specs.Search.{first_at}
+use Rattle.shape_items.specs.Items.{Item}
+use Rattle.layout_tables.specs.Lookups.{subtable_count_of}
+use Rattle.layout_tables.specs.declared.lookups.LookupSubtable.{LookupSubtable}
+use Rattle.layout_matching.specs.Found.{is_chained, is_context_part, whole_rule, is_first, set_for, rule_of, number_of, part_of}
+use Rattle.layout_matching.specs.Input.{input_step, seek_input, input_matched}
+use Rattle.layout_matching.specs.Loops.{stopped}
+use Rattle.layout_matching.specs.Rules.{is_inside, rule_place}
+use Rattle.layout_matching.specs.Seeking.{is_between, next_place, prev_place, distance_back, last_after, last_before}
+use Rattle.layout_matching.specs.Skipping.{nth}
+use Rattle.layout_matching.specs.Spans.{seek_around}
+use Rattle.layout_matching.specs.declared.input.Matched.{Matched}
+use Rattle.layout_matching.specs.declared.lookup.Lookup.{Lookup}
+use Rattle.layout_matching.specs.declared.rules.Row.{Row}
+use Rattle.layout_matching.specs.declared.rules.Rule.{Rule}
+use Rattle.layout_matching.specs.declared.seeking.Seek.{Seek}
+use Rattle.layout_matching.specs.declared.spans.Origin.{Origin}
+use Rattle.layout_matching.specs.declared.tried.Reach.{Reach}
+
+-- ---- spans
+
+-- nothing was looked at yet
+abbrev pub untried : ℕ → Reach
+untried at = record { from = at; to = at; matched = false }
+
+-- a match, which looked at nothing in vain
+abbrev pub match_at : ℕ → Reach
+match_at at = record { from = at; to = at; matched = true }
+
+-- in vain from a place on, up to another one, and at the first glyph
+abbrev pub vain : ℕ → ℕ → ℕ → Reach
+vain at from to = record { from = min at from; to = max at to; matched = false }
+
+abbrev pub joined_reach : Reach → Reach → Reach
+joined_reach s r = record { from = min s.from r.from; to = max s.to r.to; matched = s.matched || r.matched }
+
+-- one after the other, until one matches
+abbrev pub until_matched : (ℕ → Reach) → ℕ → ℕ → Reach → Reach
+until_matched f zero i s = s
+until_matched f (suc n) i s = if s.matched then s else until_matched f n (suc i) (joined_reach s (f i))
+
+-- ---- searches
+
+-- a search after place `i` ended after the glyph that may not stand between, or at the end of the list
+abbrev pub stop_after : Lookup → Seek → List Item → ℕ → ℕ → ℕ
+stop_after l seek items k i = option_map_or (λ j. j + 1)
+    (first_at (λ j. not (is_between l seek k (nth items j))) (length items - (i + 1)) (i + 1)) (length items)
+
+-- one before place `i` ended a glyph before that glyph, or at the start of the list
+abbrev pub stop_before : Lookup → Seek → List Item → ℕ → ℕ → ℕ
+stop_before l seek items k i = option_map_or (λ d. i - 1 - d - 1) (distance_back l seek items k i) 0
+
+-- a glyph that fits, and belongs to another ligature, counts for nothing
+abbrev pub input_stop : Lookup → Seek → List Item → ℕ → Matched → ℕ
+input_stop l seek items k m = if is_some (next_place l seek items k m.last) then 0 else stop_after l seek items k m.last
+
+-- where the glyphs of a row stopped that aren't all there
+abbrev pub input_end : Lookup → List Item → ℕ → Row → ℕ
+input_end l items at row = let seek = seek_input l (nth items at) row in
+    (if nat_lt 64 row.count then 0
+    else stopped (input_step l seek items at) (input_stop l seek items) (row.count - 1) 0 (record { last = at; all_marks = true }))
+
+abbrev pub after_end : Lookup → Seek → List Item → ℕ → ℕ → ℕ
+after_end l seek items n i = stopped (next_place l seek items) (stop_after l seek items) n 0 i
+
+abbrev pub before_start : Lookup → Seek → List Item → ℕ → ℕ → ℕ
+before_start l seek items n i = stopped (prev_place l seek items) (stop_before l seek items) n 0 i
+
+-- ---- rules
+
+-- what stands before is looked for last
+abbrev pub before_reach : Lookup → List Item → Origin → Rule → ℕ → Reach
+before_reach l items origin rule end =
+    let seek = seek_around l (nth items origin.at) origin.is_steady rule.before in
+    option_map_or (λ start. match_at origin.at) (last_before l seek items rule.before.count origin.at)
+    (vain origin.at (before_start l seek items rule.before.count origin.at) end)
+
+abbrev pub after_reach : Lookup → List Item → Origin → Rule → ℕ → Reach
+after_reach l items origin rule last =
+    let seek = seek_around l (nth items origin.at) (nat_eq last origin.at) rule.after in
+    option_map_or (λ far. before_reach l items origin rule (far + 1)) (last_after l seek items rule.after.count last)
+    (vain origin.at origin.at (after_end l seek items rule.after.count last))
+
+-- where the glyphs of a chained rule aren't all there, HarfBuzz marks nothing
+abbrev pub input_reach : Lookup → List Item → ℕ → Bool → Rule → Reach
+input_reach l items at is_chain rule = if is_chain then untried at else vain at at (input_end l items at rule.input)
+
+abbrev pub rule_reach : Lookup → List Item → Origin → Bool → Rule → Reach
+rule_reach l items origin is_chain rule = if is_inside l.table.now rule
+    then option_map_or (λ m. after_reach l items origin rule m.last) (input_matched l items origin.at rule.input)
+    (input_reach l items origin.at is_chain rule)
+    else untried origin.at
+
+-- ---- parts of a lookup
+
+abbrev pub whole_reach : Lookup → List Item → Origin → LookupSubtable → Reach
+whole_reach l items origin part = let rule = whole_rule l.table.now (is_chained l part) part.start in
+    (if is_first l.table.now part.start rule (nth items origin.at).glyph_id then rule_reach l items origin (is_chained l part) rule
+    else untried origin.at)
+
+abbrev pub rule_reach_in : Lookup → List Item → Origin → LookupSubtable → ℕ → ℕ → Reach
+rule_reach_in l items origin part set r = option_map_or
+    (λ place. rule_reach l items origin (is_chained l part) (rule_of l.table.now (is_chained l part) part.start place))
+    (rule_place l.table.now set r) (untried origin.at)
+
+abbrev pub set_reach : Lookup → List Item → Origin → LookupSubtable → ℕ → Reach
+set_reach l items origin part set = until_matched (rule_reach_in l items origin part set)
+    (fitting l.table.now (u16_of l.table.now set) (set + 2) 2) 0 (untried origin.at)
+
+abbrev pub number_reach : Lookup → List Item → Origin → LookupSubtable → ℕ → Reach
+number_reach l items origin part number = option_map_or (set_reach l items origin part)
+    (set_for l.table.now (is_chained l part) part.start (nth items origin.at).glyph_id number) (untried origin.at)
+
+abbrev pub sets_reach : Lookup → List Item → Origin → LookupSubtable → Reach
+sets_reach l items origin part = option_map_or (number_reach l items origin part)
+    (number_of l.table.now part.start (nth items origin.at).glyph_id) (untried origin.at)
+
+abbrev pub part_reach : Lookup → List Item → Origin → LookupSubtable → Reach
+part_reach l items origin part = if is_context_part l part
+    then (if nat_eq (u16_of l.table.now part.start) 3 then whole_reach l items origin part else sets_reach l items origin part)
+    else untried origin.at
+
+abbrev pub reach_at_part : Lookup → List Item → Origin → ℕ → Reach
+reach_at_part l items origin i = option_map_or (part_reach l items origin) (part_of l i) (untried origin.at)
+
+abbrev pub reach_of : Lookup → List Item → Origin → Reach
+reach_of l items origin =
+    until_matched (reach_at_part l items origin) (subtable_count_of l.table.now l.place) 0 (untried origin.at)

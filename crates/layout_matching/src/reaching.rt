@@ -1,0 +1,269 @@
+//! How far the rules of context look that are tried at a place, up to the first that matches.
+//!
+//! Of a chained rule whose own glyphs aren't all there HarfBuzz marks nothing. Nothing is changed here.
+ghost use Rattle.std.specs.Prelude.{◌≡◌, ◌<◌, ◌^◌, length};
+ghost use Rattle.layout_matching.specs.Tried.{before_reach as before_reach_of};
+ghost use Rattle.layout_matching.specs.Tried.{after_reach as after_reach_of, input_reach as input_reach_of};
+ghost use Rattle.layout_matching.specs.Tried.{rule_reach as rule_reach_of, whole_reach as whole_reach_of, rule_reach_in};
+ghost use Rattle.layout_matching.specs.Tried.{set_reach as set_reach_of, number_reach as number_reach_of};
+ghost use Rattle.layout_matching.specs.Tried.{sets_reach as sets_reach_of, part_reach as part_reach_of};
+ghost use Rattle.layout_matching.specs.Tried.{reach_at_part, reach_of};
+
+use crate::found::{is_chained, is_context_part, is_first, number_in, part_at, rule_by, set_for, whole_rule};
+use crate::input::match_input;
+use crate::lookup::Lookup;
+use crate::rules::{Rule, is_inside, rule_at};
+use crate::seeking::{last_after, last_before};
+use crate::skipping::item_at;
+use crate::spans::{Origin, seek_around};
+use crate::tried::{Reach, after_end, before_start, input_end, joined, match_at, untried, vain};
+use layout_tables::lookups::{LookupSubtable, subtable_count};
+use shape_buffer::hb_glyph_info_t;
+use shape_font::bytes::{records, u16_at};
+
+/// How far a rule looked whose glyphs are there, and what stands after them, up to `end`.
+fn before_reach(
+    lookup: &Lookup<'_>,
+    items: &[hb_glyph_info_t],
+    origin: Origin,
+    rule: &Rule,
+    end: usize,
+) -> Reach
+    requires { origin.at < length items.now }
+    ensures { result ≡ before_reach_of lookup.now items.now origin rule.now end }
+{
+    let first = item_at(items, origin.at);
+    let seek = seek_around(lookup, &first, origin.is_steady, rule.before);
+    let n = u32::from(rule.before.count);
+    match last_before(lookup, &seek, items, n, origin.at) {
+        Some(_) => match_at(origin.at),
+        None => {
+            let start = before_start(lookup, &seek, items, n, origin.at);
+            vain(origin.at, start, end)
+        }
+    }
+}
+
+/// How far a rule looked whose glyphs are there, the last one at `last`.
+fn after_reach(
+    lookup: &Lookup<'_>,
+    items: &[hb_glyph_info_t],
+    origin: Origin,
+    rule: &Rule,
+    last: usize,
+) -> Reach
+    requires at { origin.at < length items.now }
+    requires last { last < length items.now }
+    ensures { result ≡ after_reach_of lookup.now items.now origin rule.now last }
+{
+    let first = item_at(items, origin.at);
+    let seek = seek_around(lookup, &first, last == origin.at, rule.after);
+    let n = u32::from(rule.after.count);
+    match last_after(lookup, &seek, items, n, last) {
+        Some(far) => before_reach(lookup, items, origin, rule, far + 1),
+        None => vain(origin.at, origin.at, after_end(lookup, &seek, items, n, last)),
+    }
+}
+
+/// How far a rule looked whose glyphs aren't all there.
+fn input_reach(
+    lookup: &Lookup<'_>,
+    items: &[hb_glyph_info_t],
+    at: usize,
+    is_chain: bool,
+    rule: &Rule,
+) -> Reach
+    requires { at < length items.now }
+    ensures { result ≡ input_reach_of lookup.now items.now at is_chain rule.now }
+{
+    if is_chain {
+        return untried(at);
+    }
+    vain(at, at, input_end(lookup, items, at, rule.input))
+}
+
+/// How far a rule looked.
+fn rule_reach(
+    lookup: &Lookup<'_>,
+    items: &[hb_glyph_info_t],
+    origin: Origin,
+    is_chain: bool,
+    rule: &Rule,
+) -> Reach
+    requires { origin.at < length items.now }
+    ensures { result ≡ rule_reach_of lookup.now items.now origin is_chain rule.now }
+{
+    if !is_inside(lookup.table, rule) {
+        return untried(origin.at);
+    }
+    match match_input(lookup, items, origin.at, rule.input) {
+        Some(found) => after_reach(lookup, items, origin, rule, found.last),
+        None => input_reach(lookup, items, origin.at, is_chain, rule),
+    }
+}
+
+/// How far the one rule of a part of format 3 looked.
+fn whole_reach(
+    lookup: &Lookup<'_>,
+    items: &[hb_glyph_info_t],
+    origin: Origin,
+    part: LookupSubtable,
+) -> Reach
+    requires near { part.start < 2 ^ 35 }
+    requires inside { origin.at < length items.now }
+    ensures { result ≡ whole_reach_of lookup.now items.now origin part }
+{
+    let is_chain = is_chained(lookup, part);
+    let rule = whole_rule(lookup.table, is_chain, part.start);
+    let glyph = item_at(items, origin.at).glyph_id;
+    if is_first(lookup.table, part.start, &rule, glyph) {
+        rule_reach(lookup, items, origin, is_chain, &rule)
+    } else {
+        untried(origin.at)
+    }
+}
+
+/// How far rule `r` of those at `set` looked.
+fn reach_by_rule(
+    lookup: &Lookup<'_>,
+    items: &[hb_glyph_info_t],
+    origin: Origin,
+    part: LookupSubtable,
+    set: usize,
+    r: u32,
+) -> Reach
+    requires near { part.start < 2 ^ 35 }
+    requires set { set < 2 ^ 36 }
+    requires few { r < 2 ^ 16 }
+    requires inside { origin.at < length items.now }
+    ensures { result ≡ rule_reach_in lookup.now items.now origin part set r }
+{
+    match rule_at(lookup.table, set, r) {
+        Some(place) => {
+            let is_chain = is_chained(lookup, part);
+            let rule = rule_by(lookup.table, is_chain, part.start, place);
+            rule_reach(lookup, items, origin, is_chain, &rule)
+        }
+        None => untried(origin.at),
+    }
+}
+
+/// How far the rules at `set` looked.
+#[tactic(auto, using(crate::proofs::ReachLemmas::until_next, crate::proofs::ReachLemmas::until_stays, crate::proofs::ReachLemmas::until_end))]
+fn set_reach(
+    lookup: &Lookup<'_>,
+    items: &[hb_glyph_info_t],
+    origin: Origin,
+    part: LookupSubtable,
+    set: usize,
+) -> Reach
+    requires near { part.start < 2 ^ 35 }
+    requires set { set < 2 ^ 36 }
+    requires inside { origin.at < length items.now }
+    ensures { result ≡ set_reach_of lookup.now items.now origin part set }
+{
+    let mut reach = untried(origin.at);
+    for r in 0..records(
+        lookup.table,
+        u32::from(u16_at(lookup.table, set)),
+        set + 2,
+        2,
+    ) {
+        if reach.matched {
+            return reach;
+        }
+        reach = joined(reach, reach_by_rule(lookup, items, origin, part, set, r));
+    }
+    reach
+}
+
+fn number_reach(
+    lookup: &Lookup<'_>,
+    items: &[hb_glyph_info_t],
+    origin: Origin,
+    part: LookupSubtable,
+    number: u32,
+) -> Reach
+    requires near { part.start < 2 ^ 35 }
+    requires inside { origin.at < length items.now }
+    ensures { result ≡ number_reach_of lookup.now items.now origin part number }
+{
+    let glyph = item_at(items, origin.at).glyph_id;
+    let is_chain = is_chained(lookup, part);
+    match set_for(lookup.table, is_chain, part.start, glyph, number) {
+        Some(set) => set_reach(lookup, items, origin, part, set),
+        None => untried(origin.at),
+    }
+}
+
+fn sets_reach(
+    lookup: &Lookup<'_>,
+    items: &[hb_glyph_info_t],
+    origin: Origin,
+    part: LookupSubtable,
+) -> Reach
+    requires near { part.start < 2 ^ 35 }
+    requires inside { origin.at < length items.now }
+    ensures { result ≡ sets_reach_of lookup.now items.now origin part }
+{
+    let glyph = item_at(items, origin.at).glyph_id;
+    match number_in(lookup.table, part.start, glyph) {
+        Some(i) => number_reach(lookup, items, origin, part, i),
+        None => untried(origin.at),
+    }
+}
+
+fn part_reach(
+    lookup: &Lookup<'_>,
+    items: &[hb_glyph_info_t],
+    origin: Origin,
+    part: LookupSubtable,
+) -> Reach
+    requires near { part.start < 2 ^ 35 }
+    requires inside { origin.at < length items.now }
+    ensures { result ≡ part_reach_of lookup.now items.now origin part }
+{
+    if !is_context_part(lookup, part) {
+        return untried(origin.at);
+    }
+    if u16_at(lookup.table, part.start) == 3 {
+        whole_reach(lookup, items, origin, part)
+    } else {
+        sets_reach(lookup, items, origin, part)
+    }
+}
+
+/// How far the rules of part `i` looked.
+fn reach_by_part(
+    lookup: &Lookup<'_>,
+    items: &[hb_glyph_info_t],
+    origin: Origin,
+    i: u32,
+) -> Reach
+    requires near { lookup.now.place < 2 ^ 17 }
+    requires few { i < 2 ^ 16 }
+    requires inside { origin.at < length items.now }
+    ensures { result ≡ reach_at_part lookup.now items.now origin i }
+{
+    match part_at(lookup, i) {
+        Some(part) => part_reach(lookup, items, origin, part),
+        None => untried(origin.at),
+    }
+}
+
+/// How far the rules of a lookup look that are tried at `origin`, up to the first that matches.
+#[tactic(auto, using(crate::proofs::ReachLemmas::until_next, crate::proofs::ReachLemmas::until_stays, crate::proofs::ReachLemmas::until_end))]
+pub fn reach_at(lookup: &Lookup<'_>, items: &[hb_glyph_info_t], origin: Origin) -> Reach
+    requires near { lookup.now.place < 2 ^ 17 }
+    requires inside { origin.at < length items.now }
+    ensures { result ≡ reach_of lookup.now items.now origin }
+{
+    let mut reach = untried(origin.at);
+    for i in 0..subtable_count(lookup.table, lookup.place) {
+        if reach.matched {
+            return reach;
+        }
+        reach = joined(reach, reach_by_part(lookup, items, origin, i));
+    }
+    reach
+}

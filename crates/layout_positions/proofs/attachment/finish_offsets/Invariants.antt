@@ -1,9 +1,0 @@
-use Rattle.std.proofs.Common.{◌≡◌}
-use Rattle.layout_positions.specs.Attachment.{settled, each, MOST_LINKS}
-use Rattle.layout_positions.proofs.attachment.finish_offsets.Given as goal
-
-abbrev pub invariant-loop-i : goal.invariant-loop-i
-invariant-loop-i l = record {
-  made : l.buffer ≡ each (settled MOST_LINKS) l.i l.fn.buffer;
-  items : l.buffer.items ≡ l.fn.buffer.items;
-}

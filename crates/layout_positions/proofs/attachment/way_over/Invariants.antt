@@ -1,7 +1,0 @@
-use Rattle.std.proofs.Common.{◌≡◌, drop, fold}
-use Rattle.layout_positions.specs.Attachment.{pen_on, no_way}
-use Rattle.layout_positions.proofs.attachment.way_over.Given as goal
-
--- the way over the glyphs from here on is what is left of the whole
-abbrev pub invariant-loop-there : goal.invariant-loop-there
-invariant-loop-there l = fold pen_on l.pen (drop l.there-index l.positions) ≡ fold pen_on no_way l.fn.positions

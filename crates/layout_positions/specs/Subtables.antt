@@ -1,0 +1,75 @@
+-- A lookup at a place: its first subtable that applies.
+use Rattle.std.specs.Prelude.{ℕ, Bool, Option, None, ◌+◌, ◌&&◌, ◌||◌, is_some, nat_eq, if◌then◌else◌}
+use Rattle.std.specs.Option.{option_map_or}
+use Rattle.shape_font.specs.Bytes.{u16_of}
+use Rattle.shape_items.specs.Buffer.{Buffer}
+use Rattle.layout_tables.specs.Lookups.{subtable_count_of, subtable_of}
+use Rattle.layout_tables.specs.declared.lookups.LookupSubtable.{LookupSubtable}
+use Rattle.layout_matching.specs.Loops.{times}
+use Rattle.layout_matching.specs.declared.lookup.Lookup.{Lookup}
+use Rattle.layout_positions.specs.Cursive.{cursive_applied}
+use Rattle.layout_positions.specs.Lookups.{Applied, unapplied}
+use Rattle.layout_positions.specs.Marks.{base_seen, mark_number, mark_base_applied, mark_ligature_applied, mark_mark_applied}
+use Rattle.layout_positions.specs.Pairs.{single_applied, pair_applied}
+use Rattle.layout_positions.specs.declared.bases.BaseSeen.{BaseSeen}
+
+-- types 1 to 6; those that have one format alone are of format 1
+abbrev pub if_first_format : Lookup → ℕ → Buffer → Applied → Applied
+if_first_format l start b made = if nat_eq (u16_of l.table.now start) 1 then made else unapplied b
+
+abbrev pub kind_applied : Lookup → LookupSubtable → Option ℕ → ℕ → Buffer → Applied
+kind_applied l part base i b =
+    if nat_eq part.kind 1 then single_applied l part.start i b
+    else (if nat_eq part.kind 2 then pair_applied l part.start i b
+    else (if nat_eq part.kind 3 then if_first_format l part.start b (cursive_applied l part.start i b)
+    else (if nat_eq part.kind 4 then if_first_format l part.start b (mark_base_applied l part.start base i b)
+    else (if nat_eq part.kind 5 then if_first_format l part.start b (mark_ligature_applied l part.start base i b)
+    else (if nat_eq part.kind 6 then if_first_format l part.start b (mark_mark_applied l part.start i b) else unapplied b)))))
+
+-- a subtable that attaches marks to bases or to ligatures looks for the base of a mark that it has
+abbrev pub looks_for_base : Lookup → LookupSubtable → ℕ → Buffer → Bool
+looks_for_base l part i b = (nat_eq part.kind 4 || nat_eq part.kind 5) && nat_eq (u16_of l.table.now part.start) 1
+    && is_some (mark_number l part.start i b)
+
+abbrev pub seen_at : Lookup → LookupSubtable → ℕ → Buffer → BaseSeen → BaseSeen
+seen_at l part i b seen = if looks_for_base l part i b then base_seen l part b.items i seen else seen
+
+-- the subtables before number `part` have been tried
+pub record Trial : Type 0 where
+  pub buffer : Buffer
+  pub next : Option ℕ
+  pub seen : BaseSeen
+  pub part : ℕ
+
+abbrev pub trial_of : Trial → Applied → BaseSeen → Trial
+trial_of s made seen = record { buffer = made.buffer; next = made.next; seen = seen; part = s.part + 1 }
+
+abbrev pub part_tried : Lookup → ℕ → Trial → LookupSubtable → Trial
+part_tried l i s part = let seen = seen_at l part i s.buffer s.seen in trial_of s (kind_applied l part seen.place i s.buffer) seen
+
+abbrev pub next_tried : Lookup → ℕ → Trial → Trial
+next_tried l i s = option_map_or (part_tried l i s) (subtable_of l.table.now 9 l.place s.part) (trial_of s (unapplied s.buffer) s.seen)
+
+-- the first subtable that applies ends the trial
+abbrev pub trial_step : Lookup → ℕ → Trial → Trial
+trial_step l i s = if is_some s.next then record s { part = s.part + 1 } else next_tried l i s
+
+abbrev pub lookup_tried : Lookup → ℕ → BaseSeen → Buffer → Trial
+lookup_tried l i seen b = times (trial_step l i) (subtable_count_of l.table.now l.place)
+    (record { buffer = b; next = None; seen = seen; part = 0 })
+
+-- what a lookup leaves: where it goes on, the base that was seen last, and how many lookups rules may still name
+pub record Placing : Type 0 where
+  pub buffer : Buffer
+  pub next : Option ℕ
+  pub seen : BaseSeen
+  pub left : ℕ
+
+abbrev pub unplaced : ℕ → BaseSeen → Buffer → Placing
+unplaced left seen b = record { buffer = b; next = None; seen = seen; left = left }
+
+abbrev pub placed_by : ℕ → Trial → Placing
+placed_by left s = record { buffer = s.buffer; next = s.next; seen = s.seen; left = left }
+
+abbrev pub lookup_placed : Lookup → ℕ → ℕ → BaseSeen → Buffer → Placing
+lookup_placed l i left seen b = placed_by left (lookup_tried l i seen b)

@@ -1,0 +1,177 @@
+//! A lookup at a place: its first subtable that applies.
+ghost use Rattle.std.specs.Prelude.{◌≡◌, ◌<◌, ◌≤◌, ◌+◌, ◌^◌, length};
+ghost use Rattle.layout_positions.specs.Subtables.{kind_applied, looks_for_base as looks_for_base_of, seen_at as seen_at_of, trial_step, lookup_placed};
+
+use crate::adjustment::{apply_pair, apply_single};
+use crate::bases::{BaseSeen, base_seen};
+use crate::cursive::apply_cursive;
+use crate::marks::{apply_mark_base, apply_mark_ligature, apply_mark_mark, mark_number};
+use layout_matching::lookup::Lookup;
+use layout_tables::lookups::{LookupSubtable, subtable, subtable_count};
+use shape_buffer::hb_buffer_t;
+use shape_font::bytes::u16_at;
+
+/// Where a subtable goes on, nowhere if none has applied yet, and the base that was seen last.
+#[derive(Clone, Copy)]
+pub struct Placed {
+    pub next: Option<usize>,
+    pub seen: BaseSeen,
+}
+
+/// The base that was seen last, and how many lookups may still be named by rules.
+#[derive(Clone, Copy)]
+pub struct Carried {
+    pub seen: BaseSeen,
+    pub left: usize,
+}
+
+/// Where a lookup goes on, nowhere if it didn't apply, and what is carried on.
+#[derive(Clone, Copy)]
+pub struct Outcome {
+    pub next: Option<usize>,
+    pub carried: Carried,
+}
+
+/// Applies a subtable of one of the types 3 to 6, which are of format 1, to the glyph at place `i`.
+fn apply_attachment(
+    lookup: &Lookup<'_>,
+    part: LookupSubtable,
+    base: Option<usize>,
+    buffer: &mut hb_buffer_t,
+    i: usize,
+) -> Option<usize>
+    requires near { part.start < 2 ^ 34 }
+    requires inside { i < length buffer.old.items }
+    requires kind { 3 ≤ part.kind }
+    ensures made { buffer.new ≡ (kind_applied lookup.now part base i buffer.old).buffer }
+    ensures next { result ≡ (kind_applied lookup.now part base i buffer.old).next }
+{
+    if u16_at(lookup.table, part.start) != 1 {
+        return None;
+    }
+    match part.kind {
+        3 => apply_cursive(lookup, part.start, buffer, i),
+        4 => apply_mark_base(lookup, part.start, base, buffer, i),
+        5 => apply_mark_ligature(lookup, part.start, base, buffer, i),
+        6 => apply_mark_mark(lookup, part.start, buffer, i),
+        _ => None,
+    }
+}
+
+/// Applies a subtable by its type to the glyph at place `i`.
+fn apply_kind(
+    lookup: &Lookup<'_>,
+    part: LookupSubtable,
+    base: Option<usize>,
+    buffer: &mut hb_buffer_t,
+    i: usize,
+) -> Option<usize>
+    requires near { part.start < 2 ^ 34 }
+    requires inside { i < length buffer.old.items }
+    ensures made { buffer.new ≡ (kind_applied lookup.now part base i buffer.old).buffer }
+    ensures next { result ≡ (kind_applied lookup.now part base i buffer.old).next }
+{
+    match part.kind {
+        0 => None,
+        1 => apply_single(lookup, part.start, buffer, i),
+        2 => apply_pair(lookup, part.start, buffer, i),
+        _ => apply_attachment(lookup, part, base, buffer, i),
+    }
+}
+
+/// Whether the subtable looks for the base of the glyph at place `i`.
+fn looks_for_base(lookup: &Lookup<'_>, part: LookupSubtable, buffer: &hb_buffer_t, i: usize) -> bool
+    requires { part.start < 2 ^ 34 }
+    ensures { result ≡ looks_for_base_of lookup.now part i buffer.now }
+{
+    (part.kind == 4 || part.kind == 5)
+        && u16_at(lookup.table, part.start) == 1
+        && mark_number(lookup, part.start, buffer, i).is_some()
+}
+
+/// The base that was seen last, once the subtable has looked for one.
+fn seen_at(
+    lookup: &Lookup<'_>,
+    part: LookupSubtable,
+    buffer: &hb_buffer_t,
+    i: usize,
+    seen: BaseSeen,
+) -> BaseSeen
+    requires near { part.start < 2 ^ 34 }
+    requires inside { i < length buffer.now.items }
+    ensures { result ≡ seen_at_of lookup.now part i buffer.now seen }
+{
+    if looks_for_base(lookup, part, buffer, i) {
+        base_seen(lookup, part, buffer.infos(), i, seen)
+    } else {
+        seen
+    }
+}
+
+/// Tries subtable number `k` at place `i`, unless one before it applied.
+fn try_part(
+    lookup: &Lookup<'_>,
+    buffer: &mut hb_buffer_t,
+    i: usize,
+    placed: Placed,
+    k: u32,
+) -> Placed
+    requires place { lookup.now.place < 2 ^ 17 }
+    requires inside { i < length buffer.old.items }
+    requires few { k < 2 ^ 16 }
+    ensures { record { buffer = buffer.new; next = result.next; seen = result.seen; part = k + 1 }
+        ≡ trial_step lookup.now i (record {
+          buffer = buffer.old;
+          next = placed.next;
+          seen = placed.seen;
+          part = k;
+        }) }
+{
+    if placed.next.is_some() {
+        return placed;
+    }
+    match subtable(lookup.table, 9, lookup.place, k) {
+        Some(part) => {
+            let seen = seen_at(lookup, part, buffer, i, placed.seen);
+            Placed {
+                next: apply_kind(lookup, part, seen.place, buffer, i),
+                seen,
+            }
+        }
+        None => placed,
+    }
+}
+
+/// Applies a lookup that names no other to the glyph at place `i`: its first subtable that applies.
+#[tactic(auto, using(layout_matching::proofs::LoopLemmas::times_step, crate::proofs::SubtableLemmas::length_tried))]
+pub fn apply_lookup(
+    lookup: &Lookup<'_>,
+    buffer: &mut hb_buffer_t,
+    i: usize,
+    carried: Carried,
+) -> Outcome
+    requires place { lookup.now.place < 2 ^ 17 }
+    requires inside { i < length buffer.old.items }
+    ensures made { record {
+      buffer = buffer.new;
+      next = result.next;
+      seen = result.carried.seen;
+      left = result.carried.left;
+    } ≡ lookup_placed lookup.now i carried.left carried.seen buffer.old }
+    ensures len { length buffer.new.items ≡ length buffer.old.items }
+{
+    let mut placed = Placed {
+        next: None,
+        seen: carried.seen,
+    };
+    for k in 0..subtable_count(lookup.table, lookup.place) {
+        placed = try_part(lookup, buffer, i, placed, k);
+    }
+    Outcome {
+        next: placed.next,
+        carried: Carried {
+            seen: placed.seen,
+            left: carried.left,
+        },
+    }
+}

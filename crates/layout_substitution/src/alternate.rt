@@ -1,0 +1,106 @@
+//! Alternates (kind 3): by the value of the mask, or at random.
+ghost use Rattle.std.specs.Prelude.{◌≡◌, ◌<◌, ◌^◌, length, None};
+ghost use Rattle.layout_substitution.specs.Applied.{value_of, is_random as is_random_of, next_random as next_random_of};
+ghost use Rattle.layout_substitution.specs.Applied.{random_put, random_applied, alternate_applied};
+
+use crate::apply::{Spot, replace};
+use crate::edits::{break_span, item};
+use crate::substitutes::{alternate, count, listed, set};
+use layout_matching::lookup::Lookup;
+use shape_buffer::{hb_buffer_t, hb_glyph_info_t};
+
+/// The value of a mask that asks for an alternate at random.
+const MAX_VALUE: u32 = 255;
+
+/// The value that a mask has for the lookup.
+fn value(lookup: &Lookup<'_>, there: &hb_glyph_info_t) -> u32
+    ensures { result ≡ value_of lookup.now there.now }
+{
+    if lookup.unit == 0 {
+        0
+    } else {
+        (there.mask & lookup.mask) / lookup.unit
+    }
+}
+
+/// Whether the mask asks for an alternate at random: by the greatest value of a feature that lets it.
+fn is_random(lookup: &Lookup<'_>, there: &hb_glyph_info_t) -> bool
+    ensures { result ≡ is_random_of lookup.now there.now }
+{
+    lookup.random && value(lookup, there) == MAX_VALUE
+}
+
+/// The random state after this one, by a product that is cut to 32 bits.
+fn next_random(state: u32) -> u32
+    ensures { result ≡ next_random_of state }
+{
+    let product = (u64::from(state) * 48271 % 4_294_967_296) as u32;
+    product % 2_147_483_647
+}
+
+/// An alternate at random of those listed at `set`. It depends on all that was shaped before, so that nothing is safe to break.
+fn replace_at_random(
+    lookup: &Lookup<'_>,
+    buffer: &mut hb_buffer_t,
+    spot: Spot,
+    set: usize,
+) -> Option<Spot>
+    requires near { set < 2 ^ 36 }
+    requires inside { spot.at < length buffer.old.items }
+    ensures made { buffer.new ≡ (random_put lookup.now spot buffer.old set).buffer }
+    ensures next { result ≡ (random_put lookup.now spot buffer.old set).next }
+    ensures still { result ≡ None → buffer.new ≡ buffer.old }
+{
+    let count = count(lookup.table, set);
+    if count == 0 {
+        return None;
+    }
+    let mut next = spot;
+    next.random = next_random(spot.random);
+    let glyph = u32::from(listed(lookup.table, set, next.random % count));
+    let end = buffer.len();
+    break_span(buffer, 0, end);
+    replace(lookup, buffer, next, glyph)
+}
+
+/// An alternate at random, if the glyph has any.
+fn apply_random(
+    lookup: &Lookup<'_>,
+    start: usize,
+    buffer: &mut hb_buffer_t,
+    spot: Spot,
+) -> Option<Spot>
+    requires near { start < 2 ^ 35 }
+    requires inside { spot.at < length buffer.old.items }
+    ensures made { buffer.new ≡ (random_applied lookup.now start spot buffer.old).buffer }
+    ensures next { result ≡ (random_applied lookup.now start spot buffer.old).next }
+    ensures still { result ≡ None → buffer.new ≡ buffer.old }
+{
+    match set(lookup.table, start, item(buffer, spot.at).glyph_id) {
+        Some(set) => replace_at_random(lookup, buffer, spot, set),
+        None => None,
+    }
+}
+
+/// An alternate, by the value of the mask, or at random.
+pub fn apply_alternate(
+    lookup: &Lookup<'_>,
+    start: usize,
+    buffer: &mut hb_buffer_t,
+    spot: Spot,
+) -> Option<Spot>
+    requires near { start < 2 ^ 35 }
+    requires inside { spot.at < length buffer.old.items }
+    ensures made { buffer.new ≡ (alternate_applied lookup.now start spot buffer.old).buffer }
+    ensures next { result ≡ (alternate_applied lookup.now start spot buffer.old).next }
+    ensures still { result ≡ None → buffer.new ≡ buffer.old }
+{
+    let there = item(buffer, spot.at);
+    if is_random(lookup, &there) {
+        return apply_random(lookup, start, buffer, spot);
+    }
+    match alternate(lookup.table, start, there.glyph_id, value(lookup, &there)) {
+        Some(glyph) => replace(lookup, buffer, spot, glyph),
+        None => None,
+    }
+}

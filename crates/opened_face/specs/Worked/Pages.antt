@@ -1,0 +1,32 @@
+-- What an opened face stores, on tables that were read by hand.
+use Rattle.std.specs.Prelude.{◌≡◌, ◌<◌, ℕ, ℤ, pos, List, [], ◌∷◌, length, slice_index, slice_index_or, false, refl}
+use Rattle.std.proofs.Common.{lit<, ◌∙◌}
+use Rattle.shape_font.specs.Worked.Glyphs.{words, short_list, long_list}
+use Rattle.shape_font.specs.declared.face.FontFace.{FontFace}
+use Rattle.opened_face.specs.Pages.{IsIndexOf, glyph_in, AreGlyphsOf, AreStored, AreAdvances}
+
+pub record WorkedPages : Type 0 where
+  -- page 5 is the second of the stored ones
+  pub place : (pages : List ℕ) → IsIndexOf pages (9 ∷ 9 ∷ 9 ∷ 0 ∷ 9 ∷ 1 ∷ []) → 1 < length pages → slice_index pages 1 ≡ 5
+  -- U+0041 has glyph 7; page 0 is the second of the stored ones
+  pub filled : (f : FontFace) (glyphs : List ℕ) → f.symbols ≡ false → f.cmap.now ≡ short_list
+      → AreGlyphsOf f (3 ∷ 0 ∷ []) glyphs → 321 < length glyphs → slice_index glyphs 321 ≡ 7
+  pub found : (f : FontFace) (glyphs : List ℕ) → f.symbols ≡ false → f.cmap.now ≡ short_list
+      → AreStored f (1 ∷ []) glyphs → 321 < length glyphs → slice_index glyphs 321 ≡ 7
+  -- U+0141 has none
+  pub found_in_page_1 : (f : FontFace) (glyphs : List ℕ) → f.symbols ≡ false → f.cmap.now ≡ short_list
+      → AreStored f (1 ∷ 0 ∷ []) glyphs → 65 < length glyphs → slice_index glyphs 65 ≡ 0
+  -- the second of two long metrics serves all later glyphs
+  pub advance : (f : FontFace) (advances : List ℤ) → f.glyph_count ≡ 7 → f.h_count ≡ 2
+      → f.hmtx.now ≡ words (500 ∷ 50 ∷ 600 ∷ 60 ∷ []) → AreAdvances f advances → 6 < length advances
+      → slice_index_or advances 6 (pos 0) ≡ pos 600
+
+pub worked_pages : WorkedPages
+unfolding glyph_in
+worked_pages = record {
+  place = λ pages h inside. h 5 (lit< tt) inside;
+  filled = λ f glyphs s c h inside. h 321 inside ∙ rw (s, c) refl;
+  found = λ f glyphs s c h inside. h 0x41 (lit< tt) inside ∙ rw (s, c) refl;
+  found_in_page_1 = λ f glyphs s c h inside. h 0x141 (lit< tt) inside ∙ rw (s, c) refl;
+  advance = λ f advances e n t h inside. h 6 inside ∙ rw (e, n, t) refl;
+}

@@ -1,0 +1,58 @@
+//! The tags of the tables that a face reads.
+
+/// `head`.
+pub(crate) const HEAD: u32 = 0x6865_6164;
+
+/// `hhea`.
+pub(crate) const HHEA: u32 = 0x6868_6561;
+
+/// `maxp`.
+pub(crate) const MAXP: u32 = 0x6d61_7870;
+
+/// `hmtx`.
+pub(crate) const HMTX: u32 = 0x686d_7478;
+
+/// `vhea`.
+pub(crate) const VHEA: u32 = 0x7668_6561;
+
+/// `vmtx`.
+pub(crate) const VMTX: u32 = 0x766d_7478;
+
+/// `VORG`.
+pub(crate) const VORG: u32 = 0x564f_5247;
+
+/// `OS/2`.
+pub(crate) const OS2: u32 = 0x4f53_2f32;
+
+/// `cmap`.
+pub(crate) const CMAP: u32 = 0x636d_6170;
+
+/// `loca`.
+pub(crate) const LOCA: u32 = 0x6c6f_6361;
+
+/// `glyf`.
+pub(crate) const GLYF: u32 = 0x676c_7966;
+
+/// `GSUB`.
+pub(crate) const GSUB: u32 = 0x4753_5542;
+
+/// `GPOS`.
+pub(crate) const GPOS: u32 = 0x4750_4f53;
+
+/// `GDEF`.
+pub(crate) const GDEF: u32 = 0x4744_4546;
+
+/// `morx`.
+pub(crate) const MORX: u32 = 0x6d6f_7278;
+
+/// `kerx`.
+pub(crate) const KERX: u32 = 0x6b65_7278;
+
+/// `trak`.
+pub(crate) const TRAK: u32 = 0x7472_616b;
+
+/// `kern`.
+pub(crate) const KERN: u32 = 0x6b65_726e;
+
+/// `post`.
+pub(crate) const POST: u32 = 0x706f_7374;

@@ -1,0 +1,43 @@
+//! The names that a font file has for its glyphs.
+ghost use Rattle.std.specs.Prelude.{◌≡◌};
+ghost use Rattle.std.specs.Option.{option_map};
+ghost use Rattle.shape_font.specs.declared.names.TheConstants.{STANDARD};
+ghost use Rattle.shape_text_forms.specs.FontNames.{text_of, written_name};
+
+use crate::glyph_text::glyph_names;
+use shape_buffer::GlyphId;
+use shape_font::FontFace;
+
+/// The bytes as text; none if they aren't UTF-8.
+#[tactic(auto, using(crate::proofs::TextLemmas::text_of_utf8, crate::proofs::TextLemmas::text_of_other))]
+fn text(bytes: &[u8]) -> Option<&str>
+    ensures { option_map (λ s. s.now) result ≡ text_of bytes.now }
+{
+    match str::from_utf8(bytes) {
+        Ok(text) => Some(text),
+        Err(_) => None,
+    }
+}
+
+/// The name of a glyph by `post`; none if it has none, or one that is no text.
+fn name<'a>(face: &FontFace<'a>, glyph: GlyphId) -> Option<&'a str>
+    ensures { option_map (λ s. s.now) result
+        ≡ written_name STANDARD.now face.now.post.now glyph.0 }
+{
+    match face.glyph_name(glyph) {
+        Some(name) => text(name),
+        None => None,
+    }
+}
+
+/// The names in a font's table `post`, those that are UTF-8.
+impl<'a> glyph_names for FontFace<'a> {
+    ghost use Rattle.shape_font.specs.declared.names.TheConstants.{STANDARD};
+    ghost use Rattle.shape_text_forms.specs.FontNames.{written_name};
+
+    ghost name = { λ face glyph. written_name STANDARD.now face.post.now glyph };
+
+    fn glyph_name(&self, glyph: GlyphId) -> Option<&str> {
+        name(self, glyph)
+    }
+}
