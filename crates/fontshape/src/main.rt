@@ -23,7 +23,7 @@ use crate::line::Line;
 use crate::options::{Format, Options, Source};
 use crate::picture::Picture;
 use crate::shaping::shaped;
-use crate::written::written;
+use crate::written::{Given, written};
 use glyph_outlines::Outlines;
 use shape_font::FontFace;
 use shape_pipeline::hb_font_t;
@@ -71,15 +71,8 @@ impl<'a, W: Write + Drop> Work<'a, W> {
                 Err(error) => Err(Failure::line(alloc, number, error)),
             },
             None => {
-                let output = written(
-                    alloc,
-                    self.options,
-                    &self.face,
-                    text,
-                    &line,
-                    number,
-                    &glyphs,
-                )?;
+                let given = Given { text, number };
+                let output = written(alloc, self.options, &self.face, given, &line, &glyphs)?;
                 self.write(alloc, output.bytes())
             }
         }

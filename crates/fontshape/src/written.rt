@@ -107,20 +107,33 @@ impl Output {
     }
 }
 
+/// A line as it came: its bytes, and its number, counted from 1.
+#[derive(Clone, Copy)]
+pub struct Given<'a> {
+    pub text: &'a [u8],
+    pub number: usize,
+}
+
 /// What is written of a line: its text and its characters, if they are asked for, and its glyphs.
 pub fn written(
     alloc: Global,
     options: &Options,
     face: &FontFace,
-    text: &[u8],
+    given: Given,
     line: &Line,
-    number: usize,
     glyphs: &GlyphBuffer,
 ) -> Result<Output, AllocError> {
     let shown = options.shown();
-    let mut output = Output::new(alloc, if shown.line_num { Some(number) } else { None });
+    let mut output = Output::new(
+        alloc,
+        if shown.line_num {
+            Some(given.number)
+        } else {
+            None
+        },
+    );
     if shown.text {
-        output.append(alloc, "(", text, ")")?;
+        output.append(alloc, "(", given.text, ")")?;
     }
     if shown.unicode {
         let characters = unicode_text(alloc, line)?;
