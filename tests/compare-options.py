@@ -6,10 +6,13 @@
 Each run has a font, a list of options and some lines, with marks, joiners, scripts from right to left, bytes that aren't
 UTF-8, and no line at all. The fonts are two copies of DejaVu Sans without GSUB and GPOS: one with `kern`, one without.
 Lists differ in all that `fontshape` takes but `--mode`, `--no-layout`, `--svg` and `-v`, which `hb-shape` takes for
-`--ned`. A run differs if a byte of standard output does, or if one ends with status 0 and the other doesn't. A line in
-another size has no marks, no kerning and doesn't run down: HarfBuzz halves and adds rounded numbers, and `fontshape`
-rounds what it has halved and added. One from right to left has a script: HarfBuzz has a native direction without one. Variation selectors are left out: HarfBuzz 10 places
-marks after them, and breaks lines beside them, otherwise than HarfBuzz 6 and the libraries.
+`--ned`. A run differs if a byte of standard output does, or if one ends with status 0 and the other doesn't.
+
+Left out is where the two are known to differ. A line in another size has no marks, no kerning and doesn't run down:
+HarfBuzz halves and adds rounded numbers, and `fontshape` rounds what it has halved and added. One from right to left has
+a script: HarfBuzz has a native direction without one. There are no variation selectors: HarfBuzz 10 places marks after
+them, and breaks lines beside them, otherwise than HarfBuzz 6 and the libraries. A line whose kerning is switched off
+isn't asked for UNSAFE_TO_CONCAT: HarfBuzz 10 sets it there.
 
 It needs Debian's fonts-dejavu-core and python3-fonttools (run it by /usr/bin/python3), and a program hb-shape of version
 10; without one of them it says so and ends with status 77.
@@ -139,6 +142,8 @@ def random_run(chance):
         options += chance.choice([["--output-format=json"], ["--output-format=text"], ["-O", "json"]])
     if chance.random() < 0.1:
         options += chance.choice([["--output-file=written"], ["-o", "written"]])
+    if {"-kern", "kern=0"} & {word.replace("--features=", "") for word in options}:
+        options = [word for word in options if word != "--unsafe-to-concat"]
     words = [font] + options + source
     if len(source) == 1 and source[0] and not source[0].startswith("-") and chance.random() < 0.2:
         words = options + [font, "--"] + source

@@ -5,16 +5,16 @@ use crate::line::Line;
 use crate::options::Options;
 use kern_table::KernTable;
 use opentype_layout::{OpenTypeFace, OpenTypeLayout};
+use script_shapers::choice::shape_by_script;
 use shape_font::FontFace;
 use shape_pipeline::ot_shaper::{
     ComposedDiacritics, ComposedDiacriticsNoShortCircuit, Decomposed, Preference, Shortest,
 };
 use shape_pipeline::{
-    DEFAULT_SHAPER, GlyphBuffer, NoLookups, Preferring, Script, ShapeError, UnicodeBuffer,
+    DEFAULT_SHAPER, GlyphBuffer, NoLookups, Preferring, ShapeError, UnicodeBuffer,
     hb_default_shaper_t, hb_font_t, hb_ot_layout_t, hb_ot_shaper_t, shape,
 };
 use shape_unicode::UnicodeDatabase;
-use script_shapers::hebrew::HebrewShaper;
 use std::alloc::Global;
 
 /// A line as a buffer with the settings that are asked for, script and direction guessed if they aren't.
@@ -67,14 +67,18 @@ fn shaped_preferring<P: Preference, F: hb_font_t, M: hb_ot_layout_t<F>>(
     shaped_by::<F, M, Preferring<P>>(alloc, options, face, &Preferring::new(), buffer)
 }
 
-/// The glyphs of a buffer by the shaper of Hebrew.
-fn shaped_hebrew<F: hb_font_t, M: hb_ot_layout_t<F>>(
+/// The glyphs of a buffer by the shaper of its script.
+fn shaped_by_script<F: hb_font_t, M: hb_ot_layout_t<F>>(
     alloc: Global,
     options: &Options,
     face: &F,
     buffer: UnicodeBuffer,
 ) -> Result<GlyphBuffer, ShapeError> {
-    shaped_by::<F, M, HebrewShaper>(alloc, options, face, &HebrewShaper, buffer)
+    let features = options.features();
+    match shape_by_script::<UnicodeDatabase, F, M>(alloc, face, features, buffer) {
+        Ok(glyphs) => Ok(glyphs),
+        Err(fault) => Err(fault.cause),
+    }
 }
 
 /// The glyphs of a buffer by the default shaper.
@@ -87,8 +91,8 @@ fn shaped_default<F: hb_font_t, M: hb_ot_layout_t<F>>(
     shaped_by::<F, M, hb_default_shaper_t>(alloc, options, face, &DEFAULT_SHAPER, buffer)
 }
 
-/// The glyphs of a buffer by this engine: with a shaper that prefers the mode that is asked for, else with the one of
-/// Hebrew if the text is in that script, else with the default one.
+/// The glyphs of a buffer by this engine: with a default shaper that prefers the mode that is asked for, else with the
+/// shaper of its script.
 fn shaped_with<F: hb_font_t, M: hb_ot_layout_t<F>>(
     alloc: Global,
     options: &Options,
@@ -102,9 +106,7 @@ fn shaped_with<F: hb_font_t, M: hb_ot_layout_t<F>>(
         Some(3) => shaped_preferring::<ComposedDiacriticsNoShortCircuit, F, M>(
             alloc, options, face, buffer,
         ),
-        None if buffer.script() == Some(Script::HEBREW) => shaped_hebrew::<F, M>(
-            alloc, options, face, buffer,
-        ),
+        None => shaped_by_script::<F, M>(alloc, options, face, buffer),
         _ => shaped_default::<F, M>(alloc, options, face, buffer),
     }
 }

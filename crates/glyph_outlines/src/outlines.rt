@@ -9,7 +9,7 @@ use crate::contours::{append_contours, fraction, natural, number, signed_byte};
 use crate::frame::Frame;
 use crate::segments::{Path, Segment};
 use shape_font::bytes::u16_at;
-use shape_font::directory::{has, table_or_empty};
+use shape_font::directory::{table, table_or_empty};
 use shape_font::metrics::place;
 use std::alloc::{AllocError, Global};
 
@@ -73,7 +73,7 @@ impl<'a> Outlines<'a> {
         ensures long { IfSome result (λ o. o.long
             ≡ nat_lt 0 (u16_of (bytes_of bytes.now index HEAD) 50)) }
     {
-        if !has(bytes, index, GLYF) {
+        if table(bytes, index, GLYF).is_none() {
             return None;
         }
         Some(Outlines {

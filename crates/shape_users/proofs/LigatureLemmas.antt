@@ -9,16 +9,16 @@ use Rattle.shape_items.specs.BufferClusters.{merge_clusters, merge_at}
 use Rattle.shape_items.specs.Clusters.{clusters}
 use Rattle.shape_items.specs.ClusterOrder.{IsMonotoneLevel}
 use Rattle.shape_items.specs.Items.{Item, new_item}
-use Rattle.shape_buffer.specs.Preservation.{PreservesOrder, IsClusterPreserving, IsFlagPreserving, LookupsPreserveClusters, LookupsPreserveFlags}
+use Rattle.shape_buffer.specs.Preservation.{PreservesOrder, IsClusterPreserving, IsFlagPreserving}
 use Rattle.shape_items.specs.PreservesFlags.{PreservesFlags, has_flag, some_has}
 use Rattle.shape_items.proofs.Merging.ClusterLemmas.{merge_clusters-monotone}
 use Rattle.shape_items.proofs.Deletion.DeletePreserves.{merged_preserves}
 use Rattle.shape_items.proofs.Order.DrawsInOrder.{DrawsInOrder, DrawsInOrder-same, DrawsInOrder-after, DrawsInOrder-again, PreservesClusters-from_draws}
 use Rattle.shape_items.proofs.Flags.FlagLemmas.{PreservesFlags-same, PreservesFlags-then}
 use Rattle.shape_buffer.proofs.Steps.PreservationLemmas.{PreservesClusters-equal, PreservesClusters-then, PreservesOrder-same, PreservesOrder-then, clusters-map}
-use Rattle.shape_users.specs.Ligatures.{with_glyph, single, singled, nth_item, is_pair, glyph_put, taken_out, ligated_at, ligated, substituted, ligature_lookups}
+use Rattle.shape_users.specs.Ligatures.{with_glyph, single, singled, nth_item, is_pair, glyph_put, taken_out, ligated_at, ligated, substituted}
 use Rattle.shape_users.specs.declared.ligatures.substitution.TheConstants.{SINGLE, LIGATURE}
-use Rattle.shape_plan.proofs.AuthorLemmas.{flags-same_masks, EachLookup-one_stage}
+use Rattle.shape_plan.proofs.AuthorLemmas.{flags-same_masks}
 
 -- ---- an item taken out
 
@@ -139,17 +139,9 @@ ligated-flags zero b = PreservesFlags-same b
 ligated-flags (suc n) b =
     PreservesFlags-then b (ligated n b) (ligated_at n (ligated n b)) (ligated-flags n b) (ligated_at-flags n (ligated n b))
 
-substituted-order : IsClusterPreserving substituted
+pub substituted-order : IsClusterPreserving substituted
 substituted-order b monotone =
     PreservesOrder-then b (singled b) (substituted b) (singled-order b monotone) (ligated-order (length b.items) (singled b) monotone)
 
-substituted-flags : IsFlagPreserving substituted
+pub substituted-flags : IsFlagPreserving substituted
 substituted-flags b = PreservesFlags-then b (singled b) (substituted b) (singled-flags b) (ligated-flags (length b.items) (singled b))
-
--- ---- the engine
-
-pub clusters-ligatures : LookupsPreserveClusters ligature_lookups
-clusters-ligatures = EachLookup-one_stage IsClusterPreserving (λ i. substituted) (λ b monotone. PreservesOrder-same b) (λ i. substituted-order)
-
-pub flags-ligatures : LookupsPreserveFlags ligature_lookups
-flags-ligatures = EachLookup-one_stage IsFlagPreserving (λ i. substituted) (λ b. PreservesFlags-same b) (λ i. substituted-flags)

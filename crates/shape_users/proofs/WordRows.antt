@@ -52,6 +52,10 @@ twice : (run : Run) (a b : Word) → KeepsWords run (a ∷ []) (a ∷ b ∷ []) 
 twice run a b (inl found) = let no : 1 < 1 = found.0 in omega (arith, no)
 twice run a b (inr more) = more.1.nowhere 0 a (omega arith) refl
 
+no_word : (run : Run) (s : List ℕ) → KeepsWords run [] [] 0 s → ⊥
+no_word run s (inl found) = let no : 0 < 0 = found.0 in omega (arith, no)
+no_word run s (inr more) = let no : 0 ≡ 1 = ap length more.1.behind in omega (arith, no)
+
 two_more : (run : Run) (a b : Word) (s : List ℕ) → KeepsWords run [] (a ∷ b ∷ []) 0 s → ⊥
 two_more run a b s (inl found) = let no : 0 < 0 = found.0 in omega (arith, no)
 two_more run a b s (inr more) = let no : 2 ≡ 1 = ap length more.1.behind in omega (arith, no)
@@ -79,6 +83,7 @@ worked_words = record {
     lost = lost;
     before = before;
     twice = twice;
+    no_word = no_word;
     two_more = two_more;
     other_spelling = other_spelling;
     other_glyphs = other_glyphs;

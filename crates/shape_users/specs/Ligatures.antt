@@ -3,8 +3,6 @@ use Rattle.std.specs.Prelude.{ℕ, zero, suc, ◌+◌, ◌==◌, ◌&&◌, Bool,
 use Rattle.shape_items.specs.Buffer.{Buffer}
 use Rattle.shape_items.specs.BufferClusters.{merge_clusters}
 use Rattle.shape_items.specs.Items.{Item, new_item}
-use Rattle.shape_buffer.specs.Layout.{MapMeaning, LookupMeaning, LawfulMasks, LawfulLookups}
-use Rattle.shape_buffer.specs.NoLookups.{no_masks, no_lookups, no_masks-lawful, no_lookups-lawful}
 use Rattle.shape_users.specs.declared.ligatures.substitution.TheConstants.{SINGLE, LIGATURE}
 
 abbrev pub with_glyph : ℕ → Item → Item
@@ -45,26 +43,3 @@ ligated (suc i) b = ligated_at i (ligated i b)
 -- single glyphs first, then ligatures
 abbrev pub substituted : Buffer → Buffer
 substituted b = ligated (length b.items) (singled b)
-
--- one stage, and no mask
-abbrev pub ligature_masks : MapMeaning
-ligature_masks = record no_masks { stages = 1 }
-
--- that stage substitutes, and no other call changes anything
-abbrev pub ligature_lookups : LookupMeaning
-ligature_lookups = record no_lookups { stage = λ _. substituted }
-
-pub ligature_masks-lawful : LawfulMasks ligature_masks
-ligature_masks-lawful =
-    record { global_mask = no_masks-lawful.global_mask; one_mask = no_masks-lawful.one_mask; mask = no_masks-lawful.mask; shift = no_masks-lawful.shift }
-
-pub ligature_lookups-lawful : LawfulLookups ligature_lookups
-ligature_lookups-lawful = record {
-  aat_zero_width_deleted = no_lookups-lawful.aat_zero_width_deleted;
-  position_start = no_lookups-lawful.position_start;
-  position = no_lookups-lawful.position;
-  position_finish_advances = no_lookups-lawful.position_finish_advances;
-  position_finish_offsets = no_lookups-lawful.position_finish_offsets;
-  aat_position = no_lookups-lawful.aat_position;
-  kern = no_lookups-lawful.kern;
-}

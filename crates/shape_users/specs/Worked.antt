@@ -3,4 +3,5 @@ pub mod Found
 pub mod Ligatures
 pub mod Plain
 pub mod Shown
+pub mod Stages
 pub mod Words

@@ -4,6 +4,7 @@ use Rattle.shape_buffer.specs.Walks.{items_mapped}
 use Rattle.shape_items.specs.Buffer.{Buffer, new_buffer}
 use Rattle.shape_items.specs.Items.{Item, new_item}
 use Rattle.shape_users.specs.Capitals.{capitals_marked}
+use Rattle.shape_users.specs.declared.capitals.TheConstants.{C2SC}
 
 -- items of these characters, each with the mask 1
 abbrev pub text : List ℕ → Buffer
@@ -19,7 +20,9 @@ pub record WorkedCapitals : Type 0 where
   pub small : masks (0x61 ∷ 0x7A ∷ []) ≡ 1 ∷ 1 ∷ []
   pub of_other_scripts : masks (0xC0 ∷ 0x391 ∷ []) ≡ 1 ∷ 1 ∷ []
   pub one_of_two : masks (0x61 ∷ 0x42 ∷ []) ≡ 1 ∷ 17 ∷ []
+  -- `c2sc`
+  pub feature : C2SC.0 ≡ 0x63327363
 
 pub worked_capitals : WorkedCapitals
 unfolding items_mapped
-worked_capitals = record { first_and_last = refl; beside_them = refl; small = refl; of_other_scripts = refl; one_of_two = refl }
+worked_capitals = record { first_and_last = refl; beside_them = refl; small = refl; of_other_scripts = refl; one_of_two = refl; feature = refl }

@@ -28,6 +28,8 @@ pub record WordsRefused : Type 0 where
   pub before : (run : Run) (a b : Word) (s : List ℕ) → KeepsWords run (a ∷ []) (b ∷ a ∷ []) 0 s → ⊥
   -- one more if one was found, and two more
   pub twice : (run : Run) (a b : Word) → KeepsWords run (a ∷ []) (a ∷ b ∷ []) 1 (bytes_of a) → ⊥
+  -- a place where no word is
+  pub no_word : (run : Run) (s : List ℕ) → KeepsWords run [] [] 0 s → ⊥
   pub two_more : (run : Run) (a b : Word) (s : List ℕ) → KeepsWords run [] (a ∷ b ∷ []) 0 s → ⊥
   -- another spelling than was asked for, and other glyphs than its own
   pub other_spelling : (run : Run) (a : Word) (s : List ℕ) → bytes_of a ≢ s → KeepsWords run [] (a ∷ []) 0 s → ⊥
