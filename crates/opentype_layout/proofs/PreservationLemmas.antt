@@ -12,7 +12,7 @@ use Rattle.layout_map.specs.Map.{OtMap}
 use Rattle.layout_map.specs.Stages as stages
 use Rattle.layout_positions.proofs.PreservationLemmas.{started-clusters, started-flags, positioned-clusters, positioned-flags, finished-clusters, finished-flags}
 use Rattle.opentype_layout.specs.Classes.{begun, glyphs_begun}
-use Rattle.opentype_layout.specs.Engine.{gsub_tables, gpos_tables, opentype_lookups}
+use Rattle.opentype_layout.specs.Engine.{gsub_tables, gpos_tables, positioned_by, opentype_lookups}
 use Rattle.opentype_layout.specs.Lookups.{lookups_of}
 use Rattle.opentype_layout.specs.declared.face.OpenTypeFace.{OpenTypeFace}
 
@@ -41,6 +41,7 @@ flags-glyphs_begun gdef = flags-items_mapped (begun gdef) (λ item. refl)
 -- ---- the engine
 
 pub clusters-opentype : (m : OtMap) (f : OpenTypeFace) → LookupsPreserveClusters (opentype_lookups m f)
+unfolding positioned_by
 clusters-opentype m f =
     let left : IsClusterPreserving (λ b. b) = λ b monotone. PreservesOrder-same b in
     record {
@@ -58,6 +59,7 @@ clusters-opentype m f =
     }
 
 pub flags-opentype : (m : OtMap) (f : OpenTypeFace) → LookupsPreserveFlags (opentype_lookups m f)
+unfolding positioned_by
 flags-opentype m f =
     let left : IsFlagPreserving (λ b. b) = λ b. PreservesFlags-same b in
     record {

@@ -9,6 +9,7 @@ use Rattle.kern_table.specs.Tables.{parts_of, table_kerned}
 use Rattle.layout_context.specs.Stages.{substituted}
 use Rattle.layout_map.specs.Map.{OtMap, compiled}
 use Rattle.layout_map.specs.Stages as stages
+use Rattle.layout_map.specs.declared.lookups.LookupMap.{LookupMap}
 use Rattle.layout_positions.specs.Attachment.{offsets_finished}
 use Rattle.layout_positions.specs.Walk.{started, positioned}
 use Rattle.layout_tables.specs.Gdef.{has_glyph_classes}
@@ -27,6 +28,10 @@ gsub_tables f = record { table = f.gsub; gdef = f.gdef; positioning = false }
 
 abbrev pub gpos_tables : OpenTypeFace → LookupTables
 gpos_tables f = record { table = f.gpos; gdef = f.gdef; positioning = true }
+
+-- the lookups of positioning, one after the other
+unfoldable pub positioned_by : LookupTables → List LookupMap → Buffer → Buffer
+positioned_by t maps = positioned (lookups_of t maps)
 
 -- requests, compiled for the scripts that were chosen and the language of the text
 abbrev pub map_of : OpenTypeFace → Builder → OtMap
@@ -52,7 +57,7 @@ opentype_lookups m f = record {
   aat_remove_deleted = λ b. b;
   aat_zero_width_deleted = λ b. b;
   position_start = started;
-  position = positioned (lookups_of (gpos_tables f) m.gpos);
+  position = positioned_by (gpos_tables f) m.gpos;
   position_finish_advances = λ b. b;
   position_finish_offsets = offsets_finished;
   aat_position = λ _ b. b;

@@ -4,11 +4,12 @@ use Rattle.shape_buffer.specs.Layout.{LawfulLookups}
 use Rattle.kern_table.specs.CountLaws.{length-table_kerned}
 use Rattle.layout_map.specs.Map.{OtMap}
 use Rattle.layout_positions.proofs.PreservationLemmas.{started-kept, positioned-kept, finished-kept}
-use Rattle.opentype_layout.specs.Engine.{gpos_tables, opentype_lookups}
+use Rattle.opentype_layout.specs.Engine.{gpos_tables, positioned_by, opentype_lookups}
 use Rattle.opentype_layout.specs.Lookups.{lookups_of}
 use Rattle.opentype_layout.specs.declared.face.OpenTypeFace.{OpenTypeFace}
 
 pub opentype_lookups-lawful : (m : OtMap) (f : OpenTypeFace) → LawfulLookups (opentype_lookups m f)
+unfolding positioned_by
 opentype_lookups-lawful m f = record {
   aat_zero_width_deleted = λ b. refl;
   position_start = λ b. (started-kept b).count;

@@ -2,11 +2,10 @@
 ghost use Rattle.std.specs.Prelude.{◌≡◌};
 ghost use Rattle.shape_buffer.specs.Outcome.{IsWithinLimit, Made, Outcome, step};
 ghost use Rattle.layout_context.specs.Stages.{substituted};
-ghost use Rattle.layout_positions.specs.Walk.{positioned};
 ghost use Rattle.opentype_layout.specs.Lookups.{lookups_of};
 ghost use Rattle.layout_map.specs.Map.{OtMap, map_meaning};
 ghost use Rattle.opentype_layout.specs.declared.face.OpenTypeFace.{OpenTypeFace as Face};
-ghost use Rattle.opentype_layout.specs.Engine.{table_of as table_of_face, gsub_tables as gsub_tables_of, gpos_tables as gpos_tables_of, opentype_layout, opentype_lookups};
+ghost use Rattle.opentype_layout.specs.Engine.{table_of as table_of_face, gsub_tables as gsub_tables_of, gpos_tables as gpos_tables_of, positioned_by, opentype_layout, opentype_lookups};
 ghost use Rattle.opentype_layout.specs.EngineLaws.{opentype_lookups-lawful};
 ghost use Rattle.layout_map.proofs.LawfulLemmas.{map_meaning-lawful};
 
@@ -80,6 +79,7 @@ fn substitute_by(
 }
 
 /// Applies the lookups of positioning.
+#[tactic(auto, unfolding(crate::specs::Engine::positioned_by))]
 fn position_by(
     alloc: Global,
     tables: LookupTables<'_>,
@@ -87,8 +87,7 @@ fn position_by(
     buffer: &mut hb_buffer_t,
 ) -> Result<(), ShapeError>
     requires { IsWithinLimit buffer.old }
-    ensures { Outcome (step (positioned (lookups_of tables.entry maps.now)))
-        buffer.old buffer.new result }
+    ensures { Outcome (step (positioned_by tables.entry maps.now)) buffer.old buffer.new result }
 {
     match lookups(alloc, tables, maps) {
         Ok(lookups) => {

@@ -22,7 +22,13 @@ fn assert_that(rt: &impl Abort, condition: bool) {
 }
 
 /// Compares glyphs with a line of `hb-shape`, of numbers of glyphs and with flags.
-fn assert_line(rt: &impl Abort, alloc: Global, face: &OpenTypeFace<'_>, glyphs: &GlyphBuffer, wanted: &str) {
+fn assert_line(
+    rt: &impl Abort,
+    alloc: Global,
+    face: &OpenTypeFace<'_>,
+    glyphs: &GlyphBuffer,
+    wanted: &str,
+) {
     let form = SerializeFlags(SerializeFlags::NO_GLYPH_NAMES | SerializeFlags::GLYPH_FLAGS);
     let line = serialize(alloc, glyphs, face, &NoNames, form).expect(rt, "memory");
     assert_that(rt, line.as_str() == wanted);
@@ -33,7 +39,9 @@ fn assert_string(rt: &impl Abort, alloc: Global, bytes: &[u8], string: &str, wan
     let face = OpenTypeFace::from_slice(bytes, 0).expect(rt, "a face");
     let glyphs = shape_str::<UnicodeDatabase>(alloc, &face, &[], string).expect(rt, "memory");
     assert_line(rt, alloc, &face, &glyphs, wanted);
-    let glyphs = shape_with_bytes::<UnicodeDatabase>(alloc, bytes, 0, &[], string).expect(rt, "memory");
+    let glyphs = shape_with_bytes::<UnicodeDatabase>(alloc, bytes, 0, &[], string).expect(
+        rt, "memory",
+    );
     assert_line(rt, alloc, &face, &glyphs, wanted);
 }
 
@@ -45,7 +53,13 @@ fn strings(rt: HostRuntime) {
     assert_string(&rt, alloc, &bytes, "ab", "[8=0+505|4=1+520#1]");
     assert_string(&rt, alloc, &bytes, "AV", "[1=0+520|2=1+640#1]");
     assert_string(&rt, alloc, &bytes, "fi\u{301}", "[7=0+540|9=0@-150,120+0]");
-    assert_string(&rt, alloc, &bytes, "\u{3b1}\u{3b2}", "[11=0+450|12=2@-30,0+440#1]");
+    assert_string(
+        &rt,
+        alloc,
+        &bytes,
+        "\u{3b1}\u{3b2}",
+        "[11=0+450|12=2@-30,0+440#1]",
+    );
 }
 
 #[test]
@@ -55,7 +69,9 @@ fn no_kerning(rt: HostRuntime) {
     let mut text = UnicodeBuffer::new(rt.alloc());
     text.push_str("AV").expect(&rt, "memory");
     let features = [Feature::global(KERN, 0)];
-    let glyphs = shape_with_font::<UnicodeDatabase>(rt.alloc(), &face, &features, text).expect(&rt, "memory");
+    let glyphs = shape_with_font::<UnicodeDatabase>(rt.alloc(), &face, &features, text).expect(
+        &rt, "memory",
+    );
     assert_line(&rt, rt.alloc(), &face, &glyphs, "[1=0+600|2=1+640]");
 }
 
