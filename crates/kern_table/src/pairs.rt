@@ -74,7 +74,10 @@ fn value_at(kern: &[u8], start: usize, place: u32) -> i32
     if place < array {
         return 0;
     }
-    i16_at(kern, start + array as usize + 2 * ((place - array) / 2) as usize)
+    i16_at(
+        kern,
+        start + array as usize + 2 * ((place - array) / 2) as usize,
+    )
 }
 
 /// The value of two glyphs in the part of format 2 that begins at `start`, by their classes; 0 if one has none.
@@ -89,7 +92,11 @@ fn classed_value(kern: &[u8], start: usize, left: u32, right: u32) -> i32
     if !is_classed(kern, lefts, left) || !is_classed(kern, rights, right) {
         return 0;
     }
-    value_at(kern, start, class(kern, lefts, left) + class(kern, rights, right))
+    value_at(
+        kern,
+        start,
+        class(kern, lefts, left) + class(kern, rights, right),
+    )
 }
 
 /// How far two glyphs are moved apart by the part of the table that begins at `start`, in units of the face;

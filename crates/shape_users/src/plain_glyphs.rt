@@ -37,8 +37,8 @@ ghost use Rattle.shape_users.specs.Worked.Plain.{WorkedPlain};
 
 pub mod by_shape;
 
-use script_shapers::arabic::{ArabicShaper, arabic_runs_preserve};
 use crate::ligatures::{Ligatures, ligatures_preserve};
+use script_shapers::arabic::{ArabicShaper, arabic_runs_preserve};
 use shape_buffer::buffer::{GlyphBuffer, ShapeError, ShapeFault, UnicodeBuffer};
 use shape_buffer::interfaces::{NoLookups, hb_font_t, hb_unicode_funcs_t};
 use shape_pipeline::laws::plain_runs_have_no_obligations;
