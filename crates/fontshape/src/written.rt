@@ -62,7 +62,17 @@ pub fn glyphs_text(
             let boxes = scale.boxes(alloc, face, glyphs)?;
             glyph_text(alloc, options, face, &boxes, glyphs, positions.as_slice())
         }
-        None => glyph_text(alloc, options, face, face, glyphs, glyphs.glyph_positions()),
+        None => {
+            let boxes = *face;
+            glyph_text(
+                alloc,
+                options,
+                face,
+                &boxes,
+                glyphs,
+                glyphs.glyph_positions(),
+            )
+        }
     }
 }
 
