@@ -1,15 +1,19 @@
 //! The named properties of an item, and how they are stored.
 //!
-//! Contracts see the record `Properties` of `specs/Properties.antt` and never the storage, so the
-//! storage may change without a change of any clause. It is two words, of 32 and of 64 bits, in which each
-//! property has a field of its own (`specs/Words.antt`).
+//! Contracts see the record `Properties` of `specs/Properties.antt` and never the storage, so the storage may
+//! change without a change of any clause. It is two words, of 32 and of 64 bits, in which each property has a
+//! field of its own (`specs/Words.antt`).
 //!
-//! Bits without use are 0 in every item, by the invariant of the words: only so do the properties
-//! decide the words. The second word is kept in two halves: a u64 is aligned by 8 bytes, and an
-//! item with it would take 40 bytes in place of 32. No field crosses the middle.
+//! Bits without use are 0 in every item, by the invariant of the words: only so do the properties decide the
+//! words. The second word is kept in two halves: a u64 is aligned by 8 bytes, and an item with it would take
+//! 40 bytes in place of 32. No field crosses the middle.
 ghost use Rattle.std.specs.Prelude.{◌≡◌, ◌&&◌, false, nat_le};
 ghost use Rattle.std.specs.Int.RustNames.{bit_and};
 ghost use Rattle.bit_fields.specs.Fields.{fields};
+ghost use Rattle.shape_items.specs.Properties.{Properties};
+ghost use Rattle.shape_items.specs.Words.{properties_of, AreWords, first_word, lower_word, upper_word};
+ghost use Rattle.shape_items.specs.Words.{first_widths, first_values, second_widths, second_values};
+ghost use Rattle.shape_items.specs.WordLaws.{made_again};
 
 use bit_fields::{join, put_bit, put_byte, put_field, read_bit, read_byte, read_field};
 use shape_common::{GlyphPropsFlags, hb_unicode_general_category_t};
@@ -55,8 +59,7 @@ const SHAPER_CATEGORY: u32 = 16;
 
 const SHAPER_AUXILIARY: u32 = 24;
 
-/// The named properties of an item: the first word, and the second one in two halves, so that an item needs
-/// no more than the alignment of 32 bits. No field crosses the middle.
+/// The named properties of an item.
 ///
 /// - First word: 0 to 7 category, 8 to 15 ccc, 16 to 23 space type, 24 ignorable, 25 hidden, 26 continuation,
 ///   27 ZWJ, 28 ZWNJ, 29 selector mark; 30 and 31 are 0.
@@ -72,13 +75,7 @@ pub(crate) struct ItemProperties {
 }
 
 impl Model for ItemProperties {
-    ghost use Rattle.shape_items.specs.Properties.{Properties};
-
     ghost Value = { Properties };
-
-    ghost use Rattle.shape_items.specs.Words.{properties_of, AreWords};
-    ghost use Rattle.shape_items.specs.Words.{first_word, lower_word, upper_word};
-    ghost use Rattle.shape_items.specs.WordLaws.{made_again};
 
     ghost view = { λ p. properties_of p.first p.lower p.upper };
 
@@ -104,8 +101,6 @@ fn is_mark_number(number: u8) -> bool
 impl ItemProperties {
     ghost use Rattle.shape_common.specs.Category.{is_mark_category};
     ghost use Rattle.shape_items.specs.Items.{new_properties};
-    ghost use Rattle.shape_items.specs.Words.{first_widths, first_values};
-    ghost use Rattle.shape_items.specs.Words.{second_widths, second_values};
 
     /// Those of a new item: one ligature component, and 0 in all other fields.
     pub(crate) fn new() -> Self
