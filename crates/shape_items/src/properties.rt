@@ -59,8 +59,7 @@ const SHAPER_CATEGORY: u32 = 16;
 
 const SHAPER_AUXILIARY: u32 = 24;
 
-/// The named properties of an item.
-///
+/// The named properties of an item, by the bits of its words:
 /// - First word: 0 to 7 category, 8 to 15 ccc, 16 to 23 space type, 24 ignorable, 25 hidden, 26 continuation,
 ///   27 ZWJ, 28 ZWNJ, 29 selector mark; 30 and 31 are 0.
 /// - Lower half of the second: 0 to 3 glyph class, 4 substituted, 5 ligated, 6 multiplied, 7 is 0, 8 to 15 mark
