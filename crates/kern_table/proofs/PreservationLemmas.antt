@@ -19,10 +19,10 @@ use Rattle.shape_font.specs.declared.face.FontFace.{FontFace}
 use Rattle.kern_table.specs.Walk.{kerned}
 use Rattle.kern_table.specs.StepLaws.{step-kerned}
 use Rattle.kern_table.specs.CountLaws.{clusters-concat}
-use Rattle.kern_table.specs.Tables.{parts_of, is_read, reversed, part_kerned, kerned_from, table_kerned}
+use Rattle.kern_table.specs.Tables.{subtable_count_of, is_read, reversed, subtable_kerned, kerned_from, table_kerned}
 use Rattle.kern_table.specs.Engine.{kern_lookups}
 
--- ---- one part, in the order of the buffer
+-- ---- one subtable, in the order of the buffer
 
 pub clusters-kerned : (t : List ℕ) (start mask : ℕ) (b : Buffer) → clusters (kerned t start mask b).items ≡ clusters b.items
 clusters-kerned = step-kerned (λ b c. clusters c.items ≡ clusters b.items) (λ b. refl) (λ a b c first later. later ∙ first)
@@ -112,10 +112,10 @@ clusters-reversed t start mask b =
     clusters-reverse (kerned t start mask (reversed b)).items ∙ ap reverse (clusters-kerned t start mask (reversed b))
     ∙ ap reverse (clusters-reverse b.items) ∙ reverse-reverse (clusters b.items)
 
--- ---- a part
+-- ---- a subtable
 
-order-part_kerned : (t : List ℕ) (start mask : ℕ) (b : Buffer) → PreservesOrder b (part_kerned t start mask b)
-order-part_kerned t start mask b =
+order-subtable_kerned : (t : List ℕ) (start mask : ℕ) (b : Buffer) → PreservesOrder b (subtable_kerned t start mask b)
+order-subtable_kerned t start mask b =
     elim (is_read t start (is_horizontal b.direction)) as (λ r.
     PreservesOrder b (if r then (if is_backward b.direction then reversed (kerned t start mask (reversed b)) else kerned t start mask b) else b)) [
       | true ↦ elim (is_backward b.direction) as (λ r.
@@ -140,8 +140,8 @@ order-part_kerned t start mask b =
       | false ↦ PreservesOrder-same b
     ]
 
-flags-part_kerned : (t : List ℕ) (start mask : ℕ) (b : Buffer) → PreservesFlags b (part_kerned t start mask b)
-flags-part_kerned t start mask b =
+flags-subtable_kerned : (t : List ℕ) (start mask : ℕ) (b : Buffer) → PreservesFlags b (subtable_kerned t start mask b)
+flags-subtable_kerned t start mask b =
     elim (is_read t start (is_horizontal b.direction)) as (λ r.
     PreservesFlags b (if r then (if is_backward b.direction then reversed (kerned t start mask (reversed b)) else kerned t start mask b) else b)) [
       | true ↦ elim (is_backward b.direction) as (λ r.
@@ -160,35 +160,35 @@ flags-part_kerned t start mask b =
 order-from : (t : List ℕ) (mask n start : ℕ) (b : Buffer) → PreservesOrder b (kerned_from t mask n start b)
 order-from t mask zero start b = PreservesOrder-same b
 order-from t mask (suc n) start b =
-    let next = part_kerned t start mask b in
+    let next = subtable_kerned t start mask b in
     let behind = kerned_from t mask n (start + u16_of t (start + 2)) next in
     elim (nat_lt (u16_of t (start + 2)) 6) as (λ s. PreservesOrder b (if s then b else behind)) [
       | true ↦ PreservesOrder-same b
-      | false ↦ PreservesOrder-then b next behind (order-part_kerned t start mask b) (order-from t mask n (start + u16_of t (start + 2)) next)
+      | false ↦ PreservesOrder-then b next behind (order-subtable_kerned t start mask b) (order-from t mask n (start + u16_of t (start + 2)) next)
     ]
 
 flags-from : (t : List ℕ) (mask n start : ℕ) (b : Buffer) → PreservesFlags b (kerned_from t mask n start b)
 flags-from t mask zero start b = PreservesFlags-same b
 flags-from t mask (suc n) start b =
-    let next = part_kerned t start mask b in
+    let next = subtable_kerned t start mask b in
     let behind = kerned_from t mask n (start + u16_of t (start + 2)) next in
     elim (nat_lt (u16_of t (start + 2)) 6) as (λ s. PreservesFlags b (if s then b else behind)) [
       | true ↦ PreservesFlags-same b
-      | false ↦ PreservesFlags-then b next behind (flags-part_kerned t start mask b) (flags-from t mask n (start + u16_of t (start + 2)) next)
+      | false ↦ PreservesFlags-then b next behind (flags-subtable_kerned t start mask b) (flags-from t mask n (start + u16_of t (start + 2)) next)
     ]
 
 order-table_kerned : (t : List ℕ) (mask : ℕ) → IsClusterPreserving (table_kerned t mask)
 order-table_kerned t mask b monotone =
-    elim (nat_eq mask 0) as (λ s. PreservesOrder b (if s then b else kerned_from t mask (parts_of t) 4 b)) [
+    elim (nat_eq mask 0) as (λ s. PreservesOrder b (if s then b else kerned_from t mask (subtable_count_of t) 4 b)) [
       | true ↦ PreservesOrder-same b
-      | false ↦ order-from t mask (parts_of t) 4 b
+      | false ↦ order-from t mask (subtable_count_of t) 4 b
     ]
 
 flags-table_kerned : (t : List ℕ) (mask : ℕ) → IsFlagPreserving (table_kerned t mask)
 flags-table_kerned t mask b =
-    elim (nat_eq mask 0) as (λ s. PreservesFlags b (if s then b else kerned_from t mask (parts_of t) 4 b)) [
+    elim (nat_eq mask 0) as (λ s. PreservesFlags b (if s then b else kerned_from t mask (subtable_count_of t) 4 b)) [
       | true ↦ PreservesFlags-same b
-      | false ↦ flags-from t mask (parts_of t) 4 b
+      | false ↦ flags-from t mask (subtable_count_of t) 4 b
     ]
 
 -- ---- the engine

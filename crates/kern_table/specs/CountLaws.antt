@@ -12,7 +12,7 @@ use Rattle.shape_items.proofs.Merging.KeyLemmas.{keys-map_range, length-map_rang
 use Rattle.shape_font.specs.Bytes.{u16_of}
 use Rattle.kern_table.specs.Walk.{pair_moved, kerned}
 use Rattle.kern_table.specs.StepLaws.{step-pair_moved, step-kerned}
-use Rattle.kern_table.specs.Tables.{parts_of, is_read, reversed, part_kerned, kerned_from, table_kerned}
+use Rattle.kern_table.specs.Tables.{subtable_count_of, is_read, reversed, subtable_kerned, kerned_from, table_kerned}
 
 -- ---- unsafe to concat
 
@@ -44,8 +44,8 @@ pub length_kerned : (t : List ℕ) (start mask : ℕ) (b : Buffer) → length (k
 length_kerned = step-kerned (λ b c. length c.items ≡ length b.items) (λ b. refl) (λ a b c first later. later ∙ first) length-unsafe_to_break
     length_concat (λ i p b. refl)
 
-pub length-part_kerned : (t : List ℕ) (start mask : ℕ) (b : Buffer) → length (part_kerned t start mask b).items ≡ length b.items
-length-part_kerned t start mask b =
+pub length-subtable_kerned : (t : List ℕ) (start mask : ℕ) (b : Buffer) → length (subtable_kerned t start mask b).items ≡ length b.items
+length-subtable_kerned t start mask b =
     elim (is_read t start (is_horizontal b.direction)) as (λ r.
     length (if r then (if is_backward b.direction then reversed (kerned t start mask (reversed b)) else kerned t start mask b) else b).items
     ≡ length b.items) [
@@ -61,16 +61,16 @@ length-from : (t : List ℕ) (mask n start : ℕ) (b : Buffer) → length (kerne
 length-from t mask zero start b = refl
 length-from t mask (suc n) start b =
     elim (nat_lt (u16_of t (start + 2)) 6) as (λ s.
-    length (if s then b else kerned_from t mask n (start + u16_of t (start + 2)) (part_kerned t start mask b)).items ≡ length b.items) [
+    length (if s then b else kerned_from t mask n (start + u16_of t (start + 2)) (subtable_kerned t start mask b)).items ≡ length b.items) [
       | true ↦ refl
-      | false ↦ length-from t mask n (start + u16_of t (start + 2)) (part_kerned t start mask b) ∙ length-part_kerned t start mask b
+      | false ↦ length-from t mask n (start + u16_of t (start + 2)) (subtable_kerned t start mask b) ∙ length-subtable_kerned t start mask b
     ]
 
 pub length-table_kerned : (t : List ℕ) (mask : ℕ) (b : Buffer) → length (table_kerned t mask b).items ≡ length b.items
 length-table_kerned t mask b =
-    elim (nat_eq mask 0) as (λ s. length (if s then b else kerned_from t mask (parts_of t) 4 b).items ≡ length b.items) [
+    elim (nat_eq mask 0) as (λ s. length (if s then b else kerned_from t mask (subtable_count_of t) 4 b).items ≡ length b.items) [
       | true ↦ refl
-      | false ↦ length-from t mask (parts_of t) 4 b
+      | false ↦ length-from t mask (subtable_count_of t) 4 b
     ]
 
 -- ---- the limit

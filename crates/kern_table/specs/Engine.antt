@@ -5,17 +5,17 @@ use Rattle.shape_buffer.specs.NoLookups.{no_lookups, no_lookups-lawful}
 use Rattle.shape_font.specs.declared.face.FontFace.{FontFace}
 use Rattle.kern_table.specs.Map.{kern_masks, map_of}
 use Rattle.kern_table.specs.MaskLaws.{global_mask-free, one_mask-free, mask-free, shift-small}
-use Rattle.kern_table.specs.Tables.{parts_of, table_kerned}
+use Rattle.kern_table.specs.Tables.{subtable_count_of, table_kerned}
 use Rattle.kern_table.specs.CountLaws.{length-table_kerned}
 use Rattle.kern_table.specs.declared.map.KernMap.{KernMap}
 
--- kerning if the table has parts
+-- kerning if the table has subtables
 abbrev pub kern_layout : FontFace → LayoutMeaning KernMap
 kern_layout face = record {
   chosen_script = λ _ _ _. None;
   compiled = λ builder. map_of builder.requests;
   has_glyph_classes = false;
-  has_kerning = not (nat_eq (parts_of face.kern.now) 0);
+  has_kerning = not (nat_eq (subtable_count_of face.kern.now) 0);
   has_machine_kerning = false;
   has_cross_kerning = false;
 }

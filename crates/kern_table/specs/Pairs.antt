@@ -14,7 +14,7 @@ side_of_pair t start glyphs i = let there = u32_of t (start + 14 + 6 * i) in sid
 abbrev pub pair_of : List ℕ → ℕ → ℕ → Option ℕ
 pair_of t start glyphs = found_by (side_of_pair t start glyphs) (fitting t (u16_of t (start + 6)) (start + 14) 6)
 
--- the value of two glyphs in the part that begins at `start`; none has a glyph past 65535
+-- the value of two glyphs in the subtable that begins at `start`; none has a glyph past 65535
 abbrev pub listed_value : List ℕ → ℕ → ℕ → ℕ → ℤ
 listed_value t start left right = if nat_lt 0xFFFF left || nat_lt 0xFFFF right then pos 0
     else option_map_or (λ i. i16_of t (start + 18 + 6 * i)) (pair_of t start (left * 65536 + right)) (pos 0)
@@ -31,7 +31,7 @@ is_classed t classes glyph = nat_le (u16_of t classes) glyph
     && nat_lt (glyph - u16_of t classes) (fitting t (u16_of t (classes + 2)) (classes + 4) 2)
     && not (nat_eq (class_of t classes glyph) 1)
 
--- a class is a number of bytes: that of the left glyph leads from the start of the part to a row of the array, that of the right
+-- a class is a number of bytes: that of the left glyph leads from the start of the subtable to a row of the array, that of the right
 -- one along the row. What stands before the array is no value; from there on each has two bytes
 abbrev pub value_at : List ℕ → ℕ → ℕ → ℤ
 value_at t start place = let array = u16_of t (start + 12) in
@@ -44,7 +44,7 @@ classed_value t start left right = let lefts = start + u16_of t (start + 8) in
     (if is_classed t lefts left && is_classed t rights right
     then value_at t start (class_of t lefts left + class_of t rights right) else pos 0)
 
--- ---- by the format of the part
+-- ---- by the format of the subtable
 
 abbrev pub value_of : List ℕ → ℕ → ℕ → ℕ → ℤ
 value_of t start left right =

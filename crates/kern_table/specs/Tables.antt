@@ -6,11 +6,11 @@ use Rattle.shape_common.specs.Direction.{is_horizontal, is_backward}
 use Rattle.shape_font.specs.Bytes.{u16_of}
 use Rattle.kern_table.specs.Walk.{kerned}
 
--- how many parts the table states; none if its version isn't 0
-abbrev pub parts_of : List ℕ → ℕ
-parts_of t = if nat_eq (u16_of t 0) 0 then u16_of t 2 else 0
+-- how many subtables the table states; none if its version isn't 0
+abbrev pub subtable_count_of : List ℕ → ℕ
+subtable_count_of t = if nat_eq (u16_of t 0) 0 then u16_of t 2 else 0
 
--- a part of format 0 or 2, for lines of this kind (bit 0), that doesn't move glyphs across the line (bit 2)
+-- a subtable of format 0 or 2, for lines of this kind (bit 0), that doesn't move glyphs across the line (bit 2)
 abbrev pub is_read : List ℕ → ℕ → Bool → Bool
 is_read t start horizontal = let coverage = slice_index t (start + 5) in
     (nat_eq (slice_index t (start + 4)) 0 || nat_eq (slice_index t (start + 4)) 2) && nat_eq (coverage % 2) (if horizontal then 1 else 0) && nat_eq (coverage / 4 % 2) 0
@@ -18,18 +18,18 @@ is_read t start horizontal = let coverage = slice_index t (start + 5) in
 abbrev pub reversed : Buffer → Buffer
 reversed b = record b { items = reverse b.items; positions = reverse b.positions }
 
--- a part kerns from the left of the line to its right
-abbrev pub part_kerned : List ℕ → ℕ → ℕ → Buffer → Buffer
-part_kerned t start mask b = if is_read t start (is_horizontal b.direction)
+-- a subtable kerns from the left of the line to its right
+abbrev pub subtable_kerned : List ℕ → ℕ → ℕ → Buffer → Buffer
+subtable_kerned t start mask b = if is_read t start (is_horizontal b.direction)
     then (if is_backward b.direction then reversed (kerned t start mask (reversed b)) else kerned t start mask b)
     else b
 
--- so many parts from a place on; a part whose stated length is less than its header ends the table
+-- so many subtables from a place on; a subtable whose stated length is less than its header ends the table
 abbrev pub kerned_from : List ℕ → ℕ → ℕ → ℕ → Buffer → Buffer
 kerned_from t mask zero start b = b
 kerned_from t mask (suc n) start b = let len = u16_of t (start + 2) in
-    (if nat_lt len 6 then b else kerned_from t mask n (start + len) (part_kerned t start mask b))
+    (if nat_lt len 6 then b else kerned_from t mask n (start + len) (subtable_kerned t start mask b))
 
--- all parts, if kerning is on somewhere
+-- all subtables, if kerning is on somewhere
 abbrev pub table_kerned : List ℕ → ℕ → Buffer → Buffer
-table_kerned t mask b = if nat_eq mask 0 then b else kerned_from t mask (parts_of t) 4 b
+table_kerned t mask b = if nat_eq mask 0 then b else kerned_from t mask (subtable_count_of t) 4 b

@@ -7,7 +7,7 @@ ghost use Rattle.kern_table.specs.declared.map.KernMap.{KernMap as Compiled};
 ghost use Rattle.kern_table.specs.Engine.{kern_layout, kern_lookups, kern_masks-lawful, kern_lookups-lawful};
 
 use crate::map::{KERN, KernMap, map};
-use crate::tables::{kern_table, parts};
+use crate::tables::{kern_table, subtable_count};
 use shape_buffer::buffer::{
     Feature, Language, Script, ShapeError, hb_buffer_t, hb_mask_t, hb_tag_t,
 };
@@ -16,7 +16,7 @@ use shape_font::FontFace;
 use std::alloc::Global;
 
 /// The engine that kerns by the table `kern` of a font file, and does nothing else: it chooses no script, and has no
-/// stage. Read are the parts of formats 0 and 2 of a table of version 0, those along the line. Takes no memory, and refuses
+/// stage. Read are the subtables of formats 0 and 2 of a table of version 0, those along the line. Takes no memory, and refuses
 /// nothing: its calls say so beside what the trait asks.
 pub struct KernTable;
 
@@ -56,7 +56,7 @@ impl<'a> hb_ot_layout_t<FontFace<'a>> for KernTable {
     }
 
     fn has_kerning(face: &FontFace<'a>) -> bool {
-        parts(face.kern_table()) != 0
+        subtable_count(face.kern_table()) != 0
     }
 
     fn has_machine_kerning(_face: &FontFace<'a>) -> bool {

@@ -6,7 +6,7 @@ use shape_font::bytes::{i16_at, records, u8_at, u16_at, u32_at};
 use shape_font::search::{found, side};
 use std::cmp::Ordering;
 
-/// Where two glyphs, as one number, stand to pair `i` of the part that begins at `start`.
+/// Where two glyphs, as one number, stand to pair `i` of the subtable that begins at `start`.
 fn pair_side(kern: &[u8], start: usize, glyphs: u32, i: u32) -> Ordering
     requires { start < 2 ^ 34 }
     ensures { result ≡ side_of_pair kern.now start glyphs i }
@@ -15,7 +15,7 @@ fn pair_side(kern: &[u8], start: usize, glyphs: u32, i: u32) -> Ordering
     side(glyphs, there, there)
 }
 
-/// The pair of two glyphs, as one number, in the part that begins at `start`.
+/// The pair of two glyphs, as one number, in the subtable that begins at `start`.
 fn pair(kern: &[u8], start: usize, glyphs: u32) -> Option<u32>
     requires { start < 2 ^ 34 }
     ensures { result ≡ pair_of kern.now start glyphs }
@@ -24,7 +24,7 @@ fn pair(kern: &[u8], start: usize, glyphs: u32) -> Option<u32>
     found(count, |i| pair_side(kern, start, glyphs, i))
 }
 
-/// The value of two glyphs in the part of format 0 that begins at `start`.
+/// The value of two glyphs in the subtable of format 0 that begins at `start`.
 fn listed_value(kern: &[u8], start: usize, left: u32, right: u32) -> i32
     requires { start < 2 ^ 34 }
     ensures value { result ≡ listed_value_of kern.now start left right }
@@ -62,9 +62,9 @@ fn class(kern: &[u8], classes: usize, glyph: u32) -> u32
     u32::from(u16_at(kern, classes + 4 + 2 * i as usize))
 }
 
-/// The value that stands so many bytes after the start of a part, 0 if its array of values begins later.
+/// The value that stands so many bytes after the start of a subtable, 0 if its array of values begins later.
 fn value_at(kern: &[u8], start: usize, place: u32) -> i32
-    requires part { start < 2 ^ 34 }
+    requires subtable { start < 2 ^ 34 }
     requires near { place < 131072 }
     ensures value { result ≡ value_at_of kern.now start place }
     ensures low { negsuc 32767 ≤ℤ result }
@@ -80,7 +80,7 @@ fn value_at(kern: &[u8], start: usize, place: u32) -> i32
     )
 }
 
-/// The value of two glyphs in the part of format 2 that begins at `start`, by their classes; 0 if one has none.
+/// The value of two glyphs in the subtable of format 2 that begins at `start`, by their classes; 0 if one has none.
 fn classed_value(kern: &[u8], start: usize, left: u32, right: u32) -> i32
     requires { start < 2 ^ 34 }
     ensures value { result ≡ classed_value_of kern.now start left right }
@@ -99,8 +99,8 @@ fn classed_value(kern: &[u8], start: usize, left: u32, right: u32) -> i32
     )
 }
 
-/// How far two glyphs are moved apart by the part of the table that begins at `start`, in units of the face;
-/// together if it is negative, and 0 if the part doesn't have them. A part of format 2 has values by classes, every
+/// How far two glyphs are moved apart by the subtable of the table that begins at `start`, in units of the face;
+/// together if it is negative, and 0 if the subtable doesn't have them. A subtable of format 2 has values by classes, every
 /// other one is read as format 0.
 pub fn value(kern: &[u8], start: usize, left: u32, right: u32) -> i32
     requires { start < 2 ^ 34 }

@@ -1,15 +1,15 @@
-//! Kerning by a whole table `kern`: its parts in order, those of formats 0 and 2 that move glyphs along the line.
+//! Kerning by a whole table `kern`: its subtables in order, those of formats 0 and 2 that move glyphs along the line.
 ghost use Rattle.std.specs.Prelude.{◌≡◌, ◌<◌, ◌≤◌, ◌^◌, length};
 ghost use Rattle.shape_items.specs.Buffer.{limit_of};
-ghost use Rattle.kern_table.specs.Tables.{parts_of, is_read as is_read_of, part_kerned, table_kerned};
+ghost use Rattle.kern_table.specs.Tables.{subtable_count_of, is_read as is_read_of, subtable_kerned, table_kerned};
 
 use crate::walk::kern_all;
 use shape_buffer::buffer::{hb_buffer_t, hb_mask_t};
 use shape_font::bytes::{u8_at, u16_at};
 
-/// How many parts the table says that it has; none if its version isn't 0.
-pub fn parts(kern: &[u8]) -> u32
-    ensures value { result ≡ parts_of kern.now }
+/// How many subtables the table says that it has; none if its version isn't 0.
+pub fn subtable_count(kern: &[u8]) -> u32
+    ensures value { result ≡ subtable_count_of kern.now }
     ensures small { result ≤ 65535 }
 {
     if u16_at(kern, 0) == 0 {
@@ -19,7 +19,7 @@ pub fn parts(kern: &[u8]) -> u32
     }
 }
 
-/// Whether the part that begins at `start` kerns lines of this kind: it is of format 0 or 2, for lines of this
+/// Whether the subtable that begins at `start` kerns lines of this kind: it is of format 0 or 2, for lines of this
 /// kind, and doesn't move glyphs across the line.
 fn is_read(kern: &[u8], start: usize, horizontal: bool) -> bool
     requires { start < 2 ^ 34 }
@@ -30,10 +30,10 @@ fn is_read(kern: &[u8], start: usize, horizontal: bool) -> bool
     matches!(u8_at(kern, start + 4), 0 | 2) && coverage % 2 == line && coverage / 4 % 2 == 0
 }
 
-/// Kerns a buffer by the part that begins at `start`, from the left of the line to its right.
-fn kern_part(kern: &[u8], start: usize, mask: hb_mask_t, buffer: &mut hb_buffer_t)
+/// Kerns a buffer by the subtable that begins at `start`, from the left of the line to its right.
+fn kern_subtable(kern: &[u8], start: usize, mask: hb_mask_t, buffer: &mut hb_buffer_t)
     requires { start < 2 ^ 34 }
-    ensures made { buffer.new ≡ part_kerned kern.now start mask buffer.old }
+    ensures made { buffer.new ≡ subtable_kerned kern.now start mask buffer.old }
     ensures len { length buffer.new.items ≡ length buffer.old.items }
     ensures limit { limit_of buffer.new ≡ limit_of buffer.old }
 {
@@ -49,9 +49,9 @@ fn kern_part(kern: &[u8], start: usize, mask: hb_mask_t, buffer: &mut hb_buffer_
     }
 }
 
-/// Kerns a buffer by all parts of the table that are read, in order, if the mask isn't 0. A part that
+/// Kerns a buffer by all subtables of the table that are read, in order, if the mask isn't 0. A subtable that
 /// says that it is shorter than its header ends the table. Takes no memory.
-#[tactic(auto, using(crate::proofs::PartLemmas::kerned_from_next, crate::proofs::PartLemmas::kerned_from_short, crate::proofs::PartLemmas::kerned_from_end))]
+#[tactic(auto, using(crate::proofs::SubtableLemmas::kerned_from_next, crate::proofs::SubtableLemmas::kerned_from_short, crate::proofs::SubtableLemmas::kerned_from_end))]
 pub fn kern_table(kern: &[u8], mask: hb_mask_t, buffer: &mut hb_buffer_t)
     ensures made { buffer.new ≡ table_kerned kern.now mask buffer.old }
     ensures len { length buffer.new.items ≡ length buffer.old.items }
@@ -61,12 +61,12 @@ pub fn kern_table(kern: &[u8], mask: hb_mask_t, buffer: &mut hb_buffer_t)
         return;
     }
     let mut start: usize = 4;
-    for _i in 0..parts(kern) {
+    for _i in 0..subtable_count(kern) {
         let len = u16_at(kern, start + 2);
         if len < 6 {
             return;
         }
-        kern_part(kern, start, mask, buffer);
+        kern_subtable(kern, start, mask, buffer);
         start += usize::from(len);
     }
 }

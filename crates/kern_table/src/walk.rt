@@ -1,4 +1,4 @@
-//! Kerning of a buffer by one part of the table.
+//! Kerning of a buffer by one subtable of the table.
 //!
 //! A glyph that waits is walked once. HarfBuzz looks for each glyph's right neighbour anew, in
 //! the square of the text if it finds none.
@@ -103,9 +103,9 @@ fn move_pair(buffer: &mut hb_buffer_t, i: usize, j: usize, by: i32)
     put_pair(buffer, i, j, by);
 }
 
-/// Moves two glyphs apart by their value in the part that begins at `start`.
+/// Moves two glyphs apart by their value in the subtable that begins at `start`.
 fn kern_pair(kern: &[u8], start: usize, buffer: &mut hb_buffer_t, i: usize, j: usize)
-    requires part { start < 2 ^ 34 }
+    requires subtable { start < 2 ^ 34 }
     requires after { i < j }
     requires inside { j < length buffer.old.items }
     ensures made { buffer.new ≡ pair_kerned kern.now start i j buffer.old }
@@ -126,7 +126,7 @@ fn kern_at(
     j: usize,
     left: Option<usize>,
 ) -> Option<usize>
-    requires part { start < 2 ^ 34 }
+    requires subtable { start < 2 ^ 34 }
     requires inside { j < length buffer.old.items }
     requires after { IfSome left (λ i. i < j) }
     ensures made { buffer.new ≡ kerned_at kern.now start mask j left buffer.old }
@@ -148,10 +148,10 @@ fn kern_at(
     Some(j)
 }
 
-/// Kerns a buffer from left to right by the part of the table that begins at `start`: each glyph for which kerning
+/// Kerns a buffer from left to right by the subtable of the table that begins at `start`: each glyph for which kerning
 /// is on with the next one for which it is, if only glyphs that are skipped stand between them. Takes no
 /// memory, and a step for each glyph.
-#[tactic(auto, using(crate::specs::CountLaws::length_concat, crate::specs::CountLaws::limit_concat, crate::proofs::PartLemmas::kerned_to_next_buffer, crate::proofs::PartLemmas::kerned_to_next_left))]
+#[tactic(auto, using(crate::specs::CountLaws::length_concat, crate::specs::CountLaws::limit_concat, crate::proofs::SubtableLemmas::kerned_to_next_buffer, crate::proofs::SubtableLemmas::kerned_to_next_left))]
 pub fn kern_all(kern: &[u8], start: usize, mask: hb_mask_t, buffer: &mut hb_buffer_t)
     requires { start < 2 ^ 34 }
     ensures made { buffer.new ≡ kerned_of kern.now start mask buffer.old }

@@ -8,22 +8,22 @@ use Rattle.shape_items.specs.Items.{Item}
 use Rattle.shape_font.specs.Bytes.{u16_of}
 use Rattle.layout_tables.specs.Lookups.{subtable_count_of, subtable_of}
 use Rattle.layout_tables.specs.declared.lookups.LookupSubtable.{LookupSubtable}
-use Rattle.layout_matching.specs.Found.{extension_kind, is_context, is_context_part, is_chained, whole_rule, is_first, number_of, found_if, found_whole, found_by_number, found_in_sets, found_in_part, found_at_part, found_of}
+use Rattle.layout_matching.specs.Found.{extension_kind, is_context, is_context_subtable, is_chained, whole_rule, is_first, number_of, found_if, found_whole, found_by_number, found_in_sets, found_in_subtable, found_at_subtable, found_of}
 use Rattle.layout_matching.specs.Loops.{times, first_some}
 use Rattle.layout_matching.specs.Skipping.{nth, is_on}
-use Rattle.layout_matching.specs.Tried.{untried, whole_reach, number_reach, sets_reach, part_reach, reach_at_part}
+use Rattle.layout_matching.specs.Tried.{untried, whole_reach, number_reach, sets_reach, subtable_reach, reach_at_subtable}
 use Rattle.layout_matching.specs.declared.found.Found.{Found}
 use Rattle.layout_matching.proofs.ReachLemmas.{until_untried}
 use Rattle.layout_matching.specs.declared.lookup.Lookup.{Lookup}
 use Rattle.layout_matching.specs.declared.spans.Origin.{Origin}
 use Rattle.layout_substitution.specs.Applied.{Applied, unapplied, put_one, single_applied, value_of, is_random, random_put, random_applied, alternate_applied, sequence_put, multiple_applied}
-use Rattle.layout_substitution.specs.Edits.{item_at, is_inside, is_past, parted}
-use Rattle.layout_substitution.proofs.EditLemmas.{parted_untried}
-use Rattle.layout_substitution.specs.Kinds.{kind_applied, part_applied, parts_applied, or_next, lookup_applied}
+use Rattle.layout_substitution.specs.Edits.{item_at, is_inside, is_past, concat_marked}
+use Rattle.layout_substitution.proofs.EditLemmas.{concat_marked_untried}
+use Rattle.layout_substitution.specs.Kinds.{kind_applied, subtable_applied, subtables_applied, or_next, lookup_applied}
 use Rattle.layout_substitution.specs.Ligatures.{set_ligated, ligature_applied}
 use Rattle.layout_substitution.specs.Substitutes.{single_by, single_of, set_number, set_of, alternate_in, alternate_of}
 use Rattle.layout_substitution.specs.declared.apply.Spot.{Spot}
-use Rattle.layout_context.specs.Covered.{context_covers, part_covers, IsUncovered, CoversNone}
+use Rattle.layout_context.specs.Covered.{context_covers, subtable_covers, IsUncovered, CoversNone}
 use Rattle.layout_context.specs.Nested.{rule_applied, origin_of, tried_marked, first_rule_applied, level_applied, nested_applied}
 use Rattle.layout_context.specs.Reverse.{reversal_of, reversal_by, reversal_in, reversal_found, reversal_reach_of, reversal_reach_by, reversal_reach_in, reversal_reach, reversed_by, first_reversed, reversed_at, Backwards, reverse_step, reversed, is_reverse}
 use Rattle.layout_context.specs.Stages.{Walk, passed, gone_on, lookup_step, first_walk, walked, looked_up}
@@ -47,177 +47,177 @@ if_same : {A : Type 0} (t : Bool) (x y z : A) → x ≡ z → y ≡ z → (if t 
 if_same true x y z a b = a
 if_same false x y z a b = b
 
--- ---- a part of a lookup
+-- ---- a subtable of a lookup
 
 set_none : (t : List ℕ) (start glyph : ℕ) → number_of t start glyph ≡ None → set_of t start glyph ≡ None
 set_none t start glyph e = if_same (nat_eq (u16_of t start) 1) _ _ None (and_then_none (set_number t start) _ e) refl
 
-kind-uncovered : (l : Lookup) (spot : Spot) (b : Buffer) (part : LookupSubtable)
-    → number_of l.table.now part.start (item_at b spot.at).glyph_id ≡ None → kind_applied l spot b part ≡ unapplied b
-kind-uncovered l spot b part none =
+kind-uncovered : (l : Lookup) (spot : Spot) (b : Buffer) (subtable : LookupSubtable)
+    → number_of l.table.now subtable.start (item_at b spot.at).glyph_id ≡ None → kind_applied l spot b subtable ≡ unapplied b
+kind-uncovered l spot b subtable none =
     let glyph = (item_at b spot.at).glyph_id in
     let t = l.table.now in
-    let set = set_none t part.start glyph none in
-    if_same (nat_eq part.kind 1) (single_applied l part.start spot b) _ (unapplied b)
-    (map_or_none (put_one l spot b) (unapplied b) _ (and_then_none (single_by t part.start glyph) _ none))
-    (if_same (nat_eq part.kind 2) (multiple_applied l part.start spot b) _ (unapplied b)
+    let set = set_none t subtable.start glyph none in
+    if_same (nat_eq subtable.kind 1) (single_applied l subtable.start spot b) _ (unapplied b)
+    (map_or_none (put_one l spot b) (unapplied b) _ (and_then_none (single_by t subtable.start glyph) _ none))
+    (if_same (nat_eq subtable.kind 2) (multiple_applied l subtable.start spot b) _ (unapplied b)
     (map_or_none (sequence_put l spot b) (unapplied b) _ set)
-    (if_same (nat_eq part.kind 3) (alternate_applied l part.start spot b) _ (unapplied b)
-    (if_same (is_random l (item_at b spot.at)) (random_applied l part.start spot b) _ (unapplied b)
+    (if_same (nat_eq subtable.kind 3) (alternate_applied l subtable.start spot b) _ (unapplied b)
+    (if_same (is_random l (item_at b spot.at)) (random_applied l subtable.start spot b) _ (unapplied b)
     (map_or_none (random_put l spot b) (unapplied b) _ set)
     (map_or_none (put_one l spot b) (unapplied b) _ (and_then_none (alternate_in t (value_of l (item_at b spot.at))) _ set)))
-    (if_same (nat_eq part.kind 4) (ligature_applied l part.start spot b) _ (unapplied b)
+    (if_same (nat_eq subtable.kind 4) (ligature_applied l subtable.start spot b) _ (unapplied b)
     (map_or_none (set_ligated l spot b) (unapplied b) _ set) refl)))
 
--- a part of context has none of the kinds below 5, and not kind 8
-not_kind : (l : Lookup) (part : LookupSubtable) (n : ℕ) → l.positioning ≡ false → is_context_part l part ≡ true → n < 5
-    → nat_eq part.kind n ≡ false
-not_kind l part n gsub is few =
-    let kinds : (nat_eq part.kind 5 || nat_eq part.kind 6) ≡ true =
-    subst (λ t. (nat_eq part.kind (if t then 7 else 5) || nat_eq part.kind (if t then 8 else 6)) ≡ true) gsub is in
+-- a subtable of context has none of the kinds below 5, and not kind 8
+not_kind : (l : Lookup) (subtable : LookupSubtable) (n : ℕ) → l.positioning ≡ false → is_context_subtable l subtable ≡ true → n < 5
+    → nat_eq subtable.kind n ≡ false
+not_kind l subtable n gsub is few =
+    let kinds : (nat_eq subtable.kind 5 || nat_eq subtable.kind 6) ≡ true =
+    subst (λ t. (nat_eq subtable.kind (if t then 7 else 5) || nat_eq subtable.kind (if t then 8 else 6)) ≡ true) gsub is in
     grind (arith, nat_tests, kinds, few)
 
-not_reverse : (l : Lookup) (part : LookupSubtable) → l.positioning ≡ false → is_context_part l part ≡ true → nat_eq part.kind 8 ≡ false
-not_reverse l part gsub is =
-    let kinds : (nat_eq part.kind 5 || nat_eq part.kind 6) ≡ true =
-    subst (λ t. (nat_eq part.kind (if t then 7 else 5) || nat_eq part.kind (if t then 8 else 6)) ≡ true) gsub is in
+not_reverse : (l : Lookup) (subtable : LookupSubtable) → l.positioning ≡ false → is_context_subtable l subtable ≡ true → nat_eq subtable.kind 8 ≡ false
+not_reverse l subtable gsub is =
+    let kinds : (nat_eq subtable.kind 5 || nat_eq subtable.kind 6) ≡ true =
+    subst (λ t. (nat_eq subtable.kind (if t then 7 else 5) || nat_eq subtable.kind (if t then 8 else 6)) ≡ true) gsub is in
     grind (arith, nat_tests, kinds)
 
-kind-context : (l : Lookup) (spot : Spot) (b : Buffer) (part : LookupSubtable) → l.positioning ≡ false → is_context_part l part ≡ true
-    → kind_applied l spot b part ≡ unapplied b
-kind-context l spot b part gsub is =
-    let one = not_kind l part 1 gsub is (omega arith) in
-    let two = not_kind l part 2 gsub is (omega arith) in
-    let three = not_kind l part 3 gsub is (omega arith) in
-    let four = not_kind l part 4 gsub is (omega arith) in
+kind-context : (l : Lookup) (spot : Spot) (b : Buffer) (subtable : LookupSubtable) → l.positioning ≡ false → is_context_subtable l subtable ≡ true
+    → kind_applied l spot b subtable ≡ unapplied b
+kind-context l spot b subtable gsub is =
+    let one = not_kind l subtable 1 gsub is (omega arith) in
+    let two = not_kind l subtable 2 gsub is (omega arith) in
+    let three = not_kind l subtable 3 gsub is (omega arith) in
+    let four = not_kind l subtable 4 gsub is (omega arith) in
     rw one (rw two (rw three (rw four refl)))
 
-number_out : (l : Lookup) (part : LookupSubtable) (glyph : ℕ) → is_context_part l part ≡ false → part_covers l part glyph ≡ false
-    → number_of l.table.now part.start glyph ≡ None
-number_out l part glyph kind out = none_of (number_of l.table.now part.start glyph)
-    (subst (λ t. (if t then context_covers l part glyph else is_some (number_of l.table.now part.start glyph)) ≡ false) kind out)
+number_out : (l : Lookup) (subtable : LookupSubtable) (glyph : ℕ) → is_context_subtable l subtable ≡ false → subtable_covers l subtable glyph ≡ false
+    → number_of l.table.now subtable.start glyph ≡ None
+number_out l subtable glyph kind out = none_of (number_of l.table.now subtable.start glyph)
+    (subst (λ t. (if t then context_covers l subtable glyph else is_some (number_of l.table.now subtable.start glyph)) ≡ false) kind out)
 
-context_out : (l : Lookup) (part : LookupSubtable) (glyph : ℕ) → is_context_part l part ≡ true → part_covers l part glyph ≡ false
-    → context_covers l part glyph ≡ false
-context_out l part glyph kind out =
-    subst (λ t. (if t then context_covers l part glyph else is_some (number_of l.table.now part.start glyph)) ≡ false) kind out
+context_out : (l : Lookup) (subtable : LookupSubtable) (glyph : ℕ) → is_context_subtable l subtable ≡ true → subtable_covers l subtable glyph ≡ false
+    → context_covers l subtable glyph ≡ false
+context_out l subtable glyph kind out =
+    subst (λ t. (if t then context_covers l subtable glyph else is_some (number_of l.table.now subtable.start glyph)) ≡ false) kind out
 
 -- ---- lookups of kinds 1 to 4
 
-part-uncovered : (l : Lookup) (i : ℕ) (spot : Spot) (b : Buffer) → l.positioning ≡ false → IsUncovered l (item_at b spot.at).glyph_id
-    → part_applied l i spot b ≡ unapplied b
-part-uncovered l i spot b gsub out = by_part (subtable_of l.table.now 7 l.place i) refl
+subtable-uncovered : (l : Lookup) (i : ℕ) (spot : Spot) (b : Buffer) → l.positioning ≡ false → IsUncovered l (item_at b spot.at).glyph_id
+    → subtable_applied l i spot b ≡ unapplied b
+subtable-uncovered l i spot b gsub out = by_subtable (subtable_of l.table.now 7 l.place i) refl
   where
-    by_kind : (part : LookupSubtable) (t : Bool) → is_context_part l part ≡ t → part_covers l part (item_at b spot.at).glyph_id ≡ false
-        → kind_applied l spot b part ≡ unapplied b
-    by_kind part true is none = kind-context l spot b part gsub is
-    by_kind part false is none = kind-uncovered l spot b part (number_out l part (item_at b spot.at).glyph_id is none)
+    by_kind : (subtable : LookupSubtable) (t : Bool) → is_context_subtable l subtable ≡ t → subtable_covers l subtable (item_at b spot.at).glyph_id ≡ false
+        → kind_applied l spot b subtable ≡ unapplied b
+    by_kind subtable true is none = kind-context l spot b subtable gsub is
+    by_kind subtable false is none = kind-uncovered l spot b subtable (number_out l subtable (item_at b spot.at).glyph_id is none)
 
-    by_part : (o : Option LookupSubtable) → subtable_of l.table.now 7 l.place i ≡ o
+    by_subtable : (o : Option LookupSubtable) → subtable_of l.table.now 7 l.place i ≡ o
         → option_map_or (kind_applied l spot b) o (unapplied b) ≡ unapplied b
-    by_part None e = refl
-    by_part (Some part) e = by_kind part (is_context_part l part) refl (out i part e)
+    by_subtable None e = refl
+    by_subtable (Some subtable) e = by_kind subtable (is_context_subtable l subtable) refl (out i subtable e)
 
-parts-uncovered : (l : Lookup) (spot : Spot) (b : Buffer) → l.positioning ≡ false → IsUncovered l (item_at b spot.at).glyph_id
-    → (n i : ℕ) → parts_applied l spot n i b ≡ unapplied b
-parts-uncovered l spot b gsub out zero i = refl
-parts-uncovered l spot b gsub out (suc n) i =
-    ap (or_next (parts_applied l spot n (suc i))) (part-uncovered l i spot b gsub out)
-    ∙ if_same (is_past b) (unapplied b) (parts_applied l spot n (suc i) b) (unapplied b) refl (parts-uncovered l spot b gsub out n (suc i))
+subtables-uncovered : (l : Lookup) (spot : Spot) (b : Buffer) → l.positioning ≡ false → IsUncovered l (item_at b spot.at).glyph_id
+    → (n i : ℕ) → subtables_applied l spot n i b ≡ unapplied b
+subtables-uncovered l spot b gsub out zero i = refl
+subtables-uncovered l spot b gsub out (suc n) i =
+    ap (or_next (subtables_applied l spot n (suc i))) (subtable-uncovered l i spot b gsub out)
+    ∙ if_same (is_past b) (unapplied b) (subtables_applied l spot n (suc i) b) (unapplied b) refl (subtables-uncovered l spot b gsub out n (suc i))
 
 -- ---- lookups of context
 
-in_part-uncovered : (l : Lookup) (items : List Item) (origin : Origin) (part : LookupSubtable)
-    → part_covers l part (nth items origin.at).glyph_id ≡ false → found_in_part l items origin part ≡ None
-in_part-uncovered l items origin part out = by_kind (is_context_part l part) refl
+in_subtable-uncovered : (l : Lookup) (items : List Item) (origin : Origin) (subtable : LookupSubtable)
+    → subtable_covers l subtable (nth items origin.at).glyph_id ≡ false → found_in_subtable l items origin subtable ≡ None
+in_subtable-uncovered l items origin subtable out = by_kind (is_context_subtable l subtable) refl
   where
-    by_format : (t : Bool) → nat_eq (u16_of l.table.now part.start) 3 ≡ t → context_covers l part (nth items origin.at).glyph_id ≡ false
-        → (if t then found_whole l items origin part else found_in_sets l items origin part) ≡ None
+    by_format : (t : Bool) → nat_eq (u16_of l.table.now subtable.start) 3 ≡ t → context_covers l subtable (nth items origin.at).glyph_id ≡ false
+        → (if t then found_whole l items origin subtable else found_in_sets l items origin subtable) ≡ None
     by_format true is none =
-        let first : is_first l.table.now part.start (whole_rule l.table.now (is_chained l part) part.start)
+        let first : is_first l.table.now subtable.start (whole_rule l.table.now (is_chained l subtable) subtable.start)
         (nth items origin.at).glyph_id ≡ false =
-        subst (λ t. (if t then is_first l.table.now part.start (whole_rule l.table.now (is_chained l part) part.start)
+        subst (λ t. (if t then is_first l.table.now subtable.start (whole_rule l.table.now (is_chained l subtable) subtable.start)
         (nth items origin.at).glyph_id
-        else is_some (number_of l.table.now part.start (nth items origin.at).glyph_id)) ≡ false) is none in
+        else is_some (number_of l.table.now subtable.start (nth items origin.at).glyph_id)) ≡ false) is none in
         rw first refl
     by_format false is none =
-        let number : is_some (number_of l.table.now part.start (nth items origin.at).glyph_id) ≡ false =
-        subst (λ t. (if t then is_first l.table.now part.start (whole_rule l.table.now (is_chained l part) part.start)
+        let number : is_some (number_of l.table.now subtable.start (nth items origin.at).glyph_id) ≡ false =
+        subst (λ t. (if t then is_first l.table.now subtable.start (whole_rule l.table.now (is_chained l subtable) subtable.start)
         (nth items origin.at).glyph_id
-        else is_some (number_of l.table.now part.start (nth items origin.at).glyph_id)) ≡ false) is none in
-        and_then_none (found_by_number l items origin part) _ (none_of _ number)
+        else is_some (number_of l.table.now subtable.start (nth items origin.at).glyph_id)) ≡ false) is none in
+        and_then_none (found_by_number l items origin subtable) _ (none_of _ number)
 
-    by_kind : (t : Bool) → is_context_part l part ≡ t
-        → (if t then (if nat_eq (u16_of l.table.now part.start) 3 then found_whole l items origin part
-        else found_in_sets l items origin part) else None) ≡ None
-    by_kind true is = by_format (nat_eq (u16_of l.table.now part.start) 3) refl (context_out l part (nth items origin.at).glyph_id is out)
+    by_kind : (t : Bool) → is_context_subtable l subtable ≡ t
+        → (if t then (if nat_eq (u16_of l.table.now subtable.start) 3 then found_whole l items origin subtable
+        else found_in_sets l items origin subtable) else None) ≡ None
+    by_kind true is = by_format (nat_eq (u16_of l.table.now subtable.start) 3) refl (context_out l subtable (nth items origin.at).glyph_id is out)
     by_kind false is = refl
 
-at_part-uncovered : (l : Lookup) (items : List Item) (origin : Origin) (i : ℕ) → l.positioning ≡ false
+at_subtable-uncovered : (l : Lookup) (items : List Item) (origin : Origin) (i : ℕ) → l.positioning ≡ false
     → IsUncovered l (nth items origin.at).glyph_id
-    → found_at_part l items origin i ≡ None
-at_part-uncovered l items origin i gsub out =
+    → found_at_subtable l items origin i ≡ None
+at_subtable-uncovered l items origin i gsub out =
     let e : extension_kind l ≡ 7 = ap (λ t. if t then 9 else 7) gsub in
-    ap (λ k. option_and_then (found_in_part l items origin) (subtable_of l.table.now k l.place i)) e
-    ∙ by_part (subtable_of l.table.now 7 l.place i) refl
+    ap (λ k. option_and_then (found_in_subtable l items origin) (subtable_of l.table.now k l.place i)) e
+    ∙ by_subtable (subtable_of l.table.now 7 l.place i) refl
   where
-    by_part : (o : Option LookupSubtable) → subtable_of l.table.now 7 l.place i ≡ o
-        → option_and_then (found_in_part l items origin) o ≡ None
-    by_part None e = refl
-    by_part (Some part) e = in_part-uncovered l items origin part (out i part e)
+    by_subtable : (o : Option LookupSubtable) → subtable_of l.table.now 7 l.place i ≡ o
+        → option_and_then (found_in_subtable l items origin) o ≡ None
+    by_subtable None e = refl
+    by_subtable (Some subtable) e = in_subtable-uncovered l items origin subtable (out i subtable e)
 
 found-uncovered : (l : Lookup) (items : List Item) (origin : Origin) → l.positioning ≡ false → IsUncovered l (nth items origin.at).glyph_id
     → found_of l items origin ≡ None
 found-uncovered l items origin gsub out =
-    first_some_none (found_at_part l items origin) (λ i. at_part-uncovered l items origin i gsub out)
+    first_some_none (found_at_subtable l items origin) (λ i. at_subtable-uncovered l items origin i gsub out)
     (subtable_count_of l.table.now l.place) 0
 
-in_part-reach : (l : Lookup) (items : List Item) (origin : Origin) (part : LookupSubtable)
-    → part_covers l part (nth items origin.at).glyph_id ≡ false → part_reach l items origin part ≡ untried origin.at
-in_part-reach l items origin part out = by_kind (is_context_part l part) refl
+in_subtable-reach : (l : Lookup) (items : List Item) (origin : Origin) (subtable : LookupSubtable)
+    → subtable_covers l subtable (nth items origin.at).glyph_id ≡ false → subtable_reach l items origin subtable ≡ untried origin.at
+in_subtable-reach l items origin subtable out = by_kind (is_context_subtable l subtable) refl
   where
-    by_format : (t : Bool) → nat_eq (u16_of l.table.now part.start) 3 ≡ t → context_covers l part (nth items origin.at).glyph_id ≡ false
-        → (if t then whole_reach l items origin part else sets_reach l items origin part) ≡ untried origin.at
+    by_format : (t : Bool) → nat_eq (u16_of l.table.now subtable.start) 3 ≡ t → context_covers l subtable (nth items origin.at).glyph_id ≡ false
+        → (if t then whole_reach l items origin subtable else sets_reach l items origin subtable) ≡ untried origin.at
     by_format true is none =
-        let first : is_first l.table.now part.start (whole_rule l.table.now (is_chained l part) part.start)
+        let first : is_first l.table.now subtable.start (whole_rule l.table.now (is_chained l subtable) subtable.start)
         (nth items origin.at).glyph_id ≡ false =
-        subst (λ t. (if t then is_first l.table.now part.start (whole_rule l.table.now (is_chained l part) part.start)
+        subst (λ t. (if t then is_first l.table.now subtable.start (whole_rule l.table.now (is_chained l subtable) subtable.start)
         (nth items origin.at).glyph_id
-        else is_some (number_of l.table.now part.start (nth items origin.at).glyph_id)) ≡ false) is none in
+        else is_some (number_of l.table.now subtable.start (nth items origin.at).glyph_id)) ≡ false) is none in
         rw first refl
     by_format false is none =
-        let number : is_some (number_of l.table.now part.start (nth items origin.at).glyph_id) ≡ false =
-        subst (λ t. (if t then is_first l.table.now part.start (whole_rule l.table.now (is_chained l part) part.start)
+        let number : is_some (number_of l.table.now subtable.start (nth items origin.at).glyph_id) ≡ false =
+        subst (λ t. (if t then is_first l.table.now subtable.start (whole_rule l.table.now (is_chained l subtable) subtable.start)
         (nth items origin.at).glyph_id
-        else is_some (number_of l.table.now part.start (nth items origin.at).glyph_id)) ≡ false) is none in
-        map_or_none (number_reach l items origin part) (untried origin.at) _ (none_of _ number)
+        else is_some (number_of l.table.now subtable.start (nth items origin.at).glyph_id)) ≡ false) is none in
+        map_or_none (number_reach l items origin subtable) (untried origin.at) _ (none_of _ number)
 
-    by_kind : (t : Bool) → is_context_part l part ≡ t
-        → (if t then (if nat_eq (u16_of l.table.now part.start) 3 then whole_reach l items origin part else sets_reach l items origin part)
+    by_kind : (t : Bool) → is_context_subtable l subtable ≡ t
+        → (if t then (if nat_eq (u16_of l.table.now subtable.start) 3 then whole_reach l items origin subtable else sets_reach l items origin subtable)
         else untried origin.at) ≡ untried origin.at
-    by_kind true is = by_format (nat_eq (u16_of l.table.now part.start) 3) refl (context_out l part (nth items origin.at).glyph_id is out)
+    by_kind true is = by_format (nat_eq (u16_of l.table.now subtable.start) 3) refl (context_out l subtable (nth items origin.at).glyph_id is out)
     by_kind false is = refl
 
-at_part-reach : (l : Lookup) (items : List Item) (origin : Origin) (i : ℕ) → l.positioning ≡ false
+at_subtable-reach : (l : Lookup) (items : List Item) (origin : Origin) (i : ℕ) → l.positioning ≡ false
     → IsUncovered l (nth items origin.at).glyph_id
-    → reach_at_part l items origin i ≡ untried origin.at
-at_part-reach l items origin i gsub out =
+    → reach_at_subtable l items origin i ≡ untried origin.at
+at_subtable-reach l items origin i gsub out =
     let e : extension_kind l ≡ 7 = ap (λ t. if t then 9 else 7) gsub in
-    ap (λ k. option_map_or (part_reach l items origin) (subtable_of l.table.now k l.place i) (untried origin.at)) e
-    ∙ by_part (subtable_of l.table.now 7 l.place i) refl
+    ap (λ k. option_map_or (subtable_reach l items origin) (subtable_of l.table.now k l.place i) (untried origin.at)) e
+    ∙ by_subtable (subtable_of l.table.now 7 l.place i) refl
   where
-    by_part : (o : Option LookupSubtable) → subtable_of l.table.now 7 l.place i ≡ o
-        → option_map_or (part_reach l items origin) o (untried origin.at) ≡ untried origin.at
-    by_part None e = refl
-    by_part (Some part) e = in_part-reach l items origin part (out i part e)
+    by_subtable : (o : Option LookupSubtable) → subtable_of l.table.now 7 l.place i ≡ o
+        → option_map_or (subtable_reach l items origin) o (untried origin.at) ≡ untried origin.at
+    by_subtable None e = refl
+    by_subtable (Some subtable) e = in_subtable-reach l items origin subtable (out i subtable e)
 
 -- nothing was looked at, so nothing is marked
 tried-uncovered : (l : Lookup) (spot : Spot) (b : Buffer) → l.positioning ≡ false → IsUncovered l (item_at b spot.at).glyph_id
     → tried_marked l spot b ≡ b
 tried-uncovered l spot b gsub out =
     let origin = origin_of spot b in
-    ap (λ r. parted r b) (until_untried (reach_at_part l b.items origin) spot.at (λ i. at_part-reach l b.items origin i gsub out)
-    (subtable_count_of l.table.now l.place) 0) ∙ parted_untried spot.at b
+    ap (λ r. concat_marked r b) (until_untried (reach_at_subtable l b.items origin) spot.at (λ i. at_subtable-reach l b.items origin i gsub out)
+    (subtable_count_of l.table.now l.place) 0) ∙ concat_marked_untried spot.at b
 
 nested-uncovered : (level : ℕ) (l : Lookup) (spot : Spot) (b : Buffer) → l.positioning ≡ false → IsUncovered l (item_at b spot.at).glyph_id
     → nested_applied level l spot b ≡ unapplied b
@@ -228,7 +228,7 @@ nested-uncovered (suc level) l spot b gsub out =
     (lookup_applied l spot b) (unapplied b)
     (ap (first_rule_applied (nested_applied level) l spot) (tried-uncovered l spot b gsub out)
     ∙ map_or_none (rule_applied (nested_applied level) l spot b) (unapplied b) _ (found-uncovered l b.items (origin_of spot b) gsub out))
-    (parts-uncovered l spot b gsub out (subtable_count_of l.table.now l.place) 0) in
+    (subtables-uncovered l spot b gsub out (subtable_count_of l.table.now l.place) 0) in
     if_same (is_past b) (unapplied b) _ (unapplied b) refl
     (if_same (is_inside spot.at b) (level_applied (nested_applied level) l spot b) (unapplied b) (unapplied b) here refl)
 
@@ -267,45 +267,45 @@ reversal-uncovered : (l : Lookup) (items : List Item) (at i : ℕ) → l.positio
 reversal-uncovered l items at i gsub out =
     let e : extension_kind l ≡ 7 = ap (λ t. if t then 9 else 7) gsub in
     ap (λ k. option_and_then (reversal_by l items at) (subtable_of l.table.now k l.place i)) e
-    ∙ by_part (subtable_of l.table.now 7 l.place i) refl
+    ∙ by_subtable (subtable_of l.table.now 7 l.place i) refl
   where
-    by_kind : (part : LookupSubtable) (t : Bool) → is_context_part l part ≡ t → part_covers l part (nth items at).glyph_id ≡ false
-        → reversal_by l items at part ≡ None
-    by_kind part true is none = rw (not_reverse l part gsub is) refl
-    by_kind part false is none =
-        if_same (nat_eq part.kind 8 && nat_eq (u16_of l.table.now part.start) 1) _ _ None
-        (and_then_none (reversal_of l items at part.start) _ (number_out l part (nth items at).glyph_id is none)) refl
+    by_kind : (subtable : LookupSubtable) (t : Bool) → is_context_subtable l subtable ≡ t → subtable_covers l subtable (nth items at).glyph_id ≡ false
+        → reversal_by l items at subtable ≡ None
+    by_kind subtable true is none = rw (not_reverse l subtable gsub is) refl
+    by_kind subtable false is none =
+        if_same (nat_eq subtable.kind 8 && nat_eq (u16_of l.table.now subtable.start) 1) _ _ None
+        (and_then_none (reversal_of l items at subtable.start) _ (number_out l subtable (nth items at).glyph_id is none)) refl
 
-    by_part : (o : Option LookupSubtable) → subtable_of l.table.now 7 l.place i ≡ o → option_and_then (reversal_by l items at) o ≡ None
-    by_part None e = refl
-    by_part (Some part) e = by_kind part (is_context_part l part) refl (out i part e)
+    by_subtable : (o : Option LookupSubtable) → subtable_of l.table.now 7 l.place i ≡ o → option_and_then (reversal_by l items at) o ≡ None
+    by_subtable None e = refl
+    by_subtable (Some subtable) e = by_kind subtable (is_context_subtable l subtable) refl (out i subtable e)
 
 backwards-reach : (l : Lookup) (items : List Item) (at i : ℕ) → l.positioning ≡ false → IsUncovered l (nth items at).glyph_id
     → reversal_reach_in l items at i ≡ untried at
 backwards-reach l items at i gsub out =
     let e : extension_kind l ≡ 7 = ap (λ t. if t then 9 else 7) gsub in
     ap (λ k. option_map_or (reversal_reach_by l items at) (subtable_of l.table.now k l.place i) (untried at)) e
-    ∙ by_part (subtable_of l.table.now 7 l.place i) refl
+    ∙ by_subtable (subtable_of l.table.now 7 l.place i) refl
   where
-    by_kind : (part : LookupSubtable) (t : Bool) → is_context_part l part ≡ t → part_covers l part (nth items at).glyph_id ≡ false
-        → reversal_reach_by l items at part ≡ untried at
-    by_kind part true is none = rw (not_reverse l part gsub is) refl
-    by_kind part false is none =
-        if_same (nat_eq part.kind 8 && nat_eq (u16_of l.table.now part.start) 1) _ _ (untried at)
-        (map_or_none (reversal_reach_of l items at part.start) (untried at) _ (number_out l part (nth items at).glyph_id is none)) refl
+    by_kind : (subtable : LookupSubtable) (t : Bool) → is_context_subtable l subtable ≡ t → subtable_covers l subtable (nth items at).glyph_id ≡ false
+        → reversal_reach_by l items at subtable ≡ untried at
+    by_kind subtable true is none = rw (not_reverse l subtable gsub is) refl
+    by_kind subtable false is none =
+        if_same (nat_eq subtable.kind 8 && nat_eq (u16_of l.table.now subtable.start) 1) _ _ (untried at)
+        (map_or_none (reversal_reach_of l items at subtable.start) (untried at) _ (number_out l subtable (nth items at).glyph_id is none)) refl
 
-    by_part : (o : Option LookupSubtable) → subtable_of l.table.now 7 l.place i ≡ o
+    by_subtable : (o : Option LookupSubtable) → subtable_of l.table.now 7 l.place i ≡ o
         → option_map_or (reversal_reach_by l items at) o (untried at) ≡ untried at
-    by_part None e = refl
-    by_part (Some part) e = by_kind part (is_context_part l part) refl (out i part e)
+    by_subtable None e = refl
+    by_subtable (Some subtable) e = by_kind subtable (is_context_subtable l subtable) refl (out i subtable e)
 
 at-uncovered : (l : Lookup) (at : ℕ) (b : Buffer) → l.positioning ≡ false → IsUncovered l (item_at b at).glyph_id → reversed_at l at b ≡ b
 at-uncovered l at b gsub out =
     let n = subtable_count_of l.table.now l.place in
-    let still : parted (reversal_reach l b.items at) b ≡ b =
-    ap (λ r. parted r b) (until_untried (reversal_reach_in l b.items at) at (λ i. backwards-reach l b.items at i gsub out) n 0)
-    ∙ parted_untried at b in
-    if_same (is_on l (item_at b at)) (first_reversed l at (parted (reversal_reach l b.items at) b)) b b
+    let still : concat_marked (reversal_reach l b.items at) b ≡ b =
+    ap (λ r. concat_marked r b) (until_untried (reversal_reach_in l b.items at) at (λ i. backwards-reach l b.items at i gsub out) n 0)
+    ∙ concat_marked_untried at b in
+    if_same (is_on l (item_at b at)) (first_reversed l at (concat_marked (reversal_reach l b.items at) b)) b b
     (ap (first_reversed l at) still
     ∙ map_or_none (reversed_by l at b) b _ (first_some_none (reversal_in l b.items at)
     (λ i. reversal-uncovered l b.items at i gsub out) n 0)) refl

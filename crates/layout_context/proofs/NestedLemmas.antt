@@ -16,7 +16,7 @@ use Rattle.layout_substitution.specs.Kinds.{lookup_applied}
 use Rattle.layout_substitution.specs.declared.apply.Spot.{Spot}
 use Rattle.layout_substitution.proofs.AppliedLemmas.{or_unapplied, applied-if}
 use Rattle.layout_substitution.proofs.KindLemmas.{lookup-preserves}
-use Rattle.layout_substitution.proofs.PreservedLemmas.{Preserves, Preserves-same, Preserves-then, Preserves-times, Preserves-broken, Preserves-parted}
+use Rattle.layout_substitution.proofs.PreservedLemmas.{Preserves, Preserves-same, Preserves-then, Preserves-times, Preserves-broken, Preserves-concat_marked}
 use Rattle.layout_context.specs.Nested.{Nest, nested_spot, passed_record, stopped_record, nest_after, target_applied, target_done, record_step, first_nest, records_made, rule_applied, origin_of, tried_marked, first_rule_applied, level_applied, nested_applied}
 use Rattle.layout_context.specs.declared.nested.LookupRule.{LookupRule}
 
@@ -61,7 +61,7 @@ level-preserves : (next : Lookup → Spot → Buffer → Applied) → PreservesN
 level-preserves next each l spot b =
     let c = tried_marked l spot b in
     applied-if (is_context l) b (first_rule_applied next l spot c) _
-    (Preserves-then b c (first_rule_applied next l spot c).buffer (Preserves-parted (reach_of l b.items (origin_of spot b)) b)
+    (Preserves-then b c (first_rule_applied next l spot c).buffer (Preserves-concat_marked (reach_of l b.items (origin_of spot b)) b)
     (or_unapplied (rule_applied next l spot c) c (rule-preserves next each l spot c) (found_of l c.items (origin_of spot c))))
     (lookup-preserves l spot b)
 

@@ -8,14 +8,14 @@ use Rattle.layout_matching.specs.Loops.{times}
 use Rattle.layout_matching.specs.Skipping.{shares, is_skipped, is_on}
 use Rattle.layout_matching.specs.declared.lookup.Lookup.{Lookup}
 use Rattle.layout_substitution.specs.Applied.{Applied, unapplied}
-use Rattle.layout_substitution.specs.Edits.{item_at, is_inside, is_past, put_at, broken, parted}
+use Rattle.layout_substitution.specs.Edits.{item_at, is_inside, is_past, put_at, broken, concat_marked}
 use Rattle.layout_substitution.specs.Kinds.{lookup_applied}
 use Rattle.layout_substitution.specs.Off.{off_glyphs, HasNoFlag}
 use Rattle.layout_substitution.specs.Replaced.{replaced}
 use Rattle.layout_substitution.specs.declared.apply.Spot.{Spot}
 use Rattle.layout_substitution.proofs.AppliedLemmas.{like-replaced}
 use Rattle.layout_substitution.proofs.OffKinds.{lookup-off}
-use Rattle.layout_substitution.proofs.OffLemmas.{Same-then, same-broken, same-parted, on_at, same-off, same-on, put-off}
+use Rattle.layout_substitution.proofs.OffLemmas.{Same-then, same-broken, same-concat_marked, on_at, same-off, same-on, put-off}
 use Rattle.layout_context.specs.Nested.{tried_marked, first_rule_applied, level_applied, nested_applied}
 use Rattle.layout_context.specs.Reverse.{Backwards, reversal_found, reversal_reach, reversed_by, first_reversed, reversed_at, reverse_step, reversed, is_reverse}
 use Rattle.layout_context.specs.Stages.{Walk, passed, gone_on, lookup_step, first_walk, walked, looked_up}
@@ -79,12 +79,12 @@ at-off : (l : Lookup) (at : ℕ) (b : Buffer) → HasNoFlag l → off_glyphs l (
 at-off l at b pure =
     let item = item_at b at in
     let r = reversal_reach l b.items at in
-    let c = parted r b in
+    let c = concat_marked r b in
     let P : Bool → Type 0 = λ t. is_on l item ≡ t → off_glyphs l (if t then first_reversed l at c else b).items ≡ off_glyphs l b.items in
     let cases : P (is_on l item) = elim (is_on l item) as P [
       | true ↦ λ t.
           let on : on_at l b at ≡ true = and_left (shares item.mask l.mask) (not (is_skipped l item)) t in
-          first-off l at c pure (same-on l b c at pure (same-parted r b) on) ∙ same-off l b c pure (same-parted r b)
+          first-off l at c pure (same-on l b c at pure (same-concat_marked r b) on) ∙ same-off l b c pure (same-concat_marked r b)
       | false ↦ λ t. refl
     ] in
     cases refl

@@ -1,4 +1,4 @@
--- A state of places by its parts.
+-- A state of places by its subtables.
 use Rattle.std.proofs.Common.{◌≡◌, ℕ, List, ap}
 use Rattle.layout_context.specs.Places.{Growing}
 

@@ -6,12 +6,12 @@ use Rattle.shape_items.specs.Buffer.{Buffer}
 use Rattle.layout_matching.specs.Loops.{times}
 use Rattle.layout_matching.specs.Skipping.{is_on}
 use Rattle.layout_matching.specs.declared.lookup.Lookup.{Lookup}
-use Rattle.layout_substitution.specs.Edits.{item_at, put_at, broken, parted}
+use Rattle.layout_substitution.specs.Edits.{item_at, put_at, broken, concat_marked}
 use Rattle.layout_substitution.specs.Replaced.{replaced}
 use Rattle.layout_substitution.proofs.AppliedLemmas.{like-replaced}
 use Rattle.layout_substitution.proofs.CopyLemmas.{length-put_at}
-use Rattle.layout_substitution.proofs.EditLemmas.{length-if, length_broken, length_parted}
-use Rattle.layout_substitution.proofs.PreservedLemmas.{Preserves, Preserves-same, Preserves-then, Preserves-times, Preserves-if, Preserves-put, Preserves-broken, Preserves-parted}
+use Rattle.layout_substitution.proofs.EditLemmas.{length-if, length_broken, length_concat_marked}
+use Rattle.layout_substitution.proofs.PreservedLemmas.{Preserves, Preserves-same, Preserves-then, Preserves-times, Preserves-if, Preserves-put, Preserves-broken, Preserves-concat_marked}
 use Rattle.layout_context.specs.Reverse.{Backwards, reversal_reach, reversal_found, reversed_by, first_reversed, reversed_at, reverse_step, reversed}
 use Rattle.layout_context.specs.declared.reverse.Reversal.{Reversal}
 
@@ -31,9 +31,9 @@ length_first l at b = by_found (reversal_found l b.items at)
 
 pub length_reversed_at : (l : Lookup) (at : ℕ) (b : Buffer) → length (reversed_at l at b).items ≡ length b.items
 length_reversed_at l at b =
-    let c = parted (reversal_reach l b.items at) b in
+    let c = concat_marked (reversal_reach l b.items at) b in
     length-if (is_on l (item_at b at)) (length b.items) (first_reversed l at c) b
-    (length_first l at c ∙ length_parted (reversal_reach l b.items at) b) refl
+    (length_first l at c ∙ length_concat_marked (reversal_reach l b.items at) b) refl
 
 length-step : (l : Lookup) (s : Backwards) → length (reverse_step l s).buffer.items ≡ length s.buffer.items
 length-step l s = elim (nat_eq s.at 0) as (λ t.
@@ -51,9 +51,9 @@ length-reversed l b = walk (length b.items)
 
 at-preserves : (l : Lookup) (at : ℕ) (b : Buffer) → Preserves b (reversed_at l at b)
 at-preserves l at b =
-    let marked = parted (reversal_reach l b.items at) b in
+    let marked = concat_marked (reversal_reach l b.items at) b in
     Preserves-if (is_on l (item_at b at)) b (first_reversed l at marked) b
-    (Preserves-then b marked (first_reversed l at marked) (Preserves-parted (reversal_reach l b.items at) b)
+    (Preserves-then b marked (first_reversed l at marked) (Preserves-concat_marked (reversal_reach l b.items at) b)
     (by_found marked (reversal_found l marked.items at))) (Preserves-same b)
   where
     by_found : (b : Buffer) (o : Option Reversal) → Preserves b (option_map_or (reversed_by l at b) o b)

@@ -13,7 +13,7 @@ use Rattle.layout_matching.specs.declared.nesting.Target.{Target}
 use Rattle.layout_matching.specs.declared.rules.Rule.{Rule}
 use Rattle.layout_matching.specs.declared.spans.Origin.{Origin}
 use Rattle.layout_substitution.specs.Applied.{Applied, unapplied}
-use Rattle.layout_substitution.specs.Edits.{is_inside, is_past, broken, parted}
+use Rattle.layout_substitution.specs.Edits.{is_inside, is_past, broken, concat_marked}
 use Rattle.layout_substitution.specs.Kinds.{lookup_applied}
 use Rattle.layout_substitution.specs.declared.apply.Spot.{Spot}
 use Rattle.layout_context.specs.Places.{renumbered, moved_end, is_too_long}
@@ -90,7 +90,7 @@ origin_of spot b = record { at = spot.at; is_steady = nat_eq (length b.items) sp
 
 -- what the rules looked at in vain that were tried before the one that matches
 abbrev pub tried_marked : Lookup → Spot → Buffer → Buffer
-tried_marked l spot b = parted (reach_of l b.items (origin_of spot b)) b
+tried_marked l spot b = concat_marked (reach_of l b.items (origin_of spot b)) b
 
 abbrev pub first_rule_applied : (Lookup → Spot → Buffer → Applied) → Lookup → Spot → Buffer → Applied
 first_rule_applied next l spot b =

@@ -6,7 +6,7 @@ use Rattle.shape_items.specs.Buffer.{Buffer}
 use Rattle.shape_items.specs.Items.{Item}
 use Rattle.layout_tables.specs.Lookups.{subtable_count_of, subtable_of}
 use Rattle.layout_tables.specs.declared.lookups.LookupSubtable.{LookupSubtable}
-use Rattle.layout_matching.specs.Found.{extension_kind, first_part, part_of, number_of}
+use Rattle.layout_matching.specs.Found.{extension_kind, first_subtable, subtable_of, number_of}
 use Rattle.layout_matching.specs.Loops.{times, first_some}
 use Rattle.layout_matching.specs.Rules.{row}
 use Rattle.layout_matching.specs.Skipping.{nth, is_on}
@@ -18,7 +18,7 @@ use Rattle.layout_matching.specs.declared.rules.Rule.{Rule}
 use Rattle.layout_matching.specs.declared.rules.Test.TheVariants.{Coverage}
 use Rattle.layout_matching.specs.declared.spans.Span.{Span}
 use Rattle.layout_matching.specs.declared.tried.Reach.{Reach}
-use Rattle.layout_substitution.specs.Edits.{item_at, put_at, broken, parted}
+use Rattle.layout_substitution.specs.Edits.{item_at, put_at, broken, concat_marked}
 use Rattle.layout_substitution.specs.Replaced.{replaced}
 use Rattle.layout_substitution.specs.Substitutes.{listed_count, listed_at}
 use Rattle.layout_context.specs.declared.reverse.Reversal.{Reversal}
@@ -40,13 +40,13 @@ reversal_of l items at start i = let rule = reverse_rule l.table.now start in
     option_and_then (reversal_at l.table.now rule i) (span_of l items (record { at = at; is_steady = true }) rule)
 
 abbrev pub reversal_by : Lookup → List Item → ℕ → LookupSubtable → Option Reversal
-reversal_by l items at part = if nat_eq part.kind 8 && nat_eq (u16_of l.table.now part.start) 1
-    then option_and_then (reversal_of l items at part.start) (number_of l.table.now part.start (nth items at).glyph_id) else None
+reversal_by l items at subtable = if nat_eq subtable.kind 8 && nat_eq (u16_of l.table.now subtable.start) 1
+    then option_and_then (reversal_of l items at subtable.start) (number_of l.table.now subtable.start (nth items at).glyph_id) else None
 
 abbrev pub reversal_in : Lookup → List Item → ℕ → ℕ → Option Reversal
 reversal_in l items at i = option_and_then (reversal_by l items at) (subtable_of l.table.now (extension_kind l) l.place i)
 
--- of the first part that has one
+-- of the first subtable that has one
 abbrev pub reversal_found : Lookup → List Item → ℕ → Option Reversal
 reversal_found l items at = first_some (reversal_in l items at) (subtable_count_of l.table.now l.place) 0
 
@@ -64,12 +64,12 @@ reversal_reach_of l items at start i = let rule = reverse_rule l.table.now start
     else untried at)
 
 abbrev pub reversal_reach_by : Lookup → List Item → ℕ → LookupSubtable → Reach
-reversal_reach_by l items at part = if nat_eq part.kind 8 && nat_eq (u16_of l.table.now part.start) 1
-    then option_map_or (reversal_reach_of l items at part.start) (number_of l.table.now part.start (nth items at).glyph_id) (untried at)
+reversal_reach_by l items at subtable = if nat_eq subtable.kind 8 && nat_eq (u16_of l.table.now subtable.start) 1
+    then option_map_or (reversal_reach_of l items at subtable.start) (number_of l.table.now subtable.start (nth items at).glyph_id) (untried at)
     else untried at
 
 abbrev pub reversal_reach_in : Lookup → List Item → ℕ → ℕ → Reach
-reversal_reach_in l items at i = option_map_or (reversal_reach_by l items at) (part_of l i) (untried at)
+reversal_reach_in l items at i = option_map_or (reversal_reach_by l items at) (subtable_of l i) (untried at)
 
 abbrev pub reversal_reach : Lookup → List Item → ℕ → Reach
 reversal_reach l items at = until_matched (reversal_reach_in l items at) (subtable_count_of l.table.now l.place) 0 (untried at)
@@ -81,7 +81,7 @@ abbrev pub first_reversed : Lookup → ℕ → Buffer → Buffer
 first_reversed l at b = option_map_or (reversed_by l at b) (reversal_found l b.items at) b
 
 abbrev pub reversed_at : Lookup → ℕ → Buffer → Buffer
-reversed_at l at b = if is_on l (item_at b at) then first_reversed l at (parted (reversal_reach l b.items at) b) else b
+reversed_at l at b = if is_on l (item_at b at) then first_reversed l at (concat_marked (reversal_reach l b.items at) b) else b
 
 -- the item before the place, and then the place is there
 pub record Backwards : Type 0 where
@@ -96,4 +96,4 @@ reversed l b = (times (reverse_step l) (length b.items) (record { buffer = b; at
 
 -- a lookup that goes backwards, by its type
 abbrev pub is_reverse : Lookup → Bool
-is_reverse l = option_map_or (λ part. nat_eq part.kind 8) (first_part l) false
+is_reverse l = option_map_or (λ subtable. nat_eq subtable.kind 8) (first_subtable l) false

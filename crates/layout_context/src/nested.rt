@@ -22,7 +22,7 @@ use layout_matching::reaching::reach_at;
 use layout_matching::rules::Rule;
 use layout_matching::spans::Origin;
 use layout_substitution::apply::Spot;
-use layout_substitution::edits::{asks_for_concat, break_span, next_place, part_span};
+use layout_substitution::edits::{asks_for_concat, break_span, concat_span, next_place};
 use layout_substitution::kinds::apply_lookup;
 use shape_buffer::ShapeError;
 use std::alloc::Global;
@@ -252,7 +252,7 @@ fn origin(spot: Spot, buffer: &GapBuffer) -> Origin
 }
 
 /// Marks what the rules of a lookup looked at in vain unsafe to concat, up to the first that matches, if the buffer asks for that.
-#[tactic(auto, using(layout_substitution::proofs::EditLemmas::parted_unasked))]
+#[tactic(auto, using(layout_substitution::proofs::EditLemmas::concat_marked_unasked))]
 fn mark_tried(lookup: &Lookup<'_>, buffer: &mut GapBuffer, spot: Spot)
     requires near { lookup.now.place < 2 ^ 17 }
     requires inside { spot.at < length buffer.old.items }
@@ -264,7 +264,7 @@ fn mark_tried(lookup: &Lookup<'_>, buffer: &mut GapBuffer, spot: Spot)
         return;
     }
     let reach = reach_at(lookup, &buffer.items(), origin(spot, buffer));
-    part_span(buffer, reach);
+    concat_span(buffer, reach);
 }
 
 /// Applies a lookup at a place, with so many levels of others that it may name. Returns where it goes on, if it was applied.

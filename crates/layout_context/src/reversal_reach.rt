@@ -2,19 +2,19 @@
 //!
 //! Where what stands before isn't there HarfBuzz marks nothing, else all from there to the glyph after which the search ended.
 ghost use Rattle.std.specs.Prelude.{◌≡◌, ◌<◌, ◌^◌, length};
-ghost use Rattle.layout_substitution.specs.Edits.{parted};
+ghost use Rattle.layout_substitution.specs.Edits.{concat_marked};
 ghost use Rattle.layout_context.specs.Reverse.{reversal_after_reach, reversal_reach_of, reversal_reach_by};
 ghost use Rattle.layout_context.specs.Reverse.{reversal_reach_in, reversal_reach as reversal_reach_all};
 
 use crate::reverse::reverse_rule;
 use layout_buffer::{GapBuffer, ItemList};
-use layout_matching::found::{number_in, part_at};
+use layout_matching::found::{number_in, subtable_at};
 use layout_matching::lookup::Lookup;
 use layout_matching::rules::Rule;
 use layout_matching::seeking::{last_after, last_before};
 use layout_matching::spans::seek_around;
 use layout_matching::tried::{Reach, after_end, joined, match_at, untried, vain};
-use layout_substitution::edits::{asks_for_concat, part_span};
+use layout_substitution::edits::{asks_for_concat, concat_span};
 use layout_substitution::substitutes::count;
 use layout_tables::lookups::{LookupSubtable, subtable_count};
 use shape_font::bytes::u16_at;
@@ -38,7 +38,7 @@ fn after_reach(
     }
 }
 
-/// How far the part at `start` looked, whose list has the glyph as number `i`.
+/// How far the subtable at `start` looked, whose list has the glyph as number `i`.
 fn reach_of_number(
     lookup: &Lookup<'_>,
     items: &ItemList<'_>,
@@ -61,39 +61,39 @@ fn reach_of_number(
     }
 }
 
-fn reach_of_part(
+fn reach_of_subtable(
     lookup: &Lookup<'_>,
     items: &ItemList<'_>,
     at: usize,
-    part: LookupSubtable,
+    subtable: LookupSubtable,
 ) -> Reach
-    requires near { part.start < 2 ^ 35 }
+    requires near { subtable.start < 2 ^ 35 }
     requires inside { at < length items.now }
-    ensures { result ≡ reversal_reach_by lookup.now items.now at part }
+    ensures { result ≡ reversal_reach_by lookup.now items.now at subtable }
 {
-    if part.kind != 8 || u16_at(lookup.table, part.start) != 1 {
+    if subtable.kind != 8 || u16_at(lookup.table, subtable.start) != 1 {
         return untried(at);
     }
-    match number_in(lookup.table, part.start, items.item(at).glyph_id) {
-        Some(i) => reach_of_number(lookup, items, at, part.start, i),
+    match number_in(lookup.table, subtable.start, items.item(at).glyph_id) {
+        Some(i) => reach_of_number(lookup, items, at, subtable.start, i),
         None => untried(at),
     }
 }
 
-/// How far part `i` of the lookup looked.
+/// How far subtable `i` of the lookup looked.
 fn reach_in(lookup: &Lookup<'_>, items: &ItemList<'_>, at: usize, i: u32) -> Reach
     requires near { lookup.now.place < 2 ^ 17 }
     requires few { i < 2 ^ 16 }
     requires inside { at < length items.now }
     ensures { result ≡ reversal_reach_in lookup.now items.now at i }
 {
-    match part_at(lookup, i) {
-        Some(part) => reach_of_part(lookup, items, at, part),
+    match subtable_at(lookup, i) {
+        Some(subtable) => reach_of_subtable(lookup, items, at, subtable),
         None => untried(at),
     }
 }
 
-/// How far the parts of the lookup look that are tried at `at`, up to the first that matches.
+/// How far the subtables of the lookup look that are tried at `at`, up to the first that matches.
 #[tactic(auto, using(layout_matching::proofs::ReachLemmas::until_next, layout_matching::proofs::ReachLemmas::until_stays, layout_matching::proofs::ReachLemmas::until_end))]
 fn reversal_reach(lookup: &Lookup<'_>, items: &ItemList<'_>, at: usize) -> Reach
     requires near { lookup.now.place < 2 ^ 17 }
@@ -111,16 +111,16 @@ fn reversal_reach(lookup: &Lookup<'_>, items: &ItemList<'_>, at: usize) -> Reach
 }
 
 /// Marks what the lookup looked at in vain at a place unsafe to concat, if the buffer asks for that.
-#[tactic(auto, using(layout_substitution::proofs::EditLemmas::parted_unasked))]
+#[tactic(auto, using(layout_substitution::proofs::EditLemmas::concat_marked_unasked))]
 pub fn mark_tried(lookup: &Lookup<'_>, buffer: &mut GapBuffer, at: usize)
     requires near { lookup.now.place < 2 ^ 17 }
     requires inside { at < length buffer.old.items }
-    ensures made { buffer.new ≡ parted (reversal_reach_all lookup.now buffer.old.items at) buffer.old }
+    ensures made { buffer.new ≡ concat_marked (reversal_reach_all lookup.now buffer.old.items at) buffer.old }
     ensures as_many { length buffer.new.items ≡ length buffer.old.items }
 {
     if !asks_for_concat(buffer) {
         return;
     }
     let reach = reversal_reach(lookup, &buffer.items(), at);
-    part_span(buffer, reach);
+    concat_span(buffer, reach);
 }

@@ -7,7 +7,7 @@ ghost use Rattle.layout_context.specs.Reverse.{reverse_rule as reverse_rule_of, 
 
 use crate::reversal_reach::mark_tried;
 use layout_buffer::{GapBuffer, ItemList};
-use layout_matching::found::{extension_kind, first_part, number_in};
+use layout_matching::found::{extension_kind, first_subtable, number_in};
 use layout_matching::lookup::Lookup;
 use layout_matching::rules::{Row, Rule, Test};
 use layout_matching::skipping::is_on;
@@ -70,7 +70,7 @@ fn reversal_at(table: &[u8], rule: &Rule, i: u32, span: Span) -> Option<Reversal
     }
 }
 
-/// What replaces the glyph at `at`, which has number `i` in the list of the part at `start`.
+/// What replaces the glyph at `at`, which has number `i` in the list of the subtable at `start`.
 fn reversal_by_number(
     lookup: &Lookup<'_>,
     items: &ItemList<'_>,
@@ -97,17 +97,17 @@ fn reversal_by(
     lookup: &Lookup<'_>,
     items: &ItemList<'_>,
     at: usize,
-    part: LookupSubtable,
+    subtable: LookupSubtable,
 ) -> Option<Reversal>
-    requires near { part.start < 2 ^ 35 }
+    requires near { subtable.start < 2 ^ 35 }
     requires inside { at < length items.now }
-    ensures { result ≡ reversal_by_of lookup.now items.now at part }
+    ensures { result ≡ reversal_by_of lookup.now items.now at subtable }
 {
-    if part.kind != 8 || u16_at(lookup.table, part.start) != 1 {
+    if subtable.kind != 8 || u16_at(lookup.table, subtable.start) != 1 {
         return None;
     }
-    match number_in(lookup.table, part.start, items.item(at).glyph_id) {
-        Some(i) => reversal_by_number(lookup, items, at, part.start, i),
+    match number_in(lookup.table, subtable.start, items.item(at).glyph_id) {
+        Some(i) => reversal_by_number(lookup, items, at, subtable.start, i),
         None => None,
     }
 }
@@ -119,12 +119,12 @@ fn reversal_in(lookup: &Lookup<'_>, items: &ItemList<'_>, at: usize, i: u32) -> 
     ensures { result ≡ reversal_in_of lookup.now items.now at i }
 {
     match subtable(lookup.table, extension_kind(lookup), lookup.place, i) {
-        Some(part) => reversal_by(lookup, items, at, part),
+        Some(subtable) => reversal_by(lookup, items, at, subtable),
         None => None,
     }
 }
 
-/// What the first part that replaces the glyph at `at` puts there.
+/// What the first subtable that replaces the glyph at `at` puts there.
 #[tactic(auto, using(layout_matching::proofs::LoopLemmas::first_some_next, layout_matching::proofs::LoopLemmas::first_some_found, layout_matching::proofs::LoopLemmas::first_some_end))]
 fn find_reversal(lookup: &Lookup<'_>, items: &ItemList<'_>, at: usize) -> Option<Reversal>
     requires near { lookup.now.place < 2 ^ 17 }
@@ -149,7 +149,7 @@ fn put_reversal(lookup: &Lookup<'_>, buffer: &mut GapBuffer, at: usize, found: R
     put_glyph(lookup, buffer, at, found.glyph);
 }
 
-/// Replaces the glyph at `at` if the lookup is on there and a part of it matches.
+/// Replaces the glyph at `at` if the lookup is on there and a subtable of it matches.
 #[tactic(auto, using(crate::proofs::ReverseLemmas::length_reversed_at))]
 fn reverse_at(lookup: &Lookup<'_>, buffer: &mut GapBuffer, at: usize)
     requires near { lookup.now.place < 2 ^ 17 }
@@ -198,8 +198,8 @@ pub fn is_reverse(lookup: &Lookup<'_>) -> bool
     requires { lookup.now.place < 2 ^ 17 }
     ensures { result ≡ is_reverse_of lookup.now }
 {
-    match first_part(lookup) {
-        Some(part) => part.kind == 8,
+    match first_subtable(lookup) {
+        Some(subtable) => subtable.kind == 8,
         None => false,
     }
 }

@@ -18,7 +18,7 @@ use Rattle.layout_matching.specs.declared.rules.Rule.{Rule}
 use Rattle.layout_matching.specs.declared.rules.Test.TheVariants.{Glyph, Class, Coverage}
 use Rattle.layout_matching.specs.declared.spans.Origin.{Origin}
 
--- the kinds of lookups: context, chained context, and those whose parts stand far away
+-- the kinds of lookups: context, chained context, and those whose subtables stand far away
 abbrev pub context_kind : Lookup → ℕ
 context_kind l = if l.positioning then 7 else 5
 
@@ -29,10 +29,10 @@ abbrev pub extension_kind : Lookup → ℕ
 extension_kind l = if l.positioning then 9 else 7
 
 abbrev pub is_chained : Lookup → LookupSubtable → Bool
-is_chained l part = nat_eq part.kind (chained_kind l)
+is_chained l subtable = nat_eq subtable.kind (chained_kind l)
 
-abbrev pub is_context_part : Lookup → LookupSubtable → Bool
-is_context_part l part = nat_eq part.kind (context_kind l) || is_chained l part
+abbrev pub is_context_subtable : Lookup → LookupSubtable → Bool
+is_context_subtable l subtable = nat_eq subtable.kind (context_kind l) || is_chained l subtable
 
 -- a rule that leads past the end of the table matches nothing
 abbrev pub found_if : Lookup → List Item → Origin → Rule → Option Found
@@ -52,8 +52,8 @@ abbrev pub is_first : List ℕ → ℕ → Rule → ℕ → Bool
 is_first t start rule glyph = option_map_or (λ list. covers t list glyph) (first_list t start rule) false
 
 abbrev pub found_whole : Lookup → List Item → Origin → LookupSubtable → Option Found
-found_whole l items origin part = let rule = whole_rule l.table.now (is_chained l part) part.start in
-    (if is_first l.table.now part.start rule (nth items origin.at).glyph_id then found_if l items origin rule else None)
+found_whole l items origin subtable = let rule = whole_rule l.table.now (is_chained l subtable) subtable.start in
+    (if is_first l.table.now subtable.start rule (nth items origin.at).glyph_id then found_if l items origin rule else None)
 
 -- formats 1 and 2: rules by the number of the first glyph, whose glyphs are named, or by its class
 
@@ -76,44 +76,44 @@ rule_of t is_chain start at = if nat_eq (u16_of t start) 1
     else plain_rule t Class (class_place t start 4) at (at + 4))
 
 abbrev pub found_rule : Lookup → List Item → Origin → LookupSubtable → ℕ → ℕ → Option Found
-found_rule l items origin part set r =
-    option_and_then (λ place. found_if l items origin (rule_of l.table.now (is_chained l part) part.start place)) (rule_place l.table.now set r)
+found_rule l items origin subtable set r =
+    option_and_then (λ place. found_if l items origin (rule_of l.table.now (is_chained l subtable) subtable.start place)) (rule_place l.table.now set r)
 
 abbrev pub found_in_set : Lookup → List Item → Origin → LookupSubtable → ℕ → Option Found
-found_in_set l items origin part set =
-    first_some (found_rule l items origin part set) (fitting l.table.now (u16_of l.table.now set) (set + 2) 2) 0
+found_in_set l items origin subtable set =
+    first_some (found_rule l items origin subtable set) (fitting l.table.now (u16_of l.table.now set) (set + 2) 2) 0
 
 abbrev pub found_by_number : Lookup → List Item → Origin → LookupSubtable → ℕ → Option Found
-found_by_number l items origin part number = option_and_then (found_in_set l items origin part)
-    (set_for l.table.now (is_chained l part) part.start (nth items origin.at).glyph_id number)
+found_by_number l items origin subtable number = option_and_then (found_in_set l items origin subtable)
+    (set_for l.table.now (is_chained l subtable) subtable.start (nth items origin.at).glyph_id number)
 
 abbrev pub number_of : List ℕ → ℕ → ℕ → Option ℕ
 number_of t start glyph = option_and_then (λ list. coverage_index t list glyph) (offset16_of t start (start + 2))
 
 abbrev pub found_in_sets : Lookup → List Item → Origin → LookupSubtable → Option Found
-found_in_sets l items origin part = option_and_then (found_by_number l items origin part)
-    (number_of l.table.now part.start (nth items origin.at).glyph_id)
+found_in_sets l items origin subtable = option_and_then (found_by_number l items origin subtable)
+    (number_of l.table.now subtable.start (nth items origin.at).glyph_id)
 
-abbrev pub found_in_part : Lookup → List Item → Origin → LookupSubtable → Option Found
-found_in_part l items origin part = if is_context_part l part
-    then (if nat_eq (u16_of l.table.now part.start) 3 then found_whole l items origin part else found_in_sets l items origin part)
+abbrev pub found_in_subtable : Lookup → List Item → Origin → LookupSubtable → Option Found
+found_in_subtable l items origin subtable = if is_context_subtable l subtable
+    then (if nat_eq (u16_of l.table.now subtable.start) 3 then found_whole l items origin subtable else found_in_sets l items origin subtable)
     else None
 
-abbrev pub found_at_part : Lookup → List Item → Origin → ℕ → Option Found
-found_at_part l items origin i =
-    option_and_then (found_in_part l items origin) (subtable_of l.table.now (extension_kind l) l.place i)
+abbrev pub found_at_subtable : Lookup → List Item → Origin → ℕ → Option Found
+found_at_subtable l items origin i =
+    option_and_then (found_in_subtable l items origin) (subtable_of l.table.now (extension_kind l) l.place i)
 
--- the first rule of the first part that has one
+-- the first rule of the first subtable that has one
 abbrev pub found_of : Lookup → List Item → Origin → Option Found
-found_of l items origin = first_some (found_at_part l items origin) (subtable_count_of l.table.now l.place) 0
+found_of l items origin = first_some (found_at_subtable l items origin) (subtable_count_of l.table.now l.place) 0
 
--- part `i`; none if its offset is NULL
-abbrev pub part_of : Lookup → ℕ → Option LookupSubtable
-part_of l i = subtable_of l.table.now (extension_kind l) l.place i
+-- subtable `i`; none if its offset is NULL
+abbrev pub subtable_of : Lookup → ℕ → Option LookupSubtable
+subtable_of l i = subtable_of l.table.now (extension_kind l) l.place i
 
--- the first part whose offset isn't NULL; all parts are of the type of the lookup, or of the one that its extensions stand for
-abbrev pub first_part : Lookup → Option LookupSubtable
-first_part l = first_some (part_of l) (subtable_count_of l.table.now l.place) 0
+-- the first subtable whose offset isn't NULL; all subtables are of the type of the lookup, or of the one that its extensions stand for
+abbrev pub first_subtable : Lookup → Option LookupSubtable
+first_subtable l = first_some (subtable_of l) (subtable_count_of l.table.now l.place) 0
 
 abbrev pub is_context : Lookup → Bool
-is_context l = option_map_or (is_context_part l) (first_part l) false
+is_context l = option_map_or (is_context_subtable l) (first_subtable l) false

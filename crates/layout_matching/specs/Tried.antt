@@ -7,7 +7,7 @@ use Rattle.shape_font.specs.Search.{first_at}
 use Rattle.shape_items.specs.Items.{Item}
 use Rattle.layout_tables.specs.Lookups.{subtable_count_of}
 use Rattle.layout_tables.specs.declared.lookups.LookupSubtable.{LookupSubtable}
-use Rattle.layout_matching.specs.Found.{is_chained, is_context_part, whole_rule, is_first, set_for, rule_of, number_of, part_of}
+use Rattle.layout_matching.specs.Found.{is_chained, is_context_subtable, whole_rule, is_first, set_for, rule_of, number_of, subtable_of}
 use Rattle.layout_matching.specs.Input.{input_step, seek_input, input_matched}
 use Rattle.layout_matching.specs.Loops.{stopped}
 use Rattle.layout_matching.specs.Rules.{is_inside, rule_place}
@@ -96,38 +96,38 @@ rule_reach l items origin is_chain rule = if is_inside l.table.now rule
     (input_reach l items origin.at is_chain rule)
     else untried origin.at
 
--- ---- parts of a lookup
+-- ---- subtables of a lookup
 
 abbrev pub whole_reach : Lookup → List Item → Origin → LookupSubtable → Reach
-whole_reach l items origin part = let rule = whole_rule l.table.now (is_chained l part) part.start in
-    (if is_first l.table.now part.start rule (nth items origin.at).glyph_id then rule_reach l items origin (is_chained l part) rule
+whole_reach l items origin subtable = let rule = whole_rule l.table.now (is_chained l subtable) subtable.start in
+    (if is_first l.table.now subtable.start rule (nth items origin.at).glyph_id then rule_reach l items origin (is_chained l subtable) rule
     else untried origin.at)
 
 abbrev pub rule_reach_in : Lookup → List Item → Origin → LookupSubtable → ℕ → ℕ → Reach
-rule_reach_in l items origin part set r = option_map_or
-    (λ place. rule_reach l items origin (is_chained l part) (rule_of l.table.now (is_chained l part) part.start place))
+rule_reach_in l items origin subtable set r = option_map_or
+    (λ place. rule_reach l items origin (is_chained l subtable) (rule_of l.table.now (is_chained l subtable) subtable.start place))
     (rule_place l.table.now set r) (untried origin.at)
 
 abbrev pub set_reach : Lookup → List Item → Origin → LookupSubtable → ℕ → Reach
-set_reach l items origin part set = until_matched (rule_reach_in l items origin part set)
+set_reach l items origin subtable set = until_matched (rule_reach_in l items origin subtable set)
     (fitting l.table.now (u16_of l.table.now set) (set + 2) 2) 0 (untried origin.at)
 
 abbrev pub number_reach : Lookup → List Item → Origin → LookupSubtable → ℕ → Reach
-number_reach l items origin part number = option_map_or (set_reach l items origin part)
-    (set_for l.table.now (is_chained l part) part.start (nth items origin.at).glyph_id number) (untried origin.at)
+number_reach l items origin subtable number = option_map_or (set_reach l items origin subtable)
+    (set_for l.table.now (is_chained l subtable) subtable.start (nth items origin.at).glyph_id number) (untried origin.at)
 
 abbrev pub sets_reach : Lookup → List Item → Origin → LookupSubtable → Reach
-sets_reach l items origin part = option_map_or (number_reach l items origin part)
-    (number_of l.table.now part.start (nth items origin.at).glyph_id) (untried origin.at)
+sets_reach l items origin subtable = option_map_or (number_reach l items origin subtable)
+    (number_of l.table.now subtable.start (nth items origin.at).glyph_id) (untried origin.at)
 
-abbrev pub part_reach : Lookup → List Item → Origin → LookupSubtable → Reach
-part_reach l items origin part = if is_context_part l part
-    then (if nat_eq (u16_of l.table.now part.start) 3 then whole_reach l items origin part else sets_reach l items origin part)
+abbrev pub subtable_reach : Lookup → List Item → Origin → LookupSubtable → Reach
+subtable_reach l items origin subtable = if is_context_subtable l subtable
+    then (if nat_eq (u16_of l.table.now subtable.start) 3 then whole_reach l items origin subtable else sets_reach l items origin subtable)
     else untried origin.at
 
-abbrev pub reach_at_part : Lookup → List Item → Origin → ℕ → Reach
-reach_at_part l items origin i = option_map_or (part_reach l items origin) (part_of l i) (untried origin.at)
+abbrev pub reach_at_subtable : Lookup → List Item → Origin → ℕ → Reach
+reach_at_subtable l items origin i = option_map_or (subtable_reach l items origin) (subtable_of l i) (untried origin.at)
 
 abbrev pub reach_of : Lookup → List Item → Origin → Reach
 reach_of l items origin =
-    until_matched (reach_at_part l items origin) (subtable_count_of l.table.now l.place) 0 (untried origin.at)
+    until_matched (reach_at_subtable l items origin) (subtable_count_of l.table.now l.place) 0 (untried origin.at)

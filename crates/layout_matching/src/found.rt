@@ -3,7 +3,7 @@
 //! Rules are asked in the order of the table, and the first that matches is taken. Nothing is changed, and no memory is taken.
 ghost use Rattle.std.specs.Prelude.{◌≡◌, ◌<◌, ◌+◌, ◌^◌, length};
 ghost use Rattle.std.specs.Option.{IfSome};
-ghost use Rattle.layout_matching.specs.Found.{context_kind as context_kind_of, chained_kind as chained_kind_of, extension_kind as extension_kind_of, is_chained as is_chained_of, is_context_part as is_context_part_of, found_if as found_if_of, whole_rule as whole_rule_of, is_first as is_first_of, found_whole as found_whole_of, class_place as class_place_of, set_by_class as set_by_class_of, set_for as set_for_of, rule_of, found_rule as found_rule_of, found_in_set as found_in_set_of, found_by_number as found_by_number_of, number_of, found_in_sets as found_in_sets_of, found_in_part as found_in_part_of, found_at_part as found_at_part_of, found_of, part_of, first_part as first_part_of, is_context as is_context_of};
+ghost use Rattle.layout_matching.specs.Found.{context_kind as context_kind_of, chained_kind as chained_kind_of, extension_kind as extension_kind_of, is_chained as is_chained_of, is_context_subtable as is_context_subtable_of, found_if as found_if_of, whole_rule as whole_rule_of, is_first as is_first_of, found_whole as found_whole_of, class_place as class_place_of, set_by_class as set_by_class_of, set_for as set_for_of, rule_of, found_rule as found_rule_of, found_in_set as found_in_set_of, found_by_number as found_by_number_of, number_of, found_in_sets as found_in_sets_of, found_in_subtable as found_in_subtable_of, found_at_subtable as found_at_subtable_of, found_of, subtable_of, first_subtable as first_subtable_of, is_context as is_context_of};
 
 use crate::lookup::Lookup;
 use crate::rules::{FAR, Rule, Test, chain, is_inside, plain, rule_at, rules};
@@ -36,23 +36,23 @@ fn chained_kind(lookup: &Lookup<'_>) -> u16
     if lookup.positioning { 8 } else { 6 }
 }
 
-/// The kind of a lookup whose parts stand far away.
+/// The kind of a lookup whose subtables stand far away.
 pub fn extension_kind(lookup: &Lookup<'_>) -> u16
     ensures { result ≡ extension_kind_of lookup.now }
 {
     if lookup.positioning { 9 } else { 7 }
 }
 
-pub(crate) fn is_chained(lookup: &Lookup<'_>, part: LookupSubtable) -> bool
-    ensures { result ≡ is_chained_of lookup.now part }
+pub(crate) fn is_chained(lookup: &Lookup<'_>, subtable: LookupSubtable) -> bool
+    ensures { result ≡ is_chained_of lookup.now subtable }
 {
-    part.kind == chained_kind(lookup)
+    subtable.kind == chained_kind(lookup)
 }
 
-pub(crate) fn is_context_part(lookup: &Lookup<'_>, part: LookupSubtable) -> bool
-    ensures { result ≡ is_context_part_of lookup.now part }
+pub(crate) fn is_context_subtable(lookup: &Lookup<'_>, subtable: LookupSubtable) -> bool
+    ensures { result ≡ is_context_subtable_of lookup.now subtable }
 {
-    part.kind == context_kind(lookup) || is_chained(lookup, part)
+    subtable.kind == context_kind(lookup) || is_chained(lookup, subtable)
 }
 
 /// The rule, if the table has all of its bytes, and it matches.
@@ -70,7 +70,7 @@ fn found_if(lookup: &Lookup<'_>, items: &ItemList<'_>, origin: Origin, rule: Rul
     }
 }
 
-/// The one rule of a part of format 3.
+/// The one rule of a subtable of format 3.
 pub(crate) fn whole_rule(table: &[u8], is_chain: bool, start: usize) -> Rule
     requires { start < 2 ^ 35 }
     ensures { result ≡ whole_rule_of table.now is_chain start }
@@ -100,16 +100,16 @@ fn found_whole(
     lookup: &Lookup<'_>,
     items: &ItemList<'_>,
     origin: Origin,
-    part: LookupSubtable,
+    subtable: LookupSubtable,
 ) -> Option<Found>
-    requires near { part.start < 2 ^ 35 }
+    requires near { subtable.start < 2 ^ 35 }
     requires inside { origin.at < length items.now }
-    ensures value { result ≡ found_whole_of lookup.now items.now origin part }
+    ensures value { result ≡ found_whole_of lookup.now items.now origin subtable }
     ensures last { IfSome result (λ f. f.span.last < length items.now) }
 {
-    let rule = whole_rule(lookup.table, is_chained(lookup, part), part.start);
+    let rule = whole_rule(lookup.table, is_chained(lookup, subtable), subtable.start);
     let glyph = items.item(origin.at).glyph_id;
-    if is_first(lookup.table, part.start, &rule, glyph) {
+    if is_first(lookup.table, subtable.start, &rule, glyph) {
         found_if(lookup, items, origin, rule)
     } else {
         None
@@ -163,7 +163,7 @@ pub(crate) fn set_for(
     }
 }
 
-/// The rule at a place, of a part of format 1 or 2.
+/// The rule at a place, of a subtable of format 1 or 2.
 pub(crate) fn rule_by(table: &[u8], is_chain: bool, start: usize, at: usize) -> Rule
     requires start { start < 2 ^ 35 }
     requires at { at < 2 ^ 37 }
@@ -194,20 +194,25 @@ fn found_rule(
     lookup: &Lookup<'_>,
     items: &ItemList<'_>,
     origin: Origin,
-    part: LookupSubtable,
+    subtable: LookupSubtable,
     set: usize,
     r: u32,
 ) -> Option<Found>
-    requires near { part.start < 2 ^ 35 }
+    requires near { subtable.start < 2 ^ 35 }
     requires set { set < 2 ^ 36 }
     requires few { r < 2 ^ 16 }
     requires inside { origin.at < length items.now }
-    ensures value { result ≡ found_rule_of lookup.now items.now origin part set r }
+    ensures value { result ≡ found_rule_of lookup.now items.now origin subtable set r }
     ensures last { IfSome result (λ f. f.span.last < length items.now) }
 {
     match rule_at(lookup.table, set, r) {
         Some(place) => {
-            let rule = rule_by(lookup.table, is_chained(lookup, part), part.start, place);
+            let rule = rule_by(
+                lookup.table,
+                is_chained(lookup, subtable),
+                subtable.start,
+                place,
+            );
             found_if(lookup, items, origin, rule)
         }
         None => None,
@@ -220,13 +225,13 @@ fn found_in_set(
     lookup: &Lookup<'_>,
     items: &ItemList<'_>,
     origin: Origin,
-    part: LookupSubtable,
+    subtable: LookupSubtable,
     set: usize,
 ) -> Option<Found>
-    requires near { part.start < 2 ^ 35 }
+    requires near { subtable.start < 2 ^ 35 }
     requires set { set < 2 ^ 36 }
     requires inside { origin.at < length items.now }
-    ensures value { result ≡ found_in_set_of lookup.now items.now origin part set }
+    ensures value { result ≡ found_in_set_of lookup.now items.now origin subtable set }
     ensures last { IfSome result (λ f. f.span.last < length items.now) }
 {
     for r in 0..records(
@@ -235,7 +240,7 @@ fn found_in_set(
         set + 2,
         2,
     ) {
-        if let Some(found) = found_rule(lookup, items, origin, part, set, r) {
+        if let Some(found) = found_rule(lookup, items, origin, subtable, set, r) {
             return Some(found);
         }
     }
@@ -246,23 +251,23 @@ fn found_by_number(
     lookup: &Lookup<'_>,
     items: &ItemList<'_>,
     origin: Origin,
-    part: LookupSubtable,
+    subtable: LookupSubtable,
     number: u32,
 ) -> Option<Found>
-    requires near { part.start < 2 ^ 35 }
+    requires near { subtable.start < 2 ^ 35 }
     requires inside { origin.at < length items.now }
-    ensures value { result ≡ found_by_number_of lookup.now items.now origin part number }
+    ensures value { result ≡ found_by_number_of lookup.now items.now origin subtable number }
     ensures last { IfSome result (λ f. f.span.last < length items.now) }
 {
     let glyph = items.item(origin.at).glyph_id;
-    let is_chain = is_chained(lookup, part);
-    match set_for(lookup.table, is_chain, part.start, glyph, number) {
-        Some(set) => found_in_set(lookup, items, origin, part, set),
+    let is_chain = is_chained(lookup, subtable);
+    match set_for(lookup.table, is_chain, subtable.start, glyph, number) {
+        Some(set) => found_in_set(lookup, items, origin, subtable, set),
         None => None,
     }
 }
 
-/// The number of a glyph in the list of the part at `start`, whose offset stands 2 bytes after `start`.
+/// The number of a glyph in the list of the subtable at `start`, whose offset stands 2 bytes after `start`.
 pub fn number_in(table: &[u8], start: usize, glyph: u32) -> Option<u32>
     requires { start < 2 ^ 35 }
     ensures { result ≡ number_of table.now start glyph }
@@ -275,56 +280,61 @@ fn found_in_sets(
     lookup: &Lookup<'_>,
     items: &ItemList<'_>,
     origin: Origin,
-    part: LookupSubtable,
+    subtable: LookupSubtable,
 ) -> Option<Found>
-    requires near { part.start < 2 ^ 35 }
+    requires near { subtable.start < 2 ^ 35 }
     requires inside { origin.at < length items.now }
-    ensures value { result ≡ found_in_sets_of lookup.now items.now origin part }
+    ensures value { result ≡ found_in_sets_of lookup.now items.now origin subtable }
     ensures last { IfSome result (λ f. f.span.last < length items.now) }
 {
     let glyph = items.item(origin.at).glyph_id;
-    match number_in(lookup.table, part.start, glyph) {
-        Some(i) => found_by_number(lookup, items, origin, part, i),
+    match number_in(lookup.table, subtable.start, glyph) {
+        Some(i) => found_by_number(lookup, items, origin, subtable, i),
         None => None,
     }
 }
 
-fn found_in_part(
+fn found_in_subtable(
     lookup: &Lookup<'_>,
     items: &ItemList<'_>,
     origin: Origin,
-    part: LookupSubtable,
+    subtable: LookupSubtable,
 ) -> Option<Found>
-    requires near { part.start < 2 ^ 35 }
+    requires near { subtable.start < 2 ^ 35 }
     requires inside { origin.at < length items.now }
-    ensures value { result ≡ found_in_part_of lookup.now items.now origin part }
+    ensures value { result ≡ found_in_subtable_of lookup.now items.now origin subtable }
     ensures last { IfSome result (λ f. f.span.last < length items.now) }
 {
-    if !is_context_part(lookup, part) {
+    if !is_context_subtable(lookup, subtable) {
         return None;
     }
-    if u16_at(lookup.table, part.start) == 3 {
-        found_whole(lookup, items, origin, part)
+    if u16_at(lookup.table, subtable.start) == 3 {
+        found_whole(lookup, items, origin, subtable)
     } else {
-        found_in_sets(lookup, items, origin, part)
+        found_in_sets(lookup, items, origin, subtable)
     }
 }
 
-/// The rule of part `i` that matches.
-fn found_at_part(lookup: &Lookup<'_>, items: &ItemList<'_>, origin: Origin, i: u32) -> Option<Found>
+/// The rule of subtable `i` that matches.
+fn found_at_subtable(
+    lookup: &Lookup<'_>,
+    items: &ItemList<'_>,
+    origin: Origin,
+    i: u32,
+) -> Option<Found>
     requires near { lookup.now.place < 2 ^ 17 }
     requires few { i < 2 ^ 16 }
     requires inside { origin.at < length items.now }
-    ensures value { result ≡ found_at_part_of lookup.now items.now origin i }
+    ensures value { result ≡ found_at_subtable_of lookup.now items.now origin i }
     ensures last { IfSome result (λ f. f.span.last < length items.now) }
 {
     match subtable(lookup.table, extension_kind(lookup), lookup.place, i) {
-        Some(part) => found_in_part(lookup, items, origin, part),
+        Some(subtable) => found_in_subtable(lookup, items, origin, subtable),
         None => None,
     }
 }
 
-/// The first rule of the first part that has one which matches at `origin`.
+/// The first rule of the first subtable that has one which matches at `origin`.
 #[tactic(auto, using(crate::proofs::LoopLemmas::first_some_next, crate::proofs::LoopLemmas::first_some_found, crate::proofs::LoopLemmas::first_some_end))]
 pub fn find(lookup: &Lookup<'_>, items: &ItemList<'_>, origin: Origin) -> Option<Found>
     requires near { lookup.now.place < 2 ^ 17 }
@@ -333,33 +343,33 @@ pub fn find(lookup: &Lookup<'_>, items: &ItemList<'_>, origin: Origin) -> Option
     ensures last { IfSome result (λ f. f.span.last < length items.now) }
 {
     for i in 0..subtable_count(lookup.table, lookup.place) {
-        if let Some(found) = found_at_part(lookup, items, origin, i) {
+        if let Some(found) = found_at_subtable(lookup, items, origin, i) {
             return Some(found);
         }
     }
     None
 }
 
-/// Part `i` of the lookup; none if its offset is NULL.
-pub fn part_at(lookup: &Lookup<'_>, i: u32) -> Option<LookupSubtable>
+/// Subtable `i` of the lookup; none if its offset is NULL.
+pub fn subtable_at(lookup: &Lookup<'_>, i: u32) -> Option<LookupSubtable>
     requires near { lookup.now.place < 2 ^ 17 }
     requires few { i < 2 ^ 16 }
-    ensures value { result ≡ part_of lookup.now i }
+    ensures value { result ≡ subtable_of lookup.now i }
     ensures near { IfSome result (λ p. p.start < 2 ^ 35) }
 {
     subtable(lookup.table, extension_kind(lookup), lookup.place, i)
 }
 
-/// The first part of the lookup whose offset isn't NULL. All parts are of the type of the lookup, or of the one that its
+/// The first subtable of the lookup whose offset isn't NULL. All subtables are of the type of the lookup, or of the one that its
 /// extensions stand for.
 #[tactic(auto, using(crate::proofs::LoopLemmas::first_some_next, crate::proofs::LoopLemmas::first_some_found, crate::proofs::LoopLemmas::first_some_end))]
-pub fn first_part(lookup: &Lookup<'_>) -> Option<LookupSubtable>
+pub fn first_subtable(lookup: &Lookup<'_>) -> Option<LookupSubtable>
     requires { lookup.now.place < 2 ^ 17 }
-    ensures { result ≡ first_part_of lookup.now }
+    ensures { result ≡ first_subtable_of lookup.now }
 {
     for i in 0..subtable_count(lookup.table, lookup.place) {
-        if let Some(part) = part_at(lookup, i) {
-            return Some(part);
+        if let Some(subtable) = subtable_at(lookup, i) {
+            return Some(subtable);
         }
     }
     None
@@ -370,8 +380,8 @@ pub fn is_context(lookup: &Lookup<'_>) -> bool
     requires { lookup.now.place < 2 ^ 17 }
     ensures { result ≡ is_context_of lookup.now }
 {
-    match first_part(lookup) {
-        Some(part) => is_context_part(lookup, part),
+    match first_subtable(lookup) {
+        Some(subtable) => is_context_subtable(lookup, subtable),
         None => false,
     }
 }

@@ -70,18 +70,18 @@ fn joins(lookup: &Lookup<'_>, items: &ItemList<'_>, at: usize, there: &hb_glyph_
     ensures { result ≡ joins_of lookup.now items.now at there.now }
 {
     let first = items.item(at);
-    let (id, part) = (
+    let (id, component) = (
         first._hb_glyph_info_get_ligature_id(),
         first._hb_glyph_info_get_ligature_component(),
     );
-    let (other, other_part) = (
+    let (other, other_component) = (
         there._hb_glyph_info_get_ligature_id(),
         there._hb_glyph_info_get_ligature_component(),
     );
-    if 0 < id && 0 < part {
-        (other == id && other_part == part) || base_is_skipped(lookup, items, id, at)
+    if 0 < id && 0 < component {
+        (other == id && other_component == component) || base_is_skipped(lookup, items, id, at)
     } else {
-        !(0 < other && 0 < other_part && other != id)
+        !(0 < other && 0 < other_component && other != id)
     }
 }
 

@@ -6,11 +6,11 @@ ghost use Rattle.layout_matching.specs.Tried.{before_reach as before_reach_of};
 ghost use Rattle.layout_matching.specs.Tried.{after_reach as after_reach_of, input_reach as input_reach_of};
 ghost use Rattle.layout_matching.specs.Tried.{rule_reach as rule_reach_of, whole_reach as whole_reach_of, rule_reach_in};
 ghost use Rattle.layout_matching.specs.Tried.{set_reach as set_reach_of, number_reach as number_reach_of};
-ghost use Rattle.layout_matching.specs.Tried.{sets_reach as sets_reach_of, part_reach as part_reach_of};
-ghost use Rattle.layout_matching.specs.Tried.{reach_at_part, reach_of};
+ghost use Rattle.layout_matching.specs.Tried.{sets_reach as sets_reach_of, subtable_reach as subtable_reach_of};
+ghost use Rattle.layout_matching.specs.Tried.{reach_at_subtable, reach_of};
 
 use crate::found::{
-    is_chained, is_context_part, is_first, number_in, part_at, rule_by, set_for, whole_rule,
+    is_chained, is_context_subtable, is_first, number_in, rule_by, set_for, subtable_at, whole_rule,
 };
 use crate::input::match_input;
 use crate::lookup::Lookup;
@@ -109,21 +109,21 @@ fn rule_reach(
     }
 }
 
-/// How far the one rule of a part of format 3 looked.
+/// How far the one rule of a subtable of format 3 looked.
 fn whole_reach(
     lookup: &Lookup<'_>,
     items: &ItemList<'_>,
     origin: Origin,
-    part: LookupSubtable,
+    subtable: LookupSubtable,
 ) -> Reach
-    requires near { part.start < 2 ^ 35 }
+    requires near { subtable.start < 2 ^ 35 }
     requires inside { origin.at < length items.now }
-    ensures { result ≡ whole_reach_of lookup.now items.now origin part }
+    ensures { result ≡ whole_reach_of lookup.now items.now origin subtable }
 {
-    let is_chain = is_chained(lookup, part);
-    let rule = whole_rule(lookup.table, is_chain, part.start);
+    let is_chain = is_chained(lookup, subtable);
+    let rule = whole_rule(lookup.table, is_chain, subtable.start);
     let glyph = items.item(origin.at).glyph_id;
-    if is_first(lookup.table, part.start, &rule, glyph) {
+    if is_first(lookup.table, subtable.start, &rule, glyph) {
         rule_reach(lookup, items, origin, is_chain, &rule)
     } else {
         untried(origin.at)
@@ -135,20 +135,20 @@ fn reach_by_rule(
     lookup: &Lookup<'_>,
     items: &ItemList<'_>,
     origin: Origin,
-    part: LookupSubtable,
+    subtable: LookupSubtable,
     set: usize,
     r: u32,
 ) -> Reach
-    requires near { part.start < 2 ^ 35 }
+    requires near { subtable.start < 2 ^ 35 }
     requires set { set < 2 ^ 36 }
     requires few { r < 2 ^ 16 }
     requires inside { origin.at < length items.now }
-    ensures { result ≡ rule_reach_in lookup.now items.now origin part set r }
+    ensures { result ≡ rule_reach_in lookup.now items.now origin subtable set r }
 {
     match rule_at(lookup.table, set, r) {
         Some(place) => {
-            let is_chain = is_chained(lookup, part);
-            let rule = rule_by(lookup.table, is_chain, part.start, place);
+            let is_chain = is_chained(lookup, subtable);
+            let rule = rule_by(lookup.table, is_chain, subtable.start, place);
             rule_reach(lookup, items, origin, is_chain, &rule)
         }
         None => untried(origin.at),
@@ -161,13 +161,13 @@ fn set_reach(
     lookup: &Lookup<'_>,
     items: &ItemList<'_>,
     origin: Origin,
-    part: LookupSubtable,
+    subtable: LookupSubtable,
     set: usize,
 ) -> Reach
-    requires near { part.start < 2 ^ 35 }
+    requires near { subtable.start < 2 ^ 35 }
     requires set { set < 2 ^ 36 }
     requires inside { origin.at < length items.now }
-    ensures { result ≡ set_reach_of lookup.now items.now origin part set }
+    ensures { result ≡ set_reach_of lookup.now items.now origin subtable set }
 {
     let mut reach = untried(origin.at);
     for r in 0..records(
@@ -179,7 +179,10 @@ fn set_reach(
         if reach.matched {
             return reach;
         }
-        reach = joined(reach, reach_by_rule(lookup, items, origin, part, set, r));
+        reach = joined(
+            reach,
+            reach_by_rule(lookup, items, origin, subtable, set, r),
+        );
     }
     reach
 }
@@ -188,17 +191,17 @@ fn number_reach(
     lookup: &Lookup<'_>,
     items: &ItemList<'_>,
     origin: Origin,
-    part: LookupSubtable,
+    subtable: LookupSubtable,
     number: u32,
 ) -> Reach
-    requires near { part.start < 2 ^ 35 }
+    requires near { subtable.start < 2 ^ 35 }
     requires inside { origin.at < length items.now }
-    ensures { result ≡ number_reach_of lookup.now items.now origin part number }
+    ensures { result ≡ number_reach_of lookup.now items.now origin subtable number }
 {
     let glyph = items.item(origin.at).glyph_id;
-    let is_chain = is_chained(lookup, part);
-    match set_for(lookup.table, is_chain, part.start, glyph, number) {
-        Some(set) => set_reach(lookup, items, origin, part, set),
+    let is_chain = is_chained(lookup, subtable);
+    match set_for(lookup.table, is_chain, subtable.start, glyph, number) {
+        Some(set) => set_reach(lookup, items, origin, subtable, set),
         None => untried(origin.at),
     }
 }
@@ -207,48 +210,48 @@ fn sets_reach(
     lookup: &Lookup<'_>,
     items: &ItemList<'_>,
     origin: Origin,
-    part: LookupSubtable,
+    subtable: LookupSubtable,
 ) -> Reach
-    requires near { part.start < 2 ^ 35 }
+    requires near { subtable.start < 2 ^ 35 }
     requires inside { origin.at < length items.now }
-    ensures { result ≡ sets_reach_of lookup.now items.now origin part }
+    ensures { result ≡ sets_reach_of lookup.now items.now origin subtable }
 {
     let glyph = items.item(origin.at).glyph_id;
-    match number_in(lookup.table, part.start, glyph) {
-        Some(i) => number_reach(lookup, items, origin, part, i),
+    match number_in(lookup.table, subtable.start, glyph) {
+        Some(i) => number_reach(lookup, items, origin, subtable, i),
         None => untried(origin.at),
     }
 }
 
-fn part_reach(
+fn subtable_reach(
     lookup: &Lookup<'_>,
     items: &ItemList<'_>,
     origin: Origin,
-    part: LookupSubtable,
+    subtable: LookupSubtable,
 ) -> Reach
-    requires near { part.start < 2 ^ 35 }
+    requires near { subtable.start < 2 ^ 35 }
     requires inside { origin.at < length items.now }
-    ensures { result ≡ part_reach_of lookup.now items.now origin part }
+    ensures { result ≡ subtable_reach_of lookup.now items.now origin subtable }
 {
-    if !is_context_part(lookup, part) {
+    if !is_context_subtable(lookup, subtable) {
         return untried(origin.at);
     }
-    if u16_at(lookup.table, part.start) == 3 {
-        whole_reach(lookup, items, origin, part)
+    if u16_at(lookup.table, subtable.start) == 3 {
+        whole_reach(lookup, items, origin, subtable)
     } else {
-        sets_reach(lookup, items, origin, part)
+        sets_reach(lookup, items, origin, subtable)
     }
 }
 
-/// How far the rules of part `i` looked.
-fn reach_by_part(lookup: &Lookup<'_>, items: &ItemList<'_>, origin: Origin, i: u32) -> Reach
+/// How far the rules of subtable `i` looked.
+fn reach_by_subtable(lookup: &Lookup<'_>, items: &ItemList<'_>, origin: Origin, i: u32) -> Reach
     requires near { lookup.now.place < 2 ^ 17 }
     requires few { i < 2 ^ 16 }
     requires inside { origin.at < length items.now }
-    ensures { result ≡ reach_at_part lookup.now items.now origin i }
+    ensures { result ≡ reach_at_subtable lookup.now items.now origin i }
 {
-    match part_at(lookup, i) {
-        Some(part) => part_reach(lookup, items, origin, part),
+    match subtable_at(lookup, i) {
+        Some(subtable) => subtable_reach(lookup, items, origin, subtable),
         None => untried(origin.at),
     }
 }
@@ -265,7 +268,7 @@ pub fn reach_at(lookup: &Lookup<'_>, items: &ItemList<'_>, origin: Origin) -> Re
         if reach.matched {
             return reach;
         }
-        reach = joined(reach, reach_by_part(lookup, items, origin, i));
+        reach = joined(reach, reach_by_subtable(lookup, items, origin, i));
     }
     reach
 }

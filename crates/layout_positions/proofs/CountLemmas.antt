@@ -8,7 +8,7 @@ use Rattle.shape_items.specs.BufferClusters.{unsafe_to_break, unsafe_to_concat, 
 use Rattle.shape_items.specs.Clusters.{map_range, mark_concat}
 use Rattle.shape_items.proofs.Merging.KeyLemmas.{length-map_range, length-unsafe_to_break}
 use Rattle.shape_common.specs.declared.positions.GlyphPosition.{GlyphPosition}
-use Rattle.layout_positions.specs.Edits.{position_put, broken, parted}
+use Rattle.layout_positions.specs.Edits.{position_put, broken, concat_marked}
 
 length_if : (t : Bool) (b c d : Buffer) → (t ≡ true → length c.items ≡ length b.items) → length d.items ≡ length b.items
     → length (if t then c else d).items ≡ length b.items
@@ -26,8 +26,8 @@ length_concat start end b ordered =
     (record (with_glyph_flags b) { items = map_range mark_concat start end b.items }) b
     (λ t. length-map_range mark_concat start end b.items ordered) refl
 
-pub length_parted : (start end : ℕ) (b : Buffer) → length (parted start end b).items ≡ length b.items
-length_parted start end b =
+pub length_concat_marked : (start end : ℕ) (b : Buffer) → length (concat_marked start end b).items ≡ length b.items
+length_concat_marked start end b =
     let last = min end (length b.items) in
     length_if (nat_le start last) b (unsafe_to_concat start last b) b
     (λ t. length_concat start last b (grind (arith, nat_tests, t))) refl

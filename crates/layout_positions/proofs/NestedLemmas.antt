@@ -6,8 +6,8 @@ use Rattle.shape_items.specs.BufferClusters.{unsafe_to_concat, with_glyph_flags}
 use Rattle.shape_items.specs.Clusters.{map_range, mark_concat}
 use Rattle.layout_matching.specs.Tried.{reach_of}
 use Rattle.layout_matching.specs.declared.lookup.Lookup.{Lookup}
-use Rattle.layout_positions.specs.Edits.{asks_for_concat, parted}
-use Rattle.layout_positions.specs.Nested.{origin_at, tried_parted, level_placed, nested_placed}
+use Rattle.layout_positions.specs.Edits.{asks_for_concat, concat_marked}
+use Rattle.layout_positions.specs.Nested.{origin_at, tried_concat_marked, level_placed, nested_placed}
 use Rattle.layout_positions.specs.Subtables.{unplaced}
 use Rattle.layout_positions.specs.declared.bases.BaseSeen.{BaseSeen}
 
@@ -27,14 +27,14 @@ nested_level level l i left seen b some inside =
     ap (λ n. nested_placed n l i left seen b) e ∙ rw inside refl
 
 -- a buffer that doesn't ask for marks stays
-unasked : (start end : ℕ) (b : Buffer) → asks_for_concat b ≡ false → b ≡ parted start end b
+unasked : (start end : ℕ) (b : Buffer) → asks_for_concat b ≡ false → b ≡ concat_marked start end b
 unasked start end b e =
     let last = min end (length b.items) in
     elim (nat_le start last) as (λ t. b ≡ (if t then unsafe_to_concat start last b else b))
     [ true ↦ ap (λ t. if t then record (with_glyph_flags b) { items = map_range mark_concat start last b.items } else b) (sym e) | false ↦ refl ]
 
-pub tried_unasked : (l : Lookup) (i : ℕ) (b : Buffer) → asks_for_concat b ≡ false → b ≡ tried_parted l i b
+pub tried_unasked : (l : Lookup) (i : ℕ) (b : Buffer) → asks_for_concat b ≡ false → b ≡ tried_concat_marked l i b
 tried_unasked l i b e =
     let reach = reach_of l b.items (origin_at i) in
-    elim (nat_lt reach.from reach.to) as (λ t. b ≡ (if t then parted reach.from reach.to b else b))
+    elim (nat_lt reach.from reach.to) as (λ t. b ≡ (if t then concat_marked reach.from reach.to b else b))
     [ true ↦ unasked reach.from reach.to b e | false ↦ refl ]

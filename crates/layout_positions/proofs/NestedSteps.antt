@@ -10,15 +10,15 @@ use Rattle.layout_matching.specs.Tried.{reach_of}
 use Rattle.layout_matching.specs.declared.found.Found.{Found}
 use Rattle.layout_matching.specs.declared.lookup.Lookup.{Lookup}
 use Rattle.layout_matching.specs.declared.rules.Rule.{Rule}
-use Rattle.layout_positions.specs.Edits.{broken, parted}
-use Rattle.layout_positions.specs.Nested.{named_place, named_lookup, Nest, skipped, record_at_place, record_for, record_step, rule_placed, origin_at, tried_parted, first_rule_placed, level_placed, LEVELS, nested_placed}
+use Rattle.layout_positions.specs.Edits.{broken, concat_marked}
+use Rattle.layout_positions.specs.Nested.{named_place, named_lookup, Nest, skipped, record_at_place, record_for, record_step, rule_placed, origin_at, tried_concat_marked, first_rule_placed, level_placed, LEVELS, nested_placed}
 use Rattle.layout_positions.specs.Subtables.{Placing, unplaced, lookup_placed}
 use Rattle.layout_positions.specs.Walk.{Walk, lookup_step, Budgeted, first_walk, lookup_applied, budgeted, positioned}
 use Rattle.layout_positions.specs.declared.bases.BaseSeen.{BaseSeen}
 
 module _ (P : Buffer → Buffer → Type 0) (same : (b : Buffer) → P b b) (after : (a b c : Buffer) → P a b → P b c → P a c)
     (by_break : (start end : ℕ) (b : Buffer) → P b (broken start end b))
-    (by_part : (start end : ℕ) (b : Buffer) → P b (parted start end b))
+    (by_concat : (start end : ℕ) (b : Buffer) → P b (concat_marked start end b))
     (by_lookup : (l : Lookup) (i left : ℕ) (seen : BaseSeen) (b : Buffer) → P b (lookup_placed l i left seen b).buffer) where
   -- what is applied next keeps
   abbrev Preserves : (Lookup → ℕ → ℕ → BaseSeen → Buffer → Placing) → Type 0
@@ -81,16 +81,16 @@ module _ (P : Buffer → Buffer → Type 0) (same : (b : Buffer) → P b b) (aft
   buffer-if true b c d x y = x
   buffer-if false b c d x y = y
 
-  step-tried : (l : Lookup) (i : ℕ) (b : Buffer) → P b (tried_parted l i b)
+  step-tried : (l : Lookup) (i : ℕ) (b : Buffer) → P b (tried_concat_marked l i b)
   step-tried l i b =
       let reach = reach_of l b.items (origin_at i) in
-      buffer-if (nat_lt reach.from reach.to) b (parted reach.from reach.to b) b (by_part reach.from reach.to b) (same b)
+      buffer-if (nat_lt reach.from reach.to) b (concat_marked reach.from reach.to b) b (by_concat reach.from reach.to b) (same b)
 
   step-level : (next : Lookup → ℕ → ℕ → BaseSeen → Buffer → Placing) → Preserves next
       → (l : Lookup) (i left : ℕ) (seen : BaseSeen) (b : Buffer)
       → P b (level_placed next l i left seen b).buffer
   step-level next preserves l i left seen b =
-      let c = tried_parted l i b in
+      let c = tried_concat_marked l i b in
       placing-if (is_context l) b (first_rule_placed next l i left seen c) (lookup_placed l i left seen b)
       (after b c (first_rule_placed next l i left seen c).buffer (step-tried l i b)
       (step-found next preserves l i left seen c (found_of l c.items (origin_at i)))) (by_lookup l i left seen b)

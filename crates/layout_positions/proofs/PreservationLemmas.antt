@@ -17,7 +17,7 @@ use Rattle.shape_buffer.specs.PositionWalks.{positions_mapped}
 use Rattle.shape_buffer.proofs.Steps.PreservationLemmas.{PreservesClusters-equal}
 use Rattle.layout_matching.specs.declared.lookup.Lookup.{Lookup}
 use Rattle.layout_positions.specs.Attachment.{offsets_finished}
-use Rattle.layout_positions.specs.Edits.{position_put, broken, parted}
+use Rattle.layout_positions.specs.Edits.{position_put, broken, concat_marked}
 use Rattle.layout_positions.specs.Preserves.{Kept}
 use Rattle.layout_positions.specs.Walk.{started, positioned}
 use Rattle.layout_positions.proofs.NestedSteps.{step-positioned}
@@ -80,8 +80,8 @@ concat-kept start end b ordered =
     })
     (Kept-same b)
 
-Kept-parted : (start end : ℕ) (b : Buffer) → Kept b (parted start end b)
-Kept-parted start end b =
+Kept-concat_marked : (start end : ℕ) (b : Buffer) → Kept b (concat_marked start end b)
+Kept-concat_marked start end b =
     let last = min end (length b.items) in
     kept-if (nat_le start last) b (unsafe_to_concat start last b) b
     (λ t. concat-kept start last b (grind (arith, nat_tests, t))) (Kept-same b)
@@ -113,11 +113,11 @@ started-kept b = record {
 }
 
 pub positioned-kept : (lookups : List Lookup) (b : Buffer) → Kept b (positioned lookups b)
-positioned-kept = step-positioned Kept Kept-same Kept-then Kept-broken Kept-parted
-    (λ l i left seen b. step-tried Kept Kept-same Kept-then Kept-broken Kept-parted Kept-put l i seen b)
+positioned-kept = step-positioned Kept Kept-same Kept-then Kept-broken Kept-concat_marked
+    (λ l i left seen b. step-tried Kept Kept-same Kept-then Kept-broken Kept-concat_marked Kept-put l i seen b)
 
 pub finished-kept : (b : Buffer) → Kept b (offsets_finished b)
-finished-kept = step-finished Kept Kept-same Kept-then Kept-broken Kept-parted Kept-put
+finished-kept = step-finished Kept Kept-same Kept-then Kept-broken Kept-concat_marked Kept-put
 
 order : (b c : Buffer) → Kept b c → PreservesOrder b c
 order b c kept = record {

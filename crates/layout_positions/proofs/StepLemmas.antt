@@ -16,12 +16,12 @@ use Rattle.layout_matching.specs.declared.lookup.Lookup.{Lookup}
 use Rattle.layout_positions.specs.Anchors.{number_at, anchor_of_mark}
 use Rattle.layout_positions.specs.Attachment.{parent_of, freed, followed, settled, each, MOST_LINKS, offsets_finished}
 use Rattle.layout_positions.specs.Cursive.{joined_across, joined_along, cursive_put, cursive_with, cursive_at, cursive_applied, entry_of, exit_of, left_at}
-use Rattle.layout_positions.specs.Edits.{position_at, position_put, broken, parted}
+use Rattle.layout_positions.specs.Edits.{position_at, position_put, broken, concat_marked}
 use Rattle.layout_positions.specs.Lookups.{Applied, unapplied, glyph_after, end_after, glyph_before, start_before}
 use Rattle.layout_positions.specs.Marks.{mark_put, mark_array, base_anchor, mark_attached, mark_number, row_of, mark_on_row, mark_on_glyph, mark_base_at, mark_base_applied, ligature_matrix, component_of, mark_on_matrix, mark_on_ligature, mark_ligature_at, mark_ligature_applied, for_marks, are_together, mark_on_mark, mark_mark_at, mark_mark_applied}
 use Rattle.layout_positions.specs.Pairs.{glyph_adjusted, single_of, single_put, single_applied, pair_of, pair_marked, pair_ended, pair_moves, pair_put, pair_with, pair_at_number, has_pairs, pair_applied}
 use Rattle.layout_positions.specs.Turning.{Turn, turn_next, turn_at, turn_step, turned, follows, parent_freed, link_put, attached}
-use Rattle.layout_positions.specs.Subtables.{if_first_format, kind_applied, seen_at, Trial, part_tried, next_tried, trial_step, lookup_tried}
+use Rattle.layout_positions.specs.Subtables.{if_first_format, kind_applied, seen_at, Trial, subtable_tried, next_tried, trial_step, lookup_tried}
 use Rattle.layout_positions.specs.declared.anchors.Anchor.{Anchor}
 use Rattle.layout_positions.specs.declared.bases.BaseSeen.{BaseSeen}
 use Rattle.layout_positions.specs.declared.pairs.PairValues.{PairValues}
@@ -29,7 +29,7 @@ use Rattle.layout_positions.specs.declared.values.Adjustment.{Adjustment}
 
 module _ (P : Buffer → Buffer → Type 0) (same : (b : Buffer) → P b b) (after : (a b c : Buffer) → P a b → P b c → P a c)
     (by_break : (start end : ℕ) (b : Buffer) → P b (broken start end b))
-    (by_part : (start end : ℕ) (b : Buffer) → P b (parted start end b))
+    (by_concat : (start end : ℕ) (b : Buffer) → P b (concat_marked start end b))
     (by_position : (i : ℕ) (p : GlyphPosition) (b : Buffer) → P b (position_put i p b)) where
   step-if : (t : Bool) (b c d : Buffer) → P b c → P b d → P b (if t then c else d)
   step-if true b c d x y = x
@@ -62,8 +62,8 @@ module _ (P : Buffer → Buffer → Type 0) (same : (b : Buffer) → P b b) (aft
 
   step-marked : (listed moved : Bool) (i j : ℕ) (b : Buffer) → P b (pair_marked listed moved i j b)
   step-marked listed moved i j b =
-      step-if moved b (broken i (j + 1) b) (if listed then b else parted i (j + 1) b) (by_break i (j + 1) b)
-      (step-if listed b b (parted i (j + 1) b) (same b) (by_part i (j + 1) b))
+      step-if moved b (broken i (j + 1) b) (if listed then b else concat_marked i (j + 1) b) (by_break i (j + 1) b)
+      (step-if listed b b (concat_marked i (j + 1) b) (same b) (by_concat i (j + 1) b))
 
   step-ended : (v : PairValues) (i j : ℕ) (b : Buffer) → P b (pair_ended v i j b).buffer
   step-ended v i j b =
@@ -81,14 +81,14 @@ module _ (P : Buffer → Buffer → Type 0) (same : (b : Buffer) → P b b) (aft
 
   step-pair_with : (l : Lookup) (start i number : ℕ) (b : Buffer) (j : ℕ) → P b (pair_with l start i number b j).buffer
   step-pair_with l start i number b j =
-      step-or (pair_put (nat_eq (u16_of l.table.now start) 1) i j b) b (parted i (j + 1) b)
-      (step-pair_put (nat_eq (u16_of l.table.now start) 1) i j b) (by_part i (j + 1) b)
+      step-or (pair_put (nat_eq (u16_of l.table.now start) 1) i j b) b (concat_marked i (j + 1) b)
+      (step-pair_put (nat_eq (u16_of l.table.now start) 1) i j b) (by_concat i (j + 1) b)
       (pair_of l.table.now start number (nth b.items i).glyph_id (nth b.items j).glyph_id)
 
   step-pair_at : (l : Lookup) (start i : ℕ) (b : Buffer) (number : ℕ) → P b (pair_at_number l start i b number).buffer
   step-pair_at l start i b number =
-      step-or (pair_with l start i number b) b (parted i (end_after l b.items i) b) (step-pair_with l start i number b)
-      (by_part i (end_after l b.items i) b) (glyph_after l b.items i)
+      step-or (pair_with l start i number b) b (concat_marked i (end_after l b.items i) b) (step-pair_with l start i number b)
+      (by_concat i (end_after l b.items i) b) (glyph_after l b.items i)
 
   pub step-pair : (l : Lookup) (start i : ℕ) (b : Buffer) → P b (pair_applied l start i b).buffer
   step-pair l start i b =
@@ -135,13 +135,13 @@ module _ (P : Buffer → Buffer → Type 0) (same : (b : Buffer) → P b b) (aft
 
   step-cursive_with : (l : Lookup) (start j : ℕ) (entry : Anchor) (b : Buffer) (i : ℕ) → P b (cursive_with l start j entry b i).buffer
   step-cursive_with l start j entry b i =
-      step-or (cursive_put l i j entry b) b (parted i (j + 1) b) (step-cursive_put l i j entry b) (by_part i (j + 1) b)
+      step-or (cursive_put l i j entry b) b (concat_marked i (j + 1) b) (step-cursive_put l i j entry b) (by_concat i (j + 1) b)
       (exit_of l.table.now start (nth b.items i).glyph_id)
 
   step-cursive_at : (l : Lookup) (start j : ℕ) (b : Buffer) (entry : Anchor) → P b (cursive_at l start j b entry).buffer
   step-cursive_at l start j b entry =
-      step-or (cursive_with l start j entry b) b (parted (start_before l b.items j) (j + 1) b) (step-cursive_with l start j entry b)
-      (by_part (start_before l b.items j) (j + 1) b) (glyph_before l b.items j)
+      step-or (cursive_with l start j entry b) b (concat_marked (start_before l b.items j) (j + 1) b) (step-cursive_with l start j entry b)
+      (by_concat (start_before l b.items j) (j + 1) b) (glyph_before l b.items j)
 
   pub step-cursive : (l : Lookup) (start j : ℕ) (b : Buffer) → P b (cursive_applied l start j b).buffer
   step-cursive l start j b =
@@ -162,14 +162,14 @@ module _ (P : Buffer → Buffer → Type 0) (same : (b : Buffer) → P b b) (aft
 
   step-on_glyph : (l : Lookup) (start i number : ℕ) (b : Buffer) (j : ℕ) → P b (mark_on_glyph l start i number b j).buffer
   step-on_glyph l start i number b j =
-      step-or (mark_on_row l start i j number b) b (parted j (i + 1) b)
-      (λ row. step-attach_mark l start i j number row (offset16_of l.table.now start (start + 10)) b) (by_part j (i + 1) b)
+      step-or (mark_on_row l start i j number b) b (concat_marked j (i + 1) b)
+      (λ row. step-attach_mark l start i j number row (offset16_of l.table.now start (start + 10)) b) (by_concat j (i + 1) b)
       (row_of l start j b)
 
   step-base_at : (l : Lookup) (start : ℕ) (base : Option ℕ) (i : ℕ) (b : Buffer) (number : ℕ)
       → P b (mark_base_at l start base i b number).buffer
   step-base_at l start base i b number =
-      step-or (mark_on_glyph l start i number b) b (parted 0 (i + 1) b) (step-on_glyph l start i number b) (by_part 0 (i + 1) b) base
+      step-or (mark_on_glyph l start i number b) b (concat_marked 0 (i + 1) b) (step-on_glyph l start i number b) (by_concat 0 (i + 1) b) base
 
   pub step-base : (l : Lookup) (start : ℕ) (base : Option ℕ) (i : ℕ) (b : Buffer) → P b (mark_base_applied l start base i b).buffer
   step-base l start base i b =
@@ -178,18 +178,18 @@ module _ (P : Buffer → Buffer → Type 0) (same : (b : Buffer) → P b b) (aft
   step-on_matrix : (l : Lookup) (start i j number : ℕ) (b : Buffer) (matrix : ℕ) → P b (mark_on_matrix l start i j number b matrix).buffer
   step-on_matrix l start i j number b matrix =
       let count = u16_of l.table.now matrix in
-      applied-if (nat_eq count 0) b (unapplied (parted j (i + 1) b)) _ (by_part j (i + 1) b)
+      applied-if (nat_eq count 0) b (unapplied (concat_marked j (i + 1) b)) _ (by_concat j (i + 1) b)
       (step-attach_mark l start i j number (component_of count (nth b.items j) (nth b.items i)) (Some matrix) b)
 
   step-on_ligature : (l : Lookup) (start i number : ℕ) (b : Buffer) (j : ℕ) → P b (mark_on_ligature l start i number b j).buffer
   step-on_ligature l start i number b j =
-      step-or (mark_on_matrix l start i j number b) b (parted j (i + 1) b) (step-on_matrix l start i j number b) (by_part j (i + 1) b)
+      step-or (mark_on_matrix l start i j number b) b (concat_marked j (i + 1) b) (step-on_matrix l start i j number b) (by_concat j (i + 1) b)
       (option_and_then (ligature_matrix l.table.now start) (row_of l start j b))
 
   step-ligature_at : (l : Lookup) (start : ℕ) (base : Option ℕ) (i : ℕ) (b : Buffer) (number : ℕ)
       → P b (mark_ligature_at l start base i b number).buffer
   step-ligature_at l start base i b number =
-      step-or (mark_on_ligature l start i number b) b (parted 0 (i + 1) b) (step-on_ligature l start i number b) (by_part 0 (i + 1) b) base
+      step-or (mark_on_ligature l start i number b) b (concat_marked 0 (i + 1) b) (step-on_ligature l start i number b) (by_concat 0 (i + 1) b) base
 
   pub step-ligature : (l : Lookup) (start : ℕ) (base : Option ℕ) (i : ℕ) (b : Buffer) → P b (mark_ligature_applied l start base i b).buffer
   step-ligature l start base i b =
@@ -198,12 +198,12 @@ module _ (P : Buffer → Buffer → Type 0) (same : (b : Buffer) → P b b) (aft
   step-on_mark : (l : Lookup) (start i number : ℕ) (b : Buffer) (j : ℕ) → P b (mark_on_mark l start i number b j).buffer
   step-on_mark l start i number b j =
       applied-if (shares (nth b.items j).properties.glyph_class.0 8 && are_together (nth b.items i) (nth b.items j)) b _
-      (unapplied (parted j (i + 1) b)) (step-on_glyph l start i number b j) (by_part j (i + 1) b)
+      (unapplied (concat_marked j (i + 1) b)) (step-on_glyph l start i number b j) (by_concat j (i + 1) b)
 
   step-mark_at : (l : Lookup) (start i : ℕ) (b : Buffer) (number : ℕ) → P b (mark_mark_at l start i b number).buffer
   step-mark_at l start i b number =
-      step-or (mark_on_mark l start i number b) b (parted (start_before (for_marks l) b.items i) (i + 1) b)
-      (step-on_mark l start i number b) (by_part (start_before (for_marks l) b.items i) (i + 1) b) (glyph_before (for_marks l) b.items i)
+      step-or (mark_on_mark l start i number b) b (concat_marked (start_before (for_marks l) b.items i) (i + 1) b)
+      (step-on_mark l start i number b) (by_concat (start_before (for_marks l) b.items i) (i + 1) b) (glyph_before (for_marks l) b.items i)
 
   pub step-mark : (l : Lookup) (start i : ℕ) (b : Buffer) → P b (mark_mark_applied l start i b).buffer
   step-mark l start i b = step-or (mark_mark_at l start i b) b b (step-mark_at l start i b) (same b) (mark_number l start i b)
@@ -213,19 +213,19 @@ module _ (P : Buffer → Buffer → Type 0) (same : (b : Buffer) → P b b) (aft
   step-format : (l : Lookup) (start : ℕ) (b : Buffer) (made : Applied) → P b made.buffer → P b (if_first_format l start b made).buffer
   step-format l start b made preserves = applied-if (nat_eq (u16_of l.table.now start) 1) b made (unapplied b) preserves (same b)
 
-  step-kind : (l : Lookup) (part : LookupSubtable) (base : Option ℕ) (i : ℕ) (b : Buffer) → P b (kind_applied l part base i b).buffer
-  step-kind l part base i b =
-      applied-if (nat_eq part.kind 1) b _ _ (step-single l part.start i b)
-      (applied-if (nat_eq part.kind 2) b _ _ (step-pair l part.start i b)
-      (applied-if (nat_eq part.kind 3) b _ _ (step-format l part.start b _ (step-cursive l part.start i b))
-      (applied-if (nat_eq part.kind 4) b _ _ (step-format l part.start b _ (step-base l part.start base i b))
-      (applied-if (nat_eq part.kind 5) b _ _ (step-format l part.start b _ (step-ligature l part.start base i b))
-      (applied-if (nat_eq part.kind 6) b _ _ (step-format l part.start b _ (step-mark l part.start i b)) (same b))))))
+  step-kind : (l : Lookup) (subtable : LookupSubtable) (base : Option ℕ) (i : ℕ) (b : Buffer) → P b (kind_applied l subtable base i b).buffer
+  step-kind l subtable base i b =
+      applied-if (nat_eq subtable.kind 1) b _ _ (step-single l subtable.start i b)
+      (applied-if (nat_eq subtable.kind 2) b _ _ (step-pair l subtable.start i b)
+      (applied-if (nat_eq subtable.kind 3) b _ _ (step-format l subtable.start b _ (step-cursive l subtable.start i b))
+      (applied-if (nat_eq subtable.kind 4) b _ _ (step-format l subtable.start b _ (step-base l subtable.start base i b))
+      (applied-if (nat_eq subtable.kind 5) b _ _ (step-format l subtable.start b _ (step-ligature l subtable.start base i b))
+      (applied-if (nat_eq subtable.kind 6) b _ _ (step-format l subtable.start b _ (step-mark l subtable.start i b)) (same b))))))
 
   step-next : (l : Lookup) (i : ℕ) (s : Trial) (o : Option LookupSubtable)
-      → P s.buffer (option_map_or (part_tried l i s) o (record { buffer = s.buffer; next = None; seen = s.seen; part = s.part + 1 })).buffer
+      → P s.buffer (option_map_or (subtable_tried l i s) o (record { buffer = s.buffer; next = None; seen = s.seen; subtable = s.subtable + 1 })).buffer
   step-next l i s None = same s.buffer
-  step-next l i s (Some part) = step-kind l part (seen_at l part i s.buffer s.seen).place i s.buffer
+  step-next l i s (Some subtable) = step-kind l subtable (seen_at l subtable i s.buffer s.seen).place i s.buffer
 
   trial-if : (t : Bool) (b : Buffer) (x y : Trial) → P b x.buffer → P b y.buffer → P b (if t then x else y).buffer
   trial-if true b x y k m = k
@@ -233,13 +233,13 @@ module _ (P : Buffer → Buffer → Type 0) (same : (b : Buffer) → P b b) (aft
 
   pub step-trial : (l : Lookup) (i : ℕ) (s : Trial) → P s.buffer (trial_step l i s).buffer
   step-trial l i s =
-      trial-if (is_some s.next) s.buffer (record s { part = s.part + 1 }) (next_tried l i s) (same s.buffer)
-      (step-next l i s (subtable_of l.table.now 9 l.place s.part))
+      trial-if (is_some s.next) s.buffer (record s { subtable = s.subtable + 1 }) (next_tried l i s) (same s.buffer)
+      (step-next l i s (subtable_of l.table.now 9 l.place s.subtable))
 
   pub step-tried : (l : Lookup) (i : ℕ) (seen : BaseSeen) (b : Buffer) → P b (lookup_tried l i seen b).buffer
   step-tried l i seen b =
       step-times (λ (s : Trial). s.buffer) (trial_step l i) (step-trial l i) (subtable_count_of l.table.now l.place)
-      (record { buffer = b; next = None; seen = seen; part = 0 })
+      (record { buffer = b; next = None; seen = seen; subtable = 0 })
 
   -- ---- offsets
 

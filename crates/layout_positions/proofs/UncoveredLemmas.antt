@@ -8,23 +8,23 @@ use Rattle.shape_items.specs.Buffer.{Buffer}
 use Rattle.shape_items.specs.Items.{Item}
 use Rattle.layout_tables.specs.Lookups.{subtable_count_of, subtable_of}
 use Rattle.layout_tables.specs.declared.lookups.LookupSubtable.{LookupSubtable}
-use Rattle.layout_matching.specs.Found.{extension_kind, is_context, is_context_part, is_chained, whole_rule, is_first, found_whole, found_by_number, found_in_sets, found_in_part, found_at_part, found_of}
+use Rattle.layout_matching.specs.Found.{extension_kind, is_context, is_context_subtable, is_chained, whole_rule, is_first, found_whole, found_by_number, found_in_sets, found_in_subtable, found_at_subtable, found_of}
 use Rattle.layout_matching.specs.Loops.{times, first_some}
 use Rattle.layout_matching.specs.Skipping.{nth, is_on}
-use Rattle.layout_matching.specs.Tried.{untried, whole_reach, number_reach, sets_reach, part_reach, reach_at_part, reach_of}
+use Rattle.layout_matching.specs.Tried.{untried, whole_reach, number_reach, sets_reach, subtable_reach, reach_at_subtable, reach_of}
 use Rattle.layout_matching.proofs.ReachLemmas.{until_untried}
 use Rattle.layout_matching.specs.declared.lookup.Lookup.{Lookup}
 use Rattle.layout_matching.specs.declared.spans.Origin.{Origin}
 use Rattle.layout_matching.specs.declared.tried.Reach.{Reach}
 use Rattle.layout_positions.specs.Anchors.{number_at}
 use Rattle.layout_positions.specs.Cursive.{entry_in, cursive_at, cursive_applied}
-use Rattle.layout_positions.specs.Edits.{parted}
+use Rattle.layout_positions.specs.Edits.{concat_marked}
 use Rattle.layout_positions.specs.Lookups.{Applied, unapplied}
 use Rattle.layout_positions.specs.Marks.{mark_base_at, mark_base_applied, mark_ligature_at, mark_ligature_applied, mark_mark_at, mark_mark_applied}
-use Rattle.layout_positions.specs.Nested.{rule_placed, origin_at, tried_parted, first_rule_placed, level_placed, nested_placed, LEVELS}
+use Rattle.layout_positions.specs.Nested.{rule_placed, origin_at, tried_concat_marked, first_rule_placed, level_placed, nested_placed, LEVELS}
 use Rattle.layout_positions.specs.Pairs.{single_value, single_put, single_applied, pair_at_number, has_pairs, pair_applied}
-use Rattle.layout_positions.specs.Subtables.{if_first_format, kind_applied, seen_at, Trial, part_tried, next_tried, trial_of, trial_step, lookup_tried, Placing, unplaced, lookup_placed}
-use Rattle.layout_positions.specs.Uncovered.{is_listed_at, rule_lists, part_lists, IsUnlisted, IsUncovered}
+use Rattle.layout_positions.specs.Subtables.{if_first_format, kind_applied, seen_at, Trial, subtable_tried, next_tried, trial_of, trial_step, lookup_tried, Placing, unplaced, lookup_placed}
+use Rattle.layout_positions.specs.Uncovered.{is_listed_at, rule_lists, subtable_lists, IsUnlisted, IsUncovered}
 use Rattle.layout_positions.specs.Walk.{Walk, gone_on, lookup_step, Budgeted, first_walk, lookup_applied, budgeted, positioned}
 use Rattle.layout_positions.specs.declared.bases.BaseSeen.{BaseSeen}
 
@@ -37,11 +37,11 @@ same-if false x y z a b = b
 format-un : (l : Lookup) (start : ℕ) (b : Buffer) (made : Applied) → made ≡ unapplied b → if_first_format l start b made ≡ unapplied b
 format-un l start b made is = same-if (nat_eq (u16_of l.table.now start) 1) made (unapplied b) (unapplied b) is refl
 
-kind-un : (l : Lookup) (part : LookupSubtable) (base : Option ℕ) (i : ℕ) (b : Buffer)
-    → number_at l.table.now part.start (part.start + 2) (nth b.items i).glyph_id ≡ None → kind_applied l part base i b ≡ unapplied b
-kind-un l part base i b none =
+kind-un : (l : Lookup) (subtable : LookupSubtable) (base : Option ℕ) (i : ℕ) (b : Buffer)
+    → number_at l.table.now subtable.start (subtable.start + 2) (nth b.items i).glyph_id ≡ None → kind_applied l subtable base i b ≡ unapplied b
+kind-un l subtable base i b none =
     let t = l.table.now in
-    let s = part.start in
+    let s = subtable.start in
     let single : single_applied l s i b ≡ unapplied b =
     ap (λ o. option_map_or (single_put i b) (option_and_then (single_value t s) o) (unapplied b)) none in
     let pair : pair_applied l s i b ≡ unapplied b =
@@ -52,25 +52,25 @@ kind-un l part base i b none =
     let on_ligature : mark_ligature_applied l s base i b ≡ unapplied b =
     ap (λ o. option_map_or (mark_ligature_at l s base i b) o (unapplied b)) none in
     let on_mark : mark_mark_applied l s i b ≡ unapplied b = ap (λ o. option_map_or (mark_mark_at l s i b) o (unapplied b)) none in
-    same-if (nat_eq part.kind 1) _ _ _ single
-    (same-if (nat_eq part.kind 2) _ _ _ pair
-    (same-if (nat_eq part.kind 3) _ _ _ (format-un l s b _ cursive)
-    (same-if (nat_eq part.kind 4) _ _ _ (format-un l s b _ on_base)
-    (same-if (nat_eq part.kind 5) _ _ _ (format-un l s b _ on_ligature)
-    (same-if (nat_eq part.kind 6) _ _ _ (format-un l s b _ on_mark) refl)))))
+    same-if (nat_eq subtable.kind 1) _ _ _ single
+    (same-if (nat_eq subtable.kind 2) _ _ _ pair
+    (same-if (nat_eq subtable.kind 3) _ _ _ (format-un l s b _ cursive)
+    (same-if (nat_eq subtable.kind 4) _ _ _ (format-un l s b _ on_base)
+    (same-if (nat_eq subtable.kind 5) _ _ _ (format-un l s b _ on_ligature)
+    (same-if (nat_eq subtable.kind 6) _ _ _ (format-un l s b _ on_mark) refl)))))
 
 -- contexts have their own kinds
-kind-context : (l : Lookup) (part : LookupSubtable) (base : Option ℕ) (i : ℕ) (b : Buffer) → l.positioning ≡ true
-    → is_context_part l part ≡ true → kind_applied l part base i b ≡ unapplied b
-kind-context l part base i b gpos is =
-    let kinds : (nat_eq part.kind 7 || nat_eq part.kind 8) ≡ true =
-    subst (λ t. (nat_eq part.kind (if t then 7 else 5) || nat_eq part.kind (if t then 8 else 6)) ≡ true) gpos is in
-    let one : nat_eq part.kind 1 ≡ false = grind (arith, nat_tests, kinds) in
-    let two : nat_eq part.kind 2 ≡ false = grind (arith, nat_tests, kinds) in
-    let three : nat_eq part.kind 3 ≡ false = grind (arith, nat_tests, kinds) in
-    let four : nat_eq part.kind 4 ≡ false = grind (arith, nat_tests, kinds) in
-    let five : nat_eq part.kind 5 ≡ false = grind (arith, nat_tests, kinds) in
-    let six : nat_eq part.kind 6 ≡ false = grind (arith, nat_tests, kinds) in
+kind-context : (l : Lookup) (subtable : LookupSubtable) (base : Option ℕ) (i : ℕ) (b : Buffer) → l.positioning ≡ true
+    → is_context_subtable l subtable ≡ true → kind_applied l subtable base i b ≡ unapplied b
+kind-context l subtable base i b gpos is =
+    let kinds : (nat_eq subtable.kind 7 || nat_eq subtable.kind 8) ≡ true =
+    subst (λ t. (nat_eq subtable.kind (if t then 7 else 5) || nat_eq subtable.kind (if t then 8 else 6)) ≡ true) gpos is in
+    let one : nat_eq subtable.kind 1 ≡ false = grind (arith, nat_tests, kinds) in
+    let two : nat_eq subtable.kind 2 ≡ false = grind (arith, nat_tests, kinds) in
+    let three : nat_eq subtable.kind 3 ≡ false = grind (arith, nat_tests, kinds) in
+    let four : nat_eq subtable.kind 4 ≡ false = grind (arith, nat_tests, kinds) in
+    let five : nat_eq subtable.kind 5 ≡ false = grind (arith, nat_tests, kinds) in
+    let six : nat_eq subtable.kind 6 ≡ false = grind (arith, nat_tests, kinds) in
     rw one (rw two (rw three (rw four (rw five (rw six refl)))))
 
 none_of : {A : Type 0} (o : Option A) → is_some o ≡ false → o ≡ None
@@ -78,17 +78,17 @@ none_of None e = refl
 none_of (Some x) e = cc
 
 -- a subtable that doesn't list the glyph isn't applied
-part-un : (l : Lookup) (b : Buffer) (i : ℕ) → l.positioning ≡ true → IsUnlisted l (nth b.items i).glyph_id
-    → (k : ℕ) (part : LookupSubtable) → subtable_of l.table.now 9 l.place k ≡ Some part → (base : Option ℕ)
-    → kind_applied l part base i b ≡ unapplied b
-part-un l b i gpos un k part is base = by_kind (is_context_part l part) refl (un k part is)
+subtable-un : (l : Lookup) (b : Buffer) (i : ℕ) → l.positioning ≡ true → IsUnlisted l (nth b.items i).glyph_id
+    → (k : ℕ) (subtable : LookupSubtable) → subtable_of l.table.now 9 l.place k ≡ Some subtable → (base : Option ℕ)
+    → kind_applied l subtable base i b ≡ unapplied b
+subtable-un l b i gpos un k subtable is base = by_kind (is_context_subtable l subtable) refl (un k subtable is)
   where
-    by_kind : (t : Bool) → is_context_part l part ≡ t
-        → (if t then rule_lists l part (nth b.items i).glyph_id else is_listed_at l part (nth b.items i).glyph_id) ≡ false
-        → kind_applied l part base i b ≡ unapplied b
-    by_kind true is none = kind-context l part base i b gpos is
-    by_kind false is none = kind-un l part base i b
-        (none_of (number_at l.table.now part.start (part.start + 2) (nth b.items i).glyph_id) none)
+    by_kind : (t : Bool) → is_context_subtable l subtable ≡ t
+        → (if t then rule_lists l subtable (nth b.items i).glyph_id else is_listed_at l subtable (nth b.items i).glyph_id) ≡ false
+        → kind_applied l subtable base i b ≡ unapplied b
+    by_kind true is none = kind-context l subtable base i b gpos is
+    by_kind false is none = kind-un l subtable base i b
+        (none_of (number_at l.table.now subtable.start (subtable.start + 2) (nth b.items i).glyph_id) none)
 
 -- ---- a lookup at a place
 
@@ -98,13 +98,13 @@ record IsStill (b : Buffer) (s : Trial) : Type 0 where
   next : s.next ≡ None
 
 tried-un : (l : Lookup) (b : Buffer) (i : ℕ) (s : Trial) → IsStill b s → (o : Option LookupSubtable)
-    → ((part : LookupSubtable) → o ≡ Some part → (base : Option ℕ) → kind_applied l part base i b ≡ unapplied b)
-    → IsStill b (option_map_or (part_tried l i s) o (trial_of s (unapplied s.buffer) s.seen))
+    → ((subtable : LookupSubtable) → o ≡ Some subtable → (base : Option ℕ) → kind_applied l subtable base i b ≡ unapplied b)
+    → IsStill b (option_map_or (subtable_tried l i s) o (trial_of s (unapplied s.buffer) s.seen))
 tried-un l b i s still None none = record { buffer = still.buffer; next = refl }
-tried-un l b i s still (Some part) none =
-    let base = (seen_at l part i s.buffer s.seen).place in
-    let is : kind_applied l part base i s.buffer ≡ unapplied b =
-    ap (kind_applied l part base i) still.buffer ∙ none part refl base in
+tried-un l b i s still (Some subtable) none =
+    let base = (seen_at l subtable i s.buffer s.seen).place in
+    let is : kind_applied l subtable base i s.buffer ≡ unapplied b =
+    ap (kind_applied l subtable base i) still.buffer ∙ none subtable refl base in
     record { buffer = ap (λ (a : Applied). a.buffer) is; next = ap (λ (a : Applied). a.next) is }
 
 still-if : (b : Buffer) (t : Bool) (x y : Trial) → IsStill b x → IsStill b y → IsStill b (if t then x else y)
@@ -117,9 +117,9 @@ times-un l b i gpos un zero s still = still
 times-un l b i gpos un (suc n) s still =
     let before = times (trial_step l i) n s in
     let kept = times-un l b i gpos un n s still in
-    still-if b (is_some before.next) (record before { part = before.part + 1 }) (next_tried l i before)
+    still-if b (is_some before.next) (record before { subtable = before.subtable + 1 }) (next_tried l i before)
     (record { buffer = kept.buffer; next = kept.next })
-    (tried-un l b i before kept (subtable_of l.table.now 9 l.place before.part) (part-un l b i gpos un before.part))
+    (tried-un l b i before kept (subtable_of l.table.now 9 l.place before.subtable) (subtable-un l b i gpos un before.subtable))
 
 -- ---- rules at a place
 
@@ -130,83 +130,83 @@ first_some_none : {X : Type 0} (f : ℕ → Option X) → ((i : ℕ) → f i ≡
 first_some_none f none zero i = refl
 first_some_none f none (suc n) i = rw (none i) (first_some_none f none n (suc i))
 
-rules-un : (l : Lookup) (items : List Item) (origin : Origin) (part : LookupSubtable)
-    → part_lists l part (nth items origin.at).glyph_id ≡ false → found_in_part l items origin part ≡ None
-rules-un l items origin part out = by_kind (is_context_part l part) refl out
+rules-un : (l : Lookup) (items : List Item) (origin : Origin) (subtable : LookupSubtable)
+    → subtable_lists l subtable (nth items origin.at).glyph_id ≡ false → found_in_subtable l items origin subtable ≡ None
+rules-un l items origin subtable out = by_kind (is_context_subtable l subtable) refl out
   where
     by_format : (t : Bool)
-        → (if t then is_first l.table.now part.start (whole_rule l.table.now (is_chained l part) part.start) (nth items origin.at).glyph_id
-        else is_listed_at l part (nth items origin.at).glyph_id) ≡ false
-        → (if t then found_whole l items origin part else found_in_sets l items origin part) ≡ None
+        → (if t then is_first l.table.now subtable.start (whole_rule l.table.now (is_chained l subtable) subtable.start) (nth items origin.at).glyph_id
+        else is_listed_at l subtable (nth items origin.at).glyph_id) ≡ false
+        → (if t then found_whole l items origin subtable else found_in_sets l items origin subtable) ≡ None
     by_format true none = rw none refl
-    by_format false none = and_then_none (found_by_number l items origin part) _
-        (none_of (number_at l.table.now part.start (part.start + 2) (nth items origin.at).glyph_id) none)
+    by_format false none = and_then_none (found_by_number l items origin subtable) _
+        (none_of (number_at l.table.now subtable.start (subtable.start + 2) (nth items origin.at).glyph_id) none)
 
-    by_kind : (t : Bool) → is_context_part l part ≡ t
-        → (if t then rule_lists l part (nth items origin.at).glyph_id else is_listed_at l part (nth items origin.at).glyph_id) ≡ false
-        → (if t then (if nat_eq (u16_of l.table.now part.start) 3 then found_whole l items origin part else found_in_sets l items origin part)
+    by_kind : (t : Bool) → is_context_subtable l subtable ≡ t
+        → (if t then rule_lists l subtable (nth items origin.at).glyph_id else is_listed_at l subtable (nth items origin.at).glyph_id) ≡ false
+        → (if t then (if nat_eq (u16_of l.table.now subtable.start) 3 then found_whole l items origin subtable else found_in_sets l items origin subtable)
         else None) ≡ None
-    by_kind true is none = by_format (nat_eq (u16_of l.table.now part.start) 3) none
+    by_kind true is none = by_format (nat_eq (u16_of l.table.now subtable.start) 3) none
     by_kind false is none = refl
 
-at_part-un : (l : Lookup) (items : List Item) (origin : Origin) (k : ℕ) → l.positioning ≡ true → IsUnlisted l (nth items origin.at).glyph_id
-    → found_at_part l items origin k ≡ None
-at_part-un l items origin k gpos un =
+at_subtable-un : (l : Lookup) (items : List Item) (origin : Origin) (k : ℕ) → l.positioning ≡ true → IsUnlisted l (nth items origin.at).glyph_id
+    → found_at_subtable l items origin k ≡ None
+at_subtable-un l items origin k gpos un =
     let far : extension_kind l ≡ 9 = ap (λ t. if t then 9 else 7) gpos in
-    ap (λ kind. option_and_then (found_in_part l items origin) (subtable_of l.table.now kind l.place k)) far
-    ∙ by_part (subtable_of l.table.now 9 l.place k) refl
+    ap (λ kind. option_and_then (found_in_subtable l items origin) (subtable_of l.table.now kind l.place k)) far
+    ∙ by_concat (subtable_of l.table.now 9 l.place k) refl
   where
-    by_part : (o : Option LookupSubtable) → subtable_of l.table.now 9 l.place k ≡ o
-        → option_and_then (found_in_part l items origin) o ≡ None
-    by_part None e = refl
-    by_part (Some part) e = rules-un l items origin part (un k part e)
+    by_concat : (o : Option LookupSubtable) → subtable_of l.table.now 9 l.place k ≡ o
+        → option_and_then (found_in_subtable l items origin) o ≡ None
+    by_concat None e = refl
+    by_concat (Some subtable) e = rules-un l items origin subtable (un k subtable e)
 
 found-un : (l : Lookup) (items : List Item) (origin : Origin) → l.positioning ≡ true → IsUnlisted l (nth items origin.at).glyph_id
     → found_of l items origin ≡ None
 found-un l items origin gpos un =
-    first_some_none (found_at_part l items origin) (λ k. at_part-un l items origin k gpos un) (subtable_count_of l.table.now l.place) 0
+    first_some_none (found_at_subtable l items origin) (λ k. at_subtable-un l items origin k gpos un) (subtable_count_of l.table.now l.place) 0
 
 -- ---- what rules look at in vain
 
-reach_in-un : (l : Lookup) (items : List Item) (origin : Origin) (part : LookupSubtable)
-    → part_lists l part (nth items origin.at).glyph_id ≡ false → part_reach l items origin part ≡ untried origin.at
-reach_in-un l items origin part out = by_kind (is_context_part l part) refl out
+reach_in-un : (l : Lookup) (items : List Item) (origin : Origin) (subtable : LookupSubtable)
+    → subtable_lists l subtable (nth items origin.at).glyph_id ≡ false → subtable_reach l items origin subtable ≡ untried origin.at
+reach_in-un l items origin subtable out = by_kind (is_context_subtable l subtable) refl out
   where
     by_format : (t : Bool)
-        → (if t then is_first l.table.now part.start (whole_rule l.table.now (is_chained l part) part.start) (nth items origin.at).glyph_id
-        else is_listed_at l part (nth items origin.at).glyph_id) ≡ false
-        → (if t then whole_reach l items origin part else sets_reach l items origin part) ≡ untried origin.at
+        → (if t then is_first l.table.now subtable.start (whole_rule l.table.now (is_chained l subtable) subtable.start) (nth items origin.at).glyph_id
+        else is_listed_at l subtable (nth items origin.at).glyph_id) ≡ false
+        → (if t then whole_reach l items origin subtable else sets_reach l items origin subtable) ≡ untried origin.at
     by_format true none = rw none refl
-    by_format false none = ap (λ o. option_map_or (number_reach l items origin part) o (untried origin.at))
-        (none_of (number_at l.table.now part.start (part.start + 2) (nth items origin.at).glyph_id) none)
+    by_format false none = ap (λ o. option_map_or (number_reach l items origin subtable) o (untried origin.at))
+        (none_of (number_at l.table.now subtable.start (subtable.start + 2) (nth items origin.at).glyph_id) none)
 
-    by_kind : (t : Bool) → is_context_part l part ≡ t
-        → (if t then rule_lists l part (nth items origin.at).glyph_id else is_listed_at l part (nth items origin.at).glyph_id) ≡ false
-        → (if t then (if nat_eq (u16_of l.table.now part.start) 3 then whole_reach l items origin part else sets_reach l items origin part)
+    by_kind : (t : Bool) → is_context_subtable l subtable ≡ t
+        → (if t then rule_lists l subtable (nth items origin.at).glyph_id else is_listed_at l subtable (nth items origin.at).glyph_id) ≡ false
+        → (if t then (if nat_eq (u16_of l.table.now subtable.start) 3 then whole_reach l items origin subtable else sets_reach l items origin subtable)
         else untried origin.at) ≡ untried origin.at
-    by_kind true is none = by_format (nat_eq (u16_of l.table.now part.start) 3) none
+    by_kind true is none = by_format (nat_eq (u16_of l.table.now subtable.start) 3) none
     by_kind false is none = refl
 
 reach_at-un : (l : Lookup) (items : List Item) (origin : Origin) (k : ℕ) → l.positioning ≡ true → IsUnlisted l (nth items origin.at).glyph_id
-    → reach_at_part l items origin k ≡ untried origin.at
+    → reach_at_subtable l items origin k ≡ untried origin.at
 reach_at-un l items origin k gpos un =
     let far : extension_kind l ≡ 9 = ap (λ t. if t then 9 else 7) gpos in
-    ap (λ kind. option_map_or (part_reach l items origin) (subtable_of l.table.now kind l.place k) (untried origin.at)) far
-    ∙ by_part (subtable_of l.table.now 9 l.place k) refl
+    ap (λ kind. option_map_or (subtable_reach l items origin) (subtable_of l.table.now kind l.place k) (untried origin.at)) far
+    ∙ by_concat (subtable_of l.table.now 9 l.place k) refl
   where
-    by_part : (o : Option LookupSubtable) → subtable_of l.table.now 9 l.place k ≡ o
-        → option_map_or (part_reach l items origin) o (untried origin.at) ≡ untried origin.at
-    by_part None e = refl
-    by_part (Some part) e = reach_in-un l items origin part (un k part e)
+    by_concat : (o : Option LookupSubtable) → subtable_of l.table.now 9 l.place k ≡ o
+        → option_map_or (subtable_reach l items origin) o (untried origin.at) ≡ untried origin.at
+    by_concat None e = refl
+    by_concat (Some subtable) e = reach_in-un l items origin subtable (un k subtable e)
 
-tried-still : (i : ℕ) (b : Buffer) (reach : Reach) → reach ≡ untried i → (if nat_lt reach.from reach.to then parted reach.from reach.to b else b) ≡ b
+tried-still : (i : ℕ) (b : Buffer) (reach : Reach) → reach ≡ untried i → (if nat_lt reach.from reach.to then concat_marked reach.from reach.to b else b) ≡ b
 tried-still i b reach is =
     let none : nat_lt i i ≡ false = grind (arith, nat_tests) in
-    ap (λ (r : Reach). if nat_lt r.from r.to then parted r.from r.to b else b) is ∙ ap (λ t. if t then parted i i b else b) none
+    ap (λ (r : Reach). if nat_lt r.from r.to then concat_marked r.from r.to b else b) is ∙ ap (λ t. if t then concat_marked i i b else b) none
 
-tried-none : (l : Lookup) (i : ℕ) (b : Buffer) → l.positioning ≡ true → IsUnlisted l (nth b.items i).glyph_id → tried_parted l i b ≡ b
+tried-none : (l : Lookup) (i : ℕ) (b : Buffer) → l.positioning ≡ true → IsUnlisted l (nth b.items i).glyph_id → tried_concat_marked l i b ≡ b
 tried-none l i b gpos un = tried-still i b (reach_of l b.items (origin_at i))
-    (until_untried (reach_at_part l b.items (origin_at i)) i (λ k. reach_at-un l b.items (origin_at i) k gpos un)
+    (until_untried (reach_at_subtable l b.items (origin_at i)) i (λ k. reach_at-un l b.items (origin_at i) k gpos un)
     (subtable_count_of l.table.now l.place) 0)
 
 -- ---- levels
@@ -223,10 +223,10 @@ unplaced-if b false x y k m = m
 level-un : (next : Lookup → ℕ → ℕ → BaseSeen → Buffer → Placing) (l : Lookup) (i left : ℕ) (seen : BaseSeen) (b : Buffer)
     → l.positioning ≡ true → IsUnlisted l (nth b.items i).glyph_id → IsUnplaced b (level_placed next l i left seen b)
 level-un next l i left seen b gpos un =
-    let is : first_rule_placed next l i left seen (tried_parted l i b) ≡ unplaced left seen b =
+    let is : first_rule_placed next l i left seen (tried_concat_marked l i b) ≡ unplaced left seen b =
     ap (first_rule_placed next l i left seen) (tried-none l i b gpos un)
     ∙ ap (λ o. option_map_or (rule_placed next l i left seen b) o (unplaced left seen b)) (found-un l b.items (origin_at i) gpos un) in
-    let still = times-un l b i gpos un (subtable_count_of l.table.now l.place) (record { buffer = b; next = None; seen = seen; part = 0 })
+    let still = times-un l b i gpos un (subtable_count_of l.table.now l.place) (record { buffer = b; next = None; seen = seen; subtable = 0 })
     (record { buffer = refl; next = refl }) in
     unplaced-if b (is_context l) _ (lookup_placed l i left seen b)
     (record { buffer = ap (λ (p : Placing). p.buffer) is; next = ap (λ (p : Placing). p.next) is })

@@ -11,7 +11,7 @@ use Rattle.shape_items.specs.Buffer.{Buffer}
 use Rattle.layout_matching.specs.Skipping.{nth, shares}
 use Rattle.layout_matching.specs.declared.lookup.Lookup.{Lookup}
 use Rattle.layout_positions.specs.Anchors.{anchor_by, number_at}
-use Rattle.layout_positions.specs.Edits.{position_changed, broken, parted}
+use Rattle.layout_positions.specs.Edits.{position_changed, broken, concat_marked}
 use Rattle.layout_positions.specs.Lookups.{Applied, unapplied, glyph_before, start_before}
 use Rattle.layout_positions.specs.Turning.{attached}
 use Rattle.layout_positions.specs.declared.anchors.Anchor.{Anchor}
@@ -86,11 +86,11 @@ cursive_put l i j entry b exit = record {
 
 abbrev pub cursive_with : Lookup → ℕ → ℕ → Anchor → Buffer → ℕ → Applied
 cursive_with l start j entry b i =
-    option_map_or (cursive_put l i j entry b) (exit_of l.table.now start (nth b.items i).glyph_id) (unapplied (parted i (j + 1) b))
+    option_map_or (cursive_put l i j entry b) (exit_of l.table.now start (nth b.items i).glyph_id) (unapplied (concat_marked i (j + 1) b))
 
 abbrev pub cursive_at : Lookup → ℕ → ℕ → Buffer → Anchor → Applied
 cursive_at l start j b entry = option_map_or (cursive_with l start j entry b) (glyph_before l b.items j)
-    (unapplied (parted (start_before l b.items j) (j + 1) b))
+    (unapplied (concat_marked (start_before l b.items j) (j + 1) b))
 
 -- the glyph at a place and the one before it
 abbrev pub cursive_applied : Lookup → ℕ → ℕ → Buffer → Applied

@@ -24,5 +24,5 @@ broken start end b = let last = min end (length b.items) in (if nat_le start las
 abbrev pub asks_for_concat : Buffer → Bool
 asks_for_concat b = bit_and b.flags.0 PRODUCE_UNSAFE_TO_CONCAT == PRODUCE_UNSAFE_TO_CONCAT
 
-abbrev pub parted : ℕ → ℕ → Buffer → Buffer
-parted start end b = let last = min end (length b.items) in (if nat_le start last then unsafe_to_concat start last b else b)
+abbrev pub concat_marked : ℕ → ℕ → Buffer → Buffer
+concat_marked start end b = let last = min end (length b.items) in (if nat_le start last then unsafe_to_concat start last b else b)

@@ -14,7 +14,7 @@ use Rattle.layout_matching.specs.Skipping.{nth, shares, is_transparent}
 use Rattle.layout_matching.specs.declared.lookup.Lookup.{Lookup}
 use Rattle.layout_positions.specs.Anchors.{number_at, anchor_in, class_of_mark, anchor_of_mark}
 use Rattle.layout_positions.specs.Attachment.{MARK_ATTACHED, chain_to}
-use Rattle.layout_positions.specs.Edits.{position_changed, broken, parted}
+use Rattle.layout_positions.specs.Edits.{position_changed, broken, concat_marked}
 use Rattle.layout_positions.specs.Lookups.{Applied, unapplied, has_lookup_on, glyph_before, start_before}
 use Rattle.layout_positions.specs.declared.anchors.Anchor.{Anchor}
 use Rattle.layout_positions.specs.declared.bases.BaseSeen.{BaseSeen}
@@ -55,37 +55,37 @@ mark_attached l start i j number row matrix b =
 abbrev pub is_base_seen : Lookup → Item → Bool
 is_base_seen l item = not (shares item.properties.glyph_class.0 8) && not (is_transparent l true item) && has_lookup_on l item
 
--- of a glyph that a multiple substitution took apart, a part right after the part before it; a part after a mark counts as a first one
-abbrev pub follows_part : Item → Item → Bool
-follows_part before item = item.properties.multiplied && before.properties.multiplied
+-- of a glyph that a multiple substitution took apart, a component right after the component before it; a component after a mark counts as a first one
+abbrev pub follows_component : Item → Item → Bool
+follows_component before item = item.properties.multiplied && before.properties.multiplied
     && not (shares before.properties.glyph_class.0 8) && nat_eq item.properties.ligature_id before.properties.ligature_id
     && nat_eq item.properties.ligature_component (before.properties.ligature_component + 1)
 
-abbrev pub is_later_part : List Item → ℕ → Bool
-is_later_part items j = nat_lt 0 j && follows_part (nth items (j - 1)) (nth items j)
+abbrev pub is_later_component : List Item → ℕ → Bool
+is_later_component items j = nat_lt 0 j && follows_component (nth items (j - 1)) (nth items j)
 
 -- the subtable lists the glyph as a base
 abbrev pub is_listed_base : Lookup → ℕ → Item → Bool
 is_listed_base l start item = is_some (number_at l.table.now start (start + 4) item.glyph_id)
 
--- a subtable of bases takes a part after the first one only if it lists it; a subtable of ligatures takes any part
-abbrev pub takes_part : Lookup → LookupSubtable → List Item → ℕ → Bool
-takes_part l part items j = not (nat_eq part.kind 4) || not (is_later_part items j) || is_listed_base l part.start (nth items j)
+-- a subtable of bases takes a component after the first one only if it lists it; a subtable of ligatures takes any component
+abbrev pub takes_component : Lookup → LookupSubtable → List Item → ℕ → Bool
+takes_component l subtable items j = not (nat_eq subtable.kind 4) || not (is_later_component items j) || is_listed_base l subtable.start (nth items j)
 
 abbrev pub is_base_at : Lookup → LookupSubtable → List Item → ℕ → Bool
-is_base_at l part items j = is_base_seen l (nth items j) && takes_part l part items j
+is_base_at l subtable items j = is_base_seen l (nth items j) && takes_component l subtable items j
 
 -- the nearest one, not before place `until`
 abbrev pub nearest_base : Lookup → LookupSubtable → List Item → ℕ → ℕ → Option ℕ
-nearest_base l part items until i = option_map (λ d. i - 1 - d) (first_at (λ d. is_base_at l part items (i - 1 - d)) (i - until) 0)
+nearest_base l subtable items until i = option_map (λ d. i - 1 - d) (first_at (λ d. is_base_at l subtable items (i - 1 - d)) (i - until) 0)
 
 -- each place is looked at once as long as the lookup goes on: from the place that was looked at last, by any subtable
 abbrev pub base_of : Lookup → LookupSubtable → List Item → ℕ → BaseSeen → Option ℕ
-base_of l part items i seen = if nat_lt i seen.until then nearest_base l part items 0 i
-    else option_or (nearest_base l part items seen.until i) seen.place
+base_of l subtable items i seen = if nat_lt i seen.until then nearest_base l subtable items 0 i
+    else option_or (nearest_base l subtable items seen.until i) seen.place
 
 abbrev pub base_seen : Lookup → LookupSubtable → List Item → ℕ → BaseSeen → BaseSeen
-base_seen l part items i seen = record { until = i; place = base_of l part items i seen }
+base_seen l subtable items i seen = record { until = i; place = base_of l subtable items i seen }
 
 -- ---- to a base
 
@@ -101,10 +101,10 @@ mark_on_row l start i j number b row = mark_attached l start i j number row (off
 
 abbrev pub mark_on_glyph : Lookup → ℕ → ℕ → ℕ → Buffer → ℕ → Applied
 mark_on_glyph l start i number b j =
-    option_map_or (mark_on_row l start i j number b) (row_of l start j b) (unapplied (parted j (i + 1) b))
+    option_map_or (mark_on_row l start i j number b) (row_of l start j b) (unapplied (concat_marked j (i + 1) b))
 
 abbrev pub mark_base_at : Lookup → ℕ → Option ℕ → ℕ → Buffer → ℕ → Applied
-mark_base_at l start base i b number = option_map_or (mark_on_glyph l start i number b) base (unapplied (parted 0 (i + 1) b))
+mark_base_at l start base i b number = option_map_or (mark_on_glyph l start i number b) base (unapplied (concat_marked 0 (i + 1) b))
 
 abbrev pub mark_base_applied : Lookup → ℕ → Option ℕ → ℕ → Buffer → Applied
 mark_base_applied l start base i b = option_map_or (mark_base_at l start base i b) (mark_number l start i b) (unapplied b)
@@ -126,16 +126,16 @@ component_of count ligature mark = let id = ligature.properties.ligature_id in
 
 abbrev pub mark_on_matrix : Lookup → ℕ → ℕ → ℕ → ℕ → Buffer → ℕ → Applied
 mark_on_matrix l start i j number b matrix = let count = u16_of l.table.now matrix in
-    (if nat_eq count 0 then unapplied (parted j (i + 1) b)
+    (if nat_eq count 0 then unapplied (concat_marked j (i + 1) b)
     else mark_attached l start i j number (component_of count (nth b.items j) (nth b.items i)) (Some matrix) b)
 
 abbrev pub mark_on_ligature : Lookup → ℕ → ℕ → ℕ → Buffer → ℕ → Applied
 mark_on_ligature l start i number b j = option_map_or (mark_on_matrix l start i j number b)
-    (option_and_then (ligature_matrix l.table.now start) (row_of l start j b)) (unapplied (parted j (i + 1) b))
+    (option_and_then (ligature_matrix l.table.now start) (row_of l start j b)) (unapplied (concat_marked j (i + 1) b))
 
 abbrev pub mark_ligature_at : Lookup → ℕ → Option ℕ → ℕ → Buffer → ℕ → Applied
 mark_ligature_at l start base i b number =
-    option_map_or (mark_on_ligature l start i number b) base (unapplied (parted 0 (i + 1) b))
+    option_map_or (mark_on_ligature l start i number b) base (unapplied (concat_marked 0 (i + 1) b))
 
 abbrev pub mark_ligature_applied : Lookup → ℕ → Option ℕ → ℕ → Buffer → Applied
 mark_ligature_applied l start base i b =
@@ -157,11 +157,11 @@ are_together x y = let a = x.properties.ligature_id in
 abbrev pub mark_on_mark : Lookup → ℕ → ℕ → ℕ → Buffer → ℕ → Applied
 mark_on_mark l start i number b j = let other = nth b.items j in
     (if shares other.properties.glyph_class.0 8 && are_together (nth b.items i) other then mark_on_glyph l start i number b j
-    else unapplied (parted j (i + 1) b))
+    else unapplied (concat_marked j (i + 1) b))
 
 abbrev pub mark_mark_at : Lookup → ℕ → ℕ → Buffer → ℕ → Applied
 mark_mark_at l start i b number = option_map_or (mark_on_mark l start i number b) (glyph_before (for_marks l) b.items i)
-    (unapplied (parted (start_before (for_marks l) b.items i) (i + 1) b))
+    (unapplied (concat_marked (start_before (for_marks l) b.items i) (i + 1) b))
 
 abbrev pub mark_mark_applied : Lookup → ℕ → ℕ → Buffer → Applied
 mark_mark_applied l start i b = option_map_or (mark_mark_at l start i b) (mark_number l start i b) (unapplied b)

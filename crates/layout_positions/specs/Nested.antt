@@ -17,7 +17,7 @@ use Rattle.layout_matching.specs.declared.found.Found.{Found}
 use Rattle.layout_matching.specs.declared.lookup.Lookup.{Lookup}
 use Rattle.layout_matching.specs.declared.rules.Rule.{Rule}
 use Rattle.layout_matching.specs.declared.spans.Origin.{Origin}
-use Rattle.layout_positions.specs.Edits.{broken, parted}
+use Rattle.layout_positions.specs.Edits.{broken, concat_marked}
 use Rattle.layout_positions.specs.Subtables.{Placing, unplaced, lookup_placed}
 use Rattle.layout_positions.specs.declared.bases.BaseSeen.{BaseSeen}
 
@@ -71,16 +71,16 @@ abbrev pub origin_at : ℕ → Origin
 origin_at i = record { at = i; is_steady = true }
 
 -- what rules looked at in vain, up to the first that matches, is unsafe to concat
-abbrev pub tried_parted : Lookup → ℕ → Buffer → Buffer
-tried_parted l i b = let reach = reach_of l b.items (origin_at i) in
-    (if nat_lt reach.from reach.to then parted reach.from reach.to b else b)
+abbrev pub tried_concat_marked : Lookup → ℕ → Buffer → Buffer
+tried_concat_marked l i b = let reach = reach_of l b.items (origin_at i) in
+    (if nat_lt reach.from reach.to then concat_marked reach.from reach.to b else b)
 
 abbrev pub first_rule_placed : (Lookup → ℕ → ℕ → BaseSeen → Buffer → Placing) → Lookup → ℕ → ℕ → BaseSeen → Buffer → Placing
 first_rule_placed next l i left seen b =
     option_map_or (rule_placed next l i left seen b) (found_of l b.items (origin_at i)) (unplaced left seen b)
 
 abbrev pub level_placed : (Lookup → ℕ → ℕ → BaseSeen → Buffer → Placing) → Lookup → ℕ → ℕ → BaseSeen → Buffer → Placing
-level_placed next l i left seen b = if is_context l then first_rule_placed next l i left seen (tried_parted l i b)
+level_placed next l i left seen b = if is_context l then first_rule_placed next l i left seen (tried_concat_marked l i b)
     else lookup_placed l i left seen b
 
 -- so many levels of lookups, each named by the one above

@@ -11,7 +11,7 @@ use Rattle.layout_tables.specs.Offsets.{offset16_of}
 use Rattle.layout_matching.specs.Skipping.{nth}
 use Rattle.layout_matching.specs.declared.lookup.Lookup.{Lookup}
 use Rattle.layout_positions.specs.Anchors.{number_at}
-use Rattle.layout_positions.specs.Edits.{position_changed, broken, parted}
+use Rattle.layout_positions.specs.Edits.{position_changed, broken, concat_marked}
 use Rattle.layout_positions.specs.Lookups.{Applied, unapplied, glyph_after, end_after}
 use Rattle.layout_positions.specs.Values.{value_size, value_at, has_bytes, value_in, adjusted, has_effect}
 use Rattle.layout_positions.specs.declared.pairs.PairValues.{PairValues}
@@ -86,7 +86,7 @@ pair_of t start number left right = if nat_eq (u16_of t start) 1 then listed_pai
 
 -- glyphs that a pair moves are unsafe to break; those of classes that it doesn't move are unsafe to concat
 abbrev pub pair_marked : Bool → Bool → ℕ → ℕ → Buffer → Buffer
-pair_marked listed moved i j b = if moved then broken i (j + 1) b else (if listed then b else parted i (j + 1) b)
+pair_marked listed moved i j b = if moved then broken i (j + 1) b else (if listed then b else concat_marked i (j + 1) b)
 
 -- a pair with a record for its second glyph goes on after that one, and what comes after is unsafe to break too
 abbrev pub pair_ended : PairValues → ℕ → ℕ → Buffer → Applied
@@ -103,11 +103,11 @@ pair_put listed i j b v = pair_ended v i j
 -- the glyph at a place and the next one that the lookup sees
 abbrev pub pair_with : Lookup → ℕ → ℕ → ℕ → Buffer → ℕ → Applied
 pair_with l start i number b j = option_map_or (pair_put (nat_eq (u16_of l.table.now start) 1) i j b)
-    (pair_of l.table.now start number (nth b.items i).glyph_id (nth b.items j).glyph_id) (unapplied (parted i (j + 1) b))
+    (pair_of l.table.now start number (nth b.items i).glyph_id (nth b.items j).glyph_id) (unapplied (concat_marked i (j + 1) b))
 
 abbrev pub pair_at_number : Lookup → ℕ → ℕ → Buffer → ℕ → Applied
 pair_at_number l start i b number =
-    option_map_or (pair_with l start i number b) (glyph_after l b.items i) (unapplied (parted i (end_after l b.items i) b))
+    option_map_or (pair_with l start i number b) (glyph_after l b.items i) (unapplied (concat_marked i (end_after l b.items i) b))
 
 abbrev pub has_pairs : List ℕ → ℕ → Bool
 has_pairs t start = nat_eq (u16_of t start) 1 || nat_eq (u16_of t start) 2

@@ -18,45 +18,45 @@ abbrev pub if_first_format : Lookup → ℕ → Buffer → Applied → Applied
 if_first_format l start b made = if nat_eq (u16_of l.table.now start) 1 then made else unapplied b
 
 abbrev pub kind_applied : Lookup → LookupSubtable → Option ℕ → ℕ → Buffer → Applied
-kind_applied l part base i b =
-    if nat_eq part.kind 1 then single_applied l part.start i b
-    else (if nat_eq part.kind 2 then pair_applied l part.start i b
-    else (if nat_eq part.kind 3 then if_first_format l part.start b (cursive_applied l part.start i b)
-    else (if nat_eq part.kind 4 then if_first_format l part.start b (mark_base_applied l part.start base i b)
-    else (if nat_eq part.kind 5 then if_first_format l part.start b (mark_ligature_applied l part.start base i b)
-    else (if nat_eq part.kind 6 then if_first_format l part.start b (mark_mark_applied l part.start i b) else unapplied b)))))
+kind_applied l subtable base i b =
+    if nat_eq subtable.kind 1 then single_applied l subtable.start i b
+    else (if nat_eq subtable.kind 2 then pair_applied l subtable.start i b
+    else (if nat_eq subtable.kind 3 then if_first_format l subtable.start b (cursive_applied l subtable.start i b)
+    else (if nat_eq subtable.kind 4 then if_first_format l subtable.start b (mark_base_applied l subtable.start base i b)
+    else (if nat_eq subtable.kind 5 then if_first_format l subtable.start b (mark_ligature_applied l subtable.start base i b)
+    else (if nat_eq subtable.kind 6 then if_first_format l subtable.start b (mark_mark_applied l subtable.start i b) else unapplied b)))))
 
 -- a subtable that attaches marks to bases or to ligatures looks for the base of a mark that it has
 abbrev pub looks_for_base : Lookup → LookupSubtable → ℕ → Buffer → Bool
-looks_for_base l part i b = (nat_eq part.kind 4 || nat_eq part.kind 5) && nat_eq (u16_of l.table.now part.start) 1
-    && is_some (mark_number l part.start i b)
+looks_for_base l subtable i b = (nat_eq subtable.kind 4 || nat_eq subtable.kind 5) && nat_eq (u16_of l.table.now subtable.start) 1
+    && is_some (mark_number l subtable.start i b)
 
 abbrev pub seen_at : Lookup → LookupSubtable → ℕ → Buffer → BaseSeen → BaseSeen
-seen_at l part i b seen = if looks_for_base l part i b then base_seen l part b.items i seen else seen
+seen_at l subtable i b seen = if looks_for_base l subtable i b then base_seen l subtable b.items i seen else seen
 
--- the subtables before number `part` have been tried
+-- the subtables before number `subtable` have been tried
 pub record Trial : Type 0 where
   pub buffer : Buffer
   pub next : Option ℕ
   pub seen : BaseSeen
-  pub part : ℕ
+  pub subtable : ℕ
 
 abbrev pub trial_of : Trial → Applied → BaseSeen → Trial
-trial_of s made seen = record { buffer = made.buffer; next = made.next; seen = seen; part = s.part + 1 }
+trial_of s made seen = record { buffer = made.buffer; next = made.next; seen = seen; subtable = s.subtable + 1 }
 
-abbrev pub part_tried : Lookup → ℕ → Trial → LookupSubtable → Trial
-part_tried l i s part = let seen = seen_at l part i s.buffer s.seen in trial_of s (kind_applied l part seen.place i s.buffer) seen
+abbrev pub subtable_tried : Lookup → ℕ → Trial → LookupSubtable → Trial
+subtable_tried l i s subtable = let seen = seen_at l subtable i s.buffer s.seen in trial_of s (kind_applied l subtable seen.place i s.buffer) seen
 
 abbrev pub next_tried : Lookup → ℕ → Trial → Trial
-next_tried l i s = option_map_or (part_tried l i s) (subtable_of l.table.now 9 l.place s.part) (trial_of s (unapplied s.buffer) s.seen)
+next_tried l i s = option_map_or (subtable_tried l i s) (subtable_of l.table.now 9 l.place s.subtable) (trial_of s (unapplied s.buffer) s.seen)
 
 -- the first subtable that applies ends the trial
 abbrev pub trial_step : Lookup → ℕ → Trial → Trial
-trial_step l i s = if is_some s.next then record s { part = s.part + 1 } else next_tried l i s
+trial_step l i s = if is_some s.next then record s { subtable = s.subtable + 1 } else next_tried l i s
 
 abbrev pub lookup_tried : Lookup → ℕ → BaseSeen → Buffer → Trial
 lookup_tried l i seen b = times (trial_step l i) (subtable_count_of l.table.now l.place)
-    (record { buffer = b; next = None; seen = seen; part = 0 })
+    (record { buffer = b; next = None; seen = seen; subtable = 0 })
 
 -- what a lookup leaves: where it goes on, the base that was seen last, and how many lookups rules may still name
 pub record Placing : Type 0 where

@@ -3,7 +3,7 @@ ghost use Rattle.std.specs.Prelude.{◌≡◌, ◌<◌, ◌^◌, length};
 ghost use Rattle.layout_positions.specs.Pairs.{glyph_adjusted, single_put, single_applied, pair_marked, pair_ended, pair_moves, pair_put, pair_with as pair_with_of, pair_at_number, has_pairs as has_pairs_of, pair_applied};
 
 use crate::anchors::number_there;
-use crate::edits::{break_between, part_between, position, put};
+use crate::edits::{break_between, concat_between, position, put};
 use crate::neighbours::{end_after, glyph_after};
 use crate::pairs::{PairValues, pair, single};
 use crate::places::{after, two_after};
@@ -62,7 +62,7 @@ fn mark(buffer: &mut hb_buffer_t, listed: bool, moved: bool, i: usize, j: usize)
     if moved {
         break_between(buffer, i, after(count, j));
     } else if !listed {
-        part_between(buffer, i, after(count, j));
+        concat_between(buffer, i, after(count, j));
     }
 }
 
@@ -121,7 +121,7 @@ fn pair_with(
     match pair(lookup.table, start, number, left, right) {
         Some(values) => put_pair(buffer, u16_at(lookup.table, start) == 1, i, j, &values),
         None => {
-            part_between(buffer, i, after(count, j));
+            concat_between(buffer, i, after(count, j));
             None
         }
     }
@@ -145,7 +145,7 @@ fn pair_from(
         Some(j) => pair_with(lookup, start, buffer, i, number, j),
         None => {
             let end = end_after(lookup, buffer.infos(), i);
-            part_between(buffer, i, end);
+            concat_between(buffer, i, end);
             None
         }
     }

@@ -1,10 +1,10 @@
 //! The glyph that a mark stands on: the nearest one before it that is no mark. Of a glyph that a
-//! multiple substitution took apart, attachment to bases takes the first part, or a part that the
+//! multiple substitution took apart, attachment to bases takes the first component, or a component that the
 //! subtable lists.
 ghost use Rattle.std.specs.Prelude.{◌≡◌, ◌<◌, ◌≤◌, ◌-◌, ◌^◌, length};
 ghost use Rattle.std.specs.Option.{IfSome};
 ghost use Rattle.shape_font.specs.Search.{first_at};
-ghost use Rattle.layout_positions.specs.Marks.{is_base_seen as is_base_seen_of, follows_part as follows_part_of, is_later_part as is_later_part_of, is_listed_base as is_listed_base_of, takes_part as takes_part_of, is_base_at as is_base_at_of, nearest_base as nearest_base_of, base_of, base_seen as base_seen_of};
+ghost use Rattle.layout_positions.specs.Marks.{is_base_seen as is_base_seen_of, follows_component as follows_component_of, is_later_component as is_later_component_of, is_listed_base as is_listed_base_of, takes_component as takes_component_of, is_base_at as is_base_at_of, nearest_base as nearest_base_of, base_of, base_seen as base_seen_of};
 
 use crate::anchors::number_there;
 use crate::neighbours::has_lookup_on;
@@ -30,10 +30,10 @@ fn is_base_seen(lookup: &Lookup<'_>, item: &hb_glyph_info_t) -> bool
         && has_lookup_on(lookup, item)
 }
 
-/// Whether the glyph is a part that follows the part `before` of a glyph that a multiple
-/// substitution took apart. A part after a mark counts as a first one.
-fn follows_part(before: &hb_glyph_info_t, item: &hb_glyph_info_t) -> bool
-    ensures { result ≡ follows_part_of before.now item.now }
+/// Whether the glyph is a component that follows the component `before` of a glyph that a multiple
+/// substitution took apart. A component after a mark counts as a first one.
+fn follows_component(before: &hb_glyph_info_t, item: &hb_glyph_info_t) -> bool
+    ensures { result ≡ follows_component_of before.now item.now }
 {
     let component = u16::from(before._hb_glyph_info_get_ligature_component());
     item._hb_glyph_info_get_multiplied()
@@ -43,12 +43,12 @@ fn follows_part(before: &hb_glyph_info_t, item: &hb_glyph_info_t) -> bool
         && u16::from(item._hb_glyph_info_get_ligature_component()) == component + 1
 }
 
-/// Whether the glyph at place `j` follows a part of the same glyph.
-fn is_later_part(items: &[hb_glyph_info_t], j: usize) -> bool
+/// Whether the glyph at place `j` follows a component of the same glyph.
+fn is_later_component(items: &[hb_glyph_info_t], j: usize) -> bool
     requires { j < length items.now }
-    ensures { result ≡ is_later_part_of items.now j }
+    ensures { result ≡ is_later_component_of items.now j }
 {
-    0 < j && follows_part(&items[j - 1], &items[j])
+    0 < j && follows_component(&items[j - 1], &items[j])
 }
 
 /// Whether the subtable at `start` lists the glyph as a base.
@@ -59,53 +59,55 @@ fn is_listed_base(lookup: &Lookup<'_>, start: usize, item: &hb_glyph_info_t) -> 
     number_there(lookup.table, start, start + 4, item.glyph_id).is_some()
 }
 
-/// Whether the subtable takes the glyph at place `j` as a base if it is a part: a subtable of bases
-/// takes the first part, or one that it lists.
-fn takes_part(
+/// Whether the subtable takes the glyph at place `j` as a base if it is a component: a subtable of bases
+/// takes the first component, or one that it lists.
+fn takes_component(
     lookup: &Lookup<'_>,
-    part: LookupSubtable,
+    subtable: LookupSubtable,
     items: &[hb_glyph_info_t],
     j: usize,
 ) -> bool
-    requires start { part.start < 2 ^ 34 }
+    requires start { subtable.start < 2 ^ 34 }
     requires inside { j < length items.now }
-    ensures { result ≡ takes_part_of lookup.now part items.now j }
+    ensures { result ≡ takes_component_of lookup.now subtable items.now j }
 {
-    part.kind != 4 || !is_later_part(items, j) || is_listed_base(lookup, part.start, &items[j])
+    subtable.kind != 4
+        || !is_later_component(items, j)
+        || is_listed_base(lookup, subtable.start, &items[j])
 }
 
 /// Whether a mark may stand on the glyph at place `j`.
 fn is_base_at(
     lookup: &Lookup<'_>,
-    part: LookupSubtable,
+    subtable: LookupSubtable,
     items: &[hb_glyph_info_t],
     j: usize,
 ) -> bool
-    requires start { part.start < 2 ^ 34 }
+    requires start { subtable.start < 2 ^ 34 }
     requires inside { j < length items.now }
-    ensures { result ≡ is_base_at_of lookup.now part items.now j }
+    ensures { result ≡ is_base_at_of lookup.now subtable items.now j }
 {
-    is_base_seen(lookup, &items[j]) && takes_part(lookup, part, items, j)
+    is_base_seen(lookup, &items[j]) && takes_component(lookup, subtable, items, j)
 }
 
 /// How far before place `i` the nearest base stands, from 0 on, of `count` places.
 #[tactic(auto, using(shape_font::proofs::SearchLemmas::first_at_next, shape_font::proofs::SearchLemmas::first_at_found, shape_font::proofs::SearchLemmas::first_at_end))]
 fn base_back(
     lookup: &Lookup<'_>,
-    part: LookupSubtable,
+    subtable: LookupSubtable,
     items: &[hb_glyph_info_t],
     i: usize,
     count: usize,
 ) -> Option<usize>
-    requires start { part.start < 2 ^ 34 }
+    requires start { subtable.start < 2 ^ 34 }
     requires inside { i ≤ length items.now }
     requires count { count ≤ i }
     ensures value { result
-        ≡ first_at (λ d. is_base_at_of lookup.now part items.now (i - 1 - d)) count 0 }
+        ≡ first_at (λ d. is_base_at_of lookup.now subtable items.now (i - 1 - d)) count 0 }
     ensures near { IfSome result (λ d. d < i) }
 {
     for d in 0..count {
-        if is_base_at(lookup, part, items, i - 1 - d) {
+        if is_base_at(lookup, subtable, items, i - 1 - d) {
             return Some(d);
         }
     }
@@ -115,17 +117,17 @@ fn base_back(
 /// The nearest base before place `i`, not before place `until`.
 fn nearest_base(
     lookup: &Lookup<'_>,
-    part: LookupSubtable,
+    subtable: LookupSubtable,
     items: &[hb_glyph_info_t],
     until: usize,
     i: usize,
 ) -> Option<usize>
-    requires start { part.start < 2 ^ 34 }
+    requires start { subtable.start < 2 ^ 34 }
     requires inside { i ≤ length items.now }
-    ensures value { result ≡ nearest_base_of lookup.now part items.now until i }
+    ensures value { result ≡ nearest_base_of lookup.now subtable items.now until i }
     ensures inside { IfSome result (λ j. j < i) }
 {
-    match base_back(lookup, part, items, i, i.saturating_sub(until)) {
+    match base_back(lookup, subtable, items, i, i.saturating_sub(until)) {
         Some(d) => Some(i - 1 - d),
         None => None,
     }
@@ -134,19 +136,19 @@ fn nearest_base(
 /// The base of the mark at place `i`, after what was seen before.
 fn base_at(
     lookup: &Lookup<'_>,
-    part: LookupSubtable,
+    subtable: LookupSubtable,
     items: &[hb_glyph_info_t],
     i: usize,
     seen: BaseSeen,
 ) -> Option<usize>
-    requires start { part.start < 2 ^ 34 }
+    requires start { subtable.start < 2 ^ 34 }
     requires inside { i ≤ length items.now }
-    ensures { result ≡ base_of lookup.now part items.now i seen }
+    ensures { result ≡ base_of lookup.now subtable items.now i seen }
 {
     if i < seen.until {
-        return nearest_base(lookup, part, items, 0, i);
+        return nearest_base(lookup, subtable, items, 0, i);
     }
-    match nearest_base(lookup, part, items, seen.until, i) {
+    match nearest_base(lookup, subtable, items, seen.until, i) {
         None => seen.place,
         found => found,
     }
@@ -155,17 +157,17 @@ fn base_at(
 /// Looks for the base of the mark at place `i`.
 pub fn base_seen(
     lookup: &Lookup<'_>,
-    part: LookupSubtable,
+    subtable: LookupSubtable,
     items: &[hb_glyph_info_t],
     i: usize,
     seen: BaseSeen,
 ) -> BaseSeen
-    requires start { part.start < 2 ^ 34 }
+    requires start { subtable.start < 2 ^ 34 }
     requires inside { i ≤ length items.now }
-    ensures { result ≡ base_seen_of lookup.now part items.now i seen }
+    ensures { result ≡ base_seen_of lookup.now subtable items.now i seen }
 {
     BaseSeen {
         until: i,
-        place: base_at(lookup, part, items, i, seen),
+        place: base_at(lookup, subtable, items, i, seen),
     }
 }

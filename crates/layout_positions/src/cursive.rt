@@ -4,7 +4,7 @@ ghost use Rattle.shape_font.specs.Bytes.{u16_of, fitting};
 ghost use Rattle.layout_positions.specs.Cursive.{entry_of, exit_of, to_x as to_x_of, to_y as to_y_of, from_x as from_x_of, from_y as from_y_of, left_at as left_at_of, entered_at as entered_at_of, gap_across as gap_across_of, joined_across, joined_along, cursive_put, cursive_with as cursive_with_of, cursive_at, cursive_applied};
 
 use crate::anchors::{Anchor, anchor_there, number_there};
-use crate::edits::{break_between, part_between, position, put};
+use crate::edits::{break_between, concat_between, position, put};
 use crate::neighbours::{glyph_before, start_before};
 use crate::places::after;
 use crate::turning::attach;
@@ -187,7 +187,7 @@ fn cursive_with(
             Some(after(count, j))
         }
         None => {
-            part_between(buffer, i, after(count, j));
+            concat_between(buffer, i, after(count, j));
             None
         }
     }
@@ -212,7 +212,7 @@ pub fn apply_cursive(
         Some(i) => cursive_with(lookup, start, buffer, j, entry, i),
         None => {
             let from = start_before(lookup, buffer.infos(), j);
-            part_between(buffer, from, after(count, j));
+            concat_between(buffer, from, after(count, j));
             None
         }
     }

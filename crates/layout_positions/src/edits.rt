@@ -1,7 +1,7 @@
 //! Edits of a buffer's positions and flags, by places. Past the end nothing changes, so that no
 //! caller has to show that a place is inside.
 ghost use Rattle.std.specs.Prelude.{◌≡◌, length};
-ghost use Rattle.layout_positions.specs.Edits.{position_at, position_put, asks_for_concat as asks_for_concat_of, broken, parted};
+ghost use Rattle.layout_positions.specs.Edits.{position_at, position_put, asks_for_concat as asks_for_concat_of, broken, concat_marked};
 
 use bitflags::Flags;
 use shape_buffer::{BufferFlags, GlyphPosition, hb_buffer_t};
@@ -50,9 +50,9 @@ pub fn asks_for_concat(buffer: &hb_buffer_t) -> bool
 
 /// Marks the items from `start` up to `end`, or to the end of the list, unsafe to concat, if the
 /// buffer asks for that.
-#[tactic(auto, using(crate::proofs::CountLemmas::length_parted))]
-pub fn part_between(buffer: &mut hb_buffer_t, start: usize, end: usize)
-    ensures made { buffer.new ≡ parted start end buffer.old }
+#[tactic(auto, using(crate::proofs::CountLemmas::length_concat_marked))]
+pub fn concat_between(buffer: &mut hb_buffer_t, start: usize, end: usize)
+    ensures made { buffer.new ≡ concat_marked start end buffer.old }
     ensures len { length buffer.new.items ≡ length buffer.old.items }
 {
     let last = end.min(buffer.len());

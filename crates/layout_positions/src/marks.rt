@@ -1,12 +1,12 @@
 //! Marks attached to bases, to ligatures and to marks (OpenType, `GPOS`, lookup types 4, 5 and 6).
 ghost use Rattle.std.specs.Prelude.{◌≡◌, ◌<◌, ◌+◌, ◌^◌, length, None};
 ghost use Rattle.std.specs.Option.{IfSome, option_and_then};
-ghost use Rattle.layout_positions.specs.Edits.{parted};
+ghost use Rattle.layout_positions.specs.Edits.{concat_marked};
 ghost use Rattle.layout_positions.specs.Marks.{mark_position as mark_position_of, mark_put, mark_array as mark_array_of, base_anchor as base_anchor_of, mark_attached, mark_number as mark_number_of, row_of, mark_on_row, mark_on_glyph, mark_base_at, mark_base_applied, ligature_in, ligature_matrix as ligature_matrix_of, component_of, mark_on_matrix, mark_on_ligature, mark_ligature_at, mark_ligature_applied, for_marks as for_marks_of, are_together as are_together_of, mark_on_mark, mark_mark_at, mark_mark_applied};
 
 use crate::anchors::{Anchor, anchor_of_class, mark_anchor, mark_class, number_there};
 use crate::attachment::{MARK_ATTACHED, chain};
-use crate::edits::{break_between, part_between, position, put};
+use crate::edits::{break_between, concat_between, position, put};
 use crate::neighbours::{glyph_before, start_before};
 use crate::places::after;
 use layout_matching::lookup::Lookup;
@@ -109,13 +109,13 @@ fn row(lookup: &Lookup<'_>, start: usize, buffer: &hb_buffer_t, j: usize) -> Opt
 }
 
 /// Marks a mark and what is before it, from a place on, unsafe to concat. The lookup doesn't apply.
-fn part_from(buffer: &mut hb_buffer_t, from: usize, mark: usize) -> Option<usize>
+fn concat_from(buffer: &mut hb_buffer_t, from: usize, mark: usize) -> Option<usize>
     requires { mark < length buffer.old.items }
-    ensures made { buffer.new ≡ parted from (mark + 1) buffer.old }
+    ensures made { buffer.new ≡ concat_marked from (mark + 1) buffer.old }
     ensures none { result ≡ None }
 {
     let end = after(buffer.len(), mark);
-    part_between(buffer, from, end);
+    concat_between(buffer, from, end);
     None
 }
 
@@ -138,7 +138,7 @@ fn put_on_glyph(
             let matrix = offset16(lookup.table, start, start + 10);
             attach_mark(lookup, start, buffer, at, row, matrix)
         }
-        None => part_from(buffer, at.base, at.mark),
+        None => concat_from(buffer, at.base, at.mark),
     }
 }
 
@@ -168,7 +168,7 @@ pub fn apply_mark_base(
                 number,
             },
         ),
-        None => part_from(buffer, 0, i),
+        None => concat_from(buffer, 0, i),
     }
 }
 
@@ -217,7 +217,7 @@ fn put_on_matrix(
 {
     let count = u16_at(lookup.table, matrix);
     if count == 0 {
-        return part_from(buffer, at.base, at.mark);
+        return concat_from(buffer, at.base, at.mark);
     }
     let ligature = item_at(buffer.infos(), at.base);
     let there = component(count, &ligature, &item_at(buffer.infos(), at.mark));
@@ -252,7 +252,7 @@ fn put_on_ligature(
 {
     match matrix_at(lookup, start, buffer, at.base) {
         Some(matrix) => put_on_matrix(lookup, start, buffer, at, matrix),
-        None => part_from(buffer, at.base, at.mark),
+        None => concat_from(buffer, at.base, at.mark),
     }
 }
 
@@ -282,7 +282,7 @@ pub fn apply_mark_ligature(
                 number,
             },
         ),
-        None => part_from(buffer, 0, i),
+        None => concat_from(buffer, 0, i),
     }
 }
 
@@ -334,7 +334,7 @@ fn put_on_mark(
     if is_mark && are_together(&item_at(buffer.infos(), at.mark), &other) {
         put_on_glyph(lookup, start, buffer, at)
     } else {
-        part_from(buffer, at.base, at.mark)
+        concat_from(buffer, at.base, at.mark)
     }
 }
 
@@ -366,7 +366,7 @@ pub fn apply_mark_mark(
         ),
         None => {
             let from = start_before(&seen, buffer.infos(), i);
-            part_from(buffer, from, i)
+            concat_from(buffer, from, i)
         }
     }
 }

@@ -5,10 +5,10 @@
 //! again where a record names it, and no list of places is kept.
 ghost use Rattle.std.specs.Prelude.{◌≡◌, ◌<◌, ◌+◌, ◌^◌, length};
 ghost use Rattle.std.specs.Option.{IfSome};
-ghost use Rattle.layout_positions.specs.Nested.{matched_place as matched_place_of, named_place as named_place_of, named_lookup as named_lookup_of, record_step, rule_placed, origin_at as origin_at_of, tried_parted, first_rule_placed, level_placed, nested_placed, most_named as most_named_of};
+ghost use Rattle.layout_positions.specs.Nested.{matched_place as matched_place_of, named_place as named_place_of, named_lookup as named_lookup_of, record_step, rule_placed, origin_at as origin_at_of, tried_concat_marked, first_rule_placed, level_placed, nested_placed, most_named as most_named_of};
 ghost use Rattle.layout_matching.specs.Loops.{times};
 
-use crate::edits::{asks_for_concat, break_between, part_between};
+use crate::edits::{asks_for_concat, break_between, concat_between};
 use crate::places::after;
 use crate::subtables::{Carried, Outcome, apply_lookup};
 use layout_buffer::ItemList;
@@ -211,7 +211,7 @@ fn origin_at(at: usize) -> Origin
 fn mark_tried(here: &Lookup<'_>, buffer: &mut hb_buffer_t, at: usize)
     requires place { here.now.place < 2 ^ 17 }
     requires inside { at < length buffer.old.items }
-    ensures made { buffer.new ≡ tried_parted here.now at buffer.old }
+    ensures made { buffer.new ≡ tried_concat_marked here.now at buffer.old }
     ensures len { length buffer.new.items ≡ length buffer.old.items }
 {
     if !asks_for_concat(buffer) {
@@ -219,7 +219,7 @@ fn mark_tried(here: &Lookup<'_>, buffer: &mut hb_buffer_t, at: usize)
     }
     let reach = reach_at(here, &ItemList::of_slice(buffer.infos()), origin_at(at));
     if reach.from < reach.to {
-        part_between(buffer, reach.from, reach.to);
+        concat_between(buffer, reach.from, reach.to);
     }
 }
 

@@ -35,25 +35,25 @@ pub struct Outcome {
 /// Applies a subtable of one of the types 3 to 6, which are of format 1, to the glyph at place `i`.
 fn apply_attachment(
     lookup: &Lookup<'_>,
-    part: LookupSubtable,
+    subtable: LookupSubtable,
     base: Option<usize>,
     buffer: &mut hb_buffer_t,
     i: usize,
 ) -> Option<usize>
-    requires near { part.start < 2 ^ 34 }
+    requires near { subtable.start < 2 ^ 34 }
     requires inside { i < length buffer.old.items }
-    requires kind { 3 ≤ part.kind }
-    ensures made { buffer.new ≡ (kind_applied lookup.now part base i buffer.old).buffer }
-    ensures next { result ≡ (kind_applied lookup.now part base i buffer.old).next }
+    requires kind { 3 ≤ subtable.kind }
+    ensures made { buffer.new ≡ (kind_applied lookup.now subtable base i buffer.old).buffer }
+    ensures next { result ≡ (kind_applied lookup.now subtable base i buffer.old).next }
 {
-    if u16_at(lookup.table, part.start) != 1 {
+    if u16_at(lookup.table, subtable.start) != 1 {
         return None;
     }
-    match part.kind {
-        3 => apply_cursive(lookup, part.start, buffer, i),
-        4 => apply_mark_base(lookup, part.start, base, buffer, i),
-        5 => apply_mark_ligature(lookup, part.start, base, buffer, i),
-        6 => apply_mark_mark(lookup, part.start, buffer, i),
+    match subtable.kind {
+        3 => apply_cursive(lookup, subtable.start, buffer, i),
+        4 => apply_mark_base(lookup, subtable.start, base, buffer, i),
+        5 => apply_mark_ligature(lookup, subtable.start, base, buffer, i),
+        6 => apply_mark_mark(lookup, subtable.start, buffer, i),
         _ => None,
     }
 }
@@ -61,55 +61,60 @@ fn apply_attachment(
 /// Applies a subtable by its type to the glyph at place `i`.
 fn apply_kind(
     lookup: &Lookup<'_>,
-    part: LookupSubtable,
+    subtable: LookupSubtable,
     base: Option<usize>,
     buffer: &mut hb_buffer_t,
     i: usize,
 ) -> Option<usize>
-    requires near { part.start < 2 ^ 34 }
+    requires near { subtable.start < 2 ^ 34 }
     requires inside { i < length buffer.old.items }
-    ensures made { buffer.new ≡ (kind_applied lookup.now part base i buffer.old).buffer }
-    ensures next { result ≡ (kind_applied lookup.now part base i buffer.old).next }
+    ensures made { buffer.new ≡ (kind_applied lookup.now subtable base i buffer.old).buffer }
+    ensures next { result ≡ (kind_applied lookup.now subtable base i buffer.old).next }
 {
-    match part.kind {
+    match subtable.kind {
         0 => None,
-        1 => apply_single(lookup, part.start, buffer, i),
-        2 => apply_pair(lookup, part.start, buffer, i),
-        _ => apply_attachment(lookup, part, base, buffer, i),
+        1 => apply_single(lookup, subtable.start, buffer, i),
+        2 => apply_pair(lookup, subtable.start, buffer, i),
+        _ => apply_attachment(lookup, subtable, base, buffer, i),
     }
 }
 
 /// Whether the subtable looks for the base of the glyph at place `i`.
-fn looks_for_base(lookup: &Lookup<'_>, part: LookupSubtable, buffer: &hb_buffer_t, i: usize) -> bool
-    requires { part.start < 2 ^ 34 }
-    ensures { result ≡ looks_for_base_of lookup.now part i buffer.now }
+fn looks_for_base(
+    lookup: &Lookup<'_>,
+    subtable: LookupSubtable,
+    buffer: &hb_buffer_t,
+    i: usize,
+) -> bool
+    requires { subtable.start < 2 ^ 34 }
+    ensures { result ≡ looks_for_base_of lookup.now subtable i buffer.now }
 {
-    (part.kind == 4 || part.kind == 5)
-        && u16_at(lookup.table, part.start) == 1
-        && mark_number(lookup, part.start, buffer, i).is_some()
+    (subtable.kind == 4 || subtable.kind == 5)
+        && u16_at(lookup.table, subtable.start) == 1
+        && mark_number(lookup, subtable.start, buffer, i).is_some()
 }
 
 /// The base that was seen last, once the subtable has looked for one.
 fn seen_at(
     lookup: &Lookup<'_>,
-    part: LookupSubtable,
+    subtable: LookupSubtable,
     buffer: &hb_buffer_t,
     i: usize,
     seen: BaseSeen,
 ) -> BaseSeen
-    requires near { part.start < 2 ^ 34 }
+    requires near { subtable.start < 2 ^ 34 }
     requires inside { i < length buffer.now.items }
-    ensures { result ≡ seen_at_of lookup.now part i buffer.now seen }
+    ensures { result ≡ seen_at_of lookup.now subtable i buffer.now seen }
 {
-    if looks_for_base(lookup, part, buffer, i) {
-        base_seen(lookup, part, buffer.infos(), i, seen)
+    if looks_for_base(lookup, subtable, buffer, i) {
+        base_seen(lookup, subtable, buffer.infos(), i, seen)
     } else {
         seen
     }
 }
 
 /// Tries subtable number `k` at place `i`, unless one before it applied.
-fn try_part(
+fn try_subtable(
     lookup: &Lookup<'_>,
     buffer: &mut hb_buffer_t,
     i: usize,
@@ -119,22 +124,22 @@ fn try_part(
     requires place { lookup.now.place < 2 ^ 17 }
     requires inside { i < length buffer.old.items }
     requires few { k < 2 ^ 16 }
-    ensures { record { buffer = buffer.new; next = result.next; seen = result.seen; part = k + 1 }
+    ensures { record { buffer = buffer.new; next = result.next; seen = result.seen; subtable = k + 1 }
         ≡ trial_step lookup.now i (record {
           buffer = buffer.old;
           next = placed.next;
           seen = placed.seen;
-          part = k;
+          subtable = k;
         }) }
 {
     if placed.next.is_some() {
         return placed;
     }
     match subtable(lookup.table, 9, lookup.place, k) {
-        Some(part) => {
-            let seen = seen_at(lookup, part, buffer, i, placed.seen);
+        Some(subtable) => {
+            let seen = seen_at(lookup, subtable, buffer, i, placed.seen);
             Placed {
-                next: apply_kind(lookup, part, seen.place, buffer, i),
+                next: apply_kind(lookup, subtable, seen.place, buffer, i),
                 seen,
             }
         }
@@ -165,7 +170,7 @@ pub fn apply_lookup(
         seen: carried.seen,
     };
     for k in 0..subtable_count(lookup.table, lookup.place) {
-        placed = try_part(lookup, buffer, i, placed, k);
+        placed = try_subtable(lookup, buffer, i, placed, k);
     }
     Outcome {
         next: placed.next,

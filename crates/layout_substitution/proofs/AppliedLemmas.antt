@@ -1,4 +1,4 @@
--- What the parts of lookups make of a buffer preserves it.
+-- What the subtables of lookups make of a buffer preserves it.
 use Prim.Native.Nat.{zero}
 use Rattle.std.proofs.lemmas.Bool.Decides.{nat_tests}
 use Rattle.std.proofs.Common.{◌≡◌, arith, ℕ, suc, ◌+◌, ◌-◌, ◌<◌, ◌%◌, ◌||◌, not, Bool, true, false, nat_lt, nat_eq, refl, inl, if◌then◌else◌, length, Option, Some, None}
@@ -7,9 +7,9 @@ use Rattle.shape_items.specs.Buffer.{Buffer, next_ligature_id}
 use Rattle.shape_items.specs.Delete.{hand_over}
 use Rattle.shape_items.specs.Items.{Item}
 use Rattle.layout_tables.specs.Gdef.{has_glyph_classes, glyph_props}
-use Rattle.layout_substitution.specs.Edits.{item_at, is_inside, put_at, merged, broken, parted}
+use Rattle.layout_substitution.specs.Edits.{item_at, is_inside, put_at, merged, broken, concat_marked}
 use Rattle.layout_matching.specs.Loops.{times}
-use Rattle.layout_substitution.specs.Replaced.{replaced, with_class, with_glyph, as_part, is_multiplied, taken_apart, with_parts, is_ligated, as_ligature}
+use Rattle.layout_substitution.specs.Replaced.{replaced, with_class, with_glyph, as_component, is_multiplied, taken_apart, with_components, is_ligated, as_ligature}
 use Rattle.layout_matching.specs.Skipping.{shares}
 use Rattle.layout_substitution.specs.Substitutes.{single_of, set_of, alternate_of, listed_count, listed_at, ligature_glyph, component_count}
 use Rattle.layout_substitution.specs.Applied.{Applied, unapplied, put_one, single_applied, value_of, is_random, next_random, random_put, random_applied, alternate_applied, cluster_at, is_left_in, Handing, is_handed, handed_step, handed_back, left_to_neighbours, gone, Copying, copy_put, copies_put, first_put, several_put, list_put, sequence_put, multiple_applied}
@@ -19,7 +19,7 @@ use Rattle.layout_substitution.specs.declared.ligature.Components.{Components}
 use Rattle.layout_substitution.specs.declared.ligature.Ligation.{Ligation}
 use Rattle.layout_substitution.specs.declared.apply.Spot.{Spot}
 use Rattle.layout_substitution.proofs.CopyLemmas.{length-put_at}
-use Rattle.layout_substitution.proofs.PreservedLemmas.{Preserves, Preserves-same, Preserves-then, Preserves-times, Preserves-if, IsLike, IsLike-same, IsLike-then, Preserves-handed, Preserves-put, Preserves-put_after, Preserves-taken_out, Preserves-merged, Preserves-broken, Preserves-parted}
+use Rattle.layout_substitution.proofs.PreservedLemmas.{Preserves, Preserves-same, Preserves-then, Preserves-times, Preserves-if, IsLike, IsLike-same, IsLike-then, Preserves-handed, Preserves-put, Preserves-put_after, Preserves-taken_out, Preserves-merged, Preserves-broken, Preserves-concat_marked}
 
 -- ---- items
 
@@ -37,18 +37,18 @@ like-replaced l guess glyph x =
 pub like-apart : (l : Lookup) (glyph i : ℕ) (x : Item) → IsLike x (taken_apart l glyph i x)
 unfolding is_multiplied
 like-apart l glyph i x =
-    let y = if nat_eq x.properties.ligature_id 0 then as_part 0 i x else x in
-    let first : IsLike x y = like-if (nat_eq x.properties.ligature_id 0) x (as_part 0 i x) x
+    let y = if nat_eq x.properties.ligature_id 0 then as_component 0 i x else x in
+    let first : IsLike x y = like-if (nat_eq x.properties.ligature_id 0) x (as_component 0 i x) x
     (record { cluster = refl; mask = refl }) (IsLike-same x) in
     let z = replaced l (if shares x.properties.glyph_class.0 4 then 2 else 0) glyph y in
     let second : IsLike y z = like-replaced l (if shares x.properties.glyph_class.0 4 then 2 else 0) glyph y in
     IsLike-then x z (is_multiplied z) (IsLike-then x y z first second) (record { cluster = refl; mask = refl })
 
-pub like-ligature : (l : Lookup) (own : Bool) (id parts glyph : ℕ) (x : Item) → IsLike x (as_ligature l own id parts glyph x)
+pub like-ligature : (l : Lookup) (own : Bool) (id components glyph : ℕ) (x : Item) → IsLike x (as_ligature l own id components glyph x)
 unfolding as_ligature
-like-ligature l own id parts glyph x =
-    let y = if own then with_parts id parts x else x in
-    let first : IsLike x y = like-if own x (with_parts id parts x) x (record { cluster = refl; mask = refl }) (IsLike-same x) in
+like-ligature l own id components glyph x =
+    let y = if own then with_components id components x else x in
+    let first : IsLike x y = like-if own x (with_components id components x) x (record { cluster = refl; mask = refl }) (IsLike-same x) in
     let z = replaced l (if own then 4 else 0) glyph y in
     let second : IsLike y z = like-replaced l (if own then 4 else 0) glyph y in
     IsLike-then x z (is_ligated z) (IsLike-then x y z first second) (record { cluster = refl; mask = refl })
@@ -245,9 +245,9 @@ ligature_made-preserves l spot b m =
 set_ligated-preserves : (l : Lookup) (spot : Spot) (b : Buffer) (set : ℕ) → Preserves b (set_ligated l spot b set).buffer
 set_ligated-preserves l spot b set =
     let r = ligatures_reach l b spot.at set in
-    Preserves-then b (parted r b) (set_ligated l spot b set).buffer (Preserves-parted r b)
-    (or_unapplied (ligature_made l spot (parted r b)) (parted r b) (ligature_made-preserves l spot (parted r b))
-    (ligature_found l (parted r b) spot.at set))
+    Preserves-then b (concat_marked r b) (set_ligated l spot b set).buffer (Preserves-concat_marked r b)
+    (or_unapplied (ligature_made l spot (concat_marked r b)) (concat_marked r b) (ligature_made-preserves l spot (concat_marked r b))
+    (ligature_found l (concat_marked r b) spot.at set))
 
 pub ligature-preserves : (l : Lookup) (start : ℕ) (spot : Spot) (b : Buffer) → Preserves b (ligature_applied l start spot b).buffer
 ligature-preserves l start spot b =

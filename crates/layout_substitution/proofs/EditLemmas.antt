@@ -7,7 +7,7 @@ use Rattle.shape_items.specs.Clusters.{map_range, mark_concat}
 use Rattle.shape_items.proofs.Merging.KeyLemmas.{length-map_range, length-unsafe_to_break}
 use Rattle.layout_matching.specs.Tried.{untried}
 use Rattle.layout_matching.specs.declared.tried.Reach.{Reach}
-use Rattle.layout_substitution.specs.Edits.{asks_for_concat, broken, parted}
+use Rattle.layout_substitution.specs.Edits.{asks_for_concat, broken, concat_marked}
 
 pub length-if : (t : Bool) (n : ℕ) (x y : Buffer) → length x.items ≡ n → length y.items ≡ n
     → length (if t then x else y).items ≡ n
@@ -28,8 +28,8 @@ length-concat start end b ordered =
     length-if (asks_for_concat b) (length b.items) (record (with_glyph_flags b) { items = map_range mark_concat start end b.items }) b
     (length-map_range mark_concat start end b.items ordered) refl
 
-pub length_parted : (r : Reach) (b : Buffer) → length (parted r b).items ≡ length b.items
-length_parted r b =
+pub length_concat_marked : (r : Reach) (b : Buffer) → length (concat_marked r b).items ≡ length b.items
+length_concat_marked r b =
     let P : Bool → Type 0 = λ t. (nat_lt r.from r.to && nat_le r.to (length b.items)) ≡ t
     → length (if t then unsafe_to_concat r.from r.to b else b).items ≡ length b.items in
     let cases : P (nat_lt r.from r.to && nat_le r.to (length b.items)) = elim (nat_lt r.from r.to && nat_le r.to (length b.items)) as P [
@@ -38,21 +38,21 @@ length_parted r b =
     ] in
     cases refl
 
-pub limit_parted : (r : Reach) (b : Buffer) → limit_of (parted r b) ≡ limit_of b
-limit_parted r b =
+pub limit_concat_marked : (r : Reach) (b : Buffer) → limit_of (concat_marked r b) ≡ limit_of b
+limit_concat_marked r b =
     limit-if (nat_lt r.from r.to && nat_le r.to (length b.items)) (limit_of b) (unsafe_to_concat r.from r.to b) b
     (limit-if (asks_for_concat b) (limit_of b)
     (record (with_glyph_flags b) { items = map_range mark_concat r.from r.to b.items }) b refl refl) refl
 
 -- nothing that was looked at leaves no mark
-pub parted_untried : (at : ℕ) (b : Buffer) → parted (untried at) b ≡ b
-parted_untried at b =
+pub concat_marked_untried : (at : ℕ) (b : Buffer) → concat_marked (untried at) b ≡ b
+concat_marked_untried at b =
     let none : nat_lt at at ≡ false = grind (arith, nat_tests) in
     rw none refl
 
 -- a buffer that doesn't ask for marks gets none
-pub parted_unasked : (r : Reach) (b : Buffer) → asks_for_concat b ≡ false → parted r b ≡ b
-parted_unasked r b unasked = elim (nat_lt r.from r.to && nat_le r.to (length b.items)) as
+pub concat_marked_unasked : (r : Reach) (b : Buffer) → asks_for_concat b ≡ false → concat_marked r b ≡ b
+concat_marked_unasked r b unasked = elim (nat_lt r.from r.to && nat_le r.to (length b.items)) as
     (λ t. (if t then unsafe_to_concat r.from r.to b else b) ≡ b) [
       | true ↦ rw unasked refl
       | false ↦ refl

@@ -1,4 +1,4 @@
--- The parts of a lookup, one by one.
+-- The subtables of a lookup, one by one.
 use Prim.Native.Nat.{zero}
 use Rattle.std.proofs.Common.{◌≡◌, ℕ, suc, ◌+◌, ◌-◌, ◌<◌, Bool, true, false, Option, Some, None, length, nat_eq, refl, sym, ap, subst, arith, if◌then◌else◌, Result, Ok, Err}
 use Rattle.std.proofs.lemmas.Bool.Decides.{nat_tests}
@@ -12,7 +12,7 @@ use Rattle.layout_tables.specs.declared.lookups.LookupSubtable.{LookupSubtable}
 use Rattle.layout_matching.specs.declared.lookup.Lookup.{Lookup}
 use Rattle.layout_substitution.specs.Applied.{Applied, unapplied, multiple_applied}
 use Rattle.layout_substitution.specs.Edits.{is_past}
-use Rattle.layout_substitution.specs.Kinds.{kind_applied, part_applied, or_else, parts_applied, lookup_applied}
+use Rattle.layout_substitution.specs.Kinds.{kind_applied, subtable_applied, or_else, subtables_applied, lookup_applied}
 use Rattle.layout_substitution.specs.declared.apply.Spot.{Spot}
 use Rattle.layout_substitution.proofs.AppliedLemmas.{single-preserves, multiple-preserves, alternate-preserves, ligature-preserves, or_unapplied, applied-if}
 use Rattle.layout_substitution.proofs.PreservedLemmas.{Preserves, Preserves-same, Preserves-then}
@@ -32,37 +32,37 @@ pub past_multiple : (l : Lookup) (start : ℕ) (spot : Spot) (b : Buffer) → li
     → is_past (multiple_applied l start spot b).buffer ≡ true
 past_multiple l start spot b past = past-preserves b (multiple_applied l start spot b).buffer (multiple-preserves l start spot b) past
 
--- ---- parts of a lookup
+-- ---- subtables of a lookup
 
-pub parts_next : (l : Lookup) (spot : Spot) (n i : ℕ) (b : Buffer) → i < n → is_past (part_applied l i spot b).buffer ≡ false
-    → (part_applied l i spot b).next ≡ None
-    → parts_applied l spot (n - i) i b ≡ parts_applied l spot (n - (i + 1)) (i + 1) (part_applied l i spot b).buffer
-parts_next l spot n i b more within none =
+pub subtables_next : (l : Lookup) (spot : Spot) (n i : ℕ) (b : Buffer) → i < n → is_past (subtable_applied l i spot b).buffer ≡ false
+    → (subtable_applied l i spot b).next ≡ None
+    → subtables_applied l spot (n - i) i b ≡ subtables_applied l spot (n - (i + 1)) (i + 1) (subtable_applied l i spot b).buffer
+subtables_next l spot n i b more within none =
     let e : n - i ≡ suc (n - (i + 1)) = omega (arith, more) in
     let s : suc i ≡ i + 1 = omega arith in
     rw e (rw within (rw none (rw s refl)))
 
-pub parts_found : (l : Lookup) (spot : Spot) (n i : ℕ) (b : Buffer) (there : Spot) → i < n → (part_applied l i spot b).next ≡ Some there
-    → parts_applied l spot (n - i) i b ≡ part_applied l i spot b
-parts_found l spot n i b there more is =
+pub subtables_found : (l : Lookup) (spot : Spot) (n i : ℕ) (b : Buffer) (there : Spot) → i < n → (subtable_applied l i spot b).next ≡ Some there
+    → subtables_applied l spot (n - i) i b ≡ subtable_applied l i spot b
+subtables_found l spot n i b there more is =
     let e : n - i ≡ suc (n - (i + 1)) = omega (arith, more) in
-    let P : Bool → Type 0 = λ t. (if t then part_applied l i spot b
-    else or_else (parts_applied l spot (n - (i + 1)) (suc i)) (part_applied l i spot b)
-    (part_applied l i spot b).next) ≡ part_applied l i spot b in
-    let cases : P (is_past (part_applied l i spot b).buffer) = elim (is_past (part_applied l i spot b).buffer) as P [
+    let P : Bool → Type 0 = λ t. (if t then subtable_applied l i spot b
+    else or_else (subtables_applied l spot (n - (i + 1)) (suc i)) (subtable_applied l i spot b)
+    (subtable_applied l i spot b).next) ≡ subtable_applied l i spot b in
+    let cases : P (is_past (subtable_applied l i spot b).buffer) = elim (is_past (subtable_applied l i spot b).buffer) as P [
       | true ↦ refl
-      | false ↦ ap (or_else (parts_applied l spot (n - (i + 1)) (suc i)) (part_applied l i spot b)) is
+      | false ↦ ap (or_else (subtables_applied l spot (n - (i + 1)) (suc i)) (subtable_applied l i spot b)) is
     ] in
     rw e cases
 
-pub parts_past : (l : Lookup) (spot : Spot) (n i : ℕ) (b : Buffer) → i < n → is_past (part_applied l i spot b).buffer ≡ true
-    → parts_applied l spot (n - i) i b ≡ part_applied l i spot b
-parts_past l spot n i b more past =
+pub subtables_past : (l : Lookup) (spot : Spot) (n i : ℕ) (b : Buffer) → i < n → is_past (subtable_applied l i spot b).buffer ≡ true
+    → subtables_applied l spot (n - i) i b ≡ subtable_applied l i spot b
+subtables_past l spot n i b more past =
     let e : n - i ≡ suc (n - (i + 1)) = omega (arith, more) in
     rw e (rw past refl)
 
-pub parts_end : (l : Lookup) (spot : Spot) (n : ℕ) (b : Buffer) → parts_applied l spot (n - n) n b ≡ unapplied b
-parts_end l spot n b =
+pub subtables_end : (l : Lookup) (spot : Spot) (n : ℕ) (b : Buffer) → subtables_applied l spot (n - n) n b ≡ unapplied b
+subtables_end l spot n b =
     let e : n - n ≡ 0 = omega arith in
     rw e refl
 
@@ -71,30 +71,30 @@ past_is_false b within = grind (arith, nat_tests, within)
 
 -- ---- what a lookup preserves
 
-kind-preserves : (l : Lookup) (spot : Spot) (b : Buffer) (part : LookupSubtable) → Preserves b (kind_applied l spot b part).buffer
-kind-preserves l spot b part =
-    applied-if (nat_eq part.kind 1) b _ _ (single-preserves l part.start spot b)
-    (applied-if (nat_eq part.kind 2) b _ _ (multiple-preserves l part.start spot b)
-    (applied-if (nat_eq part.kind 3) b _ _ (alternate-preserves l part.start spot b)
-    (applied-if (nat_eq part.kind 4) b _ _ (ligature-preserves l part.start spot b) (Preserves-same b))))
+kind-preserves : (l : Lookup) (spot : Spot) (b : Buffer) (subtable : LookupSubtable) → Preserves b (kind_applied l spot b subtable).buffer
+kind-preserves l spot b subtable =
+    applied-if (nat_eq subtable.kind 1) b _ _ (single-preserves l subtable.start spot b)
+    (applied-if (nat_eq subtable.kind 2) b _ _ (multiple-preserves l subtable.start spot b)
+    (applied-if (nat_eq subtable.kind 3) b _ _ (alternate-preserves l subtable.start spot b)
+    (applied-if (nat_eq subtable.kind 4) b _ _ (ligature-preserves l subtable.start spot b) (Preserves-same b))))
 
-part-preserves : (l : Lookup) (i : ℕ) (spot : Spot) (b : Buffer) → Preserves b (part_applied l i spot b).buffer
-part-preserves l i spot b = or_unapplied (kind_applied l spot b) b (kind-preserves l spot b) (subtable_of l.table.now 7 l.place i)
+subtable-preserves : (l : Lookup) (i : ℕ) (spot : Spot) (b : Buffer) → Preserves b (subtable_applied l i spot b).buffer
+subtable-preserves l i spot b = or_unapplied (kind_applied l spot b) b (kind-preserves l spot b) (subtable_of l.table.now 7 l.place i)
 
 else-preserves : (next : Buffer → Applied) (b : Buffer) (made : Applied) → Preserves b made.buffer
     → ((c : Buffer) → Preserves c (next c).buffer) → (o : Option Spot) → Preserves b (or_else next made o).buffer
 else-preserves next b made k each (Some spot) = k
 else-preserves next b made k each None = Preserves-then b made.buffer (next made.buffer).buffer k (each made.buffer)
 
-parts-preserves : (l : Lookup) (spot : Spot) (n i : ℕ) (b : Buffer) → Preserves b (parts_applied l spot n i b).buffer
-parts-preserves l spot zero i b = Preserves-same b
-parts-preserves l spot (suc n) i b =
-    let made = part_applied l i spot b in
-    applied-if (is_past made.buffer) b made _ (part-preserves l i spot b)
-    (else-preserves (parts_applied l spot n (suc i)) b made (part-preserves l i spot b) (λ c. parts-preserves l spot n (suc i) c) made.next)
+subtables-preserves : (l : Lookup) (spot : Spot) (n i : ℕ) (b : Buffer) → Preserves b (subtables_applied l spot n i b).buffer
+subtables-preserves l spot zero i b = Preserves-same b
+subtables-preserves l spot (suc n) i b =
+    let made = subtable_applied l i spot b in
+    applied-if (is_past made.buffer) b made _ (subtable-preserves l i spot b)
+    (else-preserves (subtables_applied l spot n (suc i)) b made (subtable-preserves l i spot b) (λ c. subtables-preserves l spot n (suc i) c) made.next)
 
 pub lookup-preserves : (l : Lookup) (spot : Spot) (b : Buffer) → Preserves b (lookup_applied l spot b).buffer
-lookup-preserves l spot b = parts-preserves l spot (subtable_count_of l.table.now l.place) 0 b
+lookup-preserves l spot b = subtables-preserves l spot (subtable_count_of l.table.now l.place) 0 b
 
 -- ---- errors
 

@@ -17,7 +17,7 @@ follow_stops id n i first s within is stops =
     let still : follow_step id s ≡ s = rw stops refl in
     times_stays (follow_step id) n i first s within is still
 
--- a state by its parts
+-- a state by its fields
 
 pub buffer_of : (b : Buffer) (w : Joining) (s : Joined) → record { buffer = b; walk = w } ≡ s → b ≡ s.buffer
 buffer_of b w s e = ap (λ (j : Joined). j.buffer) e

@@ -16,17 +16,17 @@ use Rattle.layout_matching.specs.Seeking.{fits}
 use Rattle.layout_matching.specs.Skipping.{shares, is_skipped}
 use Rattle.layout_matching.specs.declared.lookup.Lookup.{Lookup}
 use Rattle.layout_substitution.specs.Applied.{Applied, unapplied, put_one, single_applied, value_of, is_random, next_random, random_put, random_applied, alternate_applied, cluster_at, is_left_in, Handing, is_handed, handed_step, handed_back, left_to_neighbours, gone, Copying, copy_like, copy_put, first_put, several_put, list_put, sequence_put, multiple_applied}
-use Rattle.layout_substitution.specs.Edits.{item_at, is_inside, is_past, put_at, put_after, taken_out, merged, broken, parted}
-use Rattle.layout_substitution.specs.Kinds.{kind_applied, part_applied, or_else, parts_applied, lookup_applied}
-use Rattle.layout_substitution.specs.Ligatures.{Joined, between_stays, component_gone, looked_for, stays, join_step, follows, follow_step, followed, part_among, first_joined, joined, ligation_of, id_given, ligatures_reach, ligature_found, ligature_put, ligature_made, set_ligated, ligature_applied}
+use Rattle.layout_substitution.specs.Edits.{item_at, is_inside, is_past, put_at, put_after, taken_out, merged, broken, concat_marked}
+use Rattle.layout_substitution.specs.Kinds.{kind_applied, subtable_applied, or_else, subtables_applied, lookup_applied}
+use Rattle.layout_substitution.specs.Ligatures.{Joined, between_stays, component_gone, looked_for, stays, join_step, follows, follow_step, followed, component_among, first_joined, joined, ligation_of, id_given, ligatures_reach, ligature_found, ligature_put, ligature_made, set_ligated, ligature_applied}
 use Rattle.layout_substitution.specs.Off.{off_glyphs, HasNoFlag}
-use Rattle.layout_substitution.specs.Replaced.{replaced, as_part}
+use Rattle.layout_substitution.specs.Replaced.{replaced, as_component}
 use Rattle.layout_substitution.specs.Substitutes.{single_of, set_of, alternate_of, listed_count, listed_at, ligature_glyph, component_count}
 use Rattle.layout_substitution.specs.declared.apply.Spot.{Spot}
 use Rattle.layout_substitution.specs.declared.ligature.Components.{Components}
 use Rattle.layout_substitution.specs.declared.ligature.Ligation.{Ligation}
 use Rattle.layout_substitution.proofs.AppliedLemmas.{like-replaced, like-apart, like-ligature}
-use Rattle.layout_substitution.proofs.OffLemmas.{Same, Same-then, same-if, same-times, same-merged, same-broken, same-parted, same-put, bare-handed, on_at, same-off, same-on, put-off, put_after-off, taken_out-off, put-on, off-if}
+use Rattle.layout_substitution.proofs.OffLemmas.{Same, Same-then, same-if, same-times, same-merged, same-broken, same-concat_marked, same-put, bare-handed, on_at, same-off, same-on, put-off, put_after-off, taken_out-off, put-on, off-if}
 
 -- the glyphs that are off stay, and if nothing was applied the lookup is still on at the place
 pub record Off (l : Lookup) (b : Buffer) (at : ℕ) (made : Applied) : Type 0 where
@@ -166,8 +166,8 @@ going-if l b at false x y k m = m refl
 between-same : (own : Bool) (id : ℕ) (s : Joined) → Same s.buffer (between_stays own id s).buffer
 between-same own id s =
     let item = item_at s.buffer s.walk.at in
-    same-if own s.buffer (put_at s.walk.at (as_part id (part_among s.walk item) item) s.buffer) s.buffer
-    (same-put s.walk.at (as_part id (part_among s.walk item) item) s.buffer refl) refl
+    same-if own s.buffer (put_at s.walk.at (as_component id (component_among s.walk item) item) s.buffer) s.buffer
+    (same-put s.walk.at (as_component id (component_among s.walk item) item) s.buffer refl) refl
 
 between-going : (l : Lookup) (b : Buffer) (at : ℕ) (own : Bool) (id : ℕ) (s : Joined) → HasNoFlag l → Going l b at s
     → Going l b at (between_stays own id s)
@@ -261,8 +261,8 @@ set_ligated-off : (l : Lookup) (spot : Spot) (b : Buffer) (set : ℕ) → HasNoF
     → Off l b spot.at (set_ligated l spot b set)
 set_ligated-off l spot b set pure on =
     let r = ligatures_reach l b spot.at set in
-    let c = parted r b in
-    let same = same-parted r b in
+    let c = concat_marked r b in
+    let same = same-concat_marked r b in
     let here = same-on l b c spot.at pure same on in
     let made : Off l c spot.at (set_ligated l spot b set) =
     off-option l c spot.at (ligature_made l spot c)
@@ -273,34 +273,34 @@ set_ligated-off l spot b set pure on =
 
 -- ---- lookups
 
-kind-off : (l : Lookup) (spot : Spot) (b : Buffer) (part : LookupSubtable) → HasNoFlag l → on_at l b spot.at ≡ true
-    → Off l b spot.at (kind_applied l spot b part)
-kind-off l spot b part pure on =
+kind-off : (l : Lookup) (spot : Spot) (b : Buffer) (subtable : LookupSubtable) → HasNoFlag l → on_at l b spot.at ≡ true
+    → Off l b spot.at (kind_applied l spot b subtable)
+kind-off l spot b subtable pure on =
     let glyph = (item_at b spot.at).glyph_id in
-    off-cond l b spot.at (nat_eq part.kind 1) (single_applied l part.start spot b) _
-    (off-option l b spot.at (put_one l spot b) (λ g. put_one-off l spot b g on) on (single_of l.table.now part.start glyph))
-    (off-cond l b spot.at (nat_eq part.kind 2) (multiple_applied l part.start spot b) _ (multiple-off l part.start spot b pure on)
-    (off-cond l b spot.at (nat_eq part.kind 3) (alternate_applied l part.start spot b) _ (alternate-off l part.start spot b pure on)
-    (off-cond l b spot.at (nat_eq part.kind 4) (ligature_applied l part.start spot b) (unapplied b)
-    (off-option l b spot.at (set_ligated l spot b) (λ set. set_ligated-off l spot b set pure on) on (set_of l.table.now part.start glyph))
+    off-cond l b spot.at (nat_eq subtable.kind 1) (single_applied l subtable.start spot b) _
+    (off-option l b spot.at (put_one l spot b) (λ g. put_one-off l spot b g on) on (single_of l.table.now subtable.start glyph))
+    (off-cond l b spot.at (nat_eq subtable.kind 2) (multiple_applied l subtable.start spot b) _ (multiple-off l subtable.start spot b pure on)
+    (off-cond l b spot.at (nat_eq subtable.kind 3) (alternate_applied l subtable.start spot b) _ (alternate-off l subtable.start spot b pure on)
+    (off-cond l b spot.at (nat_eq subtable.kind 4) (ligature_applied l subtable.start spot b) (unapplied b)
+    (off-option l b spot.at (set_ligated l spot b) (λ set. set_ligated-off l spot b set pure on) on (set_of l.table.now subtable.start glyph))
     (off-unapplied l b spot.at on))))
 
-parts-off : (l : Lookup) (spot : Spot) (n i : ℕ) (b : Buffer) → HasNoFlag l → on_at l b spot.at ≡ true
-    → off_glyphs l (parts_applied l spot n i b).buffer.items ≡ off_glyphs l b.items
-parts-off l spot zero i b pure on = refl
-parts-off l spot (suc n) i b pure on =
-    let made = part_applied l i spot b in
-    let off : Off l b spot.at made = off-option l b spot.at (kind_applied l spot b) (λ part. kind-off l spot b part pure on) on
+subtables-off : (l : Lookup) (spot : Spot) (n i : ℕ) (b : Buffer) → HasNoFlag l → on_at l b spot.at ≡ true
+    → off_glyphs l (subtables_applied l spot n i b).buffer.items ≡ off_glyphs l b.items
+subtables-off l spot zero i b pure on = refl
+subtables-off l spot (suc n) i b pure on =
+    let made = subtable_applied l i spot b in
+    let off : Off l b spot.at made = off-option l b spot.at (kind_applied l spot b) (λ subtable. kind-off l spot b subtable pure on) on
     (subtable_of l.table.now 7 l.place i) in
     let rest : (o : Option Spot) → made.next ≡ o
-    → off_glyphs l (or_else (parts_applied l spot n (suc i)) made o).buffer.items ≡ off_glyphs l b.items =
+    → off_glyphs l (or_else (subtables_applied l spot n (suc i)) made o).buffer.items ≡ off_glyphs l b.items =
     λ o. elim o as (λ o. made.next ≡ o → off_glyphs l (or_else
-    (parts_applied l spot n (suc i)) made o).buffer.items ≡ off_glyphs l b.items) [
+    (subtables_applied l spot n (suc i)) made o).buffer.items ≡ off_glyphs l b.items) [
       | Some there ↦ λ e. off.glyphs
-      | None ↦ λ e. parts-off l spot n (suc i) made.buffer pure (off.on e) ∙ off.glyphs
+      | None ↦ λ e. subtables-off l spot n (suc i) made.buffer pure (off.on e) ∙ off.glyphs
     ] in
     elim (is_past made.buffer) as (λ t. off_glyphs l (if t then made else or_else
-    (parts_applied l spot n (suc i)) made made.next).buffer.items
+    (subtables_applied l spot n (suc i)) made made.next).buffer.items
     ≡ off_glyphs l b.items) [
       | true ↦ off.glyphs
       | false ↦ rest made.next refl
@@ -308,4 +308,4 @@ parts-off l spot (suc n) i b pure on =
 
 pub lookup-off : (l : Lookup) (spot : Spot) (b : Buffer) → HasNoFlag l → on_at l b spot.at ≡ true
     → off_glyphs l (lookup_applied l spot b).buffer.items ≡ off_glyphs l b.items
-lookup-off l spot b pure on = parts-off l spot (subtable_count_of l.table.now l.place) 0 b pure on
+lookup-off l spot b pure on = subtables-off l spot (subtable_count_of l.table.now l.place) 0 b pure on

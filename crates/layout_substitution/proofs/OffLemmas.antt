@@ -19,7 +19,7 @@ use Rattle.layout_matching.specs.Skipping.{shares}
 use Rattle.layout_matching.specs.Loops.{times}
 use Rattle.layout_matching.specs.declared.lookup.Lookup.{Lookup}
 use Rattle.layout_matching.specs.declared.tried.Reach.{Reach}
-use Rattle.layout_substitution.specs.Edits.{item_at, is_inside, put_at, put_after, taken_out, merged, broken, asks_for_concat, parted}
+use Rattle.layout_substitution.specs.Edits.{item_at, is_inside, put_at, put_after, taken_out, merged, broken, asks_for_concat, concat_marked}
 use Rattle.layout_substitution.specs.Off.{off_glyphs, HasNoFlag}
 
 -- ---- glyphs and features of items, whatever else changes
@@ -76,8 +76,8 @@ same-concat start end b ordered =
     same-if (asks_for_concat b) b (record (with_glyph_flags b) { items = map_range mark_concat start end b.items }) b
     (keys-map_range bare mark_concat bare-concat start end b.items ordered) refl
 
-pub same-parted : (r : Reach) (b : Buffer) → Same b (parted r b)
-same-parted r b =
+pub same-concat_marked : (r : Reach) (b : Buffer) → Same b (concat_marked r b)
+same-concat_marked r b =
     let P : Bool → Type 0 = λ t. (nat_lt r.from r.to && nat_le r.to (length b.items)) ≡ t
     → Same b (if t then unsafe_to_concat r.from r.to b else b) in
     let cases : P (nat_lt r.from r.to && nat_le r.to (length b.items)) = elim (nat_lt r.from r.to && nat_le r.to (length b.items)) as P [

@@ -17,7 +17,7 @@ use Rattle.shape_items.proofs.Flags.FlagLemmas.{glyph_flags_set, PreservesFlags-
 use Rattle.shape_items.proofs.Merging.KeyLemmas.{keys-map_range, without_items-merge_clusters, without_items-unsafe_to_break}
 use Rattle.shape_items.proofs.Order.DrawsInOrder.{DrawsInOrder, DrawsInOrder-same, DrawsInOrder-then, DrawsInOrder-after, DrawsInOrder-again}
 use Rattle.shape_common.specs.Positions.{zero_position}
-use Rattle.layout_substitution.specs.Edits.{item_at, is_inside, put_at, put_after, taken_out, merged, broken, asks_for_concat, parted}
+use Rattle.layout_substitution.specs.Edits.{item_at, is_inside, put_at, put_after, taken_out, merged, broken, asks_for_concat, concat_marked}
 use Rattle.layout_matching.specs.declared.tried.Reach.{Reach}
 use Rattle.layout_matching.specs.Loops.{times}
 
@@ -321,8 +321,8 @@ concat-preserves start end b ordered =
     })
     (Preserves-same b)
 
-pub Preserves-parted : (r : Reach) (b : Buffer) → Preserves b (parted r b)
-Preserves-parted r b =
+pub Preserves-concat_marked : (r : Reach) (b : Buffer) → Preserves b (concat_marked r b)
+Preserves-concat_marked r b =
     let P : Bool → Type 0 = λ t. (nat_lt r.from r.to && nat_le r.to (length b.items)) ≡ t
     → Preserves b (if t then unsafe_to_concat r.from r.to b else b) in
     let cases : P (nat_lt r.from r.to && nat_le r.to (length b.items)) = elim (nat_lt r.from r.to && nat_le r.to (length b.items)) as P [

@@ -1,4 +1,4 @@
--- What a part of a lookup makes of a buffer at a place: kinds 1, 2 and 3.
+-- What a subtable of a lookup makes of a buffer at a place: kinds 1, 2 and 3.
 use Rattle.std.specs.Prelude.{ℕ, Bool, Option, Some, None, ◌+◌, ◌-◌, ◌*◌, ◌/◌, ◌%◌, ◌&&◌, ◌||◌, not, length, nat_eq, nat_lt, if◌then◌else◌}
 use Rattle.std.specs.Option.{option_map_or}
 use Rattle.std.specs.Int.RustNames.{bit_and}

@@ -46,8 +46,8 @@ abbrev pub asks_for_concat : Buffer → Bool
 asks_for_concat b = bit_and b.flags.0 PRODUCE_UNSAFE_TO_CONCAT == PRODUCE_UNSAFE_TO_CONCAT
 
 -- what was looked at in vain marked unsafe to concat, if the buffer asks for that
-abbrev pub parted : Reach → Buffer → Buffer
-parted r b = if nat_lt r.from r.to && nat_le r.to (length b.items) then unsafe_to_concat r.from r.to b else b
+abbrev pub concat_marked : Reach → Buffer → Buffer
+concat_marked r b = if nat_lt r.from r.to && nat_le r.to (length b.items) then unsafe_to_concat r.from r.to b else b
 
 -- more items than the run may have
 abbrev pub is_past : Buffer → Bool

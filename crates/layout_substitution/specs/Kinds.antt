@@ -13,16 +13,16 @@ use Rattle.layout_substitution.specs.declared.apply.Spot.{Spot}
 
 -- kinds 1 to 4
 abbrev pub kind_applied : Lookup → Spot → Buffer → LookupSubtable → Applied
-kind_applied l spot b part =
-    if nat_eq part.kind 1 then single_applied l part.start spot b
-    else (if nat_eq part.kind 2 then multiple_applied l part.start spot b
-    else (if nat_eq part.kind 3 then alternate_applied l part.start spot b
-    else (if nat_eq part.kind 4 then ligature_applied l part.start spot b else unapplied b)))
+kind_applied l spot b subtable =
+    if nat_eq subtable.kind 1 then single_applied l subtable.start spot b
+    else (if nat_eq subtable.kind 2 then multiple_applied l subtable.start spot b
+    else (if nat_eq subtable.kind 3 then alternate_applied l subtable.start spot b
+    else (if nat_eq subtable.kind 4 then ligature_applied l subtable.start spot b else unapplied b)))
 
-abbrev pub part_applied : Lookup → ℕ → Spot → Buffer → Applied
-part_applied l i spot b = option_map_or (kind_applied l spot b) (subtable_of l.table.now 7 l.place i) (unapplied b)
+abbrev pub subtable_applied : Lookup → ℕ → Spot → Buffer → Applied
+subtable_applied l i spot b = option_map_or (kind_applied l spot b) (subtable_of l.table.now 7 l.place i) (unapplied b)
 
--- what the next parts make if one didn't apply; past the limit of the run nothing is done any more
+-- what the next subtables make if one didn't apply; past the limit of the run nothing is done any more
 abbrev pub or_else : (Buffer → Applied) → Applied → Option Spot → Applied
 or_else next made (Some spot) = made
 or_else next made None = next made.buffer
@@ -30,10 +30,10 @@ or_else next made None = next made.buffer
 abbrev pub or_next : (Buffer → Applied) → Applied → Applied
 or_next next made = if is_past made.buffer then made else or_else next made made.next
 
--- the first of `n` parts from part `i` on that applies
-abbrev pub parts_applied : Lookup → Spot → ℕ → ℕ → Buffer → Applied
-parts_applied l spot zero i b = unapplied b
-parts_applied l spot (suc n) i b = or_next (parts_applied l spot n (suc i)) (part_applied l i spot b)
+-- the first of `n` subtables from subtable `i` on that applies
+abbrev pub subtables_applied : Lookup → Spot → ℕ → ℕ → Buffer → Applied
+subtables_applied l spot zero i b = unapplied b
+subtables_applied l spot (suc n) i b = or_next (subtables_applied l spot n (suc i)) (subtable_applied l i spot b)
 
 abbrev pub lookup_applied : Lookup → Spot → Buffer → Applied
-lookup_applied l spot b = parts_applied l spot (subtable_count_of l.table.now l.place) 0 b
+lookup_applied l spot b = subtables_applied l spot (subtable_count_of l.table.now l.place) 0 b

@@ -18,8 +18,8 @@ use Rattle.layout_matching.specs.declared.tried.Reach.{Reach}
 use Rattle.layout_matching.specs.declared.rules.Test.TheVariants.{Glyph, Any}
 use Rattle.layout_matching.specs.declared.seeking.Seek.{Seek}
 use Rattle.layout_substitution.specs.Applied.{Applied, unapplied, put_one, with_as_many_after}
-use Rattle.layout_substitution.specs.Edits.{item_at, is_inside, put_at, taken_out, merged, parted}
-use Rattle.layout_substitution.specs.Replaced.{as_part, as_ligature, parts_of}
+use Rattle.layout_substitution.specs.Edits.{item_at, is_inside, put_at, taken_out, merged, concat_marked}
+use Rattle.layout_substitution.specs.Replaced.{as_component, as_ligature, components_of}
 use Rattle.layout_substitution.specs.Substitutes.{set_of, listed_count, ligature_glyph, component_count, has_components}
 use Rattle.layout_substitution.specs.declared.apply.Spot.{Spot}
 use Rattle.layout_substitution.specs.declared.ligature.Components.{Components}
@@ -90,10 +90,10 @@ ligatures_reach l b at set = let all = all_reach l b at set in
     (if all.matched && nat_lt 4 (listed_count l.table.now set)
     then option_map_or (quickly_reached l b at set) (next_glyph l b at) all else all)
 
--- a mark on component `part` of so many, of a ligature that becomes components of another one
-abbrev pub part_among : Joining → Item → ℕ
-part_among s item = let part = item.properties.ligature_component in
-    s.so_far - s.parts + (if nat_eq part 0 then s.parts else min part s.parts)
+-- a mark on component `component` of so many, of a ligature that becomes components of another one
+abbrev pub component_among : Joining → Item → ℕ
+component_among s item = let component = item.properties.ligature_component in
+    s.so_far - s.components + (if nat_eq component 0 then s.components else min component s.components)
 
 -- one item after the first component: a component goes, and what stands between is a mark on the ligature
 pub record Joined : Type 0 where
@@ -102,7 +102,7 @@ pub record Joined : Type 0 where
 
 abbrev pub between_stays : Bool → ℕ → Joined → Joined
 between_stays own id s = let item = item_at s.buffer s.walk.at in record {
-  buffer = if own then put_at s.walk.at (as_part id (part_among s.walk item) item) s.buffer else s.buffer;
+  buffer = if own then put_at s.walk.at (as_component id (component_among s.walk item) item) s.buffer else s.buffer;
   walk = record s.walk { at = s.walk.at + 1 };
 }
 
@@ -112,8 +112,8 @@ component_gone s = let item = item_at s.buffer s.walk.at in record {
   walk = record s.walk {
     left = s.walk.left - 1;
     id = item.properties.ligature_id;
-    parts = parts_of item;
-    so_far = (s.walk.so_far + parts_of item) % 65536;
+    components = components_of item;
+    so_far = (s.walk.so_far + components_of item) % 65536;
   };
 }
 
@@ -146,7 +146,7 @@ followed made s = if made.marks || nat_eq s.walk.id 0 then s else times (follow_
 abbrev pub first_joined : Lookup → Components → ℕ → Buffer → Joined
 first_joined l m at b = let item = item_at b at in record {
   buffer = merged at (m.last + 1) b;
-  walk = record { at = at + 1; left = component_count l.table.now m.ligature - 1; id = item.properties.ligature_id; parts = parts_of item; so_far = parts_of item };
+  walk = record { at = at + 1; left = component_count l.table.now m.ligature - 1; id = item.properties.ligature_id; components = components_of item; so_far = components_of item };
 }
 
 -- all components in one: their clusters are merged first
@@ -195,7 +195,7 @@ abbrev pub one_ligated : Lookup → Spot → ℕ → Buffer → Applied
 one_ligated l spot set b = option_map_or (ligature_made l spot b) (ligature_found l b spot.at set) (unapplied b)
 
 abbrev pub set_ligated : Lookup → Spot → Buffer → ℕ → Applied
-set_ligated l spot b set = one_ligated l spot set (parted (ligatures_reach l b spot.at set) b)
+set_ligated l spot b set = one_ligated l spot set (concat_marked (ligatures_reach l b spot.at set) b)
 
 abbrev pub ligature_applied : Lookup → ℕ → Spot → Buffer → Applied
 ligature_applied l start spot b =

@@ -24,13 +24,13 @@ replaced l guess glyph item =
     else (if nat_lt 0 guess then with_class guess (with_glyph glyph item) else with_glyph glyph item)
 
 -- how many components a glyph has: more than one only if its class is that of ligatures
-abbrev pub parts_of : Item → ℕ
-parts_of item = if shares item.properties.glyph_class.0 4 then item.properties.number_of_components else 1
+abbrev pub components_of : Item → ℕ
+components_of item = if shares item.properties.glyph_class.0 4 then item.properties.number_of_components else 1
 
 -- a mark on a component of a ligature, or a component of what one glyph was taken apart into
-abbrev pub as_part : ℕ → ℕ → Item → Item
-as_part id part item = record item {
-  properties = record item.properties { ligature_id = id; ligature_component = part % 16; number_of_components = 1 };
+abbrev pub as_component : ℕ → ℕ → Item → Item
+as_component id component item = record item {
+  properties = record item.properties { ligature_id = id; ligature_component = component % 16; number_of_components = 1 };
 }
 
 unfoldable pub is_multiplied : Item → Item
@@ -39,7 +39,7 @@ is_multiplied item = record item { properties = record item.properties { multipl
 -- glyph number `i` of those that one is taken apart into; a glyph that belongs to a ligature stays with it
 abbrev pub taken_apart : Lookup → ℕ → ℕ → Item → Item
 taken_apart l glyph i item = is_multiplied (replaced l (if shares item.properties.glyph_class.0 4 then 2 else 0) glyph
-    (if nat_eq item.properties.ligature_id 0 then as_part 0 i item else item))
+    (if nat_eq item.properties.ligature_id 0 then as_component 0 i item else item))
 
 abbrev pub letter_of : hb_unicode_general_category_t → hb_unicode_general_category_t
 letter_of NonspacingMark = OtherLetter
@@ -50,13 +50,13 @@ abbrev pub letter_ccc : hb_unicode_general_category_t → ℕ → ℕ
 letter_ccc NonspacingMark ccc = 0
 letter_ccc category ccc = ccc
 
--- a ligature with its id, of so many parts, which isn't a mark any more
-abbrev pub with_parts : ℕ → ℕ → Item → Item
-with_parts id parts item = record item {
+-- a ligature with its id, of so many components, which isn't a mark any more
+abbrev pub with_components : ℕ → ℕ → Item → Item
+with_components id components item = record item {
   properties = record item.properties {
     ligature_id = id;
     ligature_component = 0;
-    number_of_components = parts % 16;
+    number_of_components = components % 16;
     general_category = letter_of item.properties.general_category;
     modified_ccc = letter_ccc item.properties.general_category item.properties.modified_ccc;
   };
@@ -68,5 +68,5 @@ is_ligated item = record item { properties = record item.properties { ligated = 
 
 -- the ligature in place of its first component; a ligature of marks, or of a base and marks, keeps what the component was
 unfoldable pub as_ligature : Lookup → Bool → ℕ → ℕ → ℕ → Item → Item
-as_ligature l own id parts glyph item =
-    is_ligated (replaced l (if own then 4 else 0) glyph (if own then with_parts id parts item else item))
+as_ligature l own id components glyph item =
+    is_ligated (replaced l (if own then 4 else 0) glyph (if own then with_components id components item else item))

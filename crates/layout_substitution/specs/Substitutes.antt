@@ -1,4 +1,4 @@
--- What the parts of lookups put in place of glyphs (OpenType, "GSUB", single, multiple, alternate and ligature).
+-- What the subtables of lookups put in place of glyphs (OpenType, "GSUB", single, multiple, alternate and ligature).
 use Rattle.std.specs.Prelude.{ℕ, List, Bool, Option, Some, None, ◌+◌, ◌-◌, ◌*◌, ◌%◌, ◌&&◌, nat_eq, nat_lt, nat_le, length, if◌then◌else◌}
 use Rattle.std.specs.Option.{option_and_then}
 use Rattle.shape_font.specs.Bytes.{u16_of, fitting}

@@ -6,7 +6,7 @@ use Rattle.shape_items.specs.Buffer.{Buffer}
 use Rattle.shape_items.specs.Items.{Item, new_item, new_properties}
 use Rattle.layout_matching.specs.declared.lookup.Lookup.{Lookup}
 use Rattle.layout_substitution.specs.Ligatures.{ligature_matched}
-use Rattle.layout_substitution.specs.Replaced.{replaced, is_multiplied, taken_apart, with_parts, as_ligature}
+use Rattle.layout_substitution.specs.Replaced.{replaced, is_multiplied, taken_apart, with_components, as_ligature}
 use Rattle.layout_substitution.specs.Start.{begun_item}
 use Rattle.layout_substitution.specs.Substitutes.{has_components}
 
@@ -35,28 +35,28 @@ abbrev pub Holds : (Lookup → Type 0) → Type 0
 Holds fact = (l : Lookup) → l.gdef.now ≡ [] → fact l
 
 pub record WorkedPasts : Type 0 where
-  pub first_part : Holds (λ l. (taken_apart l 30 0 (with_past false false)).properties.multiplied ≡ true)
-  pub second_part : Holds (λ l. (taken_apart l 31 1 (with_past false false)).properties.multiplied ≡ true)
-  -- a part of a ligature is ligated and multiplied
-  pub part_of_a_ligature : Holds (λ l. (taken_apart l 31 1 (with_past true false)).properties.ligated ≡ true)
+  pub first_component : Holds (λ l. (taken_apart l 30 0 (with_past false false)).properties.multiplied ≡ true)
+  pub second_component : Holds (λ l. (taken_apart l 31 1 (with_past false false)).properties.multiplied ≡ true)
+  -- a component of a ligature is ligated and multiplied
+  pub component_of_a_ligature : Holds (λ l. (taken_apart l 31 1 (with_past true false)).properties.ligated ≡ true)
   pub ligature : Holds (λ l. (as_ligature l true 1 2 51 (with_past false false)).properties.ligated ≡ true)
-  -- a ligature of parts is ligated alone
-  pub ligature_of_parts : Holds (λ l. (as_ligature l true 1 2 51 (with_past false true)).properties.multiplied ≡ false)
+  -- a ligature of components is ligated alone
+  pub ligature_of_components : Holds (λ l. (as_ligature l true 1 2 51 (with_past false true)).properties.multiplied ≡ false)
   pub ligature_of_marks : Holds (λ l. (as_ligature l false 0 2 51 (with_past false true)).properties.multiplied ≡ false)
   -- one glyph for one changes neither
-  pub replaced_part : Holds (λ l. (replaced l 0 52 (with_past false true)).properties.multiplied ≡ true)
+  pub replaced_component : Holds (λ l. (replaced l 0 52 (with_past false true)).properties.multiplied ≡ true)
   pub replaced_glyph : Holds (λ l. (replaced l 0 52 (with_past false false)).properties.multiplied ≡ false)
 
 pub worked_pasts : WorkedPasts
 unfolding is_multiplied as_ligature
 worked_pasts = record {
-  first_part = λ l g. refl;
-  second_part = λ l g. refl;
-  part_of_a_ligature = λ l g. rw g refl;
+  first_component = λ l g. refl;
+  second_component = λ l g. refl;
+  component_of_a_ligature = λ l g. rw g refl;
   ligature = λ l g. refl;
-  ligature_of_parts = λ l g. refl;
+  ligature_of_components = λ l g. refl;
   ligature_of_marks = λ l g. refl;
-  replaced_part = λ l g. rw g refl;
+  replaced_component = λ l g. rw g refl;
   replaced_glyph = λ l g. rw g refl;
 }
 
@@ -84,8 +84,8 @@ made_before g = record (new_item 0 0) {
 
 pub record WorkedBeginnings : Type 0 where
   -- a mark that becomes a letter has no combining class
-  pub letter_has_no_class : (with_parts 1 2 mark_above).properties.modified_ccc ≡ 0
-  pub class_of_a_letter_stays : (with_parts 1 2 letter_above).properties.modified_ccc ≡ 7
+  pub letter_has_no_class : (with_components 1 2 mark_above).properties.modified_ccc ≡ 0
+  pub class_of_a_letter_stays : (with_components 1 2 letter_above).properties.modified_ccc ≡ 7
   pub mark : (begun_item two_glyphs (made_before 9)).properties.glyph_class.0 ≡ 8
   pub mark_class : (begun_item two_glyphs (made_before 9)).properties.mark_attachment_class ≡ 3
   pub base : (begun_item two_glyphs (made_before 5)).properties.glyph_class.0 ≡ 2

@@ -1,4 +1,4 @@
-//! Parts of lookups, applied at a place of a buffer.
+//! Subtables of lookups, applied at a place of a buffer.
 ghost use Rattle.std.specs.Prelude.{◌≡◌, ◌≢◌, ◌<◌, ◌-◌, ◌+◌, ◌^◌, length, None, OnOk, IfOk, IsErrOf, IsTrue};
 ghost use Rattle.shape_items.specs.Buffer.{limit_of};
 ghost use Rattle.shape_buffer.specs.declared.buffer.error.ShapeError.TheVariants.{Length};

@@ -5,7 +5,7 @@ ghost use Rattle.std.specs.Prelude.{◌≡◌, ◌<◌, ◌≤◌, ◌+◌, leng
 ghost use Rattle.shape_items.specs.Buffer.{limit_of};
 ghost use Rattle.shape_buffer.specs.declared.buffer.error.ShapeError.TheVariants.{Length};
 ghost use Rattle.layout_substitution.specs.Edits.{item_at as item_at_of, put_at, put_after, taken_out, merged, broken};
-ghost use Rattle.layout_substitution.specs.Edits.{asks_for_concat as asks_for_concat_of, parted};
+ghost use Rattle.layout_substitution.specs.Edits.{asks_for_concat as asks_for_concat_of, concat_marked};
 
 use bitflags::Flags;
 use layout_buffer::GapBuffer;
@@ -85,9 +85,9 @@ pub fn asks_for_concat(buffer: &GapBuffer) -> bool
 }
 
 /// Marks what was looked at in vain unsafe to concat, if the buffer asks for that.
-#[tactic(auto, using(crate::proofs::EditLemmas::length_parted, crate::proofs::EditLemmas::limit_parted))]
-pub fn part_span(buffer: &mut GapBuffer, reach: Reach)
-    ensures made { buffer.new ≡ parted reach buffer.old }
+#[tactic(auto, using(crate::proofs::EditLemmas::length_concat_marked, crate::proofs::EditLemmas::limit_concat_marked))]
+pub fn concat_span(buffer: &mut GapBuffer, reach: Reach)
+    ensures made { buffer.new ≡ concat_marked reach buffer.old }
     ensures as_many { length buffer.new.items ≡ length buffer.old.items }
     ensures limit { limit_of buffer.new ≡ limit_of buffer.old }
 {

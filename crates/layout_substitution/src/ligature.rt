@@ -5,13 +5,13 @@
 ghost use Rattle.std.specs.Prelude.{◌≡◌, ◌<◌, ◌-◌, ◌+◌, ◌^◌, Some, length, true, IsTrue};
 ghost use Rattle.std.specs.Option.{IfSome};
 ghost use Rattle.layout_matching.specs.Loops.{times, first_some};
-ghost use Rattle.layout_substitution.specs.Ligatures.{component_row as component_row_of, ligature_matched, ligature_in, ligature_found, part_among, Joined, between_stays, component_gone, looked_for as looked_for_of, stays as stays_of, join_step, follows as follows_of, follow_step, followed, first_joined, joined, ligature_over, ligated, ligature_put};
+ghost use Rattle.layout_substitution.specs.Ligatures.{component_row as component_row_of, ligature_matched, ligature_in, ligature_found, component_among, Joined, between_stays, component_gone, looked_for as looked_for_of, stays as stays_of, join_step, follows as follows_of, follow_step, followed, first_joined, joined, ligature_over, ligated, ligature_put};
 ghost use Rattle.layout_substitution.specs.Applied.{with_as_many_after};
 
 use crate::apply::Spot;
 use crate::edits::{item, merge, next_place, put, take_out};
 use crate::ligation::how_to_ligate;
-use crate::replaced::{as_ligature, as_part, parts_of};
+use crate::replaced::{as_component, as_ligature, components_of};
 use crate::substitutes::{components, count, has_components, ligature_at, ligature_glyph};
 use layout_buffer::GapBuffer;
 use layout_matching::input::match_input;
@@ -46,7 +46,7 @@ pub struct Joining {
     pub at: usize,
     pub left: u16,
     pub id: u8,
-    pub parts: u8,
+    pub components: u8,
     pub so_far: u16,
 }
 
@@ -128,16 +128,16 @@ pub fn found(lookup: &Lookup<'_>, buffer: &GapBuffer, at: usize, set: usize) -> 
 }
 
 /// The component of the new ligature that a mark on a component of the last one stands on.
-fn part_of(walk: Joining, there: &hb_glyph_info_t) -> u32
-    ensures { result ≡ part_among walk there.now }
+fn component_of(walk: Joining, there: &hb_glyph_info_t) -> u32
+    ensures { result ≡ component_among walk there.now }
 {
-    let part = there._hb_glyph_info_get_ligature_component();
-    let among = if part == 0 {
-        walk.parts
+    let component = there._hb_glyph_info_get_ligature_component();
+    let among = if component == 0 {
+        walk.components
     } else {
-        part.min(walk.parts)
+        component.min(walk.components)
     };
-    u32::from(walk.so_far).saturating_sub(u32::from(walk.parts)) + u32::from(among)
+    u32::from(walk.so_far).saturating_sub(u32::from(walk.components)) + u32::from(among)
 }
 
 /// Goes over an item that stays; it becomes a mark on the ligature if that has a number of its own.
@@ -149,7 +149,11 @@ fn leave_between(buffer: &mut GapBuffer, own: bool, id: u8, walk: Joining) -> Jo
     let count = buffer.len();
     if walk.at < count && own {
         let there = item(buffer, walk.at);
-        put(buffer, walk.at, as_part(id, part_of(walk, &there), there));
+        put(
+            buffer,
+            walk.at,
+            as_component(id, component_of(walk, &there), there),
+        );
     }
     let mut walk = walk;
     walk.at += 1;
@@ -163,13 +167,13 @@ fn drop_component(buffer: &mut GapBuffer, walk: Joining) -> Joining
 {
     let there = item(buffer, walk.at);
     take_out(buffer, walk.at);
-    let parts = parts_of(&there);
+    let components = components_of(&there);
     Joining {
         at: walk.at,
         left: walk.left.saturating_sub(1),
         id: there._hb_glyph_info_get_ligature_id(),
-        parts,
-        so_far: ((u32::from(walk.so_far) + u32::from(parts)) % 65536) as u16,
+        components,
+        so_far: ((u32::from(walk.so_far) + u32::from(components)) % 65536) as u16,
     }
 }
 
@@ -283,13 +287,13 @@ fn join(
         ≡ joined lookup.now made.now found at buffer.old }
 {
     let first = item(buffer, at);
-    let parts = parts_of(&first);
+    let components = components_of(&first);
     let walk = Joining {
         at: next_place(buffer.len(), at),
         left: components(lookup.table, found.ligature).saturating_sub(1),
         id: first._hb_glyph_info_get_ligature_id(),
-        parts,
-        so_far: u16::from(parts),
+        components,
+        so_far: u16::from(components),
     };
     let end = next_place(buffer.len(), found.last);
     merge(buffer, at, end);
@@ -312,11 +316,11 @@ fn put_over(
 {
     let glyph = u32::from(ligature_glyph(lookup.table, found.ligature));
     let now = item(buffer, at);
-    let parts = u32::from(walk.so_far);
+    let components = u32::from(walk.so_far);
     put(
         buffer,
         at,
-        as_ligature(lookup, made.own, made.id, parts, glyph, now),
+        as_ligature(lookup, made.own, made.id, components, glyph, now),
     );
 }
 

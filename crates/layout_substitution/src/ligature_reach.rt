@@ -1,7 +1,7 @@
 //! How far the search for a ligature looked in vain, up to the first ligature of a set that stands there.
 ghost use Rattle.std.specs.Prelude.{◌≡◌, ◌<◌, ◌^◌, length, true};
 ghost use Rattle.shape_items.specs.Buffer.{limit_of};
-ghost use Rattle.layout_substitution.specs.Edits.{parted};
+ghost use Rattle.layout_substitution.specs.Edits.{concat_marked};
 ghost use Rattle.layout_substitution.specs.Ligatures.{ligature_reach as ligature_reach_of, ligature_reach_in};
 ghost use Rattle.layout_substitution.specs.Ligatures.{all_reach as all_reach_of, seek_any as seek_any_of};
 ghost use Rattle.layout_substitution.specs.Ligatures.{seen_glyph as seen_glyph_of, next_glyph as next_glyph_of};
@@ -9,7 +9,7 @@ ghost use Rattle.layout_substitution.specs.Ligatures.{begins_otherwise as begins
 ghost use Rattle.layout_substitution.specs.Ligatures.{quickly_reached as quickly_reached_of};
 ghost use Rattle.layout_substitution.specs.Ligatures.{ligatures_reach as ligatures_reach_of};
 
-use crate::edits::{asks_for_concat, item, part_span};
+use crate::edits::{asks_for_concat, concat_span, item};
 use crate::ligature::component_row;
 use crate::substitutes::{components, count, has_components, ligature_at};
 use layout_buffer::GapBuffer;
@@ -185,11 +185,11 @@ fn ligatures_reach(lookup: &Lookup<'_>, buffer: &GapBuffer, at: usize, set: usiz
 }
 
 /// Marks what the ligatures of a set looked at in vain unsafe to concat, if the buffer asks for that.
-#[tactic(auto, using(crate::proofs::EditLemmas::parted_unasked))]
+#[tactic(auto, using(crate::proofs::EditLemmas::concat_marked_unasked))]
 pub fn mark_tried(lookup: &Lookup<'_>, buffer: &mut GapBuffer, at: usize, set: usize)
     requires near { set < 2 ^ 36 }
     requires inside { at < length buffer.old.items }
-    ensures made { buffer.new ≡ parted (ligatures_reach_of lookup.now buffer.old at set) buffer.old }
+    ensures made { buffer.new ≡ concat_marked (ligatures_reach_of lookup.now buffer.old at set) buffer.old }
     ensures as_many { length buffer.new.items ≡ length buffer.old.items }
     ensures limit { limit_of buffer.new ≡ limit_of buffer.old }
 {
@@ -197,5 +197,5 @@ pub fn mark_tried(lookup: &Lookup<'_>, buffer: &mut GapBuffer, at: usize, set: u
         return;
     }
     let reach = ligatures_reach(lookup, buffer, at, set);
-    part_span(buffer, reach);
+    concat_span(buffer, reach);
 }

@@ -1,6 +1,6 @@
 //! Glyphs put in place of others.
 ghost use Rattle.std.specs.Prelude.{◌≡◌};
-ghost use Rattle.layout_substitution.specs.Replaced.{parts_of as parts_of_item, with_class as with_class_of, replaced as replaced_of, as_part as as_part_of, taken_apart as taken_apart_of, with_parts as with_parts_of, as_ligature as as_ligature_of};
+ghost use Rattle.layout_substitution.specs.Replaced.{components_of as components_of_item, with_class as with_class_of, replaced as replaced_of, as_component as as_component_of, taken_apart as taken_apart_of, with_components as with_components_of, as_ligature as as_ligature_of};
 
 use layout_matching::lookup::Lookup;
 use layout_tables::gdef::{glyph_props, has_glyph_classes};
@@ -39,8 +39,8 @@ pub fn replaced(
 }
 
 /// How many components a glyph has: more than one only if its class is that of ligatures.
-pub fn parts_of(item: &hb_glyph_info_t) -> u8
-    ensures { result ≡ parts_of_item item.now }
+pub fn components_of(item: &hb_glyph_info_t) -> u8
+    ensures { result ≡ components_of_item item.now }
 {
     if item._hb_glyph_info_get_glyph_class().0 & 4 != 0 {
         item._hb_glyph_info_get_number_of_components()
@@ -50,12 +50,12 @@ pub fn parts_of(item: &hb_glyph_info_t) -> u8
 }
 
 /// A mark on a component of a ligature, or a component of what one glyph was taken apart into.
-pub fn as_part(id: u8, part: u32, item: hb_glyph_info_t) -> hb_glyph_info_t
-    ensures { result ≡ as_part_of id part item }
+pub fn as_component(id: u8, component: u32, item: hb_glyph_info_t) -> hb_glyph_info_t
+    ensures { result ≡ as_component_of id component item }
 {
     let mut item = item;
     item._hb_glyph_info_set_ligature_id(id);
-    item._hb_glyph_info_set_ligature_component((part % 16) as u8);
+    item._hb_glyph_info_set_ligature_component((component % 16) as u8);
     item._hb_glyph_info_set_number_of_components(1);
     item
 }
@@ -75,23 +75,23 @@ pub fn taken_apart(
     } else {
         0
     };
-    let mut part = if item._hb_glyph_info_get_ligature_id() == 0 {
-        replaced(lookup, guess, glyph, as_part(0, i, item))
+    let mut component = if item._hb_glyph_info_get_ligature_id() == 0 {
+        replaced(lookup, guess, glyph, as_component(0, i, item))
     } else {
         replaced(lookup, guess, glyph, item)
     };
-    part._hb_glyph_info_set_multiplied(true);
-    part
+    component._hb_glyph_info_set_multiplied(true);
+    component
 }
 
-/// A ligature with its id, of so many parts, which isn't a mark any more.
-fn with_parts(id: u8, parts: u32, item: hb_glyph_info_t) -> hb_glyph_info_t
-    ensures { result ≡ with_parts_of id parts item }
+/// A ligature with its id, of so many components, which isn't a mark any more.
+fn with_components(id: u8, components: u32, item: hb_glyph_info_t) -> hb_glyph_info_t
+    ensures { result ≡ with_components_of id components item }
 {
     let mut item = item;
     item._hb_glyph_info_set_ligature_id(id);
     item._hb_glyph_info_set_ligature_component(0);
-    item._hb_glyph_info_set_number_of_components((parts % 16) as u8);
+    item._hb_glyph_info_set_number_of_components((components % 16) as u8);
     if item._hb_glyph_info_get_general_category() == hb_unicode_general_category_t::NonspacingMark {
         item._hb_glyph_info_set_general_category(hb_unicode_general_category_t::OtherLetter);
         item._hb_glyph_info_set_modified_combining_class(0);
@@ -106,14 +106,14 @@ pub fn as_ligature(
     lookup: &Lookup<'_>,
     own: bool,
     id: u8,
-    parts: u32,
+    components: u32,
     glyph: u32,
     item: hb_glyph_info_t,
 ) -> hb_glyph_info_t
-    ensures { result ≡ as_ligature_of lookup.now own id parts glyph item }
+    ensures { result ≡ as_ligature_of lookup.now own id components glyph item }
 {
     let mut item = if own {
-        replaced(lookup, 4, glyph, with_parts(id, parts, item))
+        replaced(lookup, 4, glyph, with_components(id, components, item))
     } else {
         replaced(lookup, 0, glyph, item)
     };

@@ -1,4 +1,4 @@
-//! What the parts of lookups put in place of glyphs (OpenType, "GSUB", single, multiple, alternate and ligature).
+//! What the subtables of lookups put in place of glyphs (OpenType, "GSUB", single, multiple, alternate and ligature).
 ghost use Rattle.std.specs.Prelude.{◌≡◌, ◌<◌, ◌+◌, ◌*◌, ◌^◌};
 ghost use Rattle.std.specs.Option.{IfSome};
 ghost use Rattle.layout_tables.specs.Offsets.{offset16_of};
@@ -50,7 +50,7 @@ fn set_at(table: &[u8], start: usize, i: u32) -> Option<usize>
     }
 }
 
-/// Where the set of a glyph stands, in a part that has a set for each glyph of its list.
+/// Where the set of a glyph stands, in a subtable that has a set for each glyph of its list.
 pub fn set(table: &[u8], start: usize, glyph: u32) -> Option<usize>
     requires { start < 2 ^ 35 }
     ensures value { result ≡ set_of table.now start glyph }

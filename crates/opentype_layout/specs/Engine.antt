@@ -5,7 +5,7 @@ use Rattle.shape_buffer.specs.Layout.{LayoutMeaning, LookupMeaning}
 use Rattle.shape_buffer.specs.MapBuilder.{Builder}
 use Rattle.shape_buffer.specs.declared.interfaces.map_request.TableIndex.{TableIndex}
 use Rattle.shape_buffer.specs.declared.interfaces.map_request.TableIndex.TheVariants.{GSUB, GPOS}
-use Rattle.kern_table.specs.Tables.{parts_of, table_kerned}
+use Rattle.kern_table.specs.Tables.{subtable_count_of, table_kerned}
 use Rattle.layout_context.specs.Stages.{substituted}
 use Rattle.layout_map.specs.Map.{OtMap, compiled}
 use Rattle.layout_map.specs.Stages as stages
@@ -43,7 +43,7 @@ opentype_layout f = record {
   chosen_script = λ script language table. script_in (table_of f table) script language;
   compiled = map_of f;
   has_glyph_classes = has_glyph_classes f.gdef.now;
-  has_kerning = not (nat_eq (parts_of f.font.kern.now) 0);
+  has_kerning = not (nat_eq (subtable_count_of f.font.kern.now) 0);
   has_machine_kerning = false;
   has_cross_kerning = false;
 }

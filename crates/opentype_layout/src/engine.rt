@@ -13,7 +13,7 @@ use crate::chosen::{chosen_for, script_in};
 use crate::classes::begin_glyphs;
 use crate::face::OpenTypeFace;
 use crate::lookups::{LookupTables, lookups};
-use kern_table::tables::{kern_table, parts};
+use kern_table::tables::{kern_table, subtable_count};
 use layout_context::stages::substitute;
 use layout_map::lookups::LookupMap;
 use layout_map::map::hb_ot_map_t;
@@ -134,7 +134,7 @@ impl<'a> hb_ot_layout_t<OpenTypeFace<'a>> for OpenTypeLayout {
     }
 
     fn has_kerning(face: &OpenTypeFace<'a>) -> bool {
-        parts(face.kern()) != 0
+        subtable_count(face.kern()) != 0
     }
 
     fn has_machine_kerning(_face: &OpenTypeFace<'a>) -> bool {

@@ -11,7 +11,7 @@ use Rattle.kern_table.specs.Worked.Kern.{table, on, line, along, whole}
 
 pub record WorkedEngine : Type 0 where
   pub kerns : (f : FontFace) → f.kern.now ≡ table 1 1 → (kern_layout f).has_kerning ≡ true
-  pub no_parts : (f : FontFace) → f.kern.now ≡ table 0 1 → (kern_layout f).has_kerning ≡ false
+  pub no_subtables : (f : FontFace) → f.kern.now ≡ table 0 1 → (kern_layout f).has_kerning ≡ false
   pub other_version : (f : FontFace) → f.kern.now ≡ 0 ∷ 1 ∷ 0 ∷ 0 ∷ 0 ∷ 0 ∷ 0 ∷ 1 ∷ [] → (kern_layout f).has_kerning ≡ false
   pub compiled : (f : FontFace) (b : Builder) → b.requests ≡ whole 1 ∷ []
       → (kern_layout f).compiled b ≡ record { is_on = true; everywhere = 1 }
@@ -23,7 +23,7 @@ pub worked_engine : WorkedEngine
 unfolding i16_of ◌+ʷ◌ ◌-ʷ◌ int_wrap
 worked_engine = record {
   kerns = λ f e. rw e refl;
-  no_parts = λ f e. rw e refl;
+  no_subtables = λ f e. rw e refl;
   other_version = λ f e. rw e refl;
   compiled = λ f b e. rw e refl;
   kerned = λ f e. rw e refl;

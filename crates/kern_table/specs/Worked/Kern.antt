@@ -14,19 +14,19 @@ use Rattle.std.specs.Int.{int_wrap}
 use Rattle.shape_font.specs.Bytes.{i16_of}
 use Rattle.kern_table.specs.Map.{map_of, kern_masks}
 use Rattle.kern_table.specs.Pairs.{value_of}
-use Rattle.kern_table.specs.Tables.{parts_of, is_read, part_kerned, table_kerned}
+use Rattle.kern_table.specs.Tables.{subtable_count_of, is_read, subtable_kerned, table_kerned}
 use Rattle.kern_table.specs.Walk.{left_after, kerned}
 
--- a part of format 0, of this length and coverage, that states so many pairs and has room for two: glyphs 2 and 3 by
+-- a subtable of format 0, of this length and coverage, that states so many pairs and has room for two: glyphs 2 and 3 by
 -- -50, 3 and 2 by -35
-abbrev pub part : ℕ → ℕ → ℕ → List ℕ
-part len coverage said = 0 ∷ 0 ∷ 0 ∷ len ∷ 0 ∷ coverage ∷ 0 ∷ said ∷ 0 ∷ 0 ∷ 0 ∷ 0 ∷ 0 ∷ 0
+abbrev pub subtable : ℕ → ℕ → ℕ → List ℕ
+subtable len coverage said = 0 ∷ 0 ∷ 0 ∷ len ∷ 0 ∷ coverage ∷ 0 ∷ said ∷ 0 ∷ 0 ∷ 0 ∷ 0 ∷ 0 ∷ 0
     ∷ 0 ∷ 2 ∷ 0 ∷ 3 ∷ 0xFF ∷ 0xCE ∷ 0 ∷ 3 ∷ 0 ∷ 2 ∷ 0xFF ∷ 0xDD ∷ []
 
 abbrev pub table : ℕ → ℕ → List ℕ
-table count coverage = 0 ∷ 0 ∷ 0 ∷ count ∷ part 26 coverage 2
+table count coverage = 0 ∷ 0 ∷ 0 ∷ count ∷ subtable 26 coverage 2
 
--- a part of format 2 whose rows for glyphs 2 and 3 stand so far from its start, 30 and 34 if they are in the array; right glyph 2
+-- a subtable of format 2 whose rows for glyphs 2 and 3 stand so far from its start, 30 and 34 if they are in the array; right glyph 2
 -- has the column at 0, right glyph 3 the one that is given
 abbrev pub classes_with : ℕ → ℕ → ℕ → List ℕ
 classes_with row_of_2 row_of_3 column_of_3 = 0 ∷ 0 ∷ 0 ∷ 38 ∷ 2 ∷ 1 ∷ 0 ∷ 4 ∷ 0 ∷ 14 ∷ 0 ∷ 22 ∷ 0 ∷ 30
@@ -85,20 +85,20 @@ pub record WorkedValues : Type 0 where
   pub first : value_of (table 1 1) 4 2 3 ≡ negsuc 49
   pub second : value_of (table 1 1) 4 3 2 ≡ negsuc 34
   pub other : value_of (table 1 1) 4 2 2 ≡ pos 0
-  pub past_the_count : value_of (0 ∷ 0 ∷ 0 ∷ 1 ∷ part 26 1 1) 4 3 2 ≡ pos 0
-  pub no_more_than_there_is_room_for : value_of (0 ∷ 0 ∷ 0 ∷ 1 ∷ part 26 1 200) 4 3 2 ≡ negsuc 34
+  pub past_the_count : value_of (0 ∷ 0 ∷ 0 ∷ 1 ∷ subtable 26 1 1) 4 3 2 ≡ pos 0
+  pub no_more_than_there_is_room_for : value_of (0 ∷ 0 ∷ 0 ∷ 1 ∷ subtable 26 1 200) 4 3 2 ≡ negsuc 34
   -- 65538 is 2 past 65536
   pub past_all_glyphs : value_of (table 1 1) 4 65538 3 ≡ pos 0
-  pub no_part : value_of [] 4 2 3 ≡ pos 0
+  pub no_subtable : value_of [] 4 2 3 ≡ pos 0
   pub read_along_the_line : is_read (table 1 1) 4 true ≡ true
   pub not_across_it : is_read (table 1 5) 4 true ≡ false
   pub not_in_the_other_line : is_read (table 1 1) 4 false ≡ false
   pub vertical : is_read (table 1 0) 4 false ≡ true
   pub other_format : is_read (0 ∷ 0 ∷ 0 ∷ 1 ∷ 0 ∷ 0 ∷ 0 ∷ 14 ∷ 3 ∷ 1 ∷ []) 4 true ≡ false
-  pub parts : parts_of (table 3 1) ≡ 3
-  pub other_version : parts_of (0 ∷ 1 ∷ 0 ∷ 0 ∷ 0 ∷ 0 ∷ 0 ∷ 1 ∷ []) ≡ 0
+  pub subtables : subtable_count_of (table 3 1) ≡ 3
+  pub other_version : subtable_count_of (0 ∷ 1 ∷ 0 ∷ 0 ∷ 0 ∷ 0 ∷ 0 ∷ 1 ∷ []) ≡ 0
   -- where a count would stand if the version were 0
-  pub count_of_another_version : parts_of (0 ∷ 1 ∷ 0 ∷ 3 ∷ []) ≡ 0
+  pub count_of_another_version : subtable_count_of (0 ∷ 1 ∷ 0 ∷ 3 ∷ []) ≡ 0
   pub minimum_too : is_read (table 1 3) 4 true ≡ true
   -- 65536 more than the right glyph of (2, 3) if the left one is 1
   pub right_past_all_glyphs : value_of (table 1 1) 4 1 65539 ≡ pos 0
@@ -112,13 +112,13 @@ worked_values = record {
   past_the_count = refl;
   no_more_than_there_is_room_for = refl;
   past_all_glyphs = refl;
-  no_part = refl;
+  no_subtable = refl;
   read_along_the_line = refl;
   not_across_it = refl;
   not_in_the_other_line = refl;
   vertical = refl;
   other_format = refl;
-  parts = refl;
+  subtables = refl;
   other_version = refl;
   count_of_another_version = refl;
   minimum_too = refl;
@@ -161,53 +161,53 @@ down b = map (λ (p : GlyphPosition). (p.y_advance, p.y_offset)) b.positions
 abbrev pub masks : Buffer → List ℕ
 masks b = map (λ (x : Item). x.mask) b.items
 
-abbrev pub by_part : List Item → Buffer
-by_part items = kerned (table 1 1) 4 16 (line LeftToRight items)
+abbrev pub by_subtable : List Item → Buffer
+by_subtable items = kerned (table 1 1) 4 16 (line LeftToRight items)
 
 abbrev pub still : ℤ × ℤ
 still = (pos 600, pos 0)
 
 pub record WorkedLines : Type 0 where
-  pub half_to_each : along (by_part (on 2 0 ∷ on 3 1 ∷ [])) ≡ (pos 575, pos 0) ∷ (pos 575, negsuc 24) ∷ []
+  pub half_to_each : along (by_subtable (on 2 0 ∷ on 3 1 ∷ [])) ≡ (pos 575, pos 0) ∷ (pos 575, negsuc 24) ∷ []
   -- -35 is -18 and -17
-  pub half_downwards : along (by_part (on 3 0 ∷ on 2 1 ∷ [])) ≡ (pos 582, pos 0) ∷ (pos 583, negsuc 16) ∷ []
-  pub each_pair : along (by_part (on 2 0 ∷ on 3 1 ∷ on 2 2 ∷ []))
+  pub half_downwards : along (by_subtable (on 3 0 ∷ on 2 1 ∷ [])) ≡ (pos 582, pos 0) ∷ (pos 583, negsuc 16) ∷ []
+  pub each_pair : along (by_subtable (on 2 0 ∷ on 3 1 ∷ on 2 2 ∷ []))
       ≡ (pos 575, pos 0) ∷ (pos 557, negsuc 24) ∷ (pos 583, negsuc 16) ∷ []
-  pub over_a_mark : along (by_part (on 2 0 ∷ mark 0 ∷ on 3 1 ∷ [])) ≡ (pos 575, pos 0) ∷ still ∷ (pos 575, negsuc 24) ∷ []
-  pub over_an_ignorable : along (by_part (on 2 0 ∷ ignorable 0 ∷ on 3 1 ∷ [])) ≡ (pos 575, pos 0) ∷ still ∷ (pos 575, negsuc 24) ∷ []
-  pub not_over_a_letter : along (by_part (on 2 0 ∷ on 8 0 ∷ on 3 1 ∷ [])) ≡ still ∷ still ∷ still ∷ []
-  pub off_on_the_right : along (by_part (on 2 0 ∷ off 3 1 ∷ [])) ≡ still ∷ still ∷ []
-  pub off_on_the_left : along (by_part (off 2 0 ∷ on 3 1 ∷ [])) ≡ still ∷ still ∷ []
-  pub off_between : along (by_part (on 2 0 ∷ off 8 1 ∷ on 3 2 ∷ [])) ≡ still ∷ still ∷ still ∷ []
+  pub over_a_mark : along (by_subtable (on 2 0 ∷ mark 0 ∷ on 3 1 ∷ [])) ≡ (pos 575, pos 0) ∷ still ∷ (pos 575, negsuc 24) ∷ []
+  pub over_an_ignorable : along (by_subtable (on 2 0 ∷ ignorable 0 ∷ on 3 1 ∷ [])) ≡ (pos 575, pos 0) ∷ still ∷ (pos 575, negsuc 24) ∷ []
+  pub not_over_a_letter : along (by_subtable (on 2 0 ∷ on 8 0 ∷ on 3 1 ∷ [])) ≡ still ∷ still ∷ still ∷ []
+  pub off_on_the_right : along (by_subtable (on 2 0 ∷ off 3 1 ∷ [])) ≡ still ∷ still ∷ []
+  pub off_on_the_left : along (by_subtable (off 2 0 ∷ on 3 1 ∷ [])) ≡ still ∷ still ∷ []
+  pub off_between : along (by_subtable (on 2 0 ∷ off 8 1 ∷ on 3 2 ∷ [])) ≡ still ∷ still ∷ still ∷ []
   pub mark_in_front_waits : left_after 16 0 None (mark 0 ∷ []) ≡ Some 0
-  pub unsafe_between : masks (by_part (on 2 0 ∷ mark 0 ∷ on 3 1 ∷ on 8 2 ∷ [])) ≡ 16 ∷ 16 ∷ 19 ∷ 16 ∷ []
+  pub unsafe_between : masks (by_subtable (on 2 0 ∷ mark 0 ∷ on 3 1 ∷ on 8 2 ∷ [])) ≡ 16 ∷ 16 ∷ 19 ∷ 16 ∷ []
   -- every glyph, if it is asked for
   pub concat_asked : masks (kerned (table 1 1) 4 16 (record (line LeftToRight (on 8 0 ∷ on 8 1 ∷ [])) { flags = record { 0 = 64 } }))
       ≡ 18 ∷ 18 ∷ []
-  pub concat_unasked : masks (by_part (on 8 0 ∷ on 8 1 ∷ [])) ≡ 16 ∷ 16 ∷ []
+  pub concat_unasked : masks (by_subtable (on 8 0 ∷ on 8 1 ∷ [])) ≡ 16 ∷ 16 ∷ []
   -- from the left of the line: 3 stands there, before 2
-  pub backward : along (part_kerned (table 1 1) 4 16 (line RightToLeft (on 2 0 ∷ on 3 1 ∷ [])))
+  pub backward : along (subtable_kerned (table 1 1) 4 16 (line RightToLeft (on 2 0 ∷ on 3 1 ∷ [])))
       ≡ (pos 583, negsuc 16) ∷ (pos 582, pos 0) ∷ []
-  pub downwards : down (part_kerned (table 1 0) 4 16 (line TopToBottom (on 2 0 ∷ on 3 1 ∷ [])))
+  pub downwards : down (subtable_kerned (table 1 0) 4 16 (line TopToBottom (on 2 0 ∷ on 3 1 ∷ [])))
       ≡ (negsuc 24, pos 0) ∷ (negsuc 24, negsuc 24) ∷ []
-  pub upwards : down (part_kerned (table 1 0) 4 16 (line BottomToTop (on 2 0 ∷ on 3 1 ∷ [])))
+  pub upwards : down (subtable_kerned (table 1 0) 4 16 (line BottomToTop (on 2 0 ∷ on 3 1 ∷ [])))
       ≡ (negsuc 16, negsuc 16) ∷ (negsuc 17, pos 0) ∷ []
-  pub down_alone : along (part_kerned (table 1 0) 4 16 (line TopToBottom (on 2 0 ∷ on 3 1 ∷ []))) ≡ still ∷ still ∷ []
-  pub other_line : along (part_kerned (table 1 1) 4 16 (line TopToBottom (on 2 0 ∷ on 3 1 ∷ []))) ≡ still ∷ still ∷ []
+  pub down_alone : along (subtable_kerned (table 1 0) 4 16 (line TopToBottom (on 2 0 ∷ on 3 1 ∷ []))) ≡ still ∷ still ∷ []
+  pub other_line : along (subtable_kerned (table 1 1) 4 16 (line TopToBottom (on 2 0 ∷ on 3 1 ∷ []))) ≡ still ∷ still ∷ []
   pub whole_table : along (table_kerned (table 1 1) 16 (line LeftToRight (on 2 0 ∷ on 3 1 ∷ [])))
       ≡ (pos 575, pos 0) ∷ (pos 575, negsuc 24) ∷ []
-  pub two_parts : along (table_kerned (table 2 1 ++ part 26 1 2) 16 (line LeftToRight (on 2 0 ∷ on 3 1 ∷ [])))
+  pub two_subtables : along (table_kerned (table 2 1 ++ subtable 26 1 2) 16 (line LeftToRight (on 2 0 ∷ on 3 1 ∷ [])))
       ≡ (pos 550, pos 0) ∷ (pos 550, negsuc 49) ∷ []
-  pub short_part : along (table_kerned (0 ∷ 0 ∷ 0 ∷ 1 ∷ part 5 1 2) 16 (line LeftToRight (on 2 0 ∷ on 3 1 ∷ []))) ≡ still ∷ still ∷ []
+  pub short_subtable : along (table_kerned (0 ∷ 0 ∷ 0 ∷ 1 ∷ subtable 5 1 2) 16 (line LeftToRight (on 2 0 ∷ on 3 1 ∷ []))) ≡ still ∷ still ∷ []
   pub no_mask : along (table_kerned (table 1 1) 0 (line LeftToRight (on 2 0 ∷ on 3 1 ∷ []))) ≡ still ∷ still ∷ []
   pub by_classes : along (table_kerned (class_table 30 34) 16 (line LeftToRight (on 2 0 ∷ on 3 1 ∷ on 2 2 ∷ [])))
       ≡ (pos 575, pos 0) ∷ (pos 557, negsuc 24) ∷ (pos 583, negsuc 16) ∷ []
   pub by_pairs_and_by_classes : along (table_kerned (table 2 1 ++ classes 30 34) 16 (line LeftToRight (on 2 0 ∷ on 3 1 ∷ [])))
       ≡ (pos 550, pos 0) ∷ (pos 550, negsuc 49) ∷ []
-  -- six bytes of another format, and a part after them
-  pub after_a_short_part : along (table_kerned (0 ∷ 0 ∷ 0 ∷ 2 ∷ 0 ∷ 0 ∷ 0 ∷ 6 ∷ 1 ∷ 1 ∷ part 26 1 2) 16
+  -- six bytes of another format, and a subtable after them
+  pub after_a_short_subtable : along (table_kerned (0 ∷ 0 ∷ 0 ∷ 2 ∷ 0 ∷ 0 ∷ 0 ∷ 6 ∷ 1 ∷ 1 ∷ subtable 26 1 2) 16
       (line LeftToRight (on 2 0 ∷ on 3 1 ∷ []))) ≡ (pos 575, pos 0) ∷ (pos 575, negsuc 24) ∷ []
-  pub over_a_mark_of_two_classes : along (by_part (on 2 0 ∷ in_classes 10 0 ∷ on 3 1 ∷ []))
+  pub over_a_mark_of_two_classes : along (by_subtable (on 2 0 ∷ in_classes 10 0 ∷ on 3 1 ∷ []))
       ≡ (pos 575, pos 0) ∷ still ∷ (pos 575, negsuc 24) ∷ []
 
 pub worked_lines : WorkedLines
@@ -232,12 +232,12 @@ worked_lines = record {
   down_alone = refl;
   other_line = refl;
   whole_table = refl;
-  two_parts = refl;
-  short_part = refl;
+  two_subtables = refl;
+  short_subtable = refl;
   no_mask = refl;
   by_classes = refl;
   by_pairs_and_by_classes = refl;
-  after_a_short_part = refl;
+  after_a_short_subtable = refl;
   over_a_mark_of_two_classes = refl;
 }
 

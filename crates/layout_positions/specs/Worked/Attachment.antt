@@ -109,9 +109,9 @@ pub record WorkedTurning : Type 0 where
   pub links : chains (attached 0 2 (pos 5) first_follows) ≡ pos 2 ∷ negsuc 0 ∷ pos 0 ∷ []
   pub not_past_the_new_one : offsets (attached 0 1 (pos 5) first_follows) ≡ (pos 0, pos 5) ∷ (pos 0, pos 9) ∷ (pos 0, pos 0) ∷ []
   -- two glyphs don't follow each other
-  pub parted : chains (attached 0 1 (pos 5) second_follows) ≡ pos 1 ∷ pos 0 ∷ []
-  pub parted_across : offsets (attached 0 1 (pos 5) second_follows) ≡ (pos 0, pos 5) ∷ (pos 0, pos 0) ∷ []
+  pub concat_marked : chains (attached 0 1 (pos 5) second_follows) ≡ pos 1 ∷ pos 0 ∷ []
+  pub concat_marked_across : offsets (attached 0 1 (pos 5) second_follows) ≡ (pos 0, pos 5) ∷ (pos 0, pos 0) ∷ []
 
 pub worked_turning : WorkedTurning
 unfolding ◌+ʷ◌ ◌-ʷ◌ neg_w int_wrap
-worked_turning = record { turned_round = refl; links = refl; not_past_the_new_one = refl; parted = refl; parted_across = refl }
+worked_turning = record { turned_round = refl; links = refl; not_past_the_new_one = refl; concat_marked = refl; concat_marked_across = refl }

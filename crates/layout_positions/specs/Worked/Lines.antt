@@ -36,9 +36,9 @@ mark_on glyph id component cluster = record (new_item 0 cluster) {
   properties = record new_properties { glyph_class = record { 0 = 8 }; ligature_id = id; ligature_component = component };
 }
 
--- a part of a glyph that a multiple substitution took apart; the parts count from 0
-abbrev pub part_of : ℕ → Item → Item
-part_of component item = record item { properties = record item.properties { multiplied = true; ligature_component = component } }
+-- a component of a glyph that a multiple substitution took apart; the components count from 0
+abbrev pub component_of : ℕ → Item → Item
+component_of component item = record item { properties = record item.properties { multiplied = true; ligature_component = component } }
 
 -- a default ignorable
 abbrev pub ignorable : ℕ → Item

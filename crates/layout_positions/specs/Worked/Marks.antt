@@ -10,7 +10,7 @@ use Rattle.layout_matching.specs.declared.lookup.Lookup.{Lookup}
 use Rattle.layout_positions.specs.Lookups.{Applied}
 use Rattle.layout_positions.specs.Marks.{base_of, mark_base_applied, mark_ligature_applied, mark_mark_applied}
 use Rattle.layout_positions.specs.Walk.{none_seen}
-use Rattle.layout_positions.specs.Worked.Lines.{base, mark, ligature, mark_on, part_of, ignorable, line, offsets, chains, masks}
+use Rattle.layout_positions.specs.Worked.Lines.{base, mark, ligature, mark_on, component_of, ignorable, line, offsets, chains, masks}
 use Rattle.layout_positions.specs.Worked.Pairs.{IsLookup}
 
 -- mark 8 of class 1, its anchor at 10, 20; glyph 2 with an anchor at 300, 500 for class 1, and none for class 0
@@ -90,53 +90,53 @@ worked_bases = record {
   none = λ l is. refl;
 }
 
--- ---- of a glyph that was taken apart the first part is the base
+-- ---- of a glyph that was taken apart the first component is the base
 
 abbrev of_ligature : ℕ → Item → Item
 of_ligature id item = record item { properties = record item.properties { ligature_id = id } }
 
 abbrev base_in : Lookup → LookupSubtable → List Item → Option ℕ
-base_in l part items = base_of l part (items ++ mark 8 0 ∷ []) (length items) none_seen
+base_in l subtable items = base_of l subtable (items ++ mark 8 0 ∷ []) (length items) none_seen
 
-pub record WorkedParts : Type 0 where
-  pub first_part : (l : Lookup) → IsLookup l on_bases 0 → base_in l of_bases (part_of 0 (base 2 0) ∷ part_of 1 (base 3 0) ∷ []) ≡ Some 0
+pub record WorkedMultiplied : Type 0 where
+  pub first_component : (l : Lookup) → IsLookup l on_bases 0 → base_in l of_bases (component_of 0 (base 2 0) ∷ component_of 1 (base 3 0) ∷ []) ≡ Some 0
   pub first_of_three : (l : Lookup) → IsLookup l on_bases 0
-      → base_in l of_bases (part_of 0 (base 5 0) ∷ part_of 1 (base 3 0) ∷ part_of 2 (base 3 0) ∷ []) ≡ Some 0
-  pub part_that_is_listed : (l : Lookup) → IsLookup l on_bases 0
-      → base_in l of_bases (part_of 0 (base 3 0) ∷ part_of 1 (base 2 0) ∷ []) ≡ Some 1
+      → base_in l of_bases (component_of 0 (base 5 0) ∷ component_of 1 (base 3 0) ∷ component_of 2 (base 3 0) ∷ []) ≡ Some 0
+  pub component_that_is_listed : (l : Lookup) → IsLookup l on_bases 0
+      → base_in l of_bases (component_of 0 (base 3 0) ∷ component_of 1 (base 2 0) ∷ []) ≡ Some 1
   pub mark_on_the_first : (l : Lookup) → IsLookup l on_bases 0
-      → base_of l of_bases (part_of 0 (base 3 0) ∷ mark 8 0 ∷ part_of 1 (base 5 0) ∷ []) 1 none_seen ≡ Some 0
-  pub part_after_a_mark : (l : Lookup) → IsLookup l on_bases 0
-      → base_in l of_bases (part_of 0 (base 2 0) ∷ part_of 1 (mark 7 0) ∷ part_of 2 (base 3 0) ∷ []) ≡ Some 2
-  -- the next glyph is another one's part
-  pub next_first_part : (l : Lookup) → IsLookup l on_bases 0
-      → base_in l of_bases (part_of 0 (base 2 0) ∷ part_of 0 (base 3 0) ∷ []) ≡ Some 1
-  pub not_the_part_before : (l : Lookup) → IsLookup l on_bases 0
-      → base_in l of_bases (part_of 0 (base 2 0) ∷ part_of 2 (base 3 0) ∷ []) ≡ Some 1
+      → base_of l of_bases (component_of 0 (base 3 0) ∷ mark 8 0 ∷ component_of 1 (base 5 0) ∷ []) 1 none_seen ≡ Some 0
+  pub component_after_a_mark : (l : Lookup) → IsLookup l on_bases 0
+      → base_in l of_bases (component_of 0 (base 2 0) ∷ component_of 1 (mark 7 0) ∷ component_of 2 (base 3 0) ∷ []) ≡ Some 2
+  -- the next glyph is another one's component
+  pub next_first_component : (l : Lookup) → IsLookup l on_bases 0
+      → base_in l of_bases (component_of 0 (base 2 0) ∷ component_of 0 (base 3 0) ∷ []) ≡ Some 1
+  pub not_the_component_before : (l : Lookup) → IsLookup l on_bases 0
+      → base_in l of_bases (component_of 0 (base 2 0) ∷ component_of 2 (base 3 0) ∷ []) ≡ Some 1
   pub of_another_ligature : (l : Lookup) → IsLookup l on_bases 0
-      → base_in l of_bases (part_of 0 (of_ligature 1 (base 2 0)) ∷ part_of 1 (of_ligature 2 (base 3 0)) ∷ []) ≡ Some 1
+      → base_in l of_bases (component_of 0 (of_ligature 1 (base 2 0)) ∷ component_of 1 (of_ligature 2 (base 3 0)) ∷ []) ≡ Some 1
   pub of_one_ligature : (l : Lookup) → IsLookup l on_bases 0
-      → base_in l of_bases (part_of 0 (of_ligature 1 (base 2 0)) ∷ part_of 1 (of_ligature 1 (base 3 0)) ∷ []) ≡ Some 0
-  pub after_a_whole_glyph : (l : Lookup) → IsLookup l on_bases 0 → base_in l of_bases (base 2 0 ∷ part_of 1 (base 3 0) ∷ []) ≡ Some 1
+      → base_in l of_bases (component_of 0 (of_ligature 1 (base 2 0)) ∷ component_of 1 (of_ligature 1 (base 3 0)) ∷ []) ≡ Some 0
+  pub after_a_whole_glyph : (l : Lookup) → IsLookup l on_bases 0 → base_in l of_bases (base 2 0 ∷ component_of 1 (base 3 0) ∷ []) ≡ Some 1
   pub whole_glyph : (l : Lookup) → IsLookup l on_bases 0
-      → base_in l of_bases (part_of 0 (base 2 0) ∷ record (base 3 0) { properties = record (part_of 1 (base 3 0)).properties { multiplied = false } } ∷ [])
+      → base_in l of_bases (component_of 0 (base 2 0) ∷ record (base 3 0) { properties = record (component_of 1 (base 3 0)).properties { multiplied = false } } ∷ [])
       ≡ Some 1
-  pub first_in_the_line : (l : Lookup) → IsLookup l on_bases 0 → base_in l of_bases (part_of 1 (base 3 0) ∷ []) ≡ Some 0
+  pub first_in_the_line : (l : Lookup) → IsLookup l on_bases 0 → base_in l of_bases (component_of 1 (base 3 0) ∷ []) ≡ Some 0
   pub for_ligatures : (l : Lookup) → IsLookup l on_bases 0
-      → base_in l of_ligatures (part_of 0 (base 2 0) ∷ part_of 1 (base 3 0) ∷ []) ≡ Some 1
-  -- a part that one subtable passed over stays passed over for the next one
+      → base_in l of_ligatures (component_of 0 (base 2 0) ∷ component_of 1 (base 3 0) ∷ []) ≡ Some 1
+  -- a component that one subtable passed over stays passed over for the next one
   pub passed_over_before : (l : Lookup) → IsLookup l on_bases 0
-      → base_of l of_bases (part_of 0 (base 3 0) ∷ part_of 1 (base 2 0) ∷ mark 8 0 ∷ []) 2 (record { until = 2; place = Some 0 }) ≡ Some 0
+      → base_of l of_bases (component_of 0 (base 3 0) ∷ component_of 1 (base 2 0) ∷ mark 8 0 ∷ []) 2 (record { until = 2; place = Some 0 }) ≡ Some 0
 
-pub worked_parts : WorkedParts
-worked_parts = record {
-  first_part = λ l is. rw (is.mask, is.table) refl;
+pub worked_multiplied : WorkedMultiplied
+worked_multiplied = record {
+  first_component = λ l is. rw (is.mask, is.table) refl;
   first_of_three = λ l is. rw (is.mask, is.table) refl;
-  part_that_is_listed = λ l is. rw (is.mask, is.table) refl;
+  component_that_is_listed = λ l is. rw (is.mask, is.table) refl;
   mark_on_the_first = λ l is. rw is.mask refl;
-  part_after_a_mark = λ l is. rw is.mask refl;
-  next_first_part = λ l is. rw is.mask refl;
-  not_the_part_before = λ l is. rw is.mask refl;
+  component_after_a_mark = λ l is. rw is.mask refl;
+  next_first_component = λ l is. rw is.mask refl;
+  not_the_component_before = λ l is. rw is.mask refl;
   of_another_ligature = λ l is. rw is.mask refl;
   of_one_ligature = λ l is. rw (is.mask, is.table) refl;
   after_a_whole_glyph = λ l is. rw is.mask refl;

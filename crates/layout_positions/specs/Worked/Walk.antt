@@ -9,25 +9,25 @@ use Rattle.shape_items.specs.Buffer.{Buffer}
 use Rattle.shape_items.specs.Items.{Item}
 use Rattle.layout_matching.specs.declared.lookup.Lookup.{Lookup}
 use Rattle.layout_positions.specs.Walk.{positioned}
-use Rattle.layout_positions.specs.Worked.Lines.{base, mark, part_of, line, advances, offsets, chains, masks}
+use Rattle.layout_positions.specs.Worked.Lines.{base, mark, component_of, line, advances, offsets, chains, masks}
 use Rattle.layout_positions.specs.Worked.Marks.{on_bases}
 use Rattle.layout_positions.specs.Worked.Pairs.{single_one, single_two, pairs_one, pairs_both, IsLookup}
 
 -- a lookup of this type with one subtable, and one with two
-abbrev one_part : ℕ → List ℕ → List ℕ
-one_part kind part = 0 ∷ kind ∷ 0 ∷ 0 ∷ 0 ∷ 1 ∷ 0 ∷ 8 ∷ part
+abbrev one_subtable : ℕ → List ℕ → List ℕ
+one_subtable kind subtable = 0 ∷ kind ∷ 0 ∷ 0 ∷ 0 ∷ 1 ∷ 0 ∷ 8 ∷ subtable
 
-abbrev two_parts : List ℕ
-two_parts = 0 ∷ 1 ∷ 0 ∷ 0 ∷ 0 ∷ 2 ∷ 0 ∷ 10 ∷ 0 ∷ 28 ∷ (single_one ++ single_two)
+abbrev two_subtables : List ℕ
+two_subtables = 0 ∷ 1 ∷ 0 ∷ 0 ∷ 0 ∷ 2 ∷ 0 ∷ 10 ∷ 0 ∷ 28 ∷ (single_one ++ single_two)
 
 -- a subtable far away
 abbrev far : List ℕ
-far = one_part 9 (0 ∷ 1 ∷ 0 ∷ 1 ∷ 0 ∷ 0 ∷ 0 ∷ 8 ∷ single_one)
+far = one_subtable 9 (0 ∷ 1 ∷ 0 ∷ 1 ∷ 0 ∷ 0 ∷ 0 ∷ 8 ∷ single_one)
 
 -- a table with two lookups: by the first one, at 16, lookup 1 is applied to the second of two glyphs 2 or 3
 abbrev in_context : List ℕ
-in_context = 0 ∷ 1 ∷ 0 ∷ 0 ∷ 0 ∷ 0 ∷ 0 ∷ 0 ∷ 0 ∷ 10 ∷ 0 ∷ 2 ∷ 0 ∷ 6 ∷ 0 ∷ 36 ∷ one_part 7 (
-    0 ∷ 3 ∷ 0 ∷ 2 ∷ 0 ∷ 1 ∷ 0 ∷ 14 ∷ 0 ∷ 14 ∷ 0 ∷ 1 ∷ 0 ∷ 1 ∷ 0 ∷ 1 ∷ 0 ∷ 2 ∷ 0 ∷ 2 ∷ 0 ∷ 3 ∷ one_part 1 single_one)
+in_context = 0 ∷ 1 ∷ 0 ∷ 0 ∷ 0 ∷ 0 ∷ 0 ∷ 0 ∷ 0 ∷ 10 ∷ 0 ∷ 2 ∷ 0 ∷ 6 ∷ 0 ∷ 36 ∷ one_subtable 7 (
+    0 ∷ 3 ∷ 0 ∷ 2 ∷ 0 ∷ 1 ∷ 0 ∷ 14 ∷ 0 ∷ 14 ∷ 0 ∷ 1 ∷ 0 ∷ 1 ∷ 0 ∷ 1 ∷ 0 ∷ 2 ∷ 0 ∷ 2 ∷ 0 ∷ 3 ∷ one_subtable 1 single_one)
 
 abbrev over : Lookup → List Item → Buffer
 over l items = positioned (l ∷ []) (line LeftToRight items)
@@ -44,20 +44,20 @@ abbrev still : ℤ × ℤ
 still = (pos 0, pos 0)
 
 pub record WorkedWalk : Type 0 where
-  pub each_glyph : (l : Lookup) → IsLookup l (one_part 1 single_one) 0 → l.place ≡ 0
+  pub each_glyph : (l : Lookup) → IsLookup l (one_subtable 1 single_one) 0 → l.place ≡ 0
       → offsets (over l (base 2 0 ∷ base 7 1 ∷ base 3 2 ∷ [])) ≡ (pos 10, pos 0) ∷ still ∷ (pos 10, pos 0) ∷ []
-  pub where_it_is_on : (l : Lookup) → IsLookup l (one_part 1 single_one) 0 → l.place ≡ 0
+  pub where_it_is_on : (l : Lookup) → IsLookup l (one_subtable 1 single_one) 0 → l.place ≡ 0
       → offsets (over l (base 2 0 ∷ off 3 1 ∷ [])) ≡ (pos 10, pos 0) ∷ still ∷ []
-  pub first_subtable_alone : (l : Lookup) → IsLookup l two_parts 0 → l.place ≡ 0 → offsets (over l (base 2 0 ∷ [])) ≡ (pos 10, pos 0) ∷ []
+  pub first_subtable_alone : (l : Lookup) → IsLookup l two_subtables 0 → l.place ≡ 0 → offsets (over l (base 2 0 ∷ [])) ≡ (pos 10, pos 0) ∷ []
   pub far_away : (l : Lookup) → IsLookup l far 0 → l.place ≡ 0 → offsets (over l (base 2 0 ∷ [])) ≡ (pos 10, pos 0) ∷ []
-  pub pair_after_pair : (l : Lookup) → IsLookup l (one_part 2 pairs_one) 0 → l.place ≡ 0
+  pub pair_after_pair : (l : Lookup) → IsLookup l (one_subtable 2 pairs_one) 0 → l.place ≡ 0
       → advances (over l (base 2 0 ∷ base 3 1 ∷ base 3 2 ∷ [])) ≡ (pos 550, pos 0) ∷ (pos 530, pos 0) ∷ (pos 600, pos 0) ∷ []
-  pub marks_on_one_base : (l : Lookup) → IsLookup l (one_part 4 on_bases) 0 → l.place ≡ 0
+  pub marks_on_one_base : (l : Lookup) → IsLookup l (one_subtable 4 on_bases) 0 → l.place ≡ 0
       → chains (over l (base 2 0 ∷ mark 8 0 ∷ mark 8 0 ∷ mark 8 0 ∷ [])) ≡ pos 0 ∷ negsuc 0 ∷ negsuc 1 ∷ negsuc 2 ∷ []
-  pub mark_on_the_first_part : (l : Lookup) → IsLookup l (one_part 4 on_bases) 0 → l.place ≡ 0
-      → chains (over l (part_of 0 (base 2 0) ∷ part_of 1 (base 3 0) ∷ mark 8 0 ∷ [])) ≡ pos 0 ∷ pos 0 ∷ negsuc 1 ∷ []
-  pub mark_on_the_listed_part : (l : Lookup) → IsLookup l (one_part 4 on_bases) 0 → l.place ≡ 0
-      → chains (over l (part_of 0 (base 3 0) ∷ part_of 1 (base 2 0) ∷ mark 8 0 ∷ [])) ≡ pos 0 ∷ pos 0 ∷ negsuc 0 ∷ []
+  pub mark_on_the_first_component : (l : Lookup) → IsLookup l (one_subtable 4 on_bases) 0 → l.place ≡ 0
+      → chains (over l (component_of 0 (base 2 0) ∷ component_of 1 (base 3 0) ∷ mark 8 0 ∷ [])) ≡ pos 0 ∷ pos 0 ∷ negsuc 1 ∷ []
+  pub mark_on_the_listed_component : (l : Lookup) → IsLookup l (one_subtable 4 on_bases) 0 → l.place ≡ 0
+      → chains (over l (component_of 0 (base 3 0) ∷ component_of 1 (base 2 0) ∷ mark 8 0 ∷ [])) ≡ pos 0 ∷ pos 0 ∷ negsuc 0 ∷ []
   pub named_glyph_alone : (l : Lookup) → IsLookup l in_context 0 → l.place ≡ 16
       → offsets (over l (base 2 0 ∷ base 3 1 ∷ base 7 2 ∷ [])) ≡ still ∷ (pos 10, pos 0) ∷ still ∷ []
   -- at 0 glyph 7 is looked at in vain, at 2 the end of the list
@@ -77,8 +77,8 @@ worked_walk = record {
   far_away = λ l is p. rw (is.table, is.flags, is.mask, is.positioning, p) refl;
   pair_after_pair = λ l is p. rw (is.table, is.flags, is.mask, is.positioning, p) refl;
   marks_on_one_base = λ l is p. rw (is.table, is.flags, is.mask, is.positioning, p) refl;
-  mark_on_the_first_part = λ l is p. rw (is.table, is.flags, is.mask, is.positioning, p) refl;
-  mark_on_the_listed_part = λ l is p. rw (is.table, is.flags, is.mask, is.positioning, p) refl;
+  mark_on_the_first_component = λ l is p. rw (is.table, is.flags, is.mask, is.positioning, p) refl;
+  mark_on_the_listed_component = λ l is p. rw (is.table, is.flags, is.mask, is.positioning, p) refl;
   named_glyph_alone = λ l is p. rw (is.table, is.flags, is.mask, is.positioning, is.syllables, p) refl;
   in_vain = λ l is p. rw (is.table, is.flags, is.mask, is.positioning, is.syllables, p) refl;
   in_vain_unasked = λ l is p. rw (is.table, is.flags, is.mask, is.positioning, is.syllables, p) refl;

@@ -17,6 +17,6 @@ gsub = words (1 ∷ 0 ∷ 10 ∷ 30 ∷ 44 ∷ [])
 abbrev pub gdef : List ℕ
 gdef = words (1 ∷ 0 ∷ 12 ∷ 0 ∷ 0 ∷ 22 ∷ 1 ∷ 5 ∷ 2 ∷ 1 ∷ 3 ∷ 1 ∷ 6 ∷ 1 ∷ 2 ∷ [])
 
--- one part, of a format that isn't read
+-- one subtable, of a format that isn't read
 abbrev pub kern : List ℕ
 kern = words (0 ∷ 1 ∷ 0 ∷ 6 ∷ 0x0100 ∷ [])

@@ -10,5 +10,5 @@ returns-in-Some-clause-value c =
     let n = fitting t (u16_of t c.args.set) (c.args.set + 2) 2 in
     let more : c.loop-r.r < n = omega (arith, c.loop-r-test.true, c.records-r-end.ensures.value) in
     sym (c.loop-r.invariant
-    ∙ first_some_found (found_rule c.args.lookup.now c.args.items.now c.args.origin c.args.part c.args.set) n c.loop-r.r c.in-Some.found more
+    ∙ first_some_found (found_rule c.args.lookup.now c.args.items.now c.args.origin c.args.subtable c.args.set) n c.loop-r.r c.in-Some.found more
     (sym c.in-Some.ensures.value))

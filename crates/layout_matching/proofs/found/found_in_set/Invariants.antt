@@ -7,5 +7,5 @@ use Rattle.layout_matching.proofs.found.found_in_set.Given as goal
 abbrev pub invariant-loop-r : goal.invariant-loop-r
 invariant-loop-r l =
     let n = fitting l.lookup.table.now (u16_of l.lookup.table.now l.set) (l.set + 2) 2 in
-    first_some (found_rule l.lookup l.items l.origin l.part l.set) n 0
-    ≡ first_some (found_rule l.lookup l.items l.origin l.part l.set) (n - l.r) l.r
+    first_some (found_rule l.lookup l.items l.origin l.subtable l.set) n 0
+    ≡ first_some (found_rule l.lookup l.items l.origin l.subtable l.set) (n - l.r) l.r

@@ -9,15 +9,15 @@ loop-k-preserved c =
     let l = c.args.lookup.now in
     let i = c.args.i in
     let k = c.loop-k.k in
-    let first : Trial = record { buffer = c.args.buffer.now; next = None; seen = c.args.carried.seen; part = 0 } in
-    let here : Trial = record { buffer = c.loop-k.buffer; next = c.loop-k.placed.next; seen = c.loop-k.placed.seen; part = k } in
+    let first : Trial = record { buffer = c.args.buffer.now; next = None; seen = c.args.carried.seen; subtable = 0 } in
+    let here : Trial = record { buffer = c.loop-k.buffer; next = c.loop-k.placed.next; seen = c.loop-k.placed.seen; subtable = k } in
     let there : Trial = record {
-      buffer = c.try_part-placed.new.buffer;
-      next = c.try_part-placed.result.next;
-      seen = c.try_part-placed.result.seen;
-      part = k + 1;
+      buffer = c.try_subtable-placed.new.buffer;
+      next = c.try_subtable-placed.result.next;
+      seen = c.try_subtable-placed.result.seen;
+      subtable = k + 1;
     } in
-    let made : there ≡ trial_step l i here = c.try_part-placed.ensures in
+    let made : there ≡ trial_step l i here = c.try_subtable-placed.ensures in
     record {
       made = times_step (trial_step l i) k first here there c.loop-k.invariant.made made;
       len = ap (λ (s : Trial). length s.buffer.items) made ∙ length_tried l i here ∙ c.loop-k.invariant.len;

@@ -1,6 +1,6 @@
 use Rattle.layout_positions.specs.Worked.Marks.{worked_marks}
 use Rattle.layout_positions.specs.Worked.Marks.{worked_bases}
-use Rattle.layout_positions.specs.Worked.Marks.{worked_parts}
+use Rattle.layout_positions.specs.Worked.Marks.{worked_multiplied}
 use Rattle.layout_positions.specs.Worked.Marks.{worked_components}
 use Rattle.layout_positions.specs.Worked.Cursive.{worked_cursive}
 use Rattle.layout_positions.specs.Worked.Attachment.{worked_attachment}
@@ -13,8 +13,8 @@ returns-clause-marks c = worked_marks
 pub returns-clause-bases : goal.returns-clause-bases
 returns-clause-bases c = worked_bases
 
-pub returns-clause-parts : goal.returns-clause-parts
-returns-clause-parts c = worked_parts
+pub returns-clause-multiplied : goal.returns-clause-multiplied
+returns-clause-multiplied c = worked_multiplied
 
 pub returns-clause-components : goal.returns-clause-components
 returns-clause-components c = worked_components

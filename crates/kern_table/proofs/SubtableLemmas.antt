@@ -1,13 +1,13 @@
--- what one step over the parts of a table, or over the glyphs of a buffer, does
+-- what one step over the subtables of a table, or over the glyphs of a buffer, does
 use Rattle.std.proofs.Common.{◌≡◌, ℕ, suc, ◌<◌, ◌≤◌, ◌+◌, ◌-◌, true, false, nat_lt, List, refl, arith}
 use Rattle.std.proofs.lemmas.Bool.Decides.{nat_tests}
 use Rattle.shape_items.specs.Buffer.{Buffer}
 use Rattle.shape_font.specs.Bytes.{u16_of}
-use Rattle.kern_table.specs.Tables.{part_kerned, kerned_from}
+use Rattle.kern_table.specs.Tables.{subtable_kerned, kerned_from}
 use Rattle.kern_table.specs.Walk.{kerned_at, left_after, kerned_to}
 
 pub kerned_from_next : (t : List ℕ) (mask n i start : ℕ) (b : Buffer) → i < n → 6 ≤ u16_of t (start + 2)
-    → kerned_from t mask (n - i) start b ≡ kerned_from t mask (n - (i + 1)) (start + u16_of t (start + 2)) (part_kerned t start mask b)
+    → kerned_from t mask (n - i) start b ≡ kerned_from t mask (n - (i + 1)) (start + u16_of t (start + 2)) (subtable_kerned t start mask b)
 kerned_from_next t mask n i start b h long =
     let e : n - i ≡ suc (n - (i + 1)) = omega arith in
     let enough : nat_lt (u16_of t (start + 2)) 6 ≡ false = grind (arith, nat_tests, long) in

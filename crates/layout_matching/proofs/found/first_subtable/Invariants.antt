@@ -1,10 +1,10 @@
 use Rattle.std.proofs.Common.{◌≡◌, ◌-◌}
-use Rattle.layout_matching.specs.Found.{part_of}
+use Rattle.layout_matching.specs.Found.{subtable_of}
 use Rattle.layout_matching.specs.Loops.{first_some}
 use Rattle.layout_tables.specs.Lookups.{subtable_count_of}
-use Rattle.layout_matching.proofs.found.first_part.Given as goal
+use Rattle.layout_matching.proofs.found.first_subtable.Given as goal
 
 abbrev pub invariant-loop-i : goal.invariant-loop-i
 invariant-loop-i l =
     let n = subtable_count_of l.lookup.table.now l.lookup.place in
-    first_some (part_of l.lookup) n 0 ≡ first_some (part_of l.lookup) (n - l.i) l.i
+    first_some (subtable_of l.lookup) n 0 ≡ first_some (subtable_of l.lookup) (n - l.i) l.i
