@@ -287,13 +287,13 @@ fn join(
         ≡ joined lookup.now made.now found at buffer.old }
 {
     let first = item(buffer, at);
-    let components = components_of(&first);
+    let of_first = components_of(&first);
     let walk = Joining {
         at: next_place(buffer.len(), at),
         left: components(lookup.table, found.ligature).saturating_sub(1),
         id: first._hb_glyph_info_get_ligature_id(),
-        components,
-        so_far: u16::from(components),
+        components: of_first,
+        so_far: u16::from(of_first),
     };
     let end = next_place(buffer.len(), found.last);
     merge(buffer, at, end);
