@@ -132,9 +132,8 @@ fn classed_value(kern: &[u8], start: usize, left: u32, right: u32) -> i32
     )
 }
 
-/// How far two glyphs are moved apart by a subtable of the table, in units of the face; together if it is negative, and 0
-/// if the subtable doesn't have them. A subtable of format 2 has values by classes, every other one is read as format 0.
-pub(crate) fn value(subtable: Subtable<'_>, left: u32, right: u32) -> i32
+/// How far two glyphs are moved apart by a subtable of which all is told.
+pub(crate) fn told_value(subtable: Subtable<'_>, left: u32, right: u32) -> i32
     requires { IsTold subtable }
     ensures value { result ≡ value_of subtable.entry.kern.now subtable.entry.start left right }
     ensures low { negsuc 32767 ≤ℤ result }
@@ -145,4 +144,16 @@ pub(crate) fn value(subtable: Subtable<'_>, left: u32, right: u32) -> i32
     } else {
         listed_value(subtable, left, right)
     }
+}
+
+/// How far two glyphs are moved apart by the subtable of the table that begins at `start`, in units of the face;
+/// together if it is negative, and 0 if the subtable doesn't have them. A subtable of format 2 has values by classes, every
+/// other one is read as format 0.
+pub fn value(kern: &[u8], start: usize, left: u32, right: u32) -> i32
+    requires { start < 2 ^ 34 }
+    ensures value { result ≡ value_of kern.now start left right }
+    ensures low { negsuc 32767 ≤ℤ result }
+    ensures high { result ≤ℤ pos 32767 }
+{
+    told_value(told(kern, start), left, right)
 }

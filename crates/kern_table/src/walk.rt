@@ -9,7 +9,7 @@ ghost use Rattle.shape_items.specs.Buffer.{limit_of};
 ghost use Rattle.kern_table.specs.Pairs.{IsTold};
 ghost use Rattle.kern_table.specs.Walk.{is_skipped as is_skipped_of, moved_on as moved_on_of, moved as moved_of, position_at, position_put, pair_moved, pair_kerned, kerned_at, left_after, kerned as kerned_of};
 
-use crate::pairs::{Subtable, told, value};
+use crate::pairs::{Subtable, told, told_value};
 use bitflags::Flags;
 use shape_buffer::buffer::{
     GlyphPosition, GlyphPropsFlags, hb_buffer_t, hb_glyph_info_t, hb_mask_t,
@@ -114,7 +114,7 @@ fn kern_pair(subtable: Subtable<'_>, buffer: &mut hb_buffer_t, i: usize, j: usiz
     ensures limit { limit_of buffer.new ≡ limit_of buffer.old }
 {
     let (left, right) = (buffer.infos()[i].glyph_id, buffer.infos()[j].glyph_id);
-    move_pair(buffer, i, j, value(subtable, left, right));
+    move_pair(buffer, i, j, told_value(subtable, left, right));
 }
 
 /// Kerns glyph `j` with the one that waits at its left, if kerning is on for it and it isn't skipped.
