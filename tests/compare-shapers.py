@@ -239,7 +239,9 @@ def compare_script(comparison, script, args, chance):
         paths = fonts_of(script, folder)
         if not args.all:
             paths = chance.sample(paths, min(args.fonts, len(paths)))
-        texts = Texts(script, ("" if FALLBACK_FORMS else "\u070f") + ("" if args.ten else "\u034f"))
+        # (U+0628 has a text without a script taken for Arabic)
+        forms = "" if FALLBACK_FORMS else "\u070f" if script in ("Arab", "Syrc") else "\u0628"
+        texts = Texts(script, forms + ("" if args.ten else "\u034f"))
         kinds = list(DROPPED) if script in SHAPED else ["whole"]
         if script == "Arab" and not FALLBACK_FORMS:
             kinds = ["whole", "no GPOS"]
