@@ -368,13 +368,13 @@ class Search:
               % (self.runs, self.shaped, self.wrong, self.slow, slowest[0], slowest[2], largest[1], largest[2], time.time() - began))
 
 
-def take_mutated(search, bases, seed, index):
-    """Runs the font of a seed and a number."""
+def take_mutated(search, bases, seed, index, length=LENGTH):
+    """Runs the font of a seed and a number, over so much of its text."""
     chance = random.Random("%d %d" % (seed, index))
     name = chance.choice(sorted(bases))
     data, text = bases[name].mutated(chance), bases[name].text(chance)
     options = chance.choice([[], ["--show-extents"], ["--direction=rtl"], ["--direction=ttb"], ["--features=aalt,salt,dlig,ss01,kern"], ["--cluster-level=2"]])
-    search.take("%d %d %s" % (seed, index, name), data, text, ["--script=" + bases[name].script, "--show-flags", *options])
+    search.take("%d %d %d %s" % (seed, index, length, name), data, text[:length], ["--script=" + bases[name].script, "--show-flags", *options])
 
 
 def run_gate(search, bases):
@@ -385,7 +385,7 @@ def run_gate(search, bases):
     with open(WORST, encoding="utf-8") as file:
         for line in file:
             if not line.startswith("#"):
-                take_mutated(search, bases, *map(int, line.split()[:2]))
+                take_mutated(search, bases, *map(int, line.split()[:3]))
 
 
 def lacks():
@@ -438,8 +438,8 @@ def main():
         if args.keep:
             worst = sorted(search.taken, reverse=True)[:30] + sorted(search.taken, key=lambda it: -it[1])[:10]
             with open(args.keep, "w", encoding="utf-8") as file:
-                file.write("# seed and number of a mutated font, which it was cut from; seconds and megabytes when it was kept\n")
-                file.writelines("%s  %.2f %.0f\n" % (it[2], it[0], it[1]) for it in dict.fromkeys(worst))
+                file.write("# seed and number of a mutated font, how much text, what the font was cut from; seconds and megabytes\n")
+                file.writelines("%s %.2f %.0f\n" % (it[2], it[0], it[1]) for it in dict.fromkeys(worst))
     # (a search names fonts that are slow, of which docs/SAFE_AND_TOTAL.md says the bound, and goes on)
     sys.exit(search.wrong + (0 if args.search else search.slow) != 0)
 
