@@ -197,12 +197,14 @@ BOMBS = {
     "kern of 65,535 parts past the end": ({"kern": kern(65535, 20)}, "a"),
     "classes of 10,000 ranges": ({"GDEF": gdef(10000), "GPOS": layout([lookup(4, [marks_on(4)])], b"mark")}, "am"),
 }
-# bombs that take more than two seconds over the whole length, and the length that each is run with: those that apply nested
-# lookups as often as the limit of operations has it, as HarfBuzz does, and those that share parts, which HarfBuzz refuses
+# bombs that take more than two seconds over the whole length, or nearly, and the length that each is run with: those that
+# apply nested lookups as often as the limit of operations has it, as HarfBuzz does, those of 1,000 lookups (1.6 and 2.0 s),
+# and those that share parts, which HarfBuzz refuses
 OPEN = {
     "calls itself twice": 5000, "calls itself at each of 64 places": 3000,
+    "skips half of the text, 1,000 lookups": 5000, "marks without a base, 1,000 lookups": 5000,
     "one lookup, named 20,000 times": 200, "one subtable, named 30,000 times": 80, "30,000 subtables of 100 lookups": 1,
-    "32,000 rules at one place": 20, "32,000 rules, 100 lookups": 2, "32,000 ligatures at one place": 20,
+    "32,000 rules at one place": 20, "32,000 rules, 100 lookups": 1, "32,000 ligatures at one place": 20,
 }
 
 
