@@ -95,8 +95,8 @@ def without_break(line):
 def marks_twice(options, text, theirs, ours):
     """Whether lines differ in flags alone, of a text with three marks at level 2: moves of marks that overlap are marked as
     one here, and one by one in HarfBuzz."""
-    classes = "".join("m" if unicodedata.combining(c) else "-" for c in unicodedata.normalize("NFD", text))
-    return "--cluster-level=2" in options and "mmm" in classes and without_break(theirs) == without_break(ours)
+    marks = sum(unicodedata.combining(c) != 0 for c in unicodedata.normalize("NFD", text))
+    return "--cluster-level=2" in options and marks >= 3 and without_break(theirs) == without_break(ours)
 
 
 def made_font(path, syllables, jamo, narrow, features):
