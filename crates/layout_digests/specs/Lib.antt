@@ -1,0 +1,3 @@
+pub mod Coverages
+pub mod Digests
+pub mod Lookups
