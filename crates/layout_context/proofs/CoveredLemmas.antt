@@ -223,7 +223,7 @@ tried-uncovered l spot b gsub out =
     ap (λ r. concat_marked r b) (until_untried_below (reach_at_subtable l b.items origin) spot.at (subtable_count_of l.table.now l.place) (λ i below. at_subtable-reach l b.items origin i gsub out below)
     (subtable_count_of l.table.now l.place) 0 (omega arith)) ∙ concat_marked_untried spot.at b
 
-nested-uncovered : (level : ℕ) (l : Lookup) (spot : Spot) (b : Buffer) → l.positioning ≡ false → IsUncovered l (item_at b spot.at).glyph_id
+pub nested-uncovered : (level : ℕ) (l : Lookup) (spot : Spot) (b : Buffer) → l.positioning ≡ false → IsUncovered l (item_at b spot.at).glyph_id
     → nested_applied level l spot b ≡ unapplied b
 nested-uncovered zero l spot b gsub out = refl
 nested-uncovered (suc level) l spot b gsub out =

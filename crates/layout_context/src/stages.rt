@@ -4,12 +4,13 @@ ghost use Rattle.shape_buffer.specs.Outcome.{IsWithinLimit, Outcome, step};
 ghost use Rattle.shape_buffer.specs.declared.buffer.error.ShapeError.TheVariants.{Length};
 ghost use Rattle.layout_substitution.specs.Edits.{is_past};
 ghost use Rattle.layout_context.specs.Nested.{nested_applied};
-ghost use Rattle.layout_context.specs.Stages.{next_spot as next_spot_of, lookup_step, walked, looked_up, all_looked_up, most_nested as most_nested_of, stage_made, substituted, HasPlace};
+ghost use Rattle.layout_context.specs.Stages.{next_spot as next_spot_of, lookup_step, walked, looked_up, most_nested as most_nested_of, stage_made, substituted};
+ghost use Rattle.layout_context.specs.Digested.{IsDigested, HoldsGlyphs, lookups_in};
 
 use crate::nested::apply_nested;
 use crate::reverse::{is_reverse, reverse};
 use layout_buffer::GapBuffer;
-use layout_matching::lookup::Lookup;
+use layout_digests::{Digest, Digested};
 use layout_matching::skipping::is_on;
 use layout_substitution::apply::Spot;
 use layout_substitution::edits::item;
@@ -34,28 +35,30 @@ fn next_spot(spot: Spot, count: usize) -> Spot
     next
 }
 
-/// Applies the lookup at one place, or goes on to the next item.
+/// Applies the lookup at one place, or goes on to the next item. Where its digest doesn't hold the glyph, no table is read.
+#[tactic(auto, using(crate::proofs::DigestLemmas::step_out))]
 fn step_on(
     alloc: Global,
     levels: u32,
-    lookup: &Lookup<'_>,
+    named: &Digested<'_>,
     buffer: &mut GapBuffer,
     spot: Spot,
 ) -> Result<Spot, ShapeError>
-    requires near { lookup.now.place < 2 ^ 17 }
+    requires said { IsDigested named.now }
     ensures ok { IfOk result (λ next. record { buffer = buffer.new; spot = next }
-        ≡ lookup_step (nested_applied levels lookup.now) lookup.now (record { buffer = buffer.old; spot = spot })) }
-    ensures length { IsErrOf result Length → is_past (lookup_step (nested_applied levels lookup.now) lookup.now
+        ≡ lookup_step (nested_applied levels named.now.lookup) named.now.lookup (record { buffer = buffer.old; spot = spot })) }
+    ensures length { IsErrOf result Length → is_past (lookup_step (nested_applied levels named.now.lookup) named.now.lookup
         (record { buffer = buffer.old; spot = spot })).buffer ≡ true }
 {
     if buffer.length_limit() < buffer.len() || buffer.len() <= spot.at {
         return Ok(spot);
     }
     let next = next_spot(spot, buffer.len());
-    if !is_on(lookup, &item(buffer, spot.at)) {
+    let item = item(buffer, spot.at);
+    if !named.digest.has(item.glyph_id) || !is_on(&named.lookup, &item) {
         return Ok(next);
     }
-    match apply_nested(alloc, levels, lookup, buffer, spot) {
+    match apply_nested(alloc, levels, &named.lookup, buffer, spot) {
         Err(error) => Err(error),
         Ok(Some(there)) => Ok(there),
         Ok(None) => Ok(next),
@@ -67,14 +70,14 @@ fn step_on(
 fn walk(
     alloc: Global,
     levels: u32,
-    lookup: &Lookup<'_>,
+    named: &Digested<'_>,
     buffer: &mut GapBuffer,
     spot: Spot,
 ) -> Result<Spot, ShapeError>
-    requires near { lookup.now.place < 2 ^ 17 }
+    requires said { IsDigested named.now }
     ensures ok { IfOk result (λ next. record { buffer = buffer.new; spot = next }
-        ≡ walked (nested_applied levels lookup.now) lookup.now (record { buffer = buffer.old; spot = spot })) }
-    ensures length { IsErrOf result Length → is_past (walked (nested_applied levels lookup.now) lookup.now
+        ≡ walked (nested_applied levels named.now.lookup) named.now.lookup (record { buffer = buffer.old; spot = spot })) }
+    ensures length { IsErrOf result Length → is_past (walked (nested_applied levels named.now.lookup) named.now.lookup
         (record { buffer = buffer.old; spot = spot })).buffer ≡ true }
 {
     let mut spot = Spot {
@@ -84,7 +87,7 @@ fn walk(
         whole: buffer.len(),
     };
     for _i in 0..buffer.len() {
-        match step_on(alloc, levels, lookup, buffer, spot) {
+        match step_on(alloc, levels, named, buffer, spot) {
             Err(error) => return Err(error),
             Ok(next) => spot = next,
         }
@@ -96,21 +99,21 @@ fn walk(
 fn look_up(
     alloc: Global,
     levels: u32,
-    lookup: &Lookup<'_>,
+    named: &Digested<'_>,
     buffer: &mut GapBuffer,
     spot: Spot,
 ) -> Result<Spot, ShapeError>
-    requires near { lookup.now.place < 2 ^ 17 }
+    requires said { IsDigested named.now }
     ensures ok { IfOk result (λ next. record { buffer = buffer.new; spot = next }
-        ≡ looked_up levels lookup.now (record { buffer = buffer.old; spot = spot })) }
+        ≡ looked_up levels named.now.lookup (record { buffer = buffer.old; spot = spot })) }
     ensures length { IsErrOf result Length
-        → is_past (looked_up levels lookup.now (record { buffer = buffer.old; spot = spot })).buffer ≡ true }
+        → is_past (looked_up levels named.now.lookup (record { buffer = buffer.old; spot = spot })).buffer ≡ true }
 {
-    if is_reverse(lookup) {
-        reverse(lookup, buffer);
+    if is_reverse(&named.lookup) {
+        reverse(&named.lookup, buffer);
         return Ok(spot);
     }
-    walk(alloc, levels, lookup, buffer, spot)
+    walk(alloc, levels, named, buffer, spot)
 }
 
 /// How many nested lookups may be applied in a stage that begins with `n` items.
@@ -120,17 +123,29 @@ fn most_nested(n: usize) -> usize
     n.saturating_mul(MAX_OPS_FACTOR).max(MAX_OPS_MIN)
 }
 
-/// Lookups one after the other.
-#[tactic(auto, using(crate::proofs::StageLemmas::past_all))]
+/// A digest that holds the glyphs of a list.
+#[tactic(auto, using(crate::proofs::DigestLemmas::one_held))]
+fn run_digest(buffer: &GapBuffer) -> Digest
+    ensures { HoldsGlyphs result buffer.now.items }
+{
+    let mut all = Digest::new();
+    for i in 0..buffer.len() {
+        all = all.with_glyph(item(buffer, i).glyph_id);
+    }
+    all
+}
+
+/// Lookups one after the other. One whose digest shares no glyph with the list is passed over.
+#[tactic(auto, using(crate::proofs::StageLemmas::past_all, crate::proofs::DigestLemmas::looked_on, crate::proofs::DigestLemmas::passed_over))]
 fn look_all_up(
     alloc: Global,
     levels: u32,
-    lookups: &[Lookup<'_>],
+    lookups: &[Digested<'_>],
     buffer: &mut GapBuffer,
 ) -> Result<(), ShapeError>
-    requires near { All HasPlace lookups.now }
-    ensures ok { OnOk result (buffer.new ≡ stage_made levels lookups.now buffer.old) }
-    ensures length { IsErrOf result Length → is_past (stage_made levels lookups.now buffer.old) ≡ true }
+    requires said { All IsDigested lookups.now }
+    ensures ok { OnOk result (buffer.new ≡ stage_made levels (lookups_in lookups.now) buffer.old) }
+    ensures length { IsErrOf result Length → is_past (stage_made levels (lookups_in lookups.now) buffer.old) ≡ true }
 {
     let mut spot = Spot {
         at: 0,
@@ -138,10 +153,14 @@ fn look_all_up(
         left: most_nested(buffer.len()),
         whole: 0,
     };
-    for lookup in lookups {
-        match look_up(alloc, levels, lookup, buffer, spot) {
-            Err(error) => return Err(error),
-            Ok(next) => spot = next,
+    let mut run = run_digest(buffer);
+    for named in lookups {
+        if run.may_share(&named.digest) {
+            match look_up(alloc, levels, named, buffer, spot) {
+                Err(error) => return Err(error),
+                Ok(next) => spot = next,
+            }
+            run = run_digest(buffer);
         }
     }
     Ok(())
@@ -172,12 +191,12 @@ fn put_back(walk: GapBuffer, buffer: &mut hb_buffer_t) -> Result<(), ShapeError>
 fn edit_all(
     alloc: Global,
     levels: u32,
-    lookups: &[Lookup<'_>],
+    lookups: &[Digested<'_>],
     buffer: &mut hb_buffer_t,
 ) -> Result<(), ShapeError>
-    requires near { All HasPlace lookups.now }
-    ensures ok { OnOk result (buffer.new ≡ stage_made levels lookups.now buffer.old) }
-    ensures length { IsErrOf result Length → is_past (stage_made levels lookups.now buffer.old) ≡ true }
+    requires said { All IsDigested lookups.now }
+    ensures ok { OnOk result (buffer.new ≡ stage_made levels (lookups_in lookups.now) buffer.old) }
+    ensures length { IsErrOf result Length → is_past (stage_made levels (lookups_in lookups.now) buffer.old) ≡ true }
 {
     let mut walk = GapBuffer::open(alloc, buffer);
     match look_all_up(alloc, levels, lookups, &mut walk) {
@@ -193,12 +212,12 @@ fn edit_all(
 fn substitute_within(
     alloc: Global,
     levels: u32,
-    lookups: &[Lookup<'_>],
+    lookups: &[Digested<'_>],
     buffer: &mut hb_buffer_t,
 ) -> Result<(), ShapeError>
-    requires near { All HasPlace lookups.now }
+    requires said { All IsDigested lookups.now }
     requires within { IsWithinLimit buffer.old }
-    ensures { Outcome (step (stage_made levels lookups.now)) buffer.old buffer.new result }
+    ensures { Outcome (step (stage_made levels (lookups_in lookups.now))) buffer.old buffer.new result }
 {
     match edit_all(alloc, levels, lookups, buffer) {
         Err(error) => Err(error),
@@ -211,12 +230,12 @@ fn substitute_within(
 #[tactic(auto, unfolding(crate::specs::Stages::substituted))]
 pub fn substitute(
     alloc: Global,
-    lookups: &[Lookup<'_>],
+    lookups: &[Digested<'_>],
     buffer: &mut hb_buffer_t,
 ) -> Result<(), ShapeError>
-    requires near { All HasPlace lookups.now }
+    requires said { All IsDigested lookups.now }
     requires within { IsWithinLimit buffer.old }
-    ensures { Outcome (step (substituted lookups.now)) buffer.old buffer.new result }
+    ensures { Outcome (step (substituted (lookups_in lookups.now))) buffer.old buffer.new result }
 {
     substitute_within(alloc, LEVELS, lookups, buffer)
 }
