@@ -41,43 +41,67 @@ within_then d e f one two g is = two g (one g is)
 
 found_equal : (side : ℕ → Ordering) (n start end i : ℕ) → found_in side n start end ≡ Some i → side i ≡ Equal
 found_equal side zero start end i is = cc
-found_equal side (suc n) start end i is = by_test (nat_lt start end) is
+found_equal side (suc n) start end i is =
+    let middle : ℕ = start + (end - start - 1) / 2 in
+    by_test (found_equal side n start middle i) (found_equal side n (middle + 1) end i) (nat_lt start end) is
   where
-    middle : ℕ
-    middle = start + (end - start - 1) / 2
+    middle_of : ℕ
+    middle_of = start + (end - start - 1) / 2
 
-    by_side : (o : Ordering) → side middle ≡ o
-        → (elim o as (λ _. Option ℕ) [ | Less ↦ found_in side n start middle | Equal ↦ Some middle | Greater ↦ found_in side n (middle + 1) end ]) ≡ Some i
-        → side i ≡ Equal
-    by_side Less e found = found_equal side n start middle i found
-    by_side Equal e found = let same : middle ≡ i = cc in ap side (sym same) ∙ e
-    by_side Greater e found = found_equal side n (middle + 1) end i found
+    by_side : (found_in side n start middle_of ≡ Some i → side i ≡ Equal) → (found_in side n (middle_of + 1) end ≡ Some i → side i ≡ Equal)
+        → (o : Ordering) → side middle_of ≡ o
+        → (elim o as (λ _. Option ℕ) [
+          | Less ↦ found_in side n start middle_of
+          | Equal ↦ Some middle_of
+          | Greater ↦ found_in side n (middle_of + 1) end
+        ]) ≡ Some i → side i ≡ Equal
+    by_side less greater Less e found = less found
+    by_side less greater Equal e found = let same : middle_of ≡ i = cc in ap side (sym same) ∙ e
+    by_side less greater Greater e found = greater found
 
-    by_test : (t : Bool) → (elim t as (λ _. Option ℕ) [
-        | true ↦ elim (side middle) as (λ _. Option ℕ) [ | Less ↦ found_in side n start middle | Equal ↦ Some middle | Greater ↦ found_in side n (middle + 1) end ]
-        | false ↦ None ]) ≡ Some i → side i ≡ Equal
-    by_test true found = by_side (side middle) refl found
-    by_test false found = cc
+    by_test : (found_in side n start middle_of ≡ Some i → side i ≡ Equal) → (found_in side n (middle_of + 1) end ≡ Some i → side i ≡ Equal)
+        → (t : Bool) → (elim t as (λ _. Option ℕ) [
+          | true ↦ elim (side middle_of) as (λ _. Option ℕ) [
+            | Less ↦ found_in side n start middle_of
+            | Equal ↦ Some middle_of
+            | Greater ↦ found_in side n (middle_of + 1) end
+          ]
+          | false ↦ None
+        ]) ≡ Some i → side i ≡ Equal
+    by_test less greater true found = by_side less greater (side middle_of) refl found
+    by_test less greater false found = cc
 
 found_below : (side : ℕ → Ordering) (n start end i : ℕ) → found_in side n start end ≡ Some i → i < end
 found_below side zero start end i is = cc
-found_below side (suc n) start end i is = by_test (nat_lt start end) refl is
+found_below side (suc n) start end i is =
+    let middle : ℕ = start + (end - start - 1) / 2 in
+    by_test (found_below side n start middle i) (found_below side n (middle + 1) end i) (nat_lt start end) refl is
   where
-    middle : ℕ
-    middle = start + (end - start - 1) / 2
+    middle_of : ℕ
+    middle_of = start + (end - start - 1) / 2
 
-    by_side : start < end → (o : Ordering)
-        → (elim o as (λ _. Option ℕ) [ | Less ↦ found_in side n start middle | Equal ↦ Some middle | Greater ↦ found_in side n (middle + 1) end ]) ≡ Some i
-        → i < end
-    by_side some Less found = let below = found_below side n start middle i found in omega (arith, some, below)
-    by_side some Equal found = let same : middle ≡ i = cc in omega (arith, some, same)
-    by_side some Greater found = found_below side n (middle + 1) end i found
+    by_side : (found_in side n start middle_of ≡ Some i → i < middle_of) → (found_in side n (middle_of + 1) end ≡ Some i → i < end)
+        → start < end → (o : Ordering)
+        → (elim o as (λ _. Option ℕ) [
+          | Less ↦ found_in side n start middle_of
+          | Equal ↦ Some middle_of
+          | Greater ↦ found_in side n (middle_of + 1) end
+        ]) ≡ Some i → i < end
+    by_side less greater some Less found = let below = less found in omega (arith, some, below)
+    by_side less greater some Equal found = let same : middle_of ≡ i = cc in omega (arith, some, same)
+    by_side less greater some Greater found = greater found
 
-    by_test : (t : Bool) → nat_lt start end ≡ t → (elim t as (λ _. Option ℕ) [
-        | true ↦ elim (side middle) as (λ _. Option ℕ) [ | Less ↦ found_in side n start middle | Equal ↦ Some middle | Greater ↦ found_in side n (middle + 1) end ]
-        | false ↦ None ]) ≡ Some i → i < end
-    by_test true e found = by_side (grind (arith, nat_tests, e)) (side middle) found
-    by_test false e found = cc
+    by_test : (found_in side n start middle_of ≡ Some i → i < middle_of) → (found_in side n (middle_of + 1) end ≡ Some i → i < end)
+        → (t : Bool) → nat_lt start end ≡ t → (elim t as (λ _. Option ℕ) [
+          | true ↦ elim (side middle_of) as (λ _. Option ℕ) [
+            | Less ↦ found_in side n start middle_of
+            | Equal ↦ Some middle_of
+            | Greater ↦ found_in side n (middle_of + 1) end
+          ]
+          | false ↦ None
+        ]) ≡ Some i → i < end
+    by_test less greater true e found = by_side less greater (grind (arith, nat_tests, e)) (side middle_of) found
+    by_test less greater false e found = cc
 
 -- ---- the side says where a number is
 
@@ -137,29 +161,29 @@ pub covered_listed : (t : List ℕ) (start : ℕ) (d : Digest) → u16_of t star
 covered_listed t start d format all g is =
     let one : nat_eq (u16_of t start) 1 ≡ true = grind (arith, nat_tests, format) in
     small_only g (if nat_eq (u16_of t start) 1 then listed t start g
-        else (if nat_eq (u16_of t start) 2 then option_map (index_in_range t start g) (ranged t start g) else None)) (has d g ≡ true)
+    else (if nat_eq (u16_of t start) 2 then option_map (index_in_range t start g) (ranged t start g) else None)) (has d g ≡ true)
     (λ said. in_list t start d all g (listed t start g) refl
     (subst (λ b. is_some (if b then listed t start g
-        else (if nat_eq (u16_of t start) 2 then option_map (index_in_range t start g) (ranged t start g) else None)) ≡ true) one said)) is
+    else (if nat_eq (u16_of t start) 2 then option_map (index_in_range t start g) (ranged t start g) else None)) ≡ true) one said)) is
 
 pub covered_ranges : (t : List ℕ) (start : ℕ) (d : Digest) → u16_of t start ≡ 2 → HasRanges t start d (range_count t start) → HasCovered t start d
 covered_ranges t start d format all g is =
     let one : nat_eq (u16_of t start) 1 ≡ false = grind (arith, nat_tests, format) in
     let two : nat_eq (u16_of t start) 2 ≡ true = grind (arith, nat_tests, format) in
     small_only g (if nat_eq (u16_of t start) 1 then listed t start g
-        else (if nat_eq (u16_of t start) 2 then option_map (index_in_range t start g) (ranged t start g) else None)) (has d g ≡ true)
+    else (if nat_eq (u16_of t start) 2 then option_map (index_in_range t start g) (ranged t start g) else None)) (has d g ≡ true)
     (λ said. in_ranges t start d all g (ranged t start g) refl
     (subst (λ b. is_some (if b then option_map (index_in_range t start g) (ranged t start g) else None) ≡ true) two
     (subst (λ b. is_some (if b then listed t start g
-        else (if nat_eq (u16_of t start) 2 then option_map (index_in_range t start g) (ranged t start g) else None)) ≡ true) one said))) is
+    else (if nat_eq (u16_of t start) 2 then option_map (index_in_range t start g) (ranged t start g) else None)) ≡ true) one said))) is
 
 pub covered_none : (t : List ℕ) (start : ℕ) (d : Digest) → nat_eq (u16_of t start) 1 ≡ false → nat_eq (u16_of t start) 2 ≡ false → HasCovered t start d
 covered_none t start d one two g is =
     small_only g (if nat_eq (u16_of t start) 1 then listed t start g
-        else (if nat_eq (u16_of t start) 2 then option_map (index_in_range t start g) (ranged t start g) else None)) (has d g ≡ true)
+    else (if nat_eq (u16_of t start) 2 then option_map (index_in_range t start g) (ranged t start g) else None)) (has d g ≡ true)
     (λ said.
-    let none : is_some {A = ℕ} None ≡ true =
-        subst (λ b. is_some (if b then option_map (index_in_range t start g) (ranged t start g) else None) ≡ true) two
-        (subst (λ b. is_some (if b then listed t start g
-            else (if nat_eq (u16_of t start) 2 then option_map (index_in_range t start g) (ranged t start g) else None)) ≡ true) one said) in
+    let none : false ≡ true =
+    subst (λ b. is_some (if b then option_map (index_in_range t start g) (ranged t start g) else None) ≡ true) two
+    (subst (λ b. is_some (if b then listed t start g
+    else (if nat_eq (u16_of t start) 2 then option_map (index_in_range t start g) (ranged t start g) else None)) ≡ true) one said) in
     cc) is

@@ -21,8 +21,8 @@ extension_kind positioning = if positioning then 9 else 7
 abbrev pub begins_at : List ℕ → Bool → LookupSubtable → ℕ → Bool
 begins_at t positioning subtable glyph = if is_context_kind positioning subtable.kind
     then (if nat_eq (u16_of t subtable.start) 3
-        then is_first t subtable.start (whole_rule t (is_chained_kind positioning subtable.kind) subtable.start) glyph
-        else is_some (number_of t subtable.start glyph))
+    then is_first t subtable.start (whole_rule t (is_chained_kind positioning subtable.kind) subtable.start) glyph
+    else is_some (number_of t subtable.start glyph))
     else is_some (number_of t subtable.start glyph)
 
 -- a set that holds the glyphs that subtable `i` of the lookup at a place begins at

@@ -62,7 +62,10 @@ fn with_ranges(table: &[u8], start: usize, digest: Digest) -> Digest
     let mut all = digest;
     for i in 0..range_count(table, start) {
         let at = start + 4 + 6 * i as usize;
-        all = all.with_range(u32::from(u16_at(table, at)), u32::from(u16_at(table, at + 2)));
+        all = all.with_range(
+            u32::from(u16_at(table, at)),
+            u32::from(u16_at(table, at + 2)),
+        );
     }
     all
 }

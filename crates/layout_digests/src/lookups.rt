@@ -95,8 +95,8 @@ fn first_of_rule(table: &[u8], is_chain: bool, start: usize) -> Option<usize>
 #[tactic(auto, using(crate::proofs::LookupLemmas::numbered, crate::proofs::LookupLemmas::ruled))]
 fn first_coverage(lookups: Lookups<'_>, subtable: LookupSubtable) -> Option<usize>
     requires { subtable.start < 2 ^ 35 }
-    ensures value { (glyph : ℕ) → begins_at lookups.table.now lookups.positioning subtable glyph
-        ≡ option_map_or (λ list. covers lookups.table.now list glyph) result false }
+    ensures value { (glyph : ℕ) → begins_at lookups.entry.table.now lookups.entry.positioning subtable glyph
+        ≡ option_map_or (λ list. covers lookups.entry.table.now list glyph) result false }
     ensures near { IfSome result (λ list. list < 2 ^ 40) }
 {
     let (table, start) = (lookups.table, subtable.start);
@@ -130,7 +130,7 @@ fn with_list(table: &[u8], list: usize, reading: Reading) -> Reading
 fn with_subtable(lookups: Lookups<'_>, place: usize, i: u32, reading: Reading) -> Reading
     requires place { place < 2 ^ 17 }
     requires few { i < 2 ^ 16 }
-    ensures firsts { HasFirst lookups.table.now lookups.positioning place i result.digest }
+    ensures firsts { HasFirst lookups.entry.table.now lookups.entry.positioning place i result.digest }
     ensures kept { IsWithin reading.digest result.digest }
 {
     let extension = extension_kind(lookups.positioning);
@@ -147,7 +147,7 @@ fn with_subtable(lookups: Lookups<'_>, place: usize, i: u32, reading: Reading) -
 #[tactic(auto, using(crate::proofs::LookupLemmas::one_more))]
 fn lookup_digest(lookups: Lookups<'_>, place: usize, left: usize) -> Reading
     requires { place < 2 ^ 17 }
-    ensures { IsDigest lookups.table.now lookups.positioning place result.digest }
+    ensures { IsDigest lookups.entry.table.now lookups.entry.positioning place result.digest }
 {
     let count = subtable_count(lookups.table, place);
     if left < count as usize {
@@ -168,7 +168,7 @@ fn lookup_digest(lookups: Lookups<'_>, place: usize, left: usize) -> Reading
 
 /// The digest of the lookup with this index, of no glyph if the table has no such lookup.
 fn digest_of(lookups: Lookups<'_>, index: u16, left: usize) -> Reading
-    ensures { IsDigestAt lookups.table.now lookups.positioning index result.digest }
+    ensures { IsDigestAt lookups.entry.table.now lookups.entry.positioning index result.digest }
 {
     match lookup(lookups.table, index) {
         Some(place) => lookup_digest(lookups, place, left),
@@ -180,8 +180,9 @@ fn digest_of(lookups: Lookups<'_>, index: u16, left: usize) -> Reading
 }
 
 /// A digest for each lookup of a table, by its index. Refuses with `Memory` if a growth was refused.
+#[tactic(auto, using(crate::proofs::LookupLemmas::one_digest))]
 pub fn digests(alloc: Global, lookups: Lookups<'_>) -> Result<Vec<Digest>, ShapeError>
-    ensures ok { IfOk result (λ digests. AreDigests lookups.table.now lookups.positioning digests.items) }
+    ensures ok { IfOk result (λ digests. AreDigests lookups.entry.table.now lookups.entry.positioning digests.items) }
     ensures memory { IsOkUnless result ShapeError.Memory }
 {
     let count = lookup_count(lookups.table);

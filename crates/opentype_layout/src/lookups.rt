@@ -58,7 +58,7 @@ fn made_ready<'a>(tables: LookupTables<'a>, map: &LookupMap) -> Option<Lookup<'a
 /// The digest of the lookup with this index; one of all glyphs if none is stored for it.
 fn digest_at(tables: LookupTables<'_>, digests: &[Digest], index: u16) -> Digest
     requires { AreDigests tables.table.now tables.positioning digests.now }
-    ensures { IsDigestAt tables.table.now tables.positioning index result }
+    ensures { IsDigestAt tables.entry.table.now tables.entry.positioning index result }
 {
     let i = usize::from(index);
     if i < digests.len() {
@@ -76,7 +76,7 @@ fn digested<'a>(
 ) -> Option<Digested<'a>>
     requires { AreDigests tables.table.now tables.positioning digests.now }
     ensures value { option_map (λ (d : DigestedLookup). d.lookup) result ≡ lookup_of tables.entry map.now }
-    ensures said { IfSome result (IsSaid tables.positioning) }
+    ensures said { IfSome result (IsSaid tables.entry.positioning) }
 {
     let lookup = made_ready(tables, map)?;
     Some(Digested {
@@ -96,7 +96,7 @@ fn append<'a>(
     requires stored { AreDigests tables.table.now tables.positioning digests.now }
     requires said { All (IsSaid tables.positioning) lookups.old.items }
     ensures ok { OnOk result (lookups_in lookups.new.items ≡ with_lookup tables.entry (lookups_in lookups.old.items) map.now) }
-    ensures said { OnOk result (All (IsSaid tables.positioning) lookups.new.items) }
+    ensures said { OnOk result (All (IsSaid tables.entry.positioning) lookups.new.items) }
     ensures memory { IsOkUnless result ShapeError.Memory }
 {
     if let Some(lookup) = digested(tables, digests, map) {
@@ -115,7 +115,7 @@ pub fn lookups<'a>(
 ) -> Result<Vec<Digested<'a>>, ShapeError>
     requires { AreDigests tables.table.now tables.positioning digests.now }
     ensures ok { IfOk result (λ lookups. lookups_in lookups.items ≡ lookups_of tables.entry maps.now) }
-    ensures said { IfOk result (λ lookups. All (IsSaid tables.positioning) lookups.items) }
+    ensures said { IfOk result (λ lookups. All (IsSaid tables.entry.positioning) lookups.items) }
     ensures memory { IsOkUnless result ShapeError.Memory }
 {
     let mut lookups = Vec::with_capacity(alloc, maps.len())?;
