@@ -1,6 +1,6 @@
 -- a lookup whose digest holds no glyph of the list may be passed over, and a place whose glyph it doesn't hold
 use Prim.Native.Nat.{zero}
-use Rattle.std.proofs.Common.{◌≡◌, ℕ, ◌+◌, ◌<◌, Bool, true, false, List, [], ◌∷◌, length, nat_eq, nat_lt, fold, refl, sym, ap, ◌∙◌, subst, arith, drop, slice_index_or, map}
+use Rattle.std.proofs.Common.{◌≡◌, ℕ, ◌+◌, ◌<◌, ◌^◌, Bool, true, false, List, [], ◌∷◌, length, nat_eq, nat_lt, fold, refl, sym, ap, ◌∙◌, subst, arith, drop, slice_index_or, map}
 use Rattle.std.proofs.lemmas.Bool.Decides.{nat_tests}
 use Rattle.std.proofs.lemmas.List.{drop_more}
 use Rattle.shape_items.specs.Buffer.{Buffer}
@@ -60,3 +60,11 @@ pub passed_over : (ds : List Digested) (k : ℕ) (x : Digested) (here made : Bud
     → fold lookup_applied here (lookups_in (drop (k + 1) ds)) ≡ made
 passed_over ds k x here made run more said held apart before =
     applied_on ds k x here here made more before (sym (digest-idle (slice_index_or ds k x) here run said held apart))
+
+-- the set of all glyphs serves any lookup
+pub every_said : (d : Digested) → d.lookup.place < 2 ^ 17 → ((glyph : ℕ) → has d.digest glyph ≡ true) → IsDigested d
+every_said d near all = record { near = near; out = λ glyph none. never glyph (has d.digest glyph) (all glyph) none }
+  where
+    never : (glyph : ℕ) (t : Bool) → t ≡ true → t ≡ false → IsOut d.lookup glyph
+    never glyph true is not = cc
+    never glyph false is not = cc
