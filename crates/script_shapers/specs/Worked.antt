@@ -1,3 +1,4 @@
+pub mod ArabicFallback
 pub mod ArabicRequests
 pub mod Choice
 pub mod Hangul

@@ -56,6 +56,9 @@ pub const CLIG: hb_tag_t = hb_tag_t(0x636C_6967);
 /// Marks placed by substitution.
 pub const MSET: hb_tag_t = hb_tag_t(0x6D73_6574);
 
+/// The number of the pause after `rlig`, where forms and ligatures are made for fonts without them.
+pub const FALLBACK: u32 = 1;
+
 /// Whether a script is Arabic, which alone has forms for fonts without `GSUB`.
 fn is_arabic(script: Option<Script>) -> bool
     ensures { result ≡ is_arabic script }
@@ -163,7 +166,7 @@ fn ask_ligatures(
 {
     builder.enable_feature(RLIG, F_MANUAL_ZWJ | F_HAS_FALLBACK, 1)?;
     if is_arabic(script) {
-        builder.add_gsub_pause(None)?;
+        builder.add_gsub_pause(Some(FALLBACK))?;
     }
     Ok(())
 }
