@@ -7,22 +7,22 @@ use Rattle.std.specs.Option.{option_map_or}
 use Rattle.shape_common.specs.Face.{FaceMeaning}
 use Rattle.shape_items.specs.Buffer.{Buffer}
 use Rattle.shape_items.specs.BufferClusters.{merge_clusters, merge_at}
-use Rattle.shape_items.specs.ClusterOrder.{IsMonotoneLevel}
-use Rattle.shape_items.specs.Delete.{give_to_kept, deleted}
+use Rattle.shape_items.specs.ClusterOrder.{IsMonotoneLevel, PreservesClusters}
+use Rattle.shape_items.specs.Clusters.{clusters}
 use Rattle.shape_items.specs.Items.{Item, new_item}
-use Rattle.shape_items.specs.PreservesFlags.{PreservesFlags}
-use Rattle.shape_items.proofs.Deletion.DeleteLemmas.{hand_on-cases, IsPreservedByLoss, preserved_by_deletion}
-use Rattle.shape_items.proofs.Deletion.DeletePreserves.{merged_preserves, deleted_preserves_clusters, deleted_preserves_flags}
+use Rattle.shape_items.specs.PreservesFlags.{PreservesFlags, some_has}
+use Rattle.shape_items.proofs.Deletion.DeletePreserves.{merged_preserves}
 use Rattle.shape_items.proofs.Flags.FlagLemmas.{PreservesFlags-same, PreservesFlags-then}
+use Rattle.shape_items.proofs.Order.DrawsInOrder.{PreservesClusters-from_draws}
+use Rattle.arabic_fallback.proofs.KeptLemmas.{staying, kept-staying, staying-draws, staying-some}
 use Rattle.shape_items.proofs.Merging.ClusterLemmas.{merge_clusters-monotone}
-use Rattle.shape_items.proofs.Merging.KeyLemmas.{without_items-merge_clusters}
 use Rattle.shape_buffer.specs.Preservation.{PreservesOrder, IsClusterPreserving, IsFlagPreserving}
 use Rattle.shape_buffer.proofs.Steps.PreservationLemmas.{PreservesClusters-equal, PreservesClusters-same, PreservesOrder-same, PreservesOrder-then, order-items_mapped, flags-items_mapped, flags-same_masks}
 use Rattle.arabic_fallback.specs.Replaced.{with_glyph, classed_by, with_components, as_component, as_ligature, replaced, gone, is_gone, LIGATURE_CLASS}
 use Rattle.arabic_fallback.specs.Seeking.{nth, is_on}
 use Rattle.arabic_fallback.specs.Forms.{listed, formed, form_rows, formed_by}
 use Rattle.arabic_fallback.specs.Ligatures.{Row, found_in, ligature_rows}
-use Rattle.arabic_fallback.specs.Ligating.{put_at, merged, is_component, component_among, joined_item, joined_at, joined_to, followers, total_of, put_over, ligature_made, is_own, id_given, ligation_of, ligature_put, ligated_at, ligated_to, each_ligated}
+use Rattle.arabic_fallback.specs.Ligating.{put_at, merged, is_component, component_among, joined_item, joined_at, joined_to, followers, total_of, put_over, ligature_made, is_own, id_given, ligation_of, ligature_put, ligated_at, ligated_to, each_ligated, cleared_away}
 use Rattle.arabic_fallback.specs.Fallback.{ligated_by, all_formed, all_ligated, fallback_shaped}
 use Rattle.arabic_fallback.specs.declared.classes.GlyphClass.{GlyphClass}
 use Rattle.arabic_fallback.specs.declared.fallback.FallbackMasks.{FallbackMasks}
@@ -219,34 +219,21 @@ module _ (rule : Rule) (rows : List LigatureGlyphs) where
 
 -- ---- components that go
 
-record SameSettings (before after : Buffer) : Type 0 where
-  direction : after.direction ≡ before.direction
-  level : after.cluster_level ≡ before.cluster_level
+cleared-order : (b : Buffer) → PreservesOrder b (cleared_away b)
+cleared-order b = record {
+  clusters = subst (λ (xs : List Item). PreservesClusters (clusters b.items) (clusters xs)) (sym (kept-staying b.items))
+      (PreservesClusters-from_draws (clusters b.items) (clusters (staying b.items)) (staying-draws b.items));
+  direction = refl;
+  flags = refl;
+  level = refl;
+}
 
-settings-merged : (start end : ℕ) (b c : Buffer) → SameSettings b c → SameSettings b (merge_clusters start end c)
-settings-merged start end b c so_far =
-    let rest = without_items-merge_clusters start end c in
-    record {
-      direction = ap (λ (d : Buffer). d.direction) rest ∙ so_far.direction;
-      level = ap (λ (d : Buffer). d.cluster_level) rest ∙ so_far.level;
-    }
-
-settings-lost : (b : Buffer) → IsPreservedByLoss (SameSettings b)
-settings-lost b k x rest c e so_far =
-    let given : SameSettings b (record c { items = give_to_kept k x c.items }) =
-    record { direction = so_far.direction; level = so_far.level } in
-    let handed = hand_on-cases (SameSettings b) k x rest c so_far given (λ more. settings-merged 0 2 b c so_far) in
-    record { direction = handed.direction; level = handed.level }
-
-deleted-order : (b : Buffer) → PreservesOrder b (deleted is_gone b)
-deleted-order b =
-    let same = preserved_by_deletion (SameSettings b) (settings-lost b) is_gone (length b.items) 0 b (record { direction = refl; level = refl }) in
-    record {
-      clusters = deleted_preserves_clusters is_gone b;
-      direction = same.direction;
-      flags = (deleted_preserves_flags is_gone b).flags;
-      level = same.level;
-    }
+cleared-flags : (b : Buffer) → PreservesFlags b (cleared_away b)
+cleared-flags b = record {
+  flags = refl;
+  stays_set = λ e. e;
+  none_new = λ flag is some. inl (staying-some flag b.items (ap (some_has flag) (sym (kept-staying b.items)) ∙ some));
+}
 
 -- ---- the whole
 
@@ -256,7 +243,7 @@ unfolding ligated_by
 by-order face classes rule table b monotone =
     let rows = ligature_rows face classes table in
     let c = each_ligated rule rows b in
-    PreservesOrder-then b c (deleted is_gone c) (to-order rule rows (length b.items) b monotone) (deleted-order c)
+    PreservesOrder-then b c (cleared_away c) (to-order rule rows (length b.items) b monotone) (cleared-order c)
 
 by-flags : (face : FaceMeaning) (classes : ℕ → Option GlyphClass) (rule : Rule) (table : List Row)
     → IsFlagPreserving (ligated_by face classes rule table)
@@ -264,7 +251,7 @@ unfolding ligated_by
 by-flags face classes rule table b =
     let rows = ligature_rows face classes table in
     let c = each_ligated rule rows b in
-    PreservesFlags-then b c (deleted is_gone c) (to-flags rule rows (length b.items) b) (deleted_preserves_flags is_gone c)
+    PreservesFlags-then b c (cleared_away c) (to-flags rule rows (length b.items) b) (cleared-flags c)
 
 formed-order : (face : FaceMeaning) (classes : ℕ → Option GlyphClass) (form : Form) (mask : ℕ) → IsClusterPreserving (formed_by face classes form mask)
 unfolding formed_by

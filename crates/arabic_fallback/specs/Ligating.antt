@@ -1,10 +1,10 @@
 -- How a ligature is made: its components become one glyph, and marks between and after them stand on it.
-use Rattle.std.specs.Prelude.{ℕ, zero, suc, Bool, true, false, ◌+◌, ◌-◌, ◌==◌, ◌&&◌, ◌||◌, not, min, nat_lt, nat_le, List, length, drop, set, if◌then◌else◌}
+use Rattle.std.specs.Prelude.{ℕ, zero, suc, Bool, true, false, ◌+◌, ◌-◌, ◌==◌, ◌&&◌, ◌||◌, not, min, nat_lt, nat_le, List, [], ◌∷◌, ◌++◌, fold, replicate, length, drop, set, if◌then◌else◌}
 use Rattle.std.specs.List.{prefix_len}
 use Rattle.std.specs.Option.{option_map_or}
 use Rattle.shape_items.specs.Buffer.{Buffer, next_ligature_id}
 use Rattle.shape_items.specs.BufferClusters.{merge_clusters}
-use Rattle.shape_items.specs.Delete.{deleted}
+use Rattle.shape_common.specs.Positions.{zero_position}
 use Rattle.shape_items.specs.Items.{Item}
 use Rattle.arabic_fallback.specs.Ligatures.{found_in}
 use Rattle.arabic_fallback.specs.Replaced.{shares, as_component, as_ligature, components_of, gone, is_gone}
@@ -121,6 +121,17 @@ ligated_to rule rows (suc at) b = ligated_at rule rows at (ligated_to rule rows 
 abbrev pub each_ligated : Rule → List LigatureGlyphs → Buffer → Buffer
 each_ligated rule rows b = ligated_to rule rows (length b.items) b
 
+abbrev pub with_kept : List Item → Item → List Item
+with_kept items item = if is_gone item then items else items ++ item ∷ []
+
+-- the items that stay
+abbrev pub kept : List Item → List Item
+kept items = fold with_kept [] items
+
+-- without the components that are to go
+abbrev pub cleared_away : Buffer → Buffer
+cleared_away b = record b { items = kept b.items; positions = replicate (length (kept b.items)) zero_position }
+
 -- from left to right
 abbrev pub ligated : Rule → List LigatureGlyphs → Buffer → Buffer
-ligated rule rows b = deleted is_gone (each_ligated rule rows b)
+ligated rule rows b = cleared_away (each_ligated rule rows b)

@@ -38,8 +38,7 @@ fn put_ligatures<F: hb_font_t, M: hb_ot_layout_t<F>>(
     ensures memory { IsOkUnless result ShapeError.Memory }
 {
     let rows = ligature_rows::<F, M>(alloc, face, map, table)?;
-    ligate_all(buffer, rule, rows.as_slice());
-    Ok(())
+    ligate_all(alloc, buffer, rule, rows.as_slice())
 }
 
 /// Puts letters in their forms.

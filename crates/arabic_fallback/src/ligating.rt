@@ -1,21 +1,21 @@
 //! How a ligature is made: its components become one glyph, and marks between and after them stand on it.
-ghost use Rattle.std.specs.Prelude.{◌≡◌, ◌<◌, ◌≤◌, ◌+◌, length};
+ghost use Rattle.std.specs.Prelude.{◌≡◌, ◌<◌, ◌≤◌, ◌+◌, length, IfOk, OnOk, IsOkUnless};
 ghost use Rattle.std.specs.List.{prefix_len};
 ghost use Rattle.shape_items.specs.Buffer.{limit_of};
-ghost use Rattle.shape_items.specs.Delete.{deleted};
 ghost use Rattle.shape_buffer.specs.Outcome.{Made};
-ghost use Rattle.arabic_fallback.specs.Replaced.{is_gone as is_gone_of};
 ghost use Rattle.arabic_fallback.specs.Seeking.{nth};
 ghost use Rattle.arabic_fallback.specs.Ligating.{all_marks, counts_of, id_of, id_given, ligation_of};
 ghost use Rattle.arabic_fallback.specs.Ligating.{before_of, count_at, component_among, is_component};
 ghost use Rattle.arabic_fallback.specs.Ligating.{joined_item, put_at, merged, follows, followers};
 ghost use Rattle.arabic_fallback.specs.Ligating.{joined_at, joined_to, total_of, put_over, ligature_made};
 ghost use Rattle.arabic_fallback.specs.Ligating.{ligature_put, ligated_at, each_ligated, ligated};
+ghost use Rattle.arabic_fallback.specs.Ligating.{kept as kept_of, cleared_away};
 
 use crate::ligatures::{Found, LigatureGlyphs, found_in};
 use crate::replaced::{NewGlyph, as_component, as_ligature, components_of, gone, is_gone};
 use crate::seeking::{Rule, is_mark, is_on};
-use shape_buffer::buffer::{hb_buffer_t, hb_glyph_info_t};
+use shape_buffer::buffer::{ShapeError, hb_buffer_t, hb_glyph_info_t};
+use std::alloc::Global;
 
 /// How many components each of the glyphs has that a ligature is made of.
 #[derive(Clone, Copy, PartialEq, Eq, Debug)]
@@ -312,17 +312,43 @@ fn ligate_each(buffer: &mut hb_buffer_t, rule: Rule, rows: &[LigatureGlyphs])
     }
 }
 
-/// Takes out all components that are to go.
-fn clear_away(buffer: &mut hb_buffer_t)
-    ensures { Made (deleted is_gone_of) buffer.old buffer.new }
+/// The items that stay.
+fn kept(alloc: Global, infos: &[hb_glyph_info_t]) -> Result<Vec<hb_glyph_info_t>, ShapeError>
+    ensures ok { IfOk result (λ items. items.items ≡ kept_of infos.now) }
+    ensures memory { IsOkUnless result ShapeError.Memory }
 {
-    buffer.delete_glyphs_inplace(|info| is_gone(info));
+    let mut items = Vec::new(alloc);
+    for info in infos {
+        if !is_gone(info) {
+            items.push(*info)?;
+        }
+    }
+    Ok(items)
 }
 
-/// Makes all ligatures, from left to right.
-pub fn ligate_all(buffer: &mut hb_buffer_t, rule: Rule, rows: &[LigatureGlyphs])
-    ensures { Made (ligated rule rows.now) buffer.old buffer.new }
+/// Takes out all components that are to go. Refuses with `Memory` alone.
+#[tactic(auto, using(crate::proofs::KeptLemmas::length_kept))]
+fn clear_away(alloc: Global, buffer: &mut hb_buffer_t) -> Result<(), ShapeError>
+    ensures ok { OnOk result (Made cleared_away buffer.old buffer.new) }
+    ensures memory { IsOkUnless result ShapeError.Memory }
+{
+    let items = kept(alloc, buffer.infos())?;
+    match buffer.replace_infos(items) {
+        Ok(()) => Ok(()),
+        Err(_) => Err(ShapeError::Memory),
+    }
+}
+
+/// Makes all ligatures, from left to right. Refuses with `Memory` alone.
+pub fn ligate_all(
+    alloc: Global,
+    buffer: &mut hb_buffer_t,
+    rule: Rule,
+    rows: &[LigatureGlyphs],
+) -> Result<(), ShapeError>
+    ensures ok { OnOk result (Made (ligated rule rows.now) buffer.old buffer.new) }
+    ensures memory { IsOkUnless result ShapeError.Memory }
 {
     ligate_each(buffer, rule, rows);
-    clear_away(buffer);
+    clear_away(alloc, buffer)
 }

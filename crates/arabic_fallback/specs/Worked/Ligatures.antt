@@ -1,11 +1,11 @@
 -- Ligatures of glyphs: lam 1 and alef 2 make 9, lam 1, lam 3 and heh 4 make 10, shadda 7 and fatha 8 make 12.
-use Rattle.std.specs.Prelude.{◌≡◌, ℕ, true, false, Some, None, List, [], ◌∷◌, map, filter, not, refl}
+use Rattle.std.specs.Prelude.{◌≡◌, ℕ, true, false, Some, None, List, [], ◌∷◌, map, refl}
 use Rattle.shape_common.specs.Positions.{zero_position}
+use Rattle.shape_common.specs.declared.text_types.BufferClusterLevel.TheVariants.{Characters}
 use Rattle.shape_items.specs.Buffer.{new_buffer}
 use Rattle.shape_items.specs.Clusters.{merge}
 use Rattle.shape_items.specs.Items.{Item, new_item, new_properties}
-use Rattle.arabic_fallback.specs.Ligating.{each_ligated}
-use Rattle.arabic_fallback.specs.Replaced.{is_gone}
+use Rattle.arabic_fallback.specs.Ligating.{ligated}
 use Rattle.arabic_fallback.specs.Worked.Forms.{rule}
 use Rattle.arabic_fallback.specs.declared.ligatures.LigatureGlyphs.{LigatureGlyphs}
 use Rattle.arabic_fallback.specs.declared.seeking.Rule.{Rule}
@@ -41,10 +41,8 @@ zwnj = record (glyph 20 1) { properties = record new_properties { ignorable = tr
 abbrev pub zwj : Item
 zwj = record (glyph 20 1) { properties = record new_properties { ignorable = true; zwj = true } }
 
--- without the components that are to go
 abbrev pub after : Rule → List LigatureGlyphs → List Item → List Item
-after r rows items = filter (λ x. not (is_gone x))
-    (each_ligated r rows (record new_buffer { items = items; positions = map (λ i. zero_position) items })).items
+after r rows items = (ligated r rows (record new_buffer { items = items; positions = map (λ i. zero_position) items })).items
 
 abbrev pub glyphs : List Item → List ℕ
 glyphs items = map (λ (x : Item). x.glyph_id) items
@@ -85,6 +83,12 @@ pub record WorkedLigatures : Type 0 where
   pub mark_class : classes_of (after of_marks shadda_fatha (mark 7 0 ∷ mark 8 0 ∷ [])) ≡ 8 ∷ []
   pub no_id : stands (after of_marks shadda_fatha (mark 7 0 ∷ mark 8 0 ∷ [])) ≡ (0, 0) ∷ []
   -- on one component of a ligature, and on two
+  -- at level CHARACTERS the mark keeps the cluster of the first component, and no other glyph gets that of the second one
+  pub falling : clusters_of (ligated of_marks shadda_fatha (record new_buffer {
+    items = mark 7 2 ∷ mark 8 0 ∷ glyph 1 3 ∷ [];
+    positions = [];
+    cluster_level = Characters;
+  })).items ≡ 2 ∷ 3 ∷ []
   pub on_one_component : glyphs (after of_marks shadda_fatha (on_component 7 1 ∷ on_component 8 1 ∷ [])) ≡ 12 ∷ []
   pub on_two_components : glyphs (after of_marks shadda_fatha (on_component 7 1 ∷ on_component 8 2 ∷ [])) ≡ 7 ∷ 8 ∷ []
 
@@ -109,6 +113,7 @@ worked_ligatures = record {
   of_marks_alone = refl;
   mark_class = refl;
   no_id = refl;
+  falling = refl;
   on_one_component = refl;
   on_two_components = refl;
 }
