@@ -3,6 +3,7 @@ ghost use Rattle.std.specs.Prelude.{◌≡◌, ◌↔◌, length, IsTrue, IfSome
 ghost use Rattle.std.specs.Option.{option_map};
 ghost use Rattle.shape_plan.specs.Plan.{Fits};
 ghost use Rattle.plan_cache.specs.Keys.{IsFor, IsKeptAt, NoneKept, IsKeptLast};
+ghost use Rattle.plan_cache.specs.Worked.Keys.{WorkedKeys};
 
 use shape_buffer::buffer::{Direction, Feature, Language, Script, ShapeError, UnicodeBuffer};
 use shape_buffer::interfaces::hb_unicode_funcs_t;
@@ -174,4 +175,9 @@ pub fn found_plan_fits<U: hb_unicode_funcs_t, S, P, D>(
         → kept.now.plan.script ≡ kept.now.key.script
         → IsFor U.unicode kept.now.key face features.now text.now
         → Fits U.unicode kept.now.plan text.now }
+{}
+
+/// Keys and texts that were compared by hand. Does nothing.
+pub fn keys_meet_worked_cases()
+    ensures { WorkedKeys }
 {}

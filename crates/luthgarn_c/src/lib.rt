@@ -1,0 +1,111 @@
+//! The library for C: texts shaped with a font file, into arrays that the caller owns. `bindings/c/luthgarn.h` declares
+//! what is exported here.
+//!
+//! No pointer of this library reaches C, and none of C's is kept: a call reads slices, writes into slices, and returns.
+//! So there is nothing to free, no handle to misuse, and nothing global. [`plain`] has the structs that cross, [`runs`]
+//! shapes the runs of a text and keeps plans for a call, [`refusal`] has the reasons that come back as numbers.
+#![tactic(auto)]
+#![allow(non_camel_case_types)]
+
+ghost use Rattle.std.specs.Prelude.{◌≡◌, ◌≤◌, Some, None, length};
+ghost use Rattle.std.specs.Str.{IsUtf8};
+ghost use Rattle.shape_text_forms.specs.Feature.{feature_of};
+ghost use Rattle.shape_text_forms.specs.Names.{direction_of_text, script_of_text};
+ghost use Rattle.luthgarn_c.specs.Numbers.{direction_number, feature_of_c, script_number};
+ghost use Rattle.shape_font.specs.Bytes.{u16_of};
+ghost use Rattle.shape_font.specs.Directory.{bytes_of};
+
+mod plain;
+mod refusal;
+mod runs;
+
+use crate::plain::{luthgarn_feature, luthgarn_glyph, luthgarn_outcome, luthgarn_run};
+use crate::refusal::{DONE, Refusal};
+use crate::runs::shape_runs;
+use opentype_layout::OpenTypeFace;
+use shape_buffer::interfaces::hb_font_t;
+use shape_font::FontFace;
+use shape_text_forms::{direction_from_string, feature_from_string, script_from_string};
+use std::alloc::Global;
+
+/// How many units the em square has of the font with this number; 0 exactly if the bytes have no such font.
+#[unsafe(no_mangle)]
+pub extern "C" fn luthgarn_units_per_em(font: &[u8], index: u32) -> u32
+    ensures { result ≡ u16_of (bytes_of font.now index 0x68656164) 18 }
+{
+    match FontFace::from_slice(font, index) {
+        Some(face) => u32::from(face.units_per_em()),
+        None => 0,
+    }
+}
+
+/// Parses a feature, as `kern=0` or `aalt[3:5]=2`. A text that is none leaves `feature` as it was.
+#[unsafe(no_mangle)]
+pub extern "C" fn luthgarn_parse_feature(text: &[u8], feature: &mut luthgarn_feature) -> u32
+    ensures parsed { result ≡ 0 → feature_of text.now ≡ Some (feature_of_c feature.new) }
+    ensures same { (result ≡ 0 → ⊥) → feature.new ≡ feature.old }
+    ensures each { IsUtf8 text.now → (feature_of text.now ≡ None → ⊥) → result ≡ 0 }
+{
+    match str::from_utf8(text) {
+        Ok(text) => match feature_from_string(text) {
+            Some(parsed) => {
+                *feature = luthgarn_feature::of(parsed);
+                DONE
+            }
+            None => Refusal::Text.code(),
+        },
+        Err(_) => Refusal::Text.code(),
+    }
+}
+
+/// The number of a direction: 4 for a text that begins with `l`, 5 with `r`, 6 with `t`, 7 with `b`, else 0, which asks
+/// for a guess.
+#[unsafe(no_mangle)]
+pub extern "C" fn luthgarn_parse_direction(text: &[u8]) -> u32
+    ensures { IsUtf8 text.now → result ≡ direction_number (direction_of_text text.now) }
+{
+    match str::from_utf8(text) {
+        Ok(text) => plain::direction_code(direction_from_string(text)),
+        Err(_) => 0,
+    }
+}
+
+/// The tag of a script; 0 for an empty text, and one that isn't UTF-8, which asks for a guess.
+#[unsafe(no_mangle)]
+pub extern "C" fn luthgarn_parse_script(text: &[u8]) -> u32
+    ensures { IsUtf8 text.now → result ≡ script_number (script_of_text text.now) }
+{
+    match str::from_utf8(text) {
+        Ok(text) => match script_from_string(text) {
+            Some(script) => script.0.0,
+            None => 0,
+        },
+        Err(_) => 0,
+    }
+}
+
+/// Shapes the runs of a text, one after the other, and writes their glyphs one after the other. One plan serves all runs
+/// of one direction, script and language. Stops at the first run that is refused; those before it are done.
+#[unsafe(no_mangle)]
+pub extern "C" fn luthgarn_shape(
+    alloc: Global,
+    font: &[u8],
+    index: u32,
+    features: &[luthgarn_feature],
+    text: &[u8],
+    runs: &mut [luthgarn_run],
+    glyphs: &mut [luthgarn_glyph],
+) -> luthgarn_outcome
+    ensures font { u16_of (bytes_of font.now index 0x68656164) 18 ≡ 0 → result.code ≡ 3 }
+    ensures done { result.code ≡ 0 → result.runs ≡ length runs.new }
+    ensures runs { result.runs ≤ length runs.new }
+    ensures glyphs { result.glyphs ≤ length glyphs.new }
+{
+    let Some(face) = OpenTypeFace::from_slice(font, index) else {
+        return luthgarn_outcome::refused(Refusal::Font);
+    };
+    match plain::features_of(alloc, features) {
+        Ok(features) => shape_runs(alloc, &face, features.as_slice(), text, runs, glyphs),
+        Err(refusal) => luthgarn_outcome::refused(refusal),
+    }
+}
