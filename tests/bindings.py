@@ -83,7 +83,7 @@ def build(work):
     programs = {"C": valgrind + [os.path.join(C, "shape")], "Python": [sys.executable, os.path.join(BINDINGS, "python", "luthgarn.py")]}
     if shutil.which("rustc"):
         program = os.path.join(work, "shape_rs")
-        run(["rustc", "-O", "-L", C, "-l", "static=luthgarn", "-o", program, os.path.join(BINDINGS, "rust", "shape.rs")])
+        run(["rustc", "-O", "--edition", "2021", "-L", C, "-l", "static=luthgarn", "-o", program, os.path.join(BINDINGS, "rust", "shape.rs")])
         programs["Rust"] = [program]
     return programs
 

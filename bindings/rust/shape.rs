@@ -1,6 +1,6 @@
 //! Shapes each line of standard input with a font file, from Rust by `extern`, without a crate:
 //!
-//!     rustc -O shape.rs -L ../c -l static=luthgarn && ./shape FONT [-f FEATURE].. < TEXT
+//!     rustc -O --edition 2021 shape.rs -L ../c -l static=luthgarn && ./shape FONT [-f FEATURE].. < TEXT
 //!
 //! `shape_lines` is safe: it lends the library slices alone, and reads what the call says that it wrote.
 use std::io::{Read, Write};
@@ -127,7 +127,7 @@ fn main() {
             "-f" => features.push(feature_of(&pair[1]).expect("a feature")),
             "-d" => like.direction = direction_of(&pair[1]),
             "-s" => like.script = script_of(&pair[1]),
-            "-l" => like.language[..pair[1].len()].copy_from_slice(pair[1].as_bytes()),
+            "-l" => like.language.iter_mut().zip(pair[1].bytes()).for_each(|(to, from)| *to = from),
             option => panic!("no such option: {option}"),
         }
     }
