@@ -168,7 +168,7 @@ fn put_back(walk: GapBuffer, buffer: &mut hb_buffer_t) -> Result<(), ShapeError>
     outcome
 }
 
-/// Lookups one after the other, over a buffer that edits in linear time.
+/// Lookups one after the other, over a buffer that edits in linear time; without a lookup the buffer isn't touched.
 fn edit_all(
     alloc: Global,
     levels: u32,
@@ -179,6 +179,9 @@ fn edit_all(
     ensures ok { OnOk result (buffer.new ≡ stage_made levels lookups.now buffer.old) }
     ensures length { IsErrOf result Length → is_past (stage_made levels lookups.now buffer.old) ≡ true }
 {
+    if lookups.is_empty() {
+        return Ok(());
+    }
     let mut walk = GapBuffer::open(alloc, buffer);
     match look_all_up(alloc, levels, lookups, &mut walk) {
         Err(error) => {
