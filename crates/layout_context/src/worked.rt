@@ -2,7 +2,7 @@
 ghost use Rattle.layout_context.specs.Worked.Chains.{WorkedChainedGlyphs, WorkedNested, WorkedDeletions};
 ghost use Rattle.layout_context.specs.Worked.Contexts.{WorkedRules, WorkedClasses, WorkedChains, WorkedChainsElsewhere};
 ghost use Rattle.layout_context.specs.Worked.Contexts.{WorkedMarkSets, WorkedMarkClasses, WorkedSyllables, WorkedComponents};
-ghost use Rattle.layout_context.specs.Worked.Formats.{WorkedChainedClasses, WorkedOtherClasses, WorkedBackwards, WorkedFlags};
+ghost use Rattle.layout_context.specs.Worked.Formats.{WorkedChainedClasses, WorkedBackwards, WorkedFlags};
 ghost use Rattle.layout_context.specs.Worked.Lookups.{WorkedLookups};
 ghost use Rattle.layout_context.specs.Worked.Marks.{WorkedVainLigatures, WorkedVainRules, WorkedRandom, WorkedIds};
 ghost use Rattle.layout_context.specs.Worked.Places.{WorkedPlaces};
@@ -48,7 +48,6 @@ pub fn marks_meet_worked_cases()
 /// Chained context by classes over whole lists, lookahead from the end of the list, and flags that ignore classes of glyphs.
 pub fn formats_meet_worked_cases()
     ensures chained_classes { WorkedChainedClasses }
-    ensures other_classes { WorkedOtherClasses }
     ensures backwards { WorkedBackwards }
     ensures flags { WorkedFlags }
 {}

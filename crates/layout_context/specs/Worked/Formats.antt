@@ -8,7 +8,7 @@ use Rattle.layout_matching.specs.Found.{found_of}
 use Rattle.layout_matching.specs.declared.found.Found.{Found}
 use Rattle.layout_matching.specs.declared.lookup.Lookup.{Lookup}
 use Rattle.layout_matching.specs.declared.spans.Span.{Span}
-use Rattle.layout_substitution.specs.Replaced.{is_multiplied, as_ligature}
+use Rattle.layout_substitution.specs.Replaced.{as_ligature}
 use Rattle.layout_context.specs.Worked.Contexts.{HoldsOf, with_second, classed_mark}
 use Rattle.layout_context.specs.Worked.Lookups.{lookup_words, ligatures, on, glyph, glyphs, after}
 
@@ -25,18 +25,11 @@ three a b c = glyph a 0 ∷ glyph b 1 ∷ glyph c 2 ∷ []
 abbrev pub Makes : List ℕ → ℕ → List Item → List ℕ → Type 0
 Makes table place items made = HoldsOf table [] (λ l. glyphs (after (on l place 0) items) ≡ made)
 
-pub record WorkedChainedClasses : Type 0 where
-  pub all_match : Makes chained_classes 16 (three 8 5 7) (8 ∷ 30 ∷ 31 ∷ 32 ∷ 7 ∷ [])
-
-pub worked_chained_classes : WorkedChainedClasses
-unfolding merge is_multiplied
-worked_chained_classes = record { all_match = λ l t g. rw (t, g) refl }
-
 -- where a rule stands whose glyph is the second of the list
 abbrev pub span_at_second : Lookup → List Item → Option Span
 span_at_second l items = option_map (λ (f : Found). f.span) (found_of l items (record { at = 1; is_steady = true }))
 
-pub record WorkedOtherClasses : Type 0 where
+pub record WorkedChainedClasses : Type 0 where
   pub all_match : HoldsOf chained_classes []
       (λ l. span_at_second (on l 16 0) (three 8 5 7) ≡ Some (record { start = 0; last = 1; end = 3 }))
   pub before_differs : HoldsOf chained_classes [] (λ l. span_at_second (on l 16 0) (three 9 5 7) ≡ None)
@@ -44,8 +37,8 @@ pub record WorkedOtherClasses : Type 0 where
   pub input_differs : HoldsOf chained_classes [] (λ l. span_at_second (on l 16 0) (three 8 6 7) ≡ None)
   pub after_differs : HoldsOf chained_classes [] (λ l. span_at_second (on l 16 0) (three 8 5 6) ≡ None)
 
-pub worked_other_classes : WorkedOtherClasses
-worked_other_classes = record {
+pub worked_chained_classes : WorkedChainedClasses
+worked_chained_classes = record {
   all_match = λ l t g. rw t refl;
   before_differs = λ l t g. rw t refl;
   input_differs = λ l t g. rw t refl;
