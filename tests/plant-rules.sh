@@ -4,7 +4,8 @@
 # wrong rule says.
 #
 # A plant is a file of tests/rules: the worked cases that must refuse it, as CRATE/FUNCTION, a function of the
-# crate's module `worked` (`row:`), and edits (`file:`, `old:`, `new:`), each old text standing once in its file.
+# crate's module `worked`, or of another one if it is named (`row:`), and edits (`file:`, `old:`, `new:`), each old
+# text standing once in its file. Cases stand in specs/Worked, and what is proved of them by hand in proofs/*Rows.
 # Names of plants may be given, or of crates, whose rows are then tried. All is done on a copy. A plant in a crate
 # below that of its cases is tried over sources, since what is proved of that crate need not hold under it.
 #
@@ -63,17 +64,19 @@ def over_sources(crate, only):
 
 def check(row, edited=()):
     crate, function = row
-    only = f"{crate}::worked::{function}"
-    command = over_sources(crate, only) if set(edited) - {crate} else ["rt", "check", "--jobs", "1", "--only", only]
+    only = f"{crate}::{function}" if "::" in function else f"{crate}::worked::{function}"
+    crates = {file.parts[1] for file in edited}
+    command = over_sources(crate, only) if crates - {crate} else ["rt", "check", "--jobs", "1", "--only", only]
     run = subprocess.run(command, cwd=f"crates/{crate}", capture_output=True, text=True)
     said = run.stdout + run.stderr
     if "only=1 proved=1" in said:
         return "proved", ""
-    # a worked case that no longer holds, and no other error in a file of definitions
-    files = re.findall(r"^(\S+?):\d+:\d+: error: `(\w+)`:", said, re.M)
-    cases = [case for file, case in files if "specs/Worked" in file]
-    wrong = re.findall(r"^\S*specs/(?!Worked)\S+: error: .*", said, re.M)
-    if cases and not wrong:
+    # a worked case that no longer holds, and no error in a file that the plant edits
+    files = re.findall(r"^(\S+?):\d+:\d+: error: `([^`\s]+)`:", said, re.M)
+    cases = [case for file, case in files if re.search(r"specs/Worked|proofs/\w+Rows", file)]
+    names = {str(pathlib.Path(*file.parts[2:])) for file in edited}
+    wrong = [file for file in re.findall(r"^(\S+?):\d+:\d+: error: ", said, re.M) if file.endswith(tuple(names))]
+    if cases and not (names and wrong):
         return "refused", ", ".join(sorted(set(cases)))
     return "broken", said[-2000:]
 
@@ -102,7 +105,7 @@ for name, (row, edits) in plants.items():
         if text.count(old) != 1:
             sys.exit(f"{name}: {text.count(old)} times in {file}: {old}")
         file.write_text(text.replace(old, new))
-    verdict, why = check(row, [file.parts[1] for file, _, _ in edits])
+    verdict, why = check(row, {file for file, _, _ in edits})
     for file, text in before.items():
         file.write_text(text)
     refused += verdict == "refused"

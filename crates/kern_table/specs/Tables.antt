@@ -13,7 +13,8 @@ subtable_count_of t = if nat_eq (u16_of t 0) 0 then u16_of t 2 else 0
 -- a subtable of format 0 or 2, for lines of this kind (bit 0), that doesn't move glyphs across the line (bit 2)
 abbrev pub is_read : List ℕ → ℕ → Bool → Bool
 is_read t start horizontal = let coverage = slice_index t (start + 5) in
-    (nat_eq (slice_index t (start + 4)) 0 || nat_eq (slice_index t (start + 4)) 2) && nat_eq (coverage % 2) (if horizontal then 1 else 0) && nat_eq (coverage / 4 % 2) 0
+    (nat_eq (slice_index t (start + 4)) 0 || nat_eq (slice_index t (start + 4)) 2)
+    && nat_eq (coverage % 2) (if horizontal then 1 else 0) && nat_eq (coverage / 4 % 2) 0
 
 abbrev pub reversed : Buffer → Buffer
 reversed b = record b { items = reverse b.items; positions = reverse b.positions }

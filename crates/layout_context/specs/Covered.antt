@@ -20,7 +20,8 @@ subtable_covers l subtable glyph = if is_context_subtable l subtable then contex
 
 -- no part of the lookup covers the glyph
 abbrev pub IsUncovered : Lookup → ℕ → Type 0
-IsUncovered l glyph = (i : ℕ) (subtable : LookupSubtable) → subtable_of l.table.now 7 l.place i ≡ Some subtable → subtable_covers l subtable glyph ≡ false
+IsUncovered l glyph = (i : ℕ) (subtable : LookupSubtable) → subtable_of l.table.now 7 l.place i ≡ Some subtable
+    → subtable_covers l subtable glyph ≡ false
 
 abbrev pub CoversNone : Lookup → List Item → Type 0
 CoversNone l items = (at : ℕ) → at < length items → IsUncovered l (nth items at).glyph_id

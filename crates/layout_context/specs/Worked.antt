@@ -3,3 +3,4 @@ pub mod Lookups
 pub mod Contexts
 pub mod Chains
 pub mod Marks
+pub mod Around

@@ -1,4 +1,5 @@
 //! The definitions, computed by hand.
+ghost use Rattle.layout_context.specs.Worked.Around.{WorkedJoiners, WorkedMasks, WorkedSyllablesAround, WorkedComponentsMatched, WorkedChainedClasses, WorkedBounds};
 ghost use Rattle.layout_context.specs.Worked.Chains.{WorkedChainedGlyphs, WorkedNested, WorkedDeletions};
 ghost use Rattle.layout_context.specs.Worked.Contexts.{WorkedRules, WorkedClasses, WorkedChains, WorkedChainsElsewhere};
 ghost use Rattle.layout_context.specs.Worked.Contexts.{WorkedMarkSets, WorkedMarkClasses, WorkedSyllables, WorkedComponents};
@@ -42,4 +43,14 @@ pub fn marks_meet_worked_cases()
     ensures vain_rules { WorkedVainRules }
     ensures random { WorkedRandom }
     ensures ids { WorkedIds }
+{}
+
+/// Joiners, masks, syllables and components of ligatures within a match and around it, chains by classes, and bounds.
+pub fn surroundings_meet_worked_cases()
+    ensures joiners { WorkedJoiners }
+    ensures masks { WorkedMasks }
+    ensures syllables { WorkedSyllablesAround }
+    ensures components { WorkedComponentsMatched }
+    ensures chained_classes { WorkedChainedClasses }
+    ensures bounds { WorkedBounds }
 {}

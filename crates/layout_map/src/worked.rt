@@ -1,7 +1,7 @@
 //! The definitions, computed by hand.
 ghost use Rattle.layout_map.specs.Worked.Settings.{WorkedSettings};
 ghost use Rattle.layout_map.specs.Worked.Bits.{WorkedBits, WorkedAllotment};
-ghost use Rattle.layout_map.specs.Worked.Stages.{WorkedLookups, WorkedStages, WorkedMap};
+ghost use Rattle.layout_map.specs.Worked.Stages.{WorkedLookups, WorkedStages, WorkedMap, WorkedChosen};
 
 /// Requests merged to settings, and the bits of features.
 pub fn features_meet_worked_cases()
@@ -15,4 +15,5 @@ pub fn maps_meet_worked_cases()
     ensures lookups { WorkedLookups }
     ensures stages { WorkedStages }
     ensures map { WorkedMap }
+    ensures chosen { WorkedChosen }
 {}

@@ -23,7 +23,8 @@ abbrev pub subtable_lists : Lookup → LookupSubtable → ℕ → Bool
 subtable_lists l subtable glyph = if is_context_subtable l subtable then rule_lists l subtable glyph else is_listed_at l subtable glyph
 
 abbrev pub IsUnlisted : Lookup → ℕ → Type 0
-IsUnlisted l glyph = (k : ℕ) (subtable : LookupSubtable) → subtable_of l.table.now 9 l.place k ≡ Some subtable → subtable_lists l subtable glyph ≡ false
+IsUnlisted l glyph = (k : ℕ) (subtable : LookupSubtable) → subtable_of l.table.now 9 l.place k ≡ Some subtable
+    → subtable_lists l subtable glyph ≡ false
 
 -- a lookup of positioning of which no subtable lists a glyph of the buffer
 pub record IsUncovered (b : Buffer) (l : Lookup) : Type 0 where

@@ -79,7 +79,13 @@ no_classes = words (1 ∷ 0 ∷ 0 ∷ 0 ∷ 0 ∷ 32 ∷ 2 ∷ 2 ∷ 5 ∷ 5 ∷
 abbrev pub made_before : ℕ → Item
 made_before g = record (new_item 0 0) {
   glyph_id = g;
-  properties = record new_properties { substituted = true; multiplied = true; ligature_id = 2; ligature_component = 1; number_of_components = 3 };
+  properties = record new_properties {
+    substituted = true;
+    multiplied = true;
+    ligature_id = 2;
+    ligature_component = 1;
+    number_of_components = 3;
+  };
 }
 
 pub record WorkedBeginnings : Type 0 where
@@ -95,7 +101,8 @@ pub record WorkedBeginnings : Type 0 where
   pub of_no_ligature : (begun_item two_glyphs (made_before 9)).properties.ligature_id ≡ 0
   -- a glyph that is put in place has the class of GDEF
   pub replaced_mark : (l : Lookup) → l.gdef.now ≡ two_glyphs → (replaced l 0 9 (made_before 5)).properties.mark_attachment_class ≡ 3
-  pub replaced_base : (l : Lookup) → l.gdef.now ≡ two_glyphs → (replaced l 0 5 (replaced l 0 9 (made_before 5))).properties.mark_attachment_class ≡ 0
+  pub replaced_base : (l : Lookup) → l.gdef.now ≡ two_glyphs
+      → (replaced l 0 5 (replaced l 0 9 (made_before 5))).properties.mark_attachment_class ≡ 0
 
 pub worked_beginnings : WorkedBeginnings
 worked_beginnings = record {

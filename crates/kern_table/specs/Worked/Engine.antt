@@ -1,7 +1,8 @@
 -- What the engine returns of a face, by the table that the face has.
-use Rattle.std.specs.Prelude.{◌≡◌, pos, negsuc, [], ◌∷◌, true, false, refl}
+use Rattle.std.specs.Prelude.{◌≡◌, pos, negsuc, [], ◌∷◌, None, true, false, refl}
 use Rattle.std.specs.Int.{int_wrap}
 use Rattle.shape_buffer.specs.MapBuilder.{Builder}
+use Rattle.shape_buffer.specs.declared.interfaces.map_request.TableIndex.{TableIndex}
 use Rattle.shape_common.specs.Wrapping.{◌+ʷ◌, ◌-ʷ◌}
 use Rattle.shape_common.specs.declared.text_types.Direction.TheVariants.{LeftToRight}
 use Rattle.shape_font.specs.Bytes.{i16_of}
@@ -18,6 +19,9 @@ pub record WorkedEngine : Type 0 where
   pub kerned : (f : FontFace) → f.kern.now ≡ table 1 1
       → along ((kern_lookups f).kern 16 (line LeftToRight (on 2 0 ∷ on 3 1 ∷ []))) ≡ (pos 575, pos 0) ∷ (pos 575, negsuc 24) ∷ []
   pub no_machine : (f : FontFace) → f.kern.now ≡ table 1 1 → (kern_layout f).has_machine_kerning ≡ false
+  pub no_script : (f : FontFace) (table : TableIndex) → (kern_layout f).chosen_script None None table ≡ None
+  pub no_classes : (f : FontFace) → (kern_layout f).has_glyph_classes ≡ false
+  pub no_cross_kerning : (f : FontFace) → (kern_layout f).has_cross_kerning ≡ false
 
 pub worked_engine : WorkedEngine
 unfolding i16_of ◌+ʷ◌ ◌-ʷ◌ int_wrap
@@ -28,4 +32,7 @@ worked_engine = record {
   compiled = λ f b e. rw e refl;
   kerned = λ f e. rw e refl;
   no_machine = λ f e. refl;
+  no_script = λ f table. refl;
+  no_classes = λ f. refl;
+  no_cross_kerning = λ f. refl;
 }

@@ -10,6 +10,7 @@ use Rattle.shape_common.specs.declared.text_types.Direction.TheVariants.{LeftToR
 use Rattle.shape_common.specs.declared.text_types.hb_tag_t.{hb_tag_t}
 use Rattle.shape_buffer.specs.declared.interfaces.map_request.MapRequest.{MapRequest}
 use Rattle.shape_buffer.specs.declared.interfaces.map_request.MapRequest.TheVariants.{Feature, Pause}
+use Rattle.shape_buffer.specs.declared.interfaces.map_request.TableIndex.{TableIndex}
 use Rattle.std.specs.Int.{int_wrap}
 use Rattle.shape_font.specs.Bytes.{i16_of}
 use Rattle.kern_table.specs.Map.{map_of, kern_masks}
@@ -41,6 +42,13 @@ classes row_of_2 row_of_3 = classes_with row_of_2 row_of_3 2
 abbrev pub class_table : ℕ → ℕ → List ℕ
 class_table row_of_2 row_of_3 = 0 ∷ 0 ∷ 0 ∷ 1 ∷ classes row_of_2 row_of_3
 
+-- the same, but 200 right glyphs are stated, and the table has room for 6
+abbrev pub cut_off : List ℕ
+cut_off = 0 ∷ 0 ∷ 0 ∷ 1 ∷ 0 ∷ 0 ∷ 0 ∷ 38 ∷ 2 ∷ 1 ∷ 0 ∷ 4 ∷ 0 ∷ 14 ∷ 0 ∷ 22 ∷ 0 ∷ 30
+    ∷ 0 ∷ 2 ∷ 0 ∷ 2 ∷ 0 ∷ 30 ∷ 0 ∷ 34
+    ∷ 0 ∷ 2 ∷ 0 ∷ 200 ∷ 0 ∷ 0 ∷ 0 ∷ 2
+    ∷ 0 ∷ 0 ∷ 0xFF ∷ 0xCE ∷ 0xFF ∷ 0xDD ∷ 0 ∷ 7 ∷ []
+
 pub record WorkedClasses : Type 0 where
   pub first_row : value_of (class_table 30 34) 4 2 3 ≡ negsuc 49
   pub second_row : value_of (class_table 30 34) 4 3 2 ≡ negsuc 34
@@ -60,6 +68,8 @@ pub record WorkedClasses : Type 0 where
   pub past_the_table : value_of (class_table 30 200) 4 3 3 ≡ pos 0
   pub of_this_line : is_read (class_table 30 34) 4 true ≡ true
   pub of_the_other_line : is_read (class_table 30 34) 4 false ≡ false
+  -- class 0 would be the first value of the row, -35
+  pub past_the_room : value_of cut_off 4 3 8 ≡ pos 0
 
 pub worked_classes : WorkedClasses
 unfolding i16_of
@@ -79,6 +89,7 @@ worked_classes = record {
   past_the_table = refl;
   of_this_line = refl;
   of_the_other_line = refl;
+  past_the_room = refl;
 }
 
 pub record WorkedValues : Type 0 where
@@ -102,6 +113,7 @@ pub record WorkedValues : Type 0 where
   pub minimum_too : is_read (table 1 3) 4 true ≡ true
   -- 65536 more than the right glyph of (2, 3) if the left one is 1
   pub right_past_all_glyphs : value_of (table 1 1) 4 1 65539 ≡ pos 0
+  pub overriding_too : is_read (table 1 9) 4 true ≡ true
 
 pub worked_values : WorkedValues
 unfolding i16_of
@@ -123,6 +135,7 @@ worked_values = record {
   count_of_another_version = refl;
   minimum_too = refl;
   right_past_all_glyphs = refl;
+  overriding_too = refl;
 }
 
 -- an item with a glyph, for which kerning is on (bit 4) or off
@@ -198,7 +211,8 @@ pub record WorkedLines : Type 0 where
       ≡ (pos 575, pos 0) ∷ (pos 575, negsuc 24) ∷ []
   pub two_subtables : along (table_kerned (table 2 1 ++ subtable 26 1 2) 16 (line LeftToRight (on 2 0 ∷ on 3 1 ∷ [])))
       ≡ (pos 550, pos 0) ∷ (pos 550, negsuc 49) ∷ []
-  pub short_subtable : along (table_kerned (0 ∷ 0 ∷ 0 ∷ 1 ∷ subtable 5 1 2) 16 (line LeftToRight (on 2 0 ∷ on 3 1 ∷ []))) ≡ still ∷ still ∷ []
+  pub short_subtable : along (table_kerned (0 ∷ 0 ∷ 0 ∷ 1 ∷ subtable 5 1 2) 16 (line LeftToRight (on 2 0 ∷ on 3 1 ∷ [])))
+      ≡ still ∷ still ∷ []
   pub no_mask : along (table_kerned (table 1 1) 0 (line LeftToRight (on 2 0 ∷ on 3 1 ∷ []))) ≡ still ∷ still ∷ []
   pub by_classes : along (table_kerned (class_table 30 34) 16 (line LeftToRight (on 2 0 ∷ on 3 1 ∷ on 2 2 ∷ [])))
       ≡ (pos 575, pos 0) ∷ (pos 557, negsuc 24) ∷ (pos 583, negsuc 16) ∷ []
@@ -208,6 +222,8 @@ pub record WorkedLines : Type 0 where
   pub after_a_short_subtable : along (table_kerned (0 ∷ 0 ∷ 0 ∷ 2 ∷ 0 ∷ 0 ∷ 0 ∷ 6 ∷ 1 ∷ 1 ∷ subtable 26 1 2) 16
       (line LeftToRight (on 2 0 ∷ on 3 1 ∷ []))) ≡ (pos 575, pos 0) ∷ (pos 575, negsuc 24) ∷ []
   pub over_a_mark_of_two_classes : along (by_subtable (on 2 0 ∷ in_classes 10 0 ∷ on 3 1 ∷ []))
+      ≡ (pos 575, pos 0) ∷ still ∷ (pos 575, negsuc 24) ∷ []
+  pub over_a_mark_that_is_off : along (by_subtable (on 2 0 ∷ record (mark 0) { mask = 0 } ∷ on 3 1 ∷ []))
       ≡ (pos 575, pos 0) ∷ still ∷ (pos 575, negsuc 24) ∷ []
 
 pub worked_lines : WorkedLines
@@ -239,6 +255,7 @@ worked_lines = record {
   by_pairs_and_by_classes = refl;
   after_a_short_subtable = refl;
   over_a_mark_of_two_classes = refl;
+  over_a_mark_that_is_off = refl;
 }
 
 -- requests for `kern`: for the whole text or for a range, with a fallback or without
@@ -268,6 +285,14 @@ pub record WorkedMaps : Type 0 where
   pub one_off : (kern_masks (record { is_on = false; everywhere = 1 })).one_mask KERN ≡ 0
   pub by_value_for_all : (kern_masks (record { is_on = true; everywhere = 2 })).global_mask ≡ 32
   pub no_one_for_others : (kern_masks (record { is_on = true; everywhere = 1 })).one_mask (record { 0 = 1 }) ≡ 0
+  -- for the whole text (1) without a fallback, and for a range with one (2)
+  pub without_a_fallback : map_of (Feature KERN 1 1 ∷ []) ≡ record { is_on = false; everywhere = 1 }
+  pub range_with_a_fallback : map_of (Feature KERN 2 1 ∷ []) ≡ record { is_on = true; everywhere = 0 }
+  pub eight_bits_for_all : (kern_masks (record { is_on = true; everywhere = 257 })).global_mask ≡ 16
+  pub off_everywhere : (kern_masks (record { is_on = false; everywhere = 1 })).global_mask ≡ 0
+  pub no_stages : (kern_masks (record { is_on = true; everywhere = 1 })).stages ≡ 0
+  pub no_pause : (kern_masks (record { is_on = true; everywhere = 1 })).pause_after 0 ≡ None
+  pub no_feature_of_a_table : (table : TableIndex) → (kern_masks (record { is_on = true; everywhere = 1 })).feature_index table KERN ≡ None
 
 pub worked_maps : WorkedMaps
 worked_maps = record {
@@ -287,4 +312,11 @@ worked_maps = record {
   one_off = refl;
   by_value_for_all = refl;
   no_one_for_others = refl;
+  without_a_fallback = refl;
+  range_with_a_fallback = refl;
+  eight_bits_for_all = refl;
+  off_everywhere = refl;
+  no_stages = refl;
+  no_pause = refl;
+  no_feature_of_a_table = λ table. refl;
 }

@@ -66,6 +66,11 @@ pub record WorkedBits : Type 0 where
   pub last_shift : shift_of (with_bits 10 None 0 27 (2 ^ 27)) ≡ 31
   pub value_1 : one_bit_of (with_bits 10 None 0 2 12) ≡ 4
   pub last_value_1 : one_bit_of (with_bits 10 None 0 27 (2 ^ 27)) ≡ 2 ^ 27
+  pub value_7 : bits_needed (set_to 10 0 false 7 0 0) ≡ 3
+  pub value_8 : bits_needed (set_to 10 0 false 8 0 0) ≡ 4
+  pub value_16 : bits_needed (set_to 10 0 false 16 0 0) ≡ 5
+  pub value_32 : bits_needed (set_to 10 0 false 32 0 0) ≡ 6
+  pub value_64 : bits_needed (set_to 10 0 false 64 0 0) ≡ 7
 
 pub worked_bits : WorkedBits
 worked_bits = record {
@@ -88,6 +93,11 @@ worked_bits = record {
   last_shift = refl;
   value_1 = refl;
   last_value_1 = refl;
+  value_7 = refl;
+  value_8 = refl;
+  value_16 = refl;
+  value_32 = refl;
+  value_64 = refl;
 }
 
 pub record WorkedAllotment : Type 0 where
@@ -103,14 +113,16 @@ pub record WorkedAllotment : Type 0 where
   pub not_listed : (allotted_of (set_to KERN 1 true 1 1 0 ∷ [])).features ≡ []
   -- 16 is F_GLOBAL_SEARCH
   pub searched : (allotted_of (set_to KERN 17 true 1 1 0 ∷ [])).features ≡ with_bits KERN (Some 0) 0 27 (2 ^ 27) ∷ []
-  pub listed_first : (allotted requires_liga no_table (set_to LIGA 17 true 1 1 0 ∷ [])).features ≡ with_bits LIGA (Some 1) 0 27 (2 ^ 27) ∷ []
+  pub listed_first : (allotted requires_liga no_table (set_to LIGA 17 true 1 1 0 ∷ [])).features
+      ≡ with_bits LIGA (Some 1) 0 27 (2 ^ 27) ∷ []
   pub in_gpos : map (λ f. f.gpos) (allotted no_table lists_liga (set_to LIGA 1 true 1 1 0 ∷ [])).features ≡ Some 1 ∷ []
   pub fallback : map (λ f. f.needs_fallback) (allotted_of (narrow KERN 1 ∷ [])).features ≡ true ∷ []
   pub found_with_fallback : map (λ f. f.needs_fallback) (allotted_of (narrow LIGA 1 ∷ [])).features ≡ false ∷ []
   -- 27 bits are there for values: 24 and 2 leave one, which the last bit keeps apart
   pub no_room_for_8 : places (wide 10 ∷ wide 20 ∷ wide 30 ∷ wide 40 ∷ []) ≡ 0 ∷ 8 ∷ 16 ∷ []
   pub room_for_2 : places (wide 10 ∷ wide 20 ∷ wide 30 ∷ narrow 40 2 ∷ narrow 50 1 ∷ []) ≡ 0 ∷ 8 ∷ 16 ∷ 24 ∷ []
-  pub room_for_the_shared_bit : places (wide 10 ∷ wide 20 ∷ wide 30 ∷ narrow 40 2 ∷ set_to LIGA 1 true 1 1 0 ∷ []) ≡ 0 ∷ 8 ∷ 16 ∷ 24 ∷ 27 ∷ []
+  pub room_for_the_shared_bit : places (wide 10 ∷ wide 20 ∷ wide 30 ∷ narrow 40 2 ∷ set_to LIGA 1 true 1 1 0 ∷ [])
+      ≡ 0 ∷ 8 ∷ 16 ∷ 24 ∷ 27 ∷ []
   -- 4 is F_MANUAL_ZWNJ, 8 F_MANUAL_ZWJ, 32 F_RANDOM, 64 F_PER_SYLLABLE
   pub manual_zwnj : map (λ f. f.auto_zwnj) (allotted_of (set_to LIGA 5 true 1 1 0 ∷ [])).features ≡ false ∷ []
   pub manual_zwj : map (λ f. f.auto_zwj) (allotted_of (set_to LIGA 9 true 1 1 0 ∷ [])).features ≡ false ∷ []
@@ -119,6 +131,10 @@ pub record WorkedAllotment : Type 0 where
   pub required_in_its_stage : (allotted requires_liga no_table (set_to LIGA 0 false 1 0 2 ∷ [])).required_stage ≡ 2
   pub required_unasked : (allotted requires_liga no_table (set_to KERN 0 false 1 0 2 ∷ [])).required_stage ≡ 0
   pub required_switched_off : (allotted requires_liga no_table (set_to LIGA 1 true 0 0 2 ∷ [])).required_stage ≡ 0
+  pub searched_in_gpos : map (λ f. f.gpos) (allotted no_table lists_liga (set_to KERN 17 true 1 1 0 ∷ [])).features ≡ Some 0 ∷ []
+  -- `GSUB` lists it, so that it isn't searched for in `GPOS`
+  pub listed_in_one_table : map (λ f. f.gpos)
+      (allotted lists_liga (record lists_liga { lang_sys = None }) (set_to LIGA 17 true 1 1 0 ∷ [])).features ≡ None ∷ []
 
 pub worked_allotment : WorkedAllotment
 worked_allotment = record {
@@ -146,4 +162,6 @@ worked_allotment = record {
   required_in_its_stage = refl;
   required_unasked = refl;
   required_switched_off = refl;
+  searched_in_gpos = refl;
+  listed_in_one_table = refl;
 }

@@ -4,8 +4,9 @@ use Rattle.shape_font.specs.Worked.Glyphs.{words}
 use Rattle.shape_buffer.specs.declared.interfaces.map_request.MapRequest.TheVariants.{Pause}
 use Rattle.shape_buffer.specs.declared.interfaces.map_request.TableIndex.TheVariants.{GSUB, GPOS}
 use Rattle.shape_common.specs.declared.text_types.hb_tag_t.{hb_tag_t}
-use Rattle.layout_tables.specs.Worked.Features.{KERN, LIGA}
-use Rattle.layout_map.specs.Chosen.{Chosen}
+use Rattle.layout_tables.specs.Worked.Features.{KERN, LIGA, two_features, varied}
+use Rattle.layout_tables.specs.Worked.Scripts.{two_scripts, LATN, TRK}
+use Rattle.layout_map.specs.Chosen.{Chosen, chosen, required_tag_of, feature_place}
 use Rattle.layout_map.specs.Lookups.{gsub_lookups, gpos_lookups}
 use Rattle.layout_map.specs.Stages.{Staged, staged, lookups_of, pause_of}
 use Rattle.layout_map.specs.Map.{OtMap, compiled, map_meaning, needs_fallback_of}
@@ -41,17 +42,23 @@ pub record WorkedLookups : Type 0 where
   pub of_the_stage : gsub_lookups (at_system 52) (kern_1 0 ∷ liga_2 1 ∷ []) 0 0 ≡ on 5 16 ∷ []
   pub of_the_next_stage : gsub_lookups (at_system 52) (kern_1 0 ∷ liga_2 1 ∷ []) 0 1 ≡ on 3 32 ∷ on 5 32 ∷ []
   pub not_in_gsub : gsub_lookups (at_system 52) (with_bits KERN None 0 0 1 ∷ []) 0 0 ≡ []
-  pub past_the_list : gsub_lookups (record { bytes = bytes 5; lang_sys = Some 52; substitution = None }) (kern_1 0 ∷ liga_2 0 ∷ []) 0 0 ≡ on 3 32 ∷ []
+  pub past_the_list : gsub_lookups (record { bytes = bytes 5; lang_sys = Some 52; substitution = None }) (kern_1 0 ∷ liga_2 0 ∷ []) 0 0
+      ≡ on 3 32 ∷ []
   pub required : gsub_lookups (at_system 62) [] 0 0 ≡ on 5 (2 ^ 31) ∷ []
   pub required_and_asked : gsub_lookups (at_system 62) (liga_2 0 ∷ []) 0 0 ≡ on 3 32 ∷ on 5 (2 ^ 31 + 32) ∷ []
   pub required_in_its_stage : gsub_lookups (at_system 62) [] 1 0 ≡ []
   pub required_in_the_next_stage : gsub_lookups (at_system 62) [] 1 1 ≡ on 5 (2 ^ 31) ∷ []
   -- joiners are skipped if all skip them; the rest is as the first feature says
-  pub joiners : map (λ l. l.auto_zwnj) (gsub_lookups (at_system 52) (record (kern_1 0) { auto_zwnj = false } ∷ liga_2 0 ∷ []) 0 0) ≡ true ∷ false ∷ []
-  pub later_joiners : map (λ l. l.auto_zwj) (gsub_lookups (at_system 52) (kern_1 0 ∷ record (liga_2 0) { auto_zwj = false } ∷ []) 0 0) ≡ false ∷ false ∷ []
-  pub first_random : map (λ l. l.random) (gsub_lookups (at_system 52) (record (kern_1 0) { random = true } ∷ liga_2 0 ∷ []) 0 0) ≡ false ∷ true ∷ []
-  pub later_random : map (λ l. l.random) (gsub_lookups (at_system 52) (kern_1 0 ∷ record (liga_2 0) { random = true } ∷ []) 0 0) ≡ true ∷ false ∷ []
-  pub in_syllables : map (λ l. l.per_syllable) (gsub_lookups (at_system 52) (record (kern_1 0) { per_syllable = true } ∷ []) 0 0) ≡ true ∷ []
+  pub joiners : map (λ l. l.auto_zwnj) (gsub_lookups (at_system 52) (record (kern_1 0) { auto_zwnj = false } ∷ liga_2 0 ∷ []) 0 0)
+      ≡ true ∷ false ∷ []
+  pub later_joiners : map (λ l. l.auto_zwj) (gsub_lookups (at_system 52) (kern_1 0 ∷ record (liga_2 0) { auto_zwj = false } ∷ []) 0 0)
+      ≡ false ∷ false ∷ []
+  pub first_random : map (λ l. l.random) (gsub_lookups (at_system 52) (record (kern_1 0) { random = true } ∷ liga_2 0 ∷ []) 0 0)
+      ≡ false ∷ true ∷ []
+  pub later_random : map (λ l. l.random) (gsub_lookups (at_system 52) (kern_1 0 ∷ record (liga_2 0) { random = true } ∷ []) 0 0)
+      ≡ true ∷ false ∷ []
+  pub in_syllables : map (λ l. l.per_syllable) (gsub_lookups (at_system 52) (record (kern_1 0) { per_syllable = true } ∷ []) 0 0)
+      ≡ true ∷ []
   pub gpos_has_one_stage : gpos_lookups (at_system 52) (record (kern_1 3) { gpos = Some 0 } ∷ []) ≡ on 5 16 ∷ []
   pub required_of_gpos : gpos_lookups (at_system 62) [] ≡ on 5 (2 ^ 31) ∷ []
 
@@ -143,4 +150,31 @@ worked_map = record {
   second_stage = refl;
   needs_fallback = refl;
   needs_none = refl;
+}
+
+-- what is chosen in a table for a text, and what it says of features
+pub record WorkedChosen : Type 0 where
+  pub language : chosen two_scripts (Some LATN) (TRK ∷ []) ≡ record { bytes = two_scripts; lang_sys = Some 56; substitution = None }
+  pub no_language : (chosen two_scripts (Some LATN) []).lang_sys ≡ Some 44
+  pub no_script : (chosen two_scripts None (TRK ∷ [])).lang_sys ≡ None
+  pub varied_features : (chosen (varied 0 0) None []).substitution ≡ Some 72
+  pub required_tag : required_tag_of (record { bytes = two_features; lang_sys = Some 38; substitution = None }) ≡ LIGA
+  pub none_required : required_tag_of (record { bytes = two_features; lang_sys = Some 50; substitution = None }) ≡ 0
+  pub without_language : required_tag_of (record { bytes = two_features; lang_sys = None; substitution = None }) ≡ 0
+  pub place : feature_place (record { bytes = two_features; lang_sys = None; substitution = None }) (Some 1) ≡ Some 30
+  pub substituted_place : feature_place (record { bytes = varied 0 0; lang_sys = None; substitution = Some 72 }) (Some 0) ≡ Some 372
+  pub no_place : feature_place (record { bytes = two_features; lang_sys = None; substitution = None }) None ≡ None
+
+pub worked_chosen : WorkedChosen
+worked_chosen = record {
+  language = refl;
+  no_language = refl;
+  no_script = refl;
+  varied_features = refl;
+  required_tag = refl;
+  none_required = refl;
+  without_language = refl;
+  place = refl;
+  substituted_place = refl;
+  no_place = refl;
 }

@@ -1,5 +1,6 @@
 -- Features and their variations, on tables that were read by hand.
-use Rattle.std.specs.Prelude.{◌≡◌, ℕ, List, [], ◌∷◌, ◌++◌, Some, None, true, false, refl}
+use Prim.Native.Nat.{zero}
+use Rattle.std.specs.Prelude.{◌≡◌, ℕ, suc, List, [], ◌∷◌, ◌++◌, Some, None, true, false, refl}
 use Rattle.shape_font.specs.Worked.Glyphs.{words}
 use Rattle.layout_tables.specs.Features.{feature_count_of, feature_tag_of, required_feature_of, feature_index_of, any_feature_of, feature_of, feature_lookup_count_of, feature_lookup_of}
 use Rattle.layout_tables.specs.Variations.{condition_holds, set_holds, substitution_of, varied_feature_of}
@@ -101,6 +102,11 @@ two_records major least greatest first second = words (major ∷ 0 ∷ 0 ∷ 2 �
 abbrev pub varied : ℕ → ℕ → List ℕ
 varied least greatest = header 1 ++ two_records 1 least greatest 1 1
 
+-- so many offsets of 32 bits, with these last two bytes
+abbrev pub same_offsets : ℕ → ℕ → ℕ → List ℕ
+same_offsets zero high low = []
+same_offsets (suc n) high low = 0 ∷ 0 ∷ high ∷ low ∷ same_offsets n high low
+
 pub record WorkedConditions : Type 0 where
   -- F2DOT14: 0xC000 is -1, 0x4000 is 1, 0xFFFF is the greatest below 0
   pub whole_axis : condition_holds (words (1 ∷ 0 ∷ 0xC000 ∷ 0x4000 ∷ [])) 0 ≡ true
@@ -115,6 +121,9 @@ pub record WorkedConditions : Type 0 where
   pub null_condition : set_holds (words (1 ∷ 0 ∷ 0 ∷ [])) 0 ≡ false
   pub one_fails : set_holds (words (2 ∷ 0 ∷ 10 ∷ 0 ∷ 18 ∷ 2 ∷ 1 ∷ 0 ∷ 0 ∷ 2 ∷ 0 ∷ [])) 0 ≡ false
   pub all_hold : set_holds (words (2 ∷ 0 ∷ 10 ∷ 0 ∷ 18 ∷ 2 ∷ 1 ∷ 0 ∷ 0 ∷ 2 ∷ 1 ∷ [])) 0 ≡ true
+  -- offsets to one condition after them, 1026 and 1030 bytes from the start
+  pub as_many_as_256 : set_holds (1 ∷ 0 ∷ same_offsets 256 4 2 ++ words (2 ∷ 1 ∷ [])) 0 ≡ true
+  pub more_than_256 : set_holds (1 ∷ 1 ∷ same_offsets 257 4 6 ++ words (2 ∷ 1 ∷ [])) 0 ≡ false
 
 pub worked_conditions : WorkedConditions
 worked_conditions = record {
@@ -130,6 +139,8 @@ worked_conditions = record {
   null_condition = refl;
   one_fails = refl;
   all_hold = refl;
+  as_many_as_256 = refl;
+  more_than_256 = refl;
 }
 
 pub record WorkedVariations : Type 0 where
@@ -144,7 +155,8 @@ pub record WorkedVariations : Type 0 where
   pub second_substitute : varied_feature_of (varied 1 1) (Some 84) 7 ≡ Some 484
   -- a substitute whose offset is NULL takes the place of the feature all the same
   pub null_substitute : varied_feature_of (varied 1 1) (Some 84) 0 ≡ None
-  pub not_substituted : varied_feature_of (words (1 ∷ 1 ∷ 0 ∷ 14 ∷ 0 ∷ 0 ∷ 0 ∷ 1 ∷ 0x6B65 ∷ 0x726E ∷ 8 ∷ 1 ∷ 0 ∷ 1 ∷ 9 ∷ [])) (Some 22) 0 ≡ Some 22
+  pub not_substituted : varied_feature_of
+      (words (1 ∷ 1 ∷ 0 ∷ 14 ∷ 0 ∷ 0 ∷ 0 ∷ 1 ∷ 0x6B65 ∷ 0x726E ∷ 8 ∷ 1 ∷ 0 ∷ 1 ∷ 9 ∷ [])) (Some 22) 0 ≡ Some 22
   pub without_variations : varied_feature_of two_features None 1 ≡ Some 30
 
 pub worked_variations : WorkedVariations

@@ -115,6 +115,8 @@ pub record WorkedDefinitions : Type 0 where
   pub no_set : mark_set_covers (definitions 1 2 1) 2 12 ≡ false
   pub since_1_2 : mark_set_covers (definitions 1 1 1) 0 12 ≡ false
   pub other_format : mark_set_covers (definitions 1 2 2) 0 12 ≡ false
+  -- two offsets of a set with glyph 12, of which one is stated
+  pub past_the_count_of_sets : mark_set_covers (words (1 ∷ 2 ∷ 0 ∷ 0 ∷ 0 ∷ 0 ∷ 14 ∷ 1 ∷ 1 ∷ 0 ∷ 12 ∷ 0 ∷ 12 ∷ 1 ∷ 1 ∷ 12 ∷ [])) 1 12 ≡ false
 
 pub worked_definitions : WorkedDefinitions
 worked_definitions = record {
@@ -136,4 +138,5 @@ worked_definitions = record {
   no_set = refl;
   since_1_2 = refl;
   other_format = refl;
+  past_the_count_of_sets = refl;
 }

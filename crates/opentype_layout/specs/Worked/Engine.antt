@@ -42,13 +42,25 @@ turned_on l = l.auto_zwnj ∷ l.auto_zwj ∷ l.random ∷ l.per_syllable ∷ l.p
 
 -- `liga` asked for everywhere, in a text of script `latn`
 abbrev pub asked : Builder
-asked = record { requests = Feature (tag 0x6C696761) 1 1 ∷ []; is_simple = true; language = None; gsub_script = Some latn; gpos_script = None }
+asked = record {
+  requests = Feature (tag 0x6C696761) 1 1 ∷ [];
+  is_simple = true;
+  language = None;
+  gsub_script = Some latn;
+  gpos_script = None;
+}
 
 -- glyph `n` of a ligature
 abbrev pub ligated : ℕ → Item
 ligated n = record (new_item 0x41 0) {
   glyph_id = n;
-  properties = record new_properties { substituted = true; ligated = true; ligature_id = 3; ligature_component = 1; number_of_components = 2 };
+  properties = record new_properties {
+    substituted = true;
+    ligated = true;
+    ligature_id = 3;
+    ligature_component = 1;
+    number_of_components = 2;
+  };
 }
 
 abbrev pub classes_of : Item → List ℕ

@@ -1,11 +1,12 @@
 -- What a face returns, by what is known of its parts.
-use Rattle.std.specs.Prelude.{◌≡◌, pos, negsuc, [], ◌∷◌, Some, None, true, false, refl}
+use Rattle.std.specs.Prelude.{◌≡◌, pos, negsuc, [], ◌∷◌, ◌++◌, Some, None, true, false, refl}
 use Rattle.std.specs.Int.{int_wrap}
 use Rattle.shape_common.specs.Wrapping.{◌+ʷ◌}
 use Rattle.shape_common.specs.declared.face.hb_glyph_extents_t.{hb_glyph_extents_t}
 use Rattle.shape_font.specs.Bytes.{i16_of}
 use Rattle.shape_font.specs.Face.{font_face, numbered, glyph_of, variant_of, h_advance_of, v_advance_of, extents_of, inked_of, origin_over}
-use Rattle.shape_font.specs.Worked.Glyphs.{words, short_list}
+use Rattle.shape_font.specs.Metrics.{no_box, framed_of}
+use Rattle.shape_font.specs.Worked.Glyphs.{words, short_list, header}
 use Rattle.shape_font.specs.Worked.Lines.{origins, plain_line}
 use Rattle.shape_font.specs.Worked.Searches.{three_selectors}
 use Rattle.shape_font.specs.declared.face.FontFace.{FontFace}
@@ -39,8 +40,22 @@ pub record WorkedFace : Type 0 where
   pub box_of_the_last : (f : FontFace) → f.outlines ≡ true → f.glyph_count ≡ 7 → extents_of f (record { 0 = 6 }) ≡ Some (inked_of f 6)
   pub half_of_an_odd_em : (f : FontFace) → f.glyph_count ≡ 7 → f.h_count ≡ 0 → f.units_per_em ≡ 1001
       → h_advance_of f (record { 0 = 6 }) ≡ pos 500
+  -- glyph 1 has the bytes from 2 up to 12, and the bearing 60; glyph 2 has none
+  pub box_by_short_places : (f : FontFace) → f.outlines ≡ true → f.glyph_count ≡ 7 → f.long_places ≡ false
+      → f.loca.now ≡ words (0 ∷ 1 ∷ 6 ∷ 6 ∷ []) → f.glyf.now ≡ words (9 ∷ []) ++ header
+      → f.h_count ≡ 1 → f.hmtx.now ≡ words (500 ∷ 50 ∷ 60 ∷ [])
+      → extents_of f (record { 0 = 1 }) ≡ Some (record { x_bearing = pos 60; y_bearing = pos 700; width = pos 290; height = negsuc 719 })
+  pub empty_box : (f : FontFace) → f.outlines ≡ true → f.glyph_count ≡ 7 → f.long_places ≡ false
+      → f.loca.now ≡ words (0 ∷ 1 ∷ 6 ∷ 6 ∷ []) → f.glyf.now ≡ words (9 ∷ []) ++ header
+      → f.h_count ≡ 1 → f.hmtx.now ≡ words (500 ∷ 50 ∷ 60 ∷ [])
+      → extents_of f (record { 0 = 2 }) ≡ Some no_box
+  pub box_by_long_places : (f : FontFace) → f.outlines ≡ true → f.glyph_count ≡ 7 → f.long_places ≡ true
+      → f.loca.now ≡ words (0 ∷ 2 ∷ 0 ∷ 12 ∷ []) → f.glyf.now ≡ words (9 ∷ []) ++ header
+      → f.h_count ≡ 1 → f.hmtx.now ≡ words (500 ∷ 50 ∷ 60 ∷ [])
+      → extents_of f (record { 0 = 0 }) ≡ Some (record { x_bearing = pos 50; y_bearing = pos 700; width = pos 290; height = negsuc 719 })
 
 pub worked_face : WorkedFace
+unfolding inked_of framed_of i16_of
 worked_face = record {
   glyph_0_is_none = refl;
   glyph_1 = refl;
@@ -60,6 +75,9 @@ worked_face = record {
   no_box_without_outlines = λ f o. rw o refl;
   box_of_the_last = λ f o e. rw (o, e) refl;
   half_of_an_odd_em = λ f e h u. rw (e, h, u) refl;
+  box_by_short_places = λ f o e p l g h t. rw (o, e, p, l, g, h, t) refl;
+  empty_box = λ f o e p l g h t. rw (o, e, p, l, g, h, t) refl;
+  box_by_long_places = λ f o e p l g h t. rw (o, e, p, l, g, h, t) refl;
 }
 
 -- a box 705 high, whose upper side is at 700
@@ -95,6 +113,7 @@ pub record WorkedOrigins : Type 0 where
       → origin_over f 1 (record box { height = negsuc 1004 }) ≡ pos 697
   pub listed_by_a_minor_version : (f : FontFace) → f.vorg.now ≡ words (0 ∷ 1 ∷ 880 ∷ 0 ∷ [])
       → (font_face f).v_origin (record { 0 = 3 }) ≡ pos 880
+  pub tables : (f : FontFace) → (font_face f).tables ≡ f.tables
 
 pub worked_origins : WorkedOrigins
 unfolding i16_of ◌+ʷ◌ int_wrap
@@ -114,4 +133,5 @@ worked_origins = record {
   em = λ f u. u;
   higher_than_the_line = λ f v o h. rw (v, o, h) refl;
   listed_by_a_minor_version = λ f v. rw v refl;
+  tables = λ f. refl;
 }

@@ -29,7 +29,10 @@ pub record WorkedSegments : Type 0 where
   pub other_format : cmap_glyph (words (5 ∷ 44 ∷ [])) 0x41 ≡ 0
   pub listed_delta_wraps : cmap_glyph (listed_with 65533) 0x61 ≡ 6
   -- 9 to 3, and 5 to 5: the end decides first
-  pub after_a_segment_that_ends_before_it_starts : cmap_glyph (words (4 ∷ 32 ∷ 0 ∷ 4 ∷ 0 ∷ 0 ∷ 0 ∷ 3 ∷ 5 ∷ 0 ∷ 9 ∷ 5 ∷ 0 ∷ 2 ∷ 0 ∷ 0 ∷ [])) 5 ≡ 7
+  pub after_a_segment_that_ends_before_it_starts : cmap_glyph
+      (words (4 ∷ 32 ∷ 0 ∷ 4 ∷ 0 ∷ 0 ∷ 0 ∷ 3 ∷ 5 ∷ 0 ∷ 9 ∷ 5 ∷ 0 ∷ 2 ∷ 0 ∷ 0 ∷ [])) 5 ≡ 7
+  -- one segment up to U+00FF, of which the rest reads as 0
+  pub cut_off_after_the_ends : cmap_glyph (words (4 ∷ 16 ∷ 0 ∷ 2 ∷ 0 ∷ 0 ∷ 0 ∷ 0xFF ∷ [])) 0x41 ≡ 0x41
 
 pub worked_segments : WorkedSegments
 worked_segments = record {
@@ -44,6 +47,7 @@ worked_segments = record {
   other_format = refl;
   listed_delta_wraps = refl;
   after_a_segment_that_ends_before_it_starts = refl;
+  cut_off_after_the_ends = refl;
 }
 
 -- format 0: glyphs 5, 6 and 7 for U+0000..0002, and no more bytes
@@ -138,8 +142,13 @@ pub record WorkedGroups : Type 0 where
   pub no_more_than_there_is_room_for : groups_of (two_groups 65535) ≡ 2
   pub glyph_of_32_bits : cmap_glyph (words (12 ∷ 0 ∷ 0 ∷ 28 ∷ 0 ∷ 0 ∷ 0 ∷ 1 ∷ 0 ∷ 0x41 ∷ 0 ∷ 0x41 ∷ 1 ∷ 7 ∷ [])) 0x41 ≡ 65543
   -- 9 to 3, and 5 to 5: the start decides first
-  pub before_a_group_that_ends_before_it_starts : cmap_glyph (words (12 ∷ 0 ∷ 0 ∷ 40 ∷ 0 ∷ 0 ∷ 0 ∷ 2 ∷ 0 ∷ 9 ∷ 0 ∷ 3 ∷ 0 ∷ 7 ∷ 0 ∷ 5 ∷ 0 ∷ 5 ∷ 0 ∷ 8 ∷ [])) 5
+  pub before_a_group_that_ends_before_it_starts : cmap_glyph
+      (words (12 ∷ 0 ∷ 0 ∷ 40 ∷ 0 ∷ 0 ∷ 0 ∷ 2 ∷ 0 ∷ 9 ∷ 0 ∷ 3 ∷ 0 ∷ 7 ∷ 0 ∷ 5 ∷ 0 ∷ 5 ∷ 0 ∷ 8 ∷ [])) 5
       ≡ 0
+  pub same_low_half : cmap_glyph (two_groups 2) 0xF600 ≡ 0
+  pub count_of_32_bits : groups_of (words (12 ∷ 0 ∷ 0 ∷ 28 ∷ 0 ∷ 0 ∷ 1 ∷ 0 ∷ 0 ∷ 0x41 ∷ 0 ∷ 0x41 ∷ 0 ∷ 7 ∷ [])) ≡ 1
+  -- U+0041 has the greatest number of 32 bits, U+0043 two more
+  pub glyph_wraps : cmap_glyph (words (12 ∷ 0 ∷ 0 ∷ 28 ∷ 0 ∷ 0 ∷ 0 ∷ 1 ∷ 0 ∷ 0x41 ∷ 0 ∷ 0x43 ∷ 65535 ∷ 65535 ∷ [])) 0x43 ≡ 1
 
 pub worked_groups : WorkedGroups
 worked_groups = record {
@@ -155,6 +164,9 @@ worked_groups = record {
   no_more_than_there_is_room_for = refl;
   glyph_of_32_bits = refl;
   before_a_group_that_ends_before_it_starts = refl;
+  same_low_half = refl;
+  count_of_32_bits = refl;
+  glyph_wraps = refl;
 }
 
 -- two long metrics, 500 and 600 wide, then the bearings of glyphs 2 and 3

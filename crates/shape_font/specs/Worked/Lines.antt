@@ -35,6 +35,7 @@ pub record WorkedLines : Type 0 where
   pub half_of_minus_2 : half_down (negsuc 1) ≡ negsuc 0
   pub half_of_minus_3 : half_down (negsuc 2) ≡ negsuc 1
   pub no_record_past_the_end : listed_origin (origins 9) 0 ≡ pos 880
+  pub count_of_16_bits : listed_origin (origins 256) 5 ≡ negsuc 0
 
 pub worked_lines : WorkedLines
 unfolding i16_of
@@ -58,4 +59,5 @@ worked_lines = record {
   half_of_minus_2 = refl;
   half_of_minus_3 = refl;
   no_record_past_the_end = refl;
+  count_of_16_bits = refl;
 }

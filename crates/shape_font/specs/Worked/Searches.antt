@@ -67,6 +67,14 @@ stated_selectors selectors rows = 0 ∷ 14 ∷ 0 ∷ 0 ∷ 0 ∷ 70 ∷ 0 ∷ 0 
 abbrev pub three_selectors : List ℕ
 three_selectors = stated_selectors 3 3
 
+-- format 14 of one selector, U+FE00, with 65536 times so much added to the offsets of its two parts, and each count stated as
+-- 65536: U+0042 has glyph 263, U+1F600..1F601 look as they do alone
+abbrev pub one_selector : ℕ → ℕ → List ℕ
+one_selector ranges rows = 0 ∷ 14 ∷ 0 ∷ 0 ∷ 0 ∷ 38 ∷ 0 ∷ 1 ∷ 0 ∷ 0
+    ∷ 0 ∷ 0xFE ∷ 0x00 ∷ 0 ∷ ranges ∷ 0 ∷ 30 ∷ 0 ∷ rows ∷ 0 ∷ 21
+    ∷ 0 ∷ 1 ∷ 0 ∷ 0 ∷ 0 ∷ 0 ∷ 0x42 ∷ 1 ∷ 7
+    ∷ 0 ∷ 1 ∷ 0 ∷ 0 ∷ 1 ∷ 0xF6 ∷ 0x00 ∷ 1 ∷ []
+
 -- `cmap` of one subtable, by encoding and format
 abbrev pub one_table : ℕ → ℕ → List ℕ
 one_table encoding format = 0 ∷ 0 ∷ 0 ∷ 1 ∷ 0 ∷ 0 ∷ 0 ∷ encoding ∷ 0 ∷ 0 ∷ 0 ∷ 12 ∷ 0 ∷ format ∷ []
@@ -92,6 +100,10 @@ pub record WorkedVariations : Type 0 where
       ≡ Missing
   pub fewer_selectors : variation_of (stated_selectors 1 3) 0x41 0xFE01 ≡ Missing
   pub fewer_rows : variation_of (stated_selectors 3 2) 0x1F600 0xFE01 ≡ Missing
+  pub counts_of_32_bits : variation_of (one_selector 0 0) 0x42 0xFE00 ≡ Own 263
+  pub range_past_plane_0 : variation_of (one_selector 0 0) 0x1F601 0xFE00 ≡ Default
+  pub range_offset_of_32_bits : variation_of (one_selector 1 0) 0x1F601 0xFE00 ≡ Missing
+  pub row_offset_of_32_bits : variation_of (one_selector 0 1) 0x42 0xFE00 ≡ Missing
 
 pub worked_variations : WorkedVariations
 worked_variations = record {
@@ -113,4 +125,8 @@ worked_variations = record {
   no_sequences = refl;
   fewer_selectors = refl;
   fewer_rows = refl;
+  counts_of_32_bits = refl;
+  range_past_plane_0 = refl;
+  range_offset_of_32_bits = refl;
+  row_offset_of_32_bits = refl;
 }

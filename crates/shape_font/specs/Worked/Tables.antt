@@ -3,7 +3,7 @@ use Rattle.std.specs.Prelude.{◌≡◌, ℕ, pos, negsuc, List, [], ◌∷◌, 
 use Rattle.shape_font.specs.Bytes.{u16_of, u32_of, i16_of, fitting}
 use Rattle.shape_font.specs.Directory.{font_start, slice_of, table_at, table_of, has_table, bytes_of}
 use Rattle.shape_font.specs.Subtables.{subtable_of, chosen_subtable, symbols_of}
-use Rattle.shape_font.specs.declared.tags.TheConstants.{HEAD, HHEA, MAXP, HMTX, VHEA, VMTX, VORG, OS2, CMAP, LOCA, GLYF, GSUB, GPOS, MORX, KERX, TRAK, KERN, POST}
+use Rattle.shape_font.specs.declared.tags.TheConstants.{HEAD, HHEA, MAXP, HMTX, VHEA, VMTX, VORG, OS2, CMAP, LOCA, GLYF, GDEF, GSUB, GPOS, MORX, KERX, TRAK, KERN, POST}
 
 pub record WorkedNumbers : Type 0 where
   pub two_bytes : u16_of (7 ∷ 1 ∷ 2 ∷ []) 1 ≡ 258
@@ -56,6 +56,8 @@ pub record WorkedDirectory : Type 0 where
   pub empty : bytes_of (two_tables 2) 0 0x43432020 ≡ []
   pub whole : slice_of (11 ∷ 12 ∷ []) 0 2 ≡ Some (11 ∷ 12 ∷ [])
   pub cut_off : table_of (header 1 ++ 65 ∷ 65 ∷ 32 ∷ 32 ∷ []) 0 0x41412020 ≡ None
+  pub offset_of_32_bits : table_of (header 1 ++ 65 ∷ 65 ∷ 32 ∷ 32 ∷ 9 ∷ 9 ∷ 9 ∷ 9 ∷ 0 ∷ 1 ∷ 0 ∷ 0 ∷ 0 ∷ 0 ∷ 0 ∷ 1 ∷ []) 0 0x41412020 ≡ None
+  pub length_of_32_bits : table_of (header 1 ++ 65 ∷ 65 ∷ 32 ∷ 32 ∷ 9 ∷ 9 ∷ 9 ∷ 9 ∷ 0 ∷ 0 ∷ 0 ∷ 0 ∷ 0 ∷ 1 ∷ 0 ∷ 1 ∷ []) 0 0x41412020 ≡ None
 
 pub worked_directory : WorkedDirectory
 worked_directory = record {
@@ -72,6 +74,8 @@ worked_directory = record {
   empty = refl;
   whole = refl;
   cut_off = refl;
+  offset_of_32_bits = refl;
+  length_of_32_bits = refl;
 }
 
 -- a collection of two fonts, at 300 and 65536
@@ -105,7 +109,8 @@ one_subtable platform encoding = 0 ∷ 0 ∷ 0 ∷ 1 ∷ 0 ∷ platform ∷ 0 �
 
 abbrev pub stated_subtables : ℕ → ℕ → ℕ → ℕ → ℕ → List ℕ
 stated_subtables count platform encoding second_platform second_encoding =
-    0 ∷ 0 ∷ 0 ∷ count ∷ 0 ∷ platform ∷ 0 ∷ encoding ∷ 0 ∷ 0 ∷ 0 ∷ 20 ∷ 0 ∷ second_platform ∷ 0 ∷ second_encoding ∷ 0 ∷ 0 ∷ 0 ∷ 21 ∷ 77 ∷ 78 ∷ []
+    0 ∷ 0 ∷ 0 ∷ count ∷ 0 ∷ platform ∷ 0 ∷ encoding ∷ 0 ∷ 0 ∷ 0 ∷ 20
+    ∷ 0 ∷ second_platform ∷ 0 ∷ second_encoding ∷ 0 ∷ 0 ∷ 0 ∷ 21 ∷ 77 ∷ 78 ∷ []
 
 abbrev pub two_subtables : ℕ → ℕ → ℕ → ℕ → List ℕ
 two_subtables = stated_subtables 2
@@ -130,6 +135,8 @@ pub record WorkedSubtables : Type 0 where
   pub symbols : symbols_of (two_subtables 3 1 3 0) ≡ true
   pub no_symbols : symbols_of (two_subtables 3 1 3 10) ≡ false
   pub past_the_count : subtable_of (stated_subtables 1 3 1 3 10) 0x3000A ≡ None
+  pub offset_of_32_bits : subtable_of (0 ∷ 0 ∷ 0 ∷ 1 ∷ 0 ∷ 3 ∷ 0 ∷ 1 ∷ 0 ∷ 1 ∷ 0 ∷ 12 ∷ 77 ∷ []) 0x30001 ≡ Some []
+  pub first_of_two : chosen_subtable (two_subtables 3 1 3 1) ≡ 77 ∷ 78 ∷ []
 
 pub worked_subtables : WorkedSubtables
 worked_subtables = record {
@@ -152,6 +159,8 @@ worked_subtables = record {
   symbols = refl;
   no_symbols = refl;
   past_the_count = refl;
+  offset_of_32_bits = refl;
+  first_of_two = refl;
 }
 
 -- the tables by their tags
@@ -174,6 +183,7 @@ pub record WorkedTags : Type 0 where
   pub trak : TRAK ≡ u32_of (codes "trak") 0
   pub kern : KERN ≡ u32_of (codes "kern") 0
   pub post : POST ≡ u32_of (codes "post") 0
+  pub gdef : GDEF ≡ u32_of (codes "GDEF") 0
 
 pub worked_tags : WorkedTags
 worked_tags = record {
@@ -195,4 +205,5 @@ worked_tags = record {
   trak = refl;
   kern = refl;
   post = refl;
+  gdef = refl;
 }

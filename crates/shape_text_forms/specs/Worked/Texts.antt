@@ -8,7 +8,8 @@ use Rattle.shape_common.specs.declared.positions.GlyphPosition.{GlyphPosition}
 use Rattle.shape_common.specs.declared.text_types.Script.{Script}
 use Rattle.shape_common.specs.declared.text_types.Direction.TheVariants.{Invalid, LeftToRight, RightToLeft, TopToBottom, BottomToTop}
 use Rattle.shape_text_forms.specs.Names.{direction_of_text, language_of_text, tag_of_text, script_of_text}
-use Rattle.shape_text_forms.specs.Serialize.{Form, serialized}
+use Rattle.shape_text_forms.specs.Serialize.{Form}
+use Rattle.shape_text_forms.specs.Lists.{serialized}
 
 abbrev pub script : ℕ → Option Script
 script tag = Some (record { 0 = record { 0 = tag } })
