@@ -1,5 +1,6 @@
 //! The definitions, computed by hand.
-ghost use Rattle.layout_context.specs.Worked.Around.{WorkedJoiners, WorkedMasks, WorkedSyllablesAround, WorkedComponentsMatched, WorkedChainedClasses, WorkedBounds};
+ghost use Rattle.layout_context.specs.Worked.Around.{WorkedJoiners, WorkedMasks, WorkedSyllablesAround};
+ghost use Rattle.layout_context.specs.Worked.Around.{WorkedComponentsMatched, WorkedChainedClasses, WorkedBounds, WorkedCovers};
 ghost use Rattle.layout_context.specs.Worked.Chains.{WorkedChainedGlyphs, WorkedNested, WorkedDeletions};
 ghost use Rattle.layout_context.specs.Worked.Contexts.{WorkedRules, WorkedClasses, WorkedChains, WorkedChainsElsewhere};
 ghost use Rattle.layout_context.specs.Worked.Contexts.{WorkedMarkSets, WorkedMarkClasses, WorkedSyllables, WorkedComponents};
@@ -45,7 +46,8 @@ pub fn marks_meet_worked_cases()
     ensures ids { WorkedIds }
 {}
 
-/// Joiners, masks, syllables and components of ligatures within a match and around it, chains by classes, and bounds.
+/// Joiners, masks, syllables and components of ligatures within a match and around it, chains by
+/// classes, bounds, and which glyphs a lookup may begin at.
 pub fn surroundings_meet_worked_cases()
     ensures joiners { WorkedJoiners }
     ensures masks { WorkedMasks }
@@ -53,4 +55,5 @@ pub fn surroundings_meet_worked_cases()
     ensures components { WorkedComponentsMatched }
     ensures chained_classes { WorkedChainedClasses }
     ensures bounds { WorkedBounds }
+    ensures covers { WorkedCovers }
 {}

@@ -6,6 +6,7 @@ use Rattle.shape_items.specs.Clusters.{merge}
 use Rattle.shape_items.specs.Items.{Item, new_properties}
 use Rattle.layout_matching.specs.declared.lookup.Lookup.{Lookup}
 use Rattle.layout_substitution.specs.Replaced.{is_multiplied, as_ligature}
+use Rattle.layout_context.specs.Covered.{subtable_covers}
 use Rattle.layout_context.specs.Stages.{most_nested, stage_made, substituted}
 use Rattle.layout_context.specs.Worked.Contexts.{HoldsOf, with_second, chained_lists, in_syllable, per_syllable}
 use Rattle.layout_context.specs.Worked.Chains.{chained_glyphs}
@@ -184,4 +185,19 @@ worked_bounds = record {
   for_each_item = refl;
   countable = refl;
   levels = λ ls b. refl;
+}
+
+pub record WorkedCovers : Type 0 where
+  -- a subtable covers what its list has, a rule of format 3 what the list of its first glyph has
+  pub covered : HoldsOf single_1 [] (λ l. subtable_covers (on l 0 0) (record { kind = 1; start = 8 }) 5 ≡ true)
+  pub not_covered : HoldsOf single_1 [] (λ l. subtable_covers (on l 0 0) (record { kind = 1; start = 8 }) 6 ≡ false)
+  pub first_of_a_rule : HoldsOf chained_lists [] (λ l. subtable_covers (on l 16 0) (record { kind = 6; start = 24 }) 5 ≡ true)
+  pub before_a_rule : HoldsOf chained_lists [] (λ l. subtable_covers (on l 16 0) (record { kind = 6; start = 24 }) 9 ≡ false)
+
+pub worked_covers : WorkedCovers
+worked_covers = record {
+  covered = λ l t g. rw t refl;
+  not_covered = λ l t g. rw t refl;
+  first_of_a_rule = λ l t g. rw t refl;
+  before_a_rule = λ l t g. rw t refl;
 }

@@ -11,6 +11,7 @@ use Rattle.layout_matching.specs.declared.lookup.Lookup.{Lookup}
 use Rattle.layout_positions.specs.Attachment.{MOST_LINKS}
 use Rattle.layout_positions.specs.Nested.{LEVELS, most_named, nested_placed}
 use Rattle.layout_positions.specs.Subtables.{Placing}
+use Rattle.layout_positions.specs.Uncovered.{subtable_lists}
 use Rattle.layout_positions.specs.Walk.{none_seen, positioned}
 use Rattle.layout_positions.specs.Worked.Lines.{base, mark, component_of, line, advances, offsets, chains, masks}
 use Rattle.layout_positions.specs.Worked.Marks.{on_bases}
@@ -90,6 +91,11 @@ pub record WorkedWalk : Type 0 where
   pub none_may_be_named : (l : Lookup) → IsLookup l in_context 0 → l.place ≡ 16 → offsets (named l 0).buffer ≡ still ∷ still ∷ []
   pub goes_on_after_the_rule : (l : Lookup) → IsLookup l in_context 0 → l.place ≡ 16 → (named l 5).next ≡ Some 2
   pub unsafe_in_the_rule : (l : Lookup) → IsLookup l in_context 0 → l.place ≡ 16 → masks (named l 5).buffer ≡ 16 ∷ 19 ∷ []
+  -- a subtable has a list of its glyphs, a rule of format 3 one of its first glyph
+  pub listed : (l : Lookup) → IsLookup l (one_subtable 1 single_one) 0 → subtable_lists l (record { kind = 1; start = 8 }) 2 ≡ true
+  pub not_listed : (l : Lookup) → IsLookup l (one_subtable 1 single_one) 0 → subtable_lists l (record { kind = 1; start = 8 }) 7 ≡ false
+  pub first_of_a_rule : (l : Lookup) → IsLookup l in_context 0 → subtable_lists l (record { kind = 7; start = 24 }) 2 ≡ true
+  pub not_first_of_a_rule : (l : Lookup) → IsLookup l in_context 0 → subtable_lists l (record { kind = 7; start = 24 }) 7 ≡ false
 
 pub worked_walk : WorkedWalk
 unfolding i16_of ◌+ʷ◌ ◌-ʷ◌ int_wrap ones
@@ -110,4 +116,8 @@ worked_walk = record {
   none_may_be_named = λ l is p. rw (is.table, is.flags, is.mask, is.positioning, is.syllables, p) refl;
   goes_on_after_the_rule = λ l is p. rw (is.table, is.flags, is.mask, is.positioning, is.syllables, p) refl;
   unsafe_in_the_rule = λ l is p. rw (is.table, is.flags, is.mask, is.positioning, is.syllables, p) refl;
+  listed = λ l is. rw (is.table, is.positioning) refl;
+  not_listed = λ l is. rw (is.table, is.positioning) refl;
+  first_of_a_rule = λ l is. rw (is.table, is.positioning) refl;
+  not_first_of_a_rule = λ l is. rw (is.table, is.positioning) refl;
 }
