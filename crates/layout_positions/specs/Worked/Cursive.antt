@@ -101,5 +101,5 @@ worked_cursive = record {
   moved_upwards = λ l is. rw (is.table, is.flags, is.mask) refl;
   moved_upwards_on = λ l is. rw (is.table, is.flags, is.mask) refl;
   no_exit_in_vain = λ l is. rw (is.table, is.flags, is.mask) refl;
-  no_glyph_before = λ l is. rw (is.table, is.flags, is.mask) refl;
+  no_glyph_before = λ l is. rw is.table refl;
 }

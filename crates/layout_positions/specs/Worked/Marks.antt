@@ -213,6 +213,6 @@ worked_components = record {
   no_ligature_of_this_mark = λ l is. rw (is.table, is.flags, is.mask) refl;
   components_of_no_ligature = λ l is. rw (is.table, is.flags, is.mask) refl;
   one_base_and_a_component = λ l is. rw (is.table, is.flags, is.mask) refl;
-  of_another_class = λ l is. rw (is.table, is.flags, is.mask) refl;
+  of_another_class = λ l is. rw (is.table, is.flags) refl;
   base_in_vain = λ l is. rw (is.table, is.flags, is.mask) refl;
 }

@@ -76,7 +76,7 @@ worked_face = record {
   box_of_the_last = λ f o e. rw (o, e) refl;
   half_of_an_odd_em = λ f e h u. rw (e, h, u) refl;
   box_by_short_places = λ f o e p l g h t. rw (o, e, p, l, g, h, t) refl;
-  empty_box = λ f o e p l g h t. rw (o, e, p, l, g, h, t) refl;
+  empty_box = λ f o e p l g h t. rw (o, e, p, l) refl;
   box_by_long_places = λ f o e p l g h t. rw (o, e, p, l, g, h, t) refl;
 }
 
