@@ -6,7 +6,7 @@ use Rattle.shape_items.specs.Buffer.{Buffer}
 use Rattle.shape_items.specs.Items.{Item}
 use Rattle.layout_tables.specs.Lookups.{subtable_count_of, subtable_of}
 use Rattle.layout_tables.specs.declared.lookups.LookupSubtable.{LookupSubtable}
-use Rattle.layout_matching.specs.Found.{extension_kind, first_subtable, subtable_of, number_of}
+use Rattle.layout_matching.specs.Found.{extension_kind, first_subtable, subtable_at, number_of}
 use Rattle.layout_matching.specs.Loops.{times, first_some}
 use Rattle.layout_matching.specs.Rules.{row}
 use Rattle.layout_matching.specs.Skipping.{nth, is_on}
@@ -70,7 +70,7 @@ reversal_reach_by l items at subtable = if nat_eq subtable.kind 8 && nat_eq (u16
     else untried at
 
 abbrev pub reversal_reach_in : Lookup → List Item → ℕ → ℕ → Reach
-reversal_reach_in l items at i = option_map_or (reversal_reach_by l items at) (subtable_of l i) (untried at)
+reversal_reach_in l items at i = option_map_or (reversal_reach_by l items at) (subtable_at l i) (untried at)
 
 abbrev pub reversal_reach : Lookup → List Item → ℕ → Reach
 reversal_reach l items at = until_matched (reversal_reach_in l items at) (subtable_count_of l.table.now l.place) 0 (untried at)

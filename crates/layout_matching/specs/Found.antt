@@ -110,12 +110,12 @@ abbrev pub found_of : Lookup → List Item → Origin → Option Found
 found_of l items origin = first_some (found_at_subtable l items origin) (subtable_count_of l.table.now l.place) 0
 
 -- subtable `i`; none if its offset is NULL
-abbrev pub subtable_of : Lookup → ℕ → Option LookupSubtable
-subtable_of l i = subtable_of l.table.now (extension_kind l) l.place i
+abbrev pub subtable_at : Lookup → ℕ → Option LookupSubtable
+subtable_at l i = subtable_of l.table.now (extension_kind l) l.place i
 
 -- the first subtable whose offset isn't NULL; all subtables are of the type of the lookup, or of the one that its extensions stand for
 abbrev pub first_subtable : Lookup → Option LookupSubtable
-first_subtable l = first_some (subtable_of l) (subtable_count_of l.table.now l.place) 0
+first_subtable l = first_some (subtable_at l) (subtable_count_of l.table.now l.place) 0
 
 abbrev pub is_context : Lookup → Bool
 is_context l = option_map_or (is_context_subtable l) (first_subtable l) false

@@ -7,7 +7,7 @@ use Rattle.shape_font.specs.Search.{first_at}
 use Rattle.shape_items.specs.Items.{Item}
 use Rattle.layout_tables.specs.Lookups.{subtable_count_of}
 use Rattle.layout_tables.specs.declared.lookups.LookupSubtable.{LookupSubtable}
-use Rattle.layout_matching.specs.Found.{is_chained, is_context_subtable, whole_rule, is_first, set_for, rule_of, number_of, subtable_of}
+use Rattle.layout_matching.specs.Found.{is_chained, is_context_subtable, whole_rule, is_first, set_for, rule_of, number_of, subtable_at}
 use Rattle.layout_matching.specs.Input.{input_step, seek_input, input_matched}
 use Rattle.layout_matching.specs.Loops.{stopped}
 use Rattle.layout_matching.specs.Rules.{is_inside, rule_place}
@@ -126,7 +126,7 @@ subtable_reach l items origin subtable = if is_context_subtable l subtable
     else untried origin.at
 
 abbrev pub reach_at_subtable : Lookup → List Item → Origin → ℕ → Reach
-reach_at_subtable l items origin i = option_map_or (subtable_reach l items origin) (subtable_of l i) (untried origin.at)
+reach_at_subtable l items origin i = option_map_or (subtable_reach l items origin) (subtable_at l i) (untried origin.at)
 
 abbrev pub reach_of : Lookup → List Item → Origin → Reach
 reach_of l items origin =

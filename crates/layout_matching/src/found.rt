@@ -3,7 +3,7 @@
 //! Rules are asked in the order of the table, and the first that matches is taken. Nothing is changed, and no memory is taken.
 ghost use Rattle.std.specs.Prelude.{◌≡◌, ◌<◌, ◌+◌, ◌^◌, length};
 ghost use Rattle.std.specs.Option.{IfSome};
-ghost use Rattle.layout_matching.specs.Found.{context_kind as context_kind_of, chained_kind as chained_kind_of, extension_kind as extension_kind_of, is_chained as is_chained_of, is_context_subtable as is_context_subtable_of, found_if as found_if_of, whole_rule as whole_rule_of, is_first as is_first_of, found_whole as found_whole_of, class_place as class_place_of, set_by_class as set_by_class_of, set_for as set_for_of, rule_of, found_rule as found_rule_of, found_in_set as found_in_set_of, found_by_number as found_by_number_of, number_of, found_in_sets as found_in_sets_of, found_in_subtable as found_in_subtable_of, found_at_subtable as found_at_subtable_of, found_of, subtable_of, first_subtable as first_subtable_of, is_context as is_context_of};
+ghost use Rattle.layout_matching.specs.Found.{context_kind as context_kind_of, chained_kind as chained_kind_of, extension_kind as extension_kind_of, is_chained as is_chained_of, is_context_subtable as is_context_subtable_of, found_if as found_if_of, whole_rule as whole_rule_of, is_first as is_first_of, found_whole as found_whole_of, class_place as class_place_of, set_by_class as set_by_class_of, set_for as set_for_of, rule_of, found_rule as found_rule_of, found_in_set as found_in_set_of, found_by_number as found_by_number_of, number_of, found_in_sets as found_in_sets_of, found_in_subtable as found_in_subtable_of, found_at_subtable as found_at_subtable_of, found_of, subtable_at as subtable_at_of, first_subtable as first_subtable_of, is_context as is_context_of};
 
 use crate::lookup::Lookup;
 use crate::rules::{FAR, Rule, Test, chain, is_inside, plain, rule_at, rules};
@@ -354,7 +354,7 @@ pub fn find(lookup: &Lookup<'_>, items: &ItemList<'_>, origin: Origin) -> Option
 pub fn subtable_at(lookup: &Lookup<'_>, i: u32) -> Option<LookupSubtable>
     requires near { lookup.now.place < 2 ^ 17 }
     requires few { i < 2 ^ 16 }
-    ensures value { result ≡ subtable_of lookup.now i }
+    ensures value { result ≡ subtable_at_of lookup.now i }
     ensures near { IfSome result (λ p. p.start < 2 ^ 35) }
 {
     subtable(lookup.table, extension_kind(lookup), lookup.place, i)

@@ -2,8 +2,8 @@
 """Writes `rich.ttf`, a small font with GDEF, GSUB, GPOS and `kern`, and `src/rich.rt`, its bytes for the tests. Debian's
 python3-fonttools makes it; the same version makes the same bytes.
 
-Glyphs are boxes. `f i` makes a ligature, of which each part has an anchor, `a` before `b` becomes `a.alt`; marks stand on
-bases, on parts of the ligature and on one another; A V is kerned by GPOS in Latin texts; in others `kern` kerns."""
+Glyphs are boxes. `f i` makes a ligature, of which each component has an anchor, `a` before `b` becomes `a.alt`; marks stand on
+bases, on components of the ligature and on one another; A V is kerned by GPOS in Latin texts; in others `kern` kerns."""
 import io
 import os
 import sys

@@ -1,8 +1,14 @@
-//! Tests of texts shaped with a font file that has GDEF, GSUB, GPOS and `kern`. What is wanted is what HarfBuzz 10.2.0's
-//! `hb-shape` writes of `data/rich.ttf`.
+//! Tests of what stands on font files, through public calls: faces, lookups of `GPOS`, outlines, glyphs as text, and texts
+//! shaped with a file that has GDEF, GSUB, GPOS and `kern`.
 #![tactic(auto)]
 #![allow(non_camel_case_types)]
 
+#[cfg(test)]
+mod faces;
+#[cfg(test)]
+mod forms;
+#[cfg(test)]
+mod positions;
 #[cfg(test)]
 mod rich;
 #[cfg(test)]

@@ -1,4 +1,4 @@
-//! Texts by each call of `font_shaping`.
+//! Texts by each call of `font_shaping`. What is wanted is what HarfBuzz 10.2.0's `hb-shape` writes of `data/rich.ttf`.
 
 use crate::rich::RICH;
 use font_shaping::{FontError, shape_str, shape_with_bytes, shape_with_font};

@@ -1,5 +1,5 @@
 use Rattle.std.proofs.Common.{◌<◌, sym, ◌∙◌, arith}
-use Rattle.layout_matching.specs.Found.{subtable_of}
+use Rattle.layout_matching.specs.Found.{subtable_at}
 use Rattle.layout_matching.proofs.LoopLemmas.{first_some_found}
 use Rattle.layout_tables.specs.Lookups.{subtable_count_of}
 use Rattle.layout_matching.proofs.found.first_subtable.Goals as goal
@@ -9,4 +9,4 @@ returns-in-Some c =
     let l = c.args.lookup.now in
     let n = subtable_count_of l.table.now l.place in
     let more : c.loop-i.i < n = omega (arith, c.loop-i-test.true, c.subtable_count-i-end.ensures.value) in
-    sym (c.loop-i.invariant ∙ first_some_found (subtable_of l) n c.loop-i.i c.in-Some.subtable more (sym c.in-Some.ensures.value))
+    sym (c.loop-i.invariant ∙ first_some_found (subtable_at l) n c.loop-i.i c.in-Some.subtable more (sym c.in-Some.ensures.value))

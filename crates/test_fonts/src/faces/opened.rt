@@ -1,5 +1,7 @@
-use crate::bytes::{ALL, BYTES, GROUPS, LIST, LONG_LIST, NOTHING, OUT_OF_ORDER, SEGMENTS, SYMBOLS};
-use crate::comparing::{assert_glyph, assert_opens};
+use crate::faces::bytes::{
+    ALL, BYTES, GROUPS, LIST, LONG_LIST, NOTHING, OUT_OF_ORDER, SEGMENTS, SYMBOLS,
+};
+use crate::faces::comparing::{assert_glyph, assert_opens};
 use opened_face::{OpenedFace, OverOpened};
 use shape_buffer::interfaces::{NoLookups, hb_ot_layout_t};
 use shape_font::FontFace;

@@ -1,6 +1,6 @@
 //! Cases, by the type of the lookup. A row is `LINE -> POSITIONS`; each was worked by hand from the standard.
-use crate::lines::positioned;
-use crate::tables::Host;
+use crate::positions::lines::positioned;
+use crate::positions::tables::Host;
 
 /// Compares what the first lookup makes of the line of each row with the row's positions.
 fn check_rows(rt: &impl Host, lookups: &str, rows: &str) {

@@ -1,6 +1,6 @@
 //! Outlines, and the measures of a line.
-use crate::comparing::assert_that;
-use crate::tiny::DIGITS;
+use crate::forms::comparing::assert_that;
+use crate::forms::tiny::DIGITS;
 use glyph_outlines::{Outlines, Point, Segment};
 use shape_font::FontFace;
 use std::alloc::Global;

@@ -1,7 +1,7 @@
 use Rattle.std.proofs.Common.{[], arith}
 use Rattle.std.proofs.lemmas.List.Elements.{All-push}
 use Rattle.layout_positions.specs.Walk.{HasPlace}
-use Rattle.test_positions.proofs.lines.positioned.Goals as goal
+use Rattle.test_fonts.proofs.positions.lines.positioned.Goals as goal
 
 pub position-requires : goal.position-requires
 position-requires g c =

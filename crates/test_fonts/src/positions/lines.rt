@@ -2,7 +2,7 @@
 //!
 //! A line is `DIRECTION GLYPH ..`, each glyph 600 long: its number, or `GLYPH:ID.COMPONENT` with the ligature that it is of. What
 //! is found is `X,Y,ADVANCE` for each glyph, the advance along the line.
-use crate::tables::{GDEF, Host, bytes_of, gpos_lookup, gpos_of};
+use crate::positions::tables::{GDEF, Host, bytes_of, gpos_lookup, gpos_of};
 use layout_positions::attachment::finish_offsets;
 use layout_positions::walk::{position, position_start};
 use layout_tables::gdef::glyph_props;
