@@ -121,8 +121,7 @@ pub record WorkedConditions : Type 0 where
   pub null_condition : set_holds (words (1 ∷ 0 ∷ 0 ∷ [])) 0 ≡ false
   pub one_fails : set_holds (words (2 ∷ 0 ∷ 10 ∷ 0 ∷ 18 ∷ 2 ∷ 1 ∷ 0 ∷ 0 ∷ 2 ∷ 0 ∷ [])) 0 ≡ false
   pub all_hold : set_holds (words (2 ∷ 0 ∷ 10 ∷ 0 ∷ 18 ∷ 2 ∷ 1 ∷ 0 ∷ 0 ∷ 2 ∷ 1 ∷ [])) 0 ≡ true
-  -- offsets to one condition after them, 1026 and 1030 bytes from the start
-  pub as_many_as_256 : set_holds (1 ∷ 0 ∷ same_offsets 256 4 2 ++ words (2 ∷ 1 ∷ [])) 0 ≡ true
+  -- offsets to one condition after them, 1030 bytes from the start
   pub more_than_256 : set_holds (1 ∷ 1 ∷ same_offsets 257 4 6 ++ words (2 ∷ 1 ∷ [])) 0 ≡ false
 
 pub worked_conditions : WorkedConditions
@@ -139,7 +138,6 @@ worked_conditions = record {
   null_condition = refl;
   one_fails = refl;
   all_hold = refl;
-  as_many_as_256 = refl;
   more_than_256 = refl;
 }
 

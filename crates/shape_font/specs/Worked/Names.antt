@@ -27,10 +27,6 @@ pub record WorkedNames : Type 0 where
   pub past_the_room : glyph_name left_out (0 ∷ 2 ∷ 0 ∷ 0 ∷ replicate 28 0 ++ 0 ∷ 9 ∷ 0 ∷ 0 ∷ []) 1 ≡ None
   pub version_2_5 : glyph_name left_out (0 ∷ 2 ∷ 0x50 ∷ 0 ∷ replicate 28 0 ++ 0 ∷ 1 ∷ 0 ∷ 0 ∷ []) 0 ≡ None
   pub no_strings_in_format_1 : glyph_name left_out (0 ∷ 1 ∷ 0 ∷ 0 ∷ replicate 30 0 ++ 1 ∷ 65 ∷ []) 258 ≡ None
-  -- number 257 of the two that are left out; number 258 would be A
-  pub last_that_is_left_out : glyph_name left_out (0 ∷ 2 ∷ 0 ∷ 0 ∷ replicate 28 0 ++ 0 ∷ 1 ∷ 1 ∷ 1 ∷ 1 ∷ 65 ∷ []) 0 ≡ None
-  -- dcroat
-  pub last_standard_name : string_of STANDARD.now 257 0 ≡ Some (0x64 ∷ 0x63 ∷ 0x72 ∷ 0x6F ∷ 0x61 ∷ 0x74 ∷ [])
 
 pub worked_names : WorkedNames
 worked_names = record {
@@ -48,6 +44,4 @@ worked_names = record {
   past_the_room = refl;
   version_2_5 = refl;
   no_strings_in_format_1 = refl;
-  last_that_is_left_out = refl;
-  last_standard_name = refl;
 }
