@@ -1,5 +1,5 @@
-/* Faces over the bytes of a font file, beside HarfBuzz's over the same bytes (crates/bench_face and bench_font, static
- * libraries).
+/* Faces over the bytes of a font file, beside HarfBuzz's over the same bytes (crates/bench_font, a static
+ * library).
  *
  *   faces ENGINE FONT TEXT TIMES
  *

@@ -6,6 +6,8 @@
 #![tactic(auto)]
 #![allow(non_camel_case_types)]
 
+pub mod faces;
+
 ghost use Rattle.std.specs.Prelude.{◌≡◌, IsTrue};
 ghost use Rattle.shape_plan.specs.Plan.{Fits};
 ghost use Rattle.shape_unicode.specs.Meaning.{unicode_database};

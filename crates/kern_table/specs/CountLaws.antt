@@ -52,7 +52,7 @@ length-subtable_kerned t start mask b =
       | true ↦ elim (is_backward b.direction) as (λ r.
           length (if r then reversed (kerned t start mask (reversed b)) else kerned t start mask b).items ≡ length b.items) [
             | true ↦ length-reverse (kerned t start mask (reversed b)).items ∙ length_kerned t start mask (reversed b)
-            ∙ length-reverse b.items
+                ∙ length-reverse b.items
             | false ↦ length_kerned t start mask b
           ]
       | false ↦ refl

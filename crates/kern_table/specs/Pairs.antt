@@ -1,9 +1,10 @@
 -- Values of pairs of glyphs, by formats 0 and 2 of `kern`.
-use Rattle.std.specs.Prelude.{ℕ, ℤ, pos, List, Bool, Option, ◌+◌, ◌-◌, ◌*◌, ◌/◌, ◌&&◌, ◌||◌, not, nat_eq, nat_lt, nat_le, slice_index, if◌then◌else◌}
+use Rattle.std.specs.Prelude.{◌≡◌, ◌<◌, ◌^◌, ℕ, ℤ, pos, List, Bool, Option, ◌+◌, ◌-◌, ◌*◌, ◌/◌, ◌&&◌, ◌||◌, not, nat_eq, nat_lt, nat_le, slice_index, if◌then◌else◌}
 use Rattle.std.specs.Option.{option_map_or}
 use Rattle.std.specs.declared.cmp.Ordering.{Ordering}
 use Rattle.shape_font.specs.Bytes.{u16_of, u32_of, i16_of, fitting}
 use Rattle.shape_font.specs.Search.{side_of, found_by}
+use Rattle.kern_table.specs.declared.pairs.Subtable.{Subtable}
 
 -- ---- format 0: pairs in order
 
@@ -49,3 +50,9 @@ classed_value t start left right = let lefts = start + u16_of t (start + 8) in
 abbrev pub value_of : List ℕ → ℕ → ℕ → ℕ → ℤ
 value_of t start left right =
     if nat_eq (slice_index t (start + 4)) 2 then classed_value t start left right else listed_value t start left right
+
+-- what is told of a subtable is so
+pub record IsTold (s : Subtable) : Type 0 where
+  pub near : s.start < 2 ^ 34
+  pub classed : s.classed ≡ nat_eq (slice_index s.kern.now (s.start + 4)) 2
+  pub count : s.count ≡ fitting s.kern.now (u16_of s.kern.now (s.start + 6)) (s.start + 14) 6

@@ -1,41 +1,74 @@
 //! Values of pairs of glyphs: formats 0 and 2 of the table `kern`.
 ghost use Rattle.std.specs.Prelude.{◌≡◌, ◌+◌, ◌*◌, ◌<◌, ◌^◌, ◌≤ℤ◌, pos, negsuc};
-ghost use Rattle.kern_table.specs.Pairs.{side_of_pair, pair_of, listed_value as listed_value_of, is_classed as is_classed_of, class_of, value_at as value_at_of, classed_value as classed_value_of, value_of};
+ghost use Rattle.kern_table.specs.Pairs.{side_of_pair, pair_of, listed_value as listed_value_of, is_classed as is_classed_of, class_of, value_at as value_at_of, classed_value as classed_value_of, value_of, IsTold};
+ghost use Rattle.std.specs.Option.{IfSome};
 
-use shape_font::bytes::{i16_at, records, u8_at, u16_at, u32_at};
-use shape_font::search::{found, side};
+use shape_font::bytes::{i16_at, long, records, u8_at, u16_at};
+use shape_font::search::{found_within, side};
 use std::cmp::Ordering;
 
-/// Where two glyphs, as one number, stand to pair `i` of the subtable that begins at `start`.
-fn pair_side(kern: &[u8], start: usize, glyphs: u32, i: u32) -> Ordering
+/// A subtable of the table, and what is told of it once for all pairs: whether it is of format 2, and how many pairs it
+/// has room for.
+#[derive(Clone, Copy)]
+pub(crate) struct Subtable<'a> {
+    pub kern: &'a [u8],
+    pub start: usize,
+    pub classed: bool,
+    pub count: u32,
+}
+
+/// Reads what is told of the subtable that begins at `start`.
+pub(crate) fn told(kern: &[u8], start: usize) -> Subtable<'_>
     requires { start < 2 ^ 34 }
-    ensures { result ≡ side_of_pair kern.now start glyphs i }
+    ensures so { IsTold result }
+    ensures kern { result.kern.now ≡ kern.now }
+    ensures start { result.start ≡ start }
 {
-    let there = u32_at(kern, start + 14 + 6 * i as usize);
+    Subtable {
+        kern,
+        start,
+        classed: u8_at(kern, start + 4) == 2,
+        count: records(kern, u32::from(u16_at(kern, start + 6)), start + 14, 6),
+    }
+}
+
+/// Where two glyphs, as one number, stand to pair `i` of a subtable. It is read behind no test.
+fn pair_side(subtable: Subtable<'_>, glyphs: u32, i: u32) -> Ordering
+    requires told { IsTold subtable }
+    requires listed { i < subtable.count }
+    ensures { result ≡ side_of_pair subtable.entry.kern.now subtable.entry.start glyphs i }
+{
+    let there = long(subtable.kern, subtable.start + 14 + 6 * i as usize);
     side(glyphs, there, there)
 }
 
-/// The pair of two glyphs, as one number, in the subtable that begins at `start`.
-fn pair(kern: &[u8], start: usize, glyphs: u32) -> Option<u32>
-    requires { start < 2 ^ 34 }
-    ensures { result ≡ pair_of kern.now start glyphs }
+/// The pair of two glyphs, as one number, in a subtable.
+fn pair(subtable: Subtable<'_>, glyphs: u32) -> Option<u32>
+    requires { IsTold subtable }
+    ensures found { result ≡ pair_of subtable.entry.kern.now subtable.entry.start glyphs }
+    ensures within { IfSome result (λ i. i < subtable.entry.count) }
 {
-    let count = records(kern, u32::from(u16_at(kern, start + 6)), start + 14, 6);
-    found(count, |i| pair_side(kern, start, glyphs, i))
+    found_within(
+        subtable.count,
+        |i|
+            requires told { IsTold subtable }
+            requires listed { i < subtable.count }
+        { pair_side(subtable, glyphs, i) },
+    )
 }
 
-/// The value of two glyphs in the subtable of format 0 that begins at `start`.
-fn listed_value(kern: &[u8], start: usize, left: u32, right: u32) -> i32
-    requires { start < 2 ^ 34 }
-    ensures value { result ≡ listed_value_of kern.now start left right }
+/// The value of two glyphs in a subtable of format 0.
+fn listed_value(subtable: Subtable<'_>, left: u32, right: u32) -> i32
+    requires { IsTold subtable }
+    ensures value { result ≡ listed_value_of subtable.entry.kern.now subtable.entry.start left right }
     ensures low { negsuc 32767 ≤ℤ result }
     ensures high { result ≤ℤ pos 32767 }
 {
     if 0xFFFF < left || 0xFFFF < right {
         return 0;
     }
-    match pair(kern, start, left * 65536 + right) {
-        Some(i) => i16_at(kern, start + 18 + 6 * i as usize),
+    match pair(subtable, left * 65536 + right) {
+        Some(i) => i16_at(subtable.kern, subtable.start + 18 + 6 * i as usize),
         None => 0,
     }
 }
@@ -99,6 +132,20 @@ fn classed_value(kern: &[u8], start: usize, left: u32, right: u32) -> i32
     )
 }
 
+/// How far two glyphs are moved apart by a subtable of which all is told.
+pub(crate) fn told_value(subtable: Subtable<'_>, left: u32, right: u32) -> i32
+    requires { IsTold subtable }
+    ensures value { result ≡ value_of subtable.entry.kern.now subtable.entry.start left right }
+    ensures low { negsuc 32767 ≤ℤ result }
+    ensures high { result ≤ℤ pos 32767 }
+{
+    if subtable.classed {
+        classed_value(subtable.kern, subtable.start, left, right)
+    } else {
+        listed_value(subtable, left, right)
+    }
+}
+
 /// How far two glyphs are moved apart by the subtable of the table that begins at `start`, in units of the face;
 /// together if it is negative, and 0 if the subtable doesn't have them. A subtable of format 2 has values by classes, every
 /// other one is read as format 0.
@@ -108,9 +155,5 @@ pub fn value(kern: &[u8], start: usize, left: u32, right: u32) -> i32
     ensures low { negsuc 32767 ≤ℤ result }
     ensures high { result ≤ℤ pos 32767 }
 {
-    if u8_at(kern, start + 4) == 2 {
-        classed_value(kern, start, left, right)
-    } else {
-        listed_value(kern, start, left, right)
-    }
+    told_value(told(kern, start), left, right)
 }

@@ -6,9 +6,10 @@ ghost use Rattle.std.specs.Prelude.{◌≡◌, ◌+◌, ◌<◌, ◌^◌, ◌≤
 ghost use Rattle.std.specs.Option.{IfSome};
 ghost use Rattle.std.specs.Int.RustNames.{bit_and};
 ghost use Rattle.shape_items.specs.Buffer.{limit_of};
+ghost use Rattle.kern_table.specs.Pairs.{IsTold};
 ghost use Rattle.kern_table.specs.Walk.{is_skipped as is_skipped_of, moved_on as moved_on_of, moved as moved_of, position_at, position_put, pair_moved, pair_kerned, kerned_at, left_after, kerned as kerned_of};
 
-use crate::pairs::value;
+use crate::pairs::{Subtable, told, told_value};
 use bitflags::Flags;
 use shape_buffer::buffer::{
     GlyphPosition, GlyphPropsFlags, hb_buffer_t, hb_glyph_info_t, hb_mask_t,
@@ -103,33 +104,32 @@ fn move_pair(buffer: &mut hb_buffer_t, i: usize, j: usize, by: i32)
     put_pair(buffer, i, j, by);
 }
 
-/// Moves two glyphs apart by their value in the subtable that begins at `start`.
-fn kern_pair(kern: &[u8], start: usize, buffer: &mut hb_buffer_t, i: usize, j: usize)
-    requires subtable { start < 2 ^ 34 }
+/// Moves two glyphs apart by their value in a subtable.
+fn kern_pair(subtable: Subtable<'_>, buffer: &mut hb_buffer_t, i: usize, j: usize)
+    requires told { IsTold subtable }
     requires after { i < j }
     requires inside { j < length buffer.old.items }
-    ensures made { buffer.new ≡ pair_kerned kern.now start i j buffer.old }
+    ensures made { buffer.new ≡ pair_kerned subtable.entry.kern.now subtable.entry.start i j buffer.old }
     ensures len { length buffer.new.items ≡ length buffer.old.items }
     ensures limit { limit_of buffer.new ≡ limit_of buffer.old }
 {
     let (left, right) = (buffer.infos()[i].glyph_id, buffer.infos()[j].glyph_id);
-    move_pair(buffer, i, j, value(kern, start, left, right));
+    move_pair(buffer, i, j, told_value(subtable, left, right));
 }
 
 /// Kerns glyph `j` with the one that waits at its left, if kerning is on for it and it isn't skipped.
-/// Answers which one waits after it.
+/// Returns which one waits after it.
 fn kern_at(
-    kern: &[u8],
-    start: usize,
+    subtable: Subtable<'_>,
     mask: hb_mask_t,
     buffer: &mut hb_buffer_t,
     j: usize,
     left: Option<usize>,
 ) -> Option<usize>
-    requires subtable { start < 2 ^ 34 }
+    requires told { IsTold subtable }
     requires inside { j < length buffer.old.items }
     requires after { IfSome left (λ i. i < j) }
-    ensures made { buffer.new ≡ kerned_at kern.now start mask j left buffer.old }
+    ensures made { buffer.new ≡ kerned_at subtable.entry.kern.now subtable.entry.start mask j left buffer.old }
     ensures waits { result ≡ left_after mask j left buffer.old.items }
     ensures before { IfSome result (λ i. i < j + 1) }
     ensures len { length buffer.new.items ≡ length buffer.old.items }
@@ -143,7 +143,7 @@ fn kern_at(
         return None;
     }
     if let Some(i) = left {
-        kern_pair(kern, start, buffer, i, j);
+        kern_pair(subtable, buffer, i, j);
     }
     Some(j)
 }
@@ -159,8 +159,9 @@ pub fn kern_all(kern: &[u8], start: usize, mask: hb_mask_t, buffer: &mut hb_buff
     ensures limit { limit_of buffer.new ≡ limit_of buffer.old }
 {
     buffer.unsafe_to_concat(0, buffer.len());
+    let subtable = told(kern, start);
     let mut left = None;
     for j in 0..buffer.len() {
-        left = kern_at(kern, start, mask, buffer, j, left);
+        left = kern_at(subtable, mask, buffer, j, left);
     }
 }

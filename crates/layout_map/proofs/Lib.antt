@@ -3,3 +3,4 @@ pub mod EachLemmas
 pub mod OnceLemmas
 pub mod ApartLemmas
 pub mod LawfulLemmas
+pub mod StageLemmas

@@ -1,5 +1,5 @@
 //! What holds of all maps, whatever the bytes of the font and whatever is requested.
-ghost use Rattle.std.specs.Prelude.{ℕ, List};
+ghost use Rattle.std.specs.Prelude.{ℕ, ◌≡◌, ◌≤◌, ◌<◌, ◌+◌, List, [], Option, length};
 ghost use Rattle.std.specs.List.{AllPairs};
 ghost use Rattle.std.specs.List.Sorted.{IsStrictlyIncreasing};
 ghost use Rattle.shape_buffer.specs.Layout.{LawfulMasks};
@@ -7,6 +7,7 @@ ghost use Rattle.layout_map.specs.Chosen.{Chosen};
 ghost use Rattle.layout_map.specs.Features.{allotted};
 ghost use Rattle.layout_map.specs.Lookups.{gsub_lookups, gpos_lookups};
 ghost use Rattle.layout_map.specs.Map.{OtMap, map_meaning};
+ghost use Rattle.layout_map.specs.Stages.{staged, lookups_of};
 ghost use Rattle.layout_map.specs.Laws.{AreApart, indexes};
 ghost use Rattle.layout_map.specs.declared.features.FeatureMap.{FeatureMap as FeatureMapOf};
 ghost use Rattle.layout_map.specs.declared.settings.Setting.{Setting as SettingOf};
@@ -28,4 +29,15 @@ pub fn lookups_come_once()
         → IsStrictlyIncreasing (indexes (gsub_lookups t features required_stage stage)) }
     ensures gpos { (t : Chosen) (features : List FeatureMapOf)
         → IsStrictlyIncreasing (indexes (gpos_lookups t features)) }
+{}
+
+/// The slice of a stage holds the lookups of that stage, no more and no fewer, and there is one stage more than pauses.
+pub fn stages_have_their_own_lookups()
+    ensures own { (t : Chosen) (features : List FeatureMapOf) (required_stage : ℕ) (pauses : List (Option ℕ)) (i : ℕ)
+        → i ≤ length pauses
+        → lookups_of (staged t features required_stage pauses) i ≡ gsub_lookups t features required_stage i }
+    ensures past { (t : Chosen) (features : List FeatureMapOf) (required_stage : ℕ) (pauses : List (Option ℕ)) (i : ℕ)
+        → length pauses < i → lookups_of (staged t features required_stage pauses) i ≡ [] }
+    ensures count { (t : Chosen) (features : List FeatureMapOf) (required_stage : ℕ) (pauses : List (Option ℕ))
+        → length (staged t features required_stage pauses).stages ≡ length pauses + 1 }
 {}

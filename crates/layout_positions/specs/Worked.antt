@@ -6,3 +6,4 @@ pub mod Marks
 pub mod Cursive
 pub mod Attachment
 pub mod Walk
+pub mod Types

@@ -5,6 +5,7 @@ ghost use Rattle.layout_positions.specs.Worked.Marks.{WorkedMarks, WorkedBases, 
 ghost use Rattle.layout_positions.specs.Worked.Cursive.{WorkedCursive};
 ghost use Rattle.layout_positions.specs.Worked.Walk.{WorkedBounds, WorkedWalk};
 ghost use Rattle.layout_positions.specs.Worked.Attachment.{WorkedAttachment, WorkedTurning};
+ghost use Rattle.layout_positions.specs.Worked.Types.{WorkedFarMarks, WorkedMarkClasses, WorkedPairsDown, WorkedFlags};
 
 /// Value records, anchors, single and pair adjustment.
 pub fn adjustment_meets_worked_cases()
@@ -30,4 +31,13 @@ pub fn attachment_meets_worked_cases()
 pub fn walks_meet_worked_cases()
     ensures bounds { WorkedBounds }
     ensures walk { WorkedWalk }
+{}
+
+/// Subtables of marks that stand far away, marks of class 0, pairs down a line, and flags with a
+/// mark attachment class.
+pub fn types_meet_worked_cases()
+    ensures far_marks { WorkedFarMarks }
+    ensures mark_classes { WorkedMarkClasses }
+    ensures pairs_down { WorkedPairsDown }
+    ensures flags { WorkedFlags }
 {}

@@ -8,3 +8,7 @@ pub mod WalkedLemmas
 pub mod RightLineLemmas
 pub mod DecideLemmas
 pub mod UniqueLemmas
+pub mod SpotLemmas
+pub mod MeasureLemmas
+pub mod AtUniqueLemmas
+pub mod AtDecideLemmas

@@ -17,11 +17,11 @@ use Rattle.shape_lines.specs.declared.reading.Piece.{Piece}
 use Rattle.shape_lines.proofs.TextOrderLemmas.{length-text, listed, cluster-text, flag-text, place_in-within, no_glyph}
 
 -- the cluster before a place
-abbrev before_of : ℕ → List Glyph → ℕ → ℕ
+abbrev pub before_of : ℕ → List Glyph → ℕ → ℕ
 before_of before gs zero = before
 before_of before gs (suc place) = cluster_at gs place
 
-before-first : (gs : List Glyph) (k : ℕ) → before_of (cluster_at gs 0) gs k ≡ cluster_at gs (k - 1)
+pub before-first : (gs : List Glyph) (k : ℕ) → before_of (cluster_at gs 0) gs k ≡ cluster_at gs (k - 1)
 before-first gs zero = refl
 before-first gs (suc k) = let back : k ≡ suc k - 1 = omega arith in ap (cluster_at gs) back
 

@@ -4,4 +4,7 @@ pub mod Places
 pub mod RightLines
 pub mod Pieces
 pub mod Walked
+pub mod Spots
+pub mod LinesAt
+pub mod Measured
 pub mod Worked

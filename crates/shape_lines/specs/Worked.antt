@@ -1,3 +1,4 @@
 pub mod CanCut
 pub mod Places
 pub mod Lines
+pub mod LinesAt

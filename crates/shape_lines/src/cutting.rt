@@ -136,7 +136,7 @@ fn text_at(glyphs: &GlyphBuffer, text_end: u32, place: usize) -> u32
 }
 
 /// The line of the glyphs from a place of the text up to another.
-fn line_between(glyphs: &GlyphBuffer, text_end: u32, start: usize, end: usize) -> Line
+pub(super) fn line_between(glyphs: &GlyphBuffer, text_end: u32, start: usize, end: usize) -> Line
     requires some { start < end }
     requires within { end ≤ length glyphs.now.items }
     ensures { result ≡ line_of glyphs.now text_end start end }

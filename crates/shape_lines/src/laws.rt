@@ -1,10 +1,12 @@
 //! Laws for line breakers: each function has a law as its contract, and nothing to do.
-ghost use Rattle.std.specs.Prelude.{◌≡◌, ◌<◌, ◌↔◌, ℕ, ℤ, List, length};
+ghost use Rattle.std.specs.Prelude.{◌≡◌, ◌<◌, ◌↔◌, Bool, ℕ, ℤ, List, length};
 ghost use Rattle.shape_items.specs.Buffer.{Buffer};
 ghost use Rattle.shape_lines.specs.CanCut.{CanCut};
+ghost use Rattle.shape_lines.specs.LinesAt.{AreLinesAt};
 ghost use Rattle.shape_lines.specs.Places.{IsPlaceOfCut, BeginsSafely};
 ghost use Rattle.shape_lines.specs.RightLines.{AreRightLines};
 ghost use Rattle.shape_lines.specs.TextOrder.{text_order};
+ghost use Rattle.shape_lines.specs.declared.allowed.LineAt.{LineAt};
 ghost use Rattle.shape_lines.specs.declared.cutting.Line.{Line};
 
 /// A line may end between two neighbouring glyphs of different clusters, if no glyph of the greater cluster
@@ -21,5 +23,14 @@ pub fn places_are_decided_by_one_glyph()
 pub fn right_lines_are_unique()
     ensures { (glyphs : Buffer) (text_end : ℕ) (width : ℤ) (lines others : List Line)
         → AreRightLines glyphs text_end width lines → AreRightLines glyphs text_end width others
+        → lines ≡ others }
+{}
+
+/// Lines at allowed places are determined: there are no two lists of them for one text, end, width and places.
+pub fn lines_at_are_unique()
+    ensures { (glyphs : Buffer) (text_end : ℕ) (allowed mandatory spaces : List ℕ)
+        (anywhere : Bool) (width : ℤ) (lines others : List LineAt)
+        → AreLinesAt glyphs text_end allowed mandatory spaces anywhere width lines
+        → AreLinesAt glyphs text_end allowed mandatory spaces anywhere width others
         → lines ≡ others }
 {}

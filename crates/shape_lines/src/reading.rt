@@ -60,7 +60,7 @@ pub(super) fn piece_at(glyphs: &GlyphBuffer, place: usize) -> Piece
 }
 
 /// Whether the glyph at a place of the text is in another cluster than the one before it.
-fn begins_cluster(glyphs: &GlyphBuffer, place: usize) -> bool
+pub(super) fn begins_cluster(glyphs: &GlyphBuffer, place: usize) -> bool
     requires { place < length glyphs.now.items }
     ensures { result ≡ not (cluster_of (text_order glyphs.now) place
         == cluster_of (text_order glyphs.now) (place - 1)) }

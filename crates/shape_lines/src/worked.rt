@@ -1,6 +1,7 @@
 //! The definitions, computed on small cases whose results were worked out by hand.
 ghost use Rattle.shape_lines.specs.Worked.CanCut.{WorkedCanCut, WorkedCannotCut};
 ghost use Rattle.shape_lines.specs.Worked.Lines.{WorkedLines};
+ghost use Rattle.shape_lines.specs.Worked.LinesAt.{WorkedLinesAt};
 ghost use Rattle.shape_lines.specs.Worked.Places.{WorkedTextOrder, WorkedPlaces};
 
 /// What can be cut into lines, and what can't.
@@ -18,4 +19,9 @@ pub fn places_meet_worked_cases()
 /// Right lines.
 pub fn lines_meet_worked_cases()
     ensures { WorkedLines }
+{}
+
+/// Lines at allowed places.
+pub fn lines_at_meet_worked_cases()
+    ensures { WorkedLinesAt }
 {}

@@ -18,7 +18,7 @@ use Rattle.layout_positions.specs.Worked.Marks.{on_bases}
 use Rattle.layout_positions.specs.Worked.Pairs.{single_one, single_two, pairs_one, pairs_both, IsLookup}
 
 -- a lookup of this type with one subtable, and one with two
-abbrev one_subtable : ℕ → List ℕ → List ℕ
+abbrev pub one_subtable : ℕ → List ℕ → List ℕ
 one_subtable kind subtable = 0 ∷ kind ∷ 0 ∷ 0 ∷ 0 ∷ 1 ∷ 0 ∷ 8 ∷ subtable
 
 abbrev two_subtables : List ℕ
@@ -33,7 +33,7 @@ abbrev in_context : List ℕ
 in_context = 0 ∷ 1 ∷ 0 ∷ 0 ∷ 0 ∷ 0 ∷ 0 ∷ 0 ∷ 0 ∷ 10 ∷ 0 ∷ 2 ∷ 0 ∷ 6 ∷ 0 ∷ 36 ∷ one_subtable 7 (
     0 ∷ 3 ∷ 0 ∷ 2 ∷ 0 ∷ 1 ∷ 0 ∷ 14 ∷ 0 ∷ 14 ∷ 0 ∷ 1 ∷ 0 ∷ 1 ∷ 0 ∷ 1 ∷ 0 ∷ 2 ∷ 0 ∷ 2 ∷ 0 ∷ 3 ∷ one_subtable 1 single_one)
 
-abbrev over : Lookup → List Item → Buffer
+abbrev pub over : Lookup → List Item → Buffer
 over l items = positioned (l ∷ []) (line LeftToRight items)
 
 -- what is unsafe to concat is asked for
@@ -44,7 +44,7 @@ asking items = record (line LeftToRight items) { flags = record { 0 = 64 } }
 abbrev off : ℕ → ℕ → Item
 off glyph cluster = record (base glyph cluster) { mask = 8 }
 
-abbrev still : ℤ × ℤ
+abbrev pub still : ℤ × ℤ
 still = (pos 0, pos 0)
 
 -- two glyphs that the rule matches, at the first of them, with so many lookups that may still be named

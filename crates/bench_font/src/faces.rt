@@ -1,11 +1,6 @@
-//! Faces over the bytes of a font file, for a program in C that counts their instructions: `bench/`.
+//! Faces over the bytes of a font file: opening them, and looking glyphs up.
 //!
-//! Each export does its work so many times, so that the difference between two numbers of times is the cost of one.
-//! Functions that are to be distinguished by the count are never inlined. An export returns a sum of what it was
-//! given, and 0 if the file has no face or a growth was refused.
-#![tactic(auto)]
-#![allow(non_camel_case_types)]
-
+//! An export returns a sum of what it was given, and 0 if the file has no face or a growth was refused.
 ghost use Rattle.std.specs.Prelude.{◌≡◌};
 
 use opened_face::OpenedFace;
