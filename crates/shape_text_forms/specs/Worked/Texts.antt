@@ -2,6 +2,8 @@
 use Rattle.std.specs.Prelude.{◌≡◌, ◌==◌, if◌then◌else◌, ℕ, ℤ, pos, negsuc, List, [], ◌∷◌, Option, Some, None, codes, map, refl}
 use Rattle.std.specs.Fmt.{digits}
 use Rattle.std.specs.Int.{int_wrap}
+use Rattle.std.specs.Str.{is_utf8, chars}
+use lib.Utf8.{encode}
 use Rattle.shape_items.specs.Items.{Item, new_item}
 use Rattle.shape_common.specs.Wrapping.{◌+ʷ◌}
 use Rattle.shape_common.specs.declared.positions.GlyphPosition.{GlyphPosition}
@@ -147,4 +149,5 @@ pub record WorkedFontNames : Type 0 where
   pub no_text : written_name (1 ∷ 0xC3 ∷ []) (0 ∷ 1 ∷ 0 ∷ 0 ∷ []) 0 ≡ None
 
 pub worked_font_names : WorkedFontNames
+unfolding is_utf8 chars encode
 worked_font_names = record { letters = refl; no_name = refl; past_ascii = refl; no_text = refl }
