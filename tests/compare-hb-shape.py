@@ -159,27 +159,32 @@ def without_concat(line):
 
 
 class Comparison:
-    """Both programs on texts, counted by kind of font and script."""
+    """Both programs on texts, counted by kind of font and script. In fonts of the kinds `loose` no flag of glyphs that
+    are unsafe to concat is compared. A difference that `known` knows, from the options, the text and both lines, is counted
+    by itself."""
 
-    def __init__(self, program, examples):
-        self.program, self.examples = program, examples
+    def __init__(self, program, examples, beside="hb-shape", loose=("kern",), known=lambda *_: False):
+        self.program, self.examples, self.beside, self.loose, self.known = program, examples, beside, loose, known
+        self.named = 0
         self.texts, self.differ, self.glyphs = (collections.Counter() for _ in range(3))
 
     def compare(self, kind, script, font, options, texts):
-        theirs = lines(["hb-shape", "--shaper=ot", font] + options, texts)
+        theirs = lines([self.beside, "--shaper=ot", font] + options, texts)
         ours = lines([self.program, font] + options, texts)
         if len(theirs) != len(texts) or len(ours) != len(texts):
             sys.exit("%s: not each text has a line: %d, %d of %d" % (options, len(theirs), len(ours), len(texts)))
         self.glyphs[kind, script] += sum(line.count("|") + 1 for line in theirs)
-        if kind == "kern" and "--unsafe-to-concat" in options:
+        if kind in self.loose and "--unsafe-to-concat" in options:
             theirs, ours = map(without_concat, theirs), map(without_concat, ours)
-        wrong = [(text, a, b) for text, a, b in zip(texts, theirs, ours) if a != b]
+        found = [(text, a, b) for text, a, b in zip(texts, theirs, ours) if a != b]
+        wrong = [it for it in found if not self.known(options, *it)]
+        self.named += len(found) - len(wrong)
         self.texts[kind, script] += len(texts)
         self.differ[kind, script] += len(wrong)
         for text, a, b in wrong[:1]:
             if self.examples > 0:
                 self.examples -= 1
-                print("%s %s %s\n  text %s\n  hb-shape  %s\n  fontshape %s" % (kind, script, options, text.encode("unicode_escape").decode(), a, b))
+                print("%s %s %s %s\n  text %s\n  hb-shape  %s\n  fontshape %s" % (kind, script, os.path.basename(font), options, text.encode("unicode_escape").decode(), a, b))
 
     def tell(self):
         """A line for each script, with its texts and differences by kind of font."""
@@ -314,23 +319,23 @@ def shape_broken(program, count, seed):
     print("%d broken fonts: %d shaped, %d are no font; the longest run took %.0f ms" % (count, shaped, refused, longest * 1000))
 
 
-def lacks_harfbuzz():
+def lacks_harfbuzz(beside="hb-shape", wanted=" 6.0.0"):
     """What is missing for the comparison with HarfBuzz, nothing if all is there."""
     try:
         import fontTools.ttLib  # noqa: F401
-        version = subprocess.run(["hb-shape", "--version"], stdout=subprocess.PIPE).stdout.decode()
+        version = subprocess.run([beside, "--version"], stdout=subprocess.PIPE).stdout.decode()
     except (ImportError, OSError):
         version = ""
     if not version:
         return "libharfbuzz-bin or python3-fonttools is not installed (Debian's packages)"
-    return None if " 6.0.0" in version.split("\n")[0] else "hb-shape is of another HarfBuzz than 6.0.0"
+    return None if wanted in version.split("\n")[0] else "hb-shape is of another HarfBuzz than" + wanted
 
 
-def missing(program, crate, alone):
+def missing(program, crate, alone, *harfbuzz):
     """What is missing, nothing if all is there; builds the program if it isn't built. `fontshape` alone needs no HarfBuzz."""
     if not os.path.exists(FONT):
         return "fonts-dejavu-core is not installed (Debian's package)"
-    lack = None if alone else lacks_harfbuzz()
+    lack = None if alone else lacks_harfbuzz(*harfbuzz)
     if lack:
         return lack
     if not os.path.exists(program):

@@ -72,6 +72,7 @@ pub enum ListForm {
 }
 
 /// What a text of glyphs depends on.
+#[derive(Drop)]
 pub struct Content<'a, F, N> {
     pub form: ListForm,
     pub flags: SerializeFlags,
