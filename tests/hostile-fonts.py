@@ -30,6 +30,8 @@ TESTS = os.path.dirname(os.path.abspath(__file__))
 CRATE = os.path.join(TESTS, "../crates/fontshape")
 WORST = os.path.join(TESTS, "hostile", "worst.txt")
 LENGTH, SECONDS, MEGABYTES = 10_000, 2.0, 200
+# the gate's machine may be slower than that of the figures
+GATE_SECONDS = 3 * SECONDS
 
 BASES = {
     "amiri": ("/usr/share/fonts/opentype/fonts-hosny-amiri/Amiri-Regular.ttf", "بسم الله الرحمن لإيؤ ًٌٍَُِّْ٠١٢"),
@@ -348,8 +350,8 @@ def run(command, text, seconds=20):
 class Search:
     """Runs, what was wrong with them, and which took most."""
 
-    def __init__(self, program, folder):
-        self.program, self.path = program, os.path.join(folder, "font.ttf")
+    def __init__(self, program, folder, limit):
+        self.program, self.path, self.limit = program, os.path.join(folder, "font.ttf"), limit
         self.runs, self.shaped, self.wrong, self.slow, self.taken = 0, 0, 0, 0, []
 
     def take(self, name, data, text, options):
@@ -358,7 +360,7 @@ class Search:
         status, seconds, memory = run([self.program, self.path, *options], text)
         self.runs, self.shaped = self.runs + 1, self.shaped + (status == 0)
         self.taken.append((seconds, memory, name))
-        slow = seconds > SECONDS
+        slow = seconds > self.limit
         self.slow += slow
         if slow or status not in (0, 1, 3) or memory > MEGABYTES:
             self.wrong += memory > MEGABYTES or status not in (0, 1, 3) and not slow
@@ -422,7 +424,7 @@ def main():
         sys.exit(77)
     began = time.time()
     with tempfile.TemporaryDirectory() as folder:
-        search = Search(args.program, folder)
+        search = Search(args.program, folder, SECONDS if args.search else GATE_SECONDS)
         if args.bomb:
             tables, kind = BOMBS[args.bomb]
             if args.write:
