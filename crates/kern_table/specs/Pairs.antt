@@ -51,8 +51,8 @@ abbrev pub value_of : List ℕ → ℕ → ℕ → ℕ → ℤ
 value_of t start left right =
     if nat_eq (slice_index t (start + 4)) 2 then classed_value t start left right else listed_value t start left right
 
--- what is told of a subtable is so
-pub record IsTold (s : Subtable) : Type 0 where
+-- what was read of a subtable is what its bytes say
+pub record IsRead (s : Subtable) : Type 0 where
   pub near : s.start < 2 ^ 34
   pub classed : s.classed ≡ nat_eq (slice_index s.kern.now (s.start + 4)) 2
   pub count : s.count ≡ fitting s.kern.now (u16_of s.kern.now (s.start + 6)) (s.start + 14) 6

@@ -1,13 +1,13 @@
 //! Values of pairs of glyphs: formats 0 and 2 of the table `kern`.
 ghost use Rattle.std.specs.Prelude.{◌≡◌, ◌+◌, ◌*◌, ◌<◌, ◌^◌, ◌≤ℤ◌, pos, negsuc};
-ghost use Rattle.kern_table.specs.Pairs.{side_of_pair, pair_of, listed_value as listed_value_of, is_classed as is_classed_of, class_of, value_at as value_at_of, classed_value as classed_value_of, value_of, IsTold};
+ghost use Rattle.kern_table.specs.Pairs.{side_of_pair, pair_of, listed_value as listed_value_of, is_classed as is_classed_of, class_of, value_at as value_at_of, classed_value as classed_value_of, value_of, IsRead};
 ghost use Rattle.std.specs.Option.{IfSome};
 
 use shape_font::bytes::{i16_at, long, records, u8_at, u16_at};
 use shape_font::search::{found_within, side};
 use std::cmp::Ordering;
 
-/// A subtable of the table, and what is told of it once for all pairs: whether it is of format 2, and how many pairs it
+/// A subtable of the table, and what is read of it once for all pairs: whether it is of format 2, and how many pairs it
 /// has room for.
 #[derive(Clone, Copy)]
 pub(crate) struct Subtable<'a> {
@@ -17,10 +17,10 @@ pub(crate) struct Subtable<'a> {
     pub count: u32,
 }
 
-/// Reads what is told of the subtable that begins at `start`.
-pub(crate) fn told(kern: &[u8], start: usize) -> Subtable<'_>
+/// Reads the head of the subtable that begins at `start`.
+pub(crate) fn read_subtable(kern: &[u8], start: usize) -> Subtable<'_>
     requires { start < 2 ^ 34 }
-    ensures so { IsTold result }
+    ensures so { IsRead result }
     ensures kern { result.kern.now ≡ kern.now }
     ensures start { result.start ≡ start }
 {
@@ -34,7 +34,7 @@ pub(crate) fn told(kern: &[u8], start: usize) -> Subtable<'_>
 
 /// Where two glyphs, as one number, stand to pair `i` of a subtable. It is read behind no test.
 fn pair_side(subtable: Subtable<'_>, glyphs: u32, i: u32) -> Ordering
-    requires told { IsTold subtable }
+    requires read { IsRead subtable }
     requires listed { i < subtable.count }
     ensures { result ≡ side_of_pair subtable.entry.kern.now subtable.entry.start glyphs i }
 {
@@ -44,14 +44,14 @@ fn pair_side(subtable: Subtable<'_>, glyphs: u32, i: u32) -> Ordering
 
 /// The pair of two glyphs, as one number, in a subtable.
 fn pair(subtable: Subtable<'_>, glyphs: u32) -> Option<u32>
-    requires { IsTold subtable }
+    requires { IsRead subtable }
     ensures found { result ≡ pair_of subtable.entry.kern.now subtable.entry.start glyphs }
     ensures within { IfSome result (λ i. i < subtable.entry.count) }
 {
     found_within(
         subtable.count,
         |i|
-            requires told { IsTold subtable }
+            requires read { IsRead subtable }
             requires listed { i < subtable.count }
         { pair_side(subtable, glyphs, i) },
     )
@@ -59,7 +59,7 @@ fn pair(subtable: Subtable<'_>, glyphs: u32) -> Option<u32>
 
 /// The value of two glyphs in a subtable of format 0.
 fn listed_value(subtable: Subtable<'_>, left: u32, right: u32) -> i32
-    requires { IsTold subtable }
+    requires { IsRead subtable }
     ensures value { result ≡ listed_value_of subtable.entry.kern.now subtable.entry.start left right }
     ensures low { negsuc 32767 ≤ℤ result }
     ensures high { result ≤ℤ pos 32767 }
@@ -132,9 +132,9 @@ fn classed_value(kern: &[u8], start: usize, left: u32, right: u32) -> i32
     )
 }
 
-/// How far two glyphs are moved apart by a subtable of which all is told.
-pub(crate) fn told_value(subtable: Subtable<'_>, left: u32, right: u32) -> i32
-    requires { IsTold subtable }
+/// How far two glyphs are moved apart by a subtable whose head was read.
+pub(crate) fn pair_value(subtable: Subtable<'_>, left: u32, right: u32) -> i32
+    requires { IsRead subtable }
     ensures value { result ≡ value_of subtable.entry.kern.now subtable.entry.start left right }
     ensures low { negsuc 32767 ≤ℤ result }
     ensures high { result ≤ℤ pos 32767 }
@@ -155,5 +155,5 @@ pub fn value(kern: &[u8], start: usize, left: u32, right: u32) -> i32
     ensures low { negsuc 32767 ≤ℤ result }
     ensures high { result ≤ℤ pos 32767 }
 {
-    told_value(told(kern, start), left, right)
+    pair_value(read_subtable(kern, start), left, right)
 }

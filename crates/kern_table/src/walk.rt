@@ -6,10 +6,10 @@ ghost use Rattle.std.specs.Prelude.{◌≡◌, ◌+◌, ◌<◌, ◌^◌, ◌≤
 ghost use Rattle.std.specs.Option.{IfSome};
 ghost use Rattle.std.specs.Int.RustNames.{bit_and};
 ghost use Rattle.shape_items.specs.Buffer.{limit_of};
-ghost use Rattle.kern_table.specs.Pairs.{IsTold};
+ghost use Rattle.kern_table.specs.Pairs.{IsRead};
 ghost use Rattle.kern_table.specs.Walk.{is_skipped as is_skipped_of, moved_on as moved_on_of, moved as moved_of, position_at, position_put, pair_moved, pair_kerned, kerned_at, left_after, kerned as kerned_of};
 
-use crate::pairs::{Subtable, told, told_value};
+use crate::pairs::{Subtable, pair_value, read_subtable};
 use bitflags::Flags;
 use shape_buffer::buffer::{
     GlyphPosition, GlyphPropsFlags, hb_buffer_t, hb_glyph_info_t, hb_mask_t,
@@ -106,7 +106,7 @@ fn move_pair(buffer: &mut hb_buffer_t, i: usize, j: usize, by: i32)
 
 /// Moves two glyphs apart by their value in a subtable.
 fn kern_pair(subtable: Subtable<'_>, buffer: &mut hb_buffer_t, i: usize, j: usize)
-    requires told { IsTold subtable }
+    requires read { IsRead subtable }
     requires after { i < j }
     requires inside { j < length buffer.old.items }
     ensures made { buffer.new ≡ pair_kerned subtable.entry.kern.now subtable.entry.start i j buffer.old }
@@ -114,7 +114,7 @@ fn kern_pair(subtable: Subtable<'_>, buffer: &mut hb_buffer_t, i: usize, j: usiz
     ensures limit { limit_of buffer.new ≡ limit_of buffer.old }
 {
     let (left, right) = (buffer.infos()[i].glyph_id, buffer.infos()[j].glyph_id);
-    move_pair(buffer, i, j, told_value(subtable, left, right));
+    move_pair(buffer, i, j, pair_value(subtable, left, right));
 }
 
 /// Kerns glyph `j` with the one that waits at its left, if kerning is on for it and it isn't skipped.
@@ -126,7 +126,7 @@ fn kern_at(
     j: usize,
     left: Option<usize>,
 ) -> Option<usize>
-    requires told { IsTold subtable }
+    requires read { IsRead subtable }
     requires inside { j < length buffer.old.items }
     requires after { IfSome left (λ i. i < j) }
     ensures made { buffer.new ≡ kerned_at subtable.entry.kern.now subtable.entry.start mask j left buffer.old }
@@ -159,7 +159,7 @@ pub fn kern_all(kern: &[u8], start: usize, mask: hb_mask_t, buffer: &mut hb_buff
     ensures limit { limit_of buffer.new ≡ limit_of buffer.old }
 {
     buffer.unsafe_to_concat(0, buffer.len());
-    let subtable = told(kern, start);
+    let subtable = read_subtable(kern, start);
     let mut left = None;
     for j in 0..buffer.len() {
         left = kern_at(subtable, mask, buffer, j, left);

@@ -1,5 +1,5 @@
 -- A list with a gap, as a struct.
-use Rattle.std.specs.Prelude.{ℕ, ◌+◌, ◌≤◌, List, length}
+use Rattle.std.specs.Prelude.{◌+◌, ◌≤◌, List, length}
 use Rattle.layout_buffer.specs.Gap.{around}
 use Rattle.layout_buffer.specs.declared.gap.GapList.{GapList}
 

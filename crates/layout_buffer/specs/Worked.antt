@@ -1,8 +1,11 @@
 -- Lists in storage, and merging before a gap, computed by hand.
-use Rattle.std.specs.Prelude.{◌≡◌, ℕ, List, [], ◌∷◌, refl}
+use Rattle.std.specs.Prelude.{◌≡◌, ℕ, List, [], ◌∷◌, length, refl}
+use Rattle.std.proofs.Common.{arith}
 use Rattle.shape_items.specs.Items.{Item, new_item}
 use Rattle.layout_buffer.specs.Gap.{around}
+use Rattle.layout_buffer.specs.GapLists.{IsGap}
 use Rattle.layout_buffer.specs.GapMerging.{growth_after}
+use Rattle.layout_buffer.specs.declared.gap.GapList.{GapList}
 
 abbrev pub four : List ℕ
 four = 5 ∷ 6 ∷ 7 ∷ 8 ∷ []
@@ -15,9 +18,19 @@ pub record WorkedGaps : Type 0 where
   -- a gap without a place, wherever it is
   pub none : around 2 0 four ≡ four
   pub all : around 0 4 four ≡ []
+  pub up_to_the_end : (l : GapList ℕ) → l.at ≡ 2 → l.room ≡ 2 → length l.stored.items ≡ 4 → IsGap l
+  pub past_the_end : (l : GapList ℕ) → l.at ≡ 2 → l.room ≡ 2 → length l.stored.items ≡ 3 → IsGap l → ⊥
 
 pub worked_gaps : WorkedGaps
-worked_gaps = record { within = refl; at_the_start = refl; at_the_end = refl; none = refl; all = refl }
+worked_gaps = record {
+  within = refl;
+  at_the_start = refl;
+  at_the_end = refl;
+  none = refl;
+  all = refl;
+  up_to_the_end = λ l a r s. omega (arith, a, r, s);
+  past_the_end = λ l a r s is. omega (arith, a, r, s, is);
+}
 
 -- a letter in that cluster
 abbrev pub of : ℕ → Item

@@ -1,6 +1,6 @@
 -- A lookup that covers no glyph of a list changes nothing.
 use Prim.Native.Nat.{zero}
-use Rattle.std.proofs.Common.{◌≡◌, ℕ, suc, ◌+◌, ◌-◌, ◌<◌, Bool, true, false, List, Option, Some, None, is_some, length, nat_eq, nat_lt, refl, sym, ap, ◌∙◌, subst, arith, if◌then◌else◌, ◌&&◌, ◌||◌}
+use Rattle.std.proofs.Common.{◌≡◌, ℕ, suc, ◌+◌, ◌-◌, ◌≤◌, ◌<◌, Bool, true, false, List, Option, Some, None, is_some, length, nat_eq, refl, sym, ap, ◌∙◌, subst, arith, if◌then◌else◌, ◌&&◌, ◌||◌}
 use Rattle.std.proofs.lemmas.Bool.Decides.{nat_tests}
 use Rattle.std.specs.Option.{option_and_then, option_map_or}
 use Rattle.shape_items.specs.Buffer.{Buffer}
@@ -8,12 +8,11 @@ use Rattle.shape_items.specs.Items.{Item}
 use Rattle.shape_font.specs.Bytes.{u16_of}
 use Rattle.layout_tables.specs.Lookups.{subtable_count_of, subtable_of}
 use Rattle.layout_tables.specs.declared.lookups.LookupSubtable.{LookupSubtable}
-use Rattle.layout_matching.specs.Found.{extension_kind, is_context, is_context_subtable, is_chained, whole_rule, is_first, number_of, found_if, found_whole, found_by_number, found_in_sets, found_in_subtable, found_at_subtable, found_of}
+use Rattle.layout_matching.specs.Found.{extension_kind, is_context, is_context_subtable, is_chained, whole_rule, is_first, number_of, found_whole, found_by_number, found_in_sets, found_in_subtable, found_at_subtable, found_of}
 use Rattle.layout_matching.specs.Loops.{times, first_some}
 use Rattle.layout_matching.specs.Skipping.{nth, is_on}
 use Rattle.layout_matching.specs.Tried.{untried, whole_reach, number_reach, sets_reach, subtable_reach, reach_at_subtable}
-use Rattle.layout_matching.specs.declared.found.Found.{Found}
-use Rattle.layout_matching.proofs.ReachLemmas.{until_untried}
+use Rattle.layout_digests.proofs.TriedLemmas.{until_untried_below}
 use Rattle.layout_matching.specs.declared.lookup.Lookup.{Lookup}
 use Rattle.layout_matching.specs.declared.spans.Origin.{Origin}
 use Rattle.layout_substitution.specs.Applied.{Applied, unapplied, put_one, single_applied, value_of, is_random, random_put, random_applied, alternate_applied, sequence_put, multiple_applied}
@@ -21,13 +20,12 @@ use Rattle.layout_substitution.specs.Edits.{item_at, is_inside, is_past, concat_
 use Rattle.layout_substitution.proofs.EditLemmas.{concat_marked_untried}
 use Rattle.layout_substitution.specs.Kinds.{kind_applied, subtable_applied, subtables_applied, or_next, lookup_applied}
 use Rattle.layout_substitution.specs.Ligatures.{set_ligated, ligature_applied}
-use Rattle.layout_substitution.specs.Substitutes.{single_by, single_of, set_number, set_of, alternate_in, alternate_of}
+use Rattle.layout_substitution.specs.Substitutes.{single_by, set_number, set_of, alternate_in}
 use Rattle.layout_substitution.specs.declared.apply.Spot.{Spot}
 use Rattle.layout_context.specs.Covered.{context_covers, subtable_covers, IsUncovered, CoversNone}
 use Rattle.layout_context.specs.Nested.{rule_applied, origin_of, tried_marked, first_rule_applied, level_applied, nested_applied}
-use Rattle.layout_context.specs.Reverse.{reversal_of, reversal_by, reversal_in, reversal_found, reversal_reach_of, reversal_reach_by, reversal_reach_in, reversal_reach, reversed_by, first_reversed, reversed_at, Backwards, reverse_step, reversed, is_reverse}
+use Rattle.layout_context.specs.Reverse.{reversal_of, reversal_by, reversal_in, reversal_reach_of, reversal_reach_by, reversal_reach_in, reversal_reach, reversed_by, first_reversed, reversed_at, Backwards, reverse_step, reversed, is_reverse}
 use Rattle.layout_context.specs.Stages.{Walk, passed, gone_on, lookup_step, first_walk, walked, looked_up}
-use Rattle.layout_context.specs.declared.reverse.Reversal.{Reversal}
 
 none_of : {A : Type 0} (o : Option A) → is_some o ≡ false → o ≡ None
 none_of None e = refl
@@ -39,9 +37,9 @@ and_then_none f o e = ap (option_and_then f) e
 map_or_none : {A B : Type 0} (f : A → B) (d : B) (o : Option A) → o ≡ None → option_map_or f o d ≡ d
 map_or_none f d o e = ap (λ p. option_map_or f p d) e
 
-first_some_none : {X : Type 0} (f : ℕ → Option X) → ((i : ℕ) → f i ≡ None) → (n i : ℕ) → first_some f n i ≡ None
-first_some_none f none zero i = refl
-first_some_none f none (suc n) i = rw (none i) (first_some_none f none n (suc i))
+first_some_none : {X : Type 0} (f : ℕ → Option X) (m : ℕ) → ((i : ℕ) → i < m → f i ≡ None) → (n i : ℕ) → n + i ≤ m → first_some f n i ≡ None
+first_some_none f m none zero i within = refl
+first_some_none f m none (suc n) i within = rw (none i (omega (arith, within))) (first_some_none f m none n (suc i) (omega (arith, within)))
 
 if_same : {A : Type 0} (t : Bool) (x y z : A) → x ≡ z → y ≡ z → (if t then x else y) ≡ z
 if_same true x y z a b = a
@@ -105,8 +103,9 @@ context_out l subtable glyph kind out =
 -- ---- lookups of kinds 1 to 4
 
 subtable-uncovered : (l : Lookup) (i : ℕ) (spot : Spot) (b : Buffer) → l.positioning ≡ false → IsUncovered l (item_at b spot.at).glyph_id
+    → i < subtable_count_of l.table.now l.place
     → subtable_applied l i spot b ≡ unapplied b
-subtable-uncovered l i spot b gsub out = by_subtable (subtable_of l.table.now 7 l.place i) refl
+subtable-uncovered l i spot b gsub out below = by_subtable (subtable_of l.table.now 7 l.place i) refl
   where
     by_kind : (subtable : LookupSubtable) (t : Bool) → is_context_subtable l subtable ≡ t → subtable_covers l subtable (item_at b spot.at).glyph_id ≡ false
         → kind_applied l spot b subtable ≡ unapplied b
@@ -116,14 +115,15 @@ subtable-uncovered l i spot b gsub out = by_subtable (subtable_of l.table.now 7 
     by_subtable : (o : Option LookupSubtable) → subtable_of l.table.now 7 l.place i ≡ o
         → option_map_or (kind_applied l spot b) o (unapplied b) ≡ unapplied b
     by_subtable None e = refl
-    by_subtable (Some subtable) e = by_kind subtable (is_context_subtable l subtable) refl (out i subtable e)
+    by_subtable (Some subtable) e = by_kind subtable (is_context_subtable l subtable) refl (out i subtable below e)
 
 subtables-uncovered : (l : Lookup) (spot : Spot) (b : Buffer) → l.positioning ≡ false → IsUncovered l (item_at b spot.at).glyph_id
-    → (n i : ℕ) → subtables_applied l spot n i b ≡ unapplied b
-subtables-uncovered l spot b gsub out zero i = refl
-subtables-uncovered l spot b gsub out (suc n) i =
-    ap (or_next (subtables_applied l spot n (suc i))) (subtable-uncovered l i spot b gsub out)
-    ∙ if_same (is_past b) (unapplied b) (subtables_applied l spot n (suc i) b) (unapplied b) refl (subtables-uncovered l spot b gsub out n (suc i))
+    → (n i : ℕ) → n + i ≤ subtable_count_of l.table.now l.place → subtables_applied l spot n i b ≡ unapplied b
+subtables-uncovered l spot b gsub out zero i within = refl
+subtables-uncovered l spot b gsub out (suc n) i within =
+    ap (or_next (subtables_applied l spot n (suc i))) (subtable-uncovered l i spot b gsub out (omega (arith, within)))
+    ∙ if_same (is_past b) (unapplied b) (subtables_applied l spot n (suc i) b) (unapplied b) refl
+    (subtables-uncovered l spot b gsub out n (suc i) (omega (arith, within)))
 
 -- ---- lookups of context
 
@@ -155,8 +155,9 @@ in_subtable-uncovered l items origin subtable out = by_kind (is_context_subtable
 
 at_subtable-uncovered : (l : Lookup) (items : List Item) (origin : Origin) (i : ℕ) → l.positioning ≡ false
     → IsUncovered l (nth items origin.at).glyph_id
+    → i < subtable_count_of l.table.now l.place
     → found_at_subtable l items origin i ≡ None
-at_subtable-uncovered l items origin i gsub out =
+at_subtable-uncovered l items origin i gsub out below =
     let e : extension_kind l ≡ 7 = ap (λ t. if t then 9 else 7) gsub in
     ap (λ k. option_and_then (found_in_subtable l items origin) (subtable_of l.table.now k l.place i)) e
     ∙ by_subtable (subtable_of l.table.now 7 l.place i) refl
@@ -164,13 +165,13 @@ at_subtable-uncovered l items origin i gsub out =
     by_subtable : (o : Option LookupSubtable) → subtable_of l.table.now 7 l.place i ≡ o
         → option_and_then (found_in_subtable l items origin) o ≡ None
     by_subtable None e = refl
-    by_subtable (Some subtable) e = in_subtable-uncovered l items origin subtable (out i subtable e)
+    by_subtable (Some subtable) e = in_subtable-uncovered l items origin subtable (out i subtable below e)
 
 found-uncovered : (l : Lookup) (items : List Item) (origin : Origin) → l.positioning ≡ false → IsUncovered l (nth items origin.at).glyph_id
     → found_of l items origin ≡ None
 found-uncovered l items origin gsub out =
-    first_some_none (found_at_subtable l items origin) (λ i. at_subtable-uncovered l items origin i gsub out)
-    (subtable_count_of l.table.now l.place) 0
+    first_some_none (found_at_subtable l items origin) (subtable_count_of l.table.now l.place) (λ i below. at_subtable-uncovered l items origin i gsub out below)
+    (subtable_count_of l.table.now l.place) 0 (omega arith)
 
 in_subtable-reach : (l : Lookup) (items : List Item) (origin : Origin) (subtable : LookupSubtable)
     → subtable_covers l subtable (nth items origin.at).glyph_id ≡ false → subtable_reach l items origin subtable ≡ untried origin.at
@@ -200,8 +201,9 @@ in_subtable-reach l items origin subtable out = by_kind (is_context_subtable l s
 
 at_subtable-reach : (l : Lookup) (items : List Item) (origin : Origin) (i : ℕ) → l.positioning ≡ false
     → IsUncovered l (nth items origin.at).glyph_id
+    → i < subtable_count_of l.table.now l.place
     → reach_at_subtable l items origin i ≡ untried origin.at
-at_subtable-reach l items origin i gsub out =
+at_subtable-reach l items origin i gsub out below =
     let e : extension_kind l ≡ 7 = ap (λ t. if t then 9 else 7) gsub in
     ap (λ k. option_map_or (subtable_reach l items origin) (subtable_of l.table.now k l.place i) (untried origin.at)) e
     ∙ by_subtable (subtable_of l.table.now 7 l.place i) refl
@@ -209,17 +211,17 @@ at_subtable-reach l items origin i gsub out =
     by_subtable : (o : Option LookupSubtable) → subtable_of l.table.now 7 l.place i ≡ o
         → option_map_or (subtable_reach l items origin) o (untried origin.at) ≡ untried origin.at
     by_subtable None e = refl
-    by_subtable (Some subtable) e = in_subtable-reach l items origin subtable (out i subtable e)
+    by_subtable (Some subtable) e = in_subtable-reach l items origin subtable (out i subtable below e)
 
 -- nothing was looked at, so nothing is marked
 tried-uncovered : (l : Lookup) (spot : Spot) (b : Buffer) → l.positioning ≡ false → IsUncovered l (item_at b spot.at).glyph_id
     → tried_marked l spot b ≡ b
 tried-uncovered l spot b gsub out =
     let origin = origin_of spot b in
-    ap (λ r. concat_marked r b) (until_untried (reach_at_subtable l b.items origin) spot.at (λ i. at_subtable-reach l b.items origin i gsub out)
-    (subtable_count_of l.table.now l.place) 0) ∙ concat_marked_untried spot.at b
+    ap (λ r. concat_marked r b) (until_untried_below (reach_at_subtable l b.items origin) spot.at (subtable_count_of l.table.now l.place) (λ i below. at_subtable-reach l b.items origin i gsub out below)
+    (subtable_count_of l.table.now l.place) 0 (omega arith)) ∙ concat_marked_untried spot.at b
 
-nested-uncovered : (level : ℕ) (l : Lookup) (spot : Spot) (b : Buffer) → l.positioning ≡ false → IsUncovered l (item_at b spot.at).glyph_id
+pub nested-uncovered : (level : ℕ) (l : Lookup) (spot : Spot) (b : Buffer) → l.positioning ≡ false → IsUncovered l (item_at b spot.at).glyph_id
     → nested_applied level l spot b ≡ unapplied b
 nested-uncovered zero l spot b gsub out = refl
 nested-uncovered (suc level) l spot b gsub out =
@@ -228,7 +230,7 @@ nested-uncovered (suc level) l spot b gsub out =
     (lookup_applied l spot b) (unapplied b)
     (ap (first_rule_applied (nested_applied level) l spot) (tried-uncovered l spot b gsub out)
     ∙ map_or_none (rule_applied (nested_applied level) l spot b) (unapplied b) _ (found-uncovered l b.items (origin_of spot b) gsub out))
-    (subtables-uncovered l spot b gsub out (subtable_count_of l.table.now l.place) 0) in
+    (subtables-uncovered l spot b gsub out (subtable_count_of l.table.now l.place) 0 (omega arith)) in
     if_same (is_past b) (unapplied b) _ (unapplied b) refl
     (if_same (is_inside spot.at b) (level_applied (nested_applied level) l spot b) (unapplied b) (unapplied b) here refl)
 
@@ -263,8 +265,9 @@ walk-uncovered levels l s gsub none (suc n) =
 -- ---- backwards
 
 reversal-uncovered : (l : Lookup) (items : List Item) (at i : ℕ) → l.positioning ≡ false → IsUncovered l (nth items at).glyph_id
+    → i < subtable_count_of l.table.now l.place
     → reversal_in l items at i ≡ None
-reversal-uncovered l items at i gsub out =
+reversal-uncovered l items at i gsub out below =
     let e : extension_kind l ≡ 7 = ap (λ t. if t then 9 else 7) gsub in
     ap (λ k. option_and_then (reversal_by l items at) (subtable_of l.table.now k l.place i)) e
     ∙ by_subtable (subtable_of l.table.now 7 l.place i) refl
@@ -278,11 +281,12 @@ reversal-uncovered l items at i gsub out =
 
     by_subtable : (o : Option LookupSubtable) → subtable_of l.table.now 7 l.place i ≡ o → option_and_then (reversal_by l items at) o ≡ None
     by_subtable None e = refl
-    by_subtable (Some subtable) e = by_kind subtable (is_context_subtable l subtable) refl (out i subtable e)
+    by_subtable (Some subtable) e = by_kind subtable (is_context_subtable l subtable) refl (out i subtable below e)
 
 backwards-reach : (l : Lookup) (items : List Item) (at i : ℕ) → l.positioning ≡ false → IsUncovered l (nth items at).glyph_id
+    → i < subtable_count_of l.table.now l.place
     → reversal_reach_in l items at i ≡ untried at
-backwards-reach l items at i gsub out =
+backwards-reach l items at i gsub out below =
     let e : extension_kind l ≡ 7 = ap (λ t. if t then 9 else 7) gsub in
     ap (λ k. option_map_or (reversal_reach_by l items at) (subtable_of l.table.now k l.place i) (untried at)) e
     ∙ by_subtable (subtable_of l.table.now 7 l.place i) refl
@@ -297,18 +301,18 @@ backwards-reach l items at i gsub out =
     by_subtable : (o : Option LookupSubtable) → subtable_of l.table.now 7 l.place i ≡ o
         → option_map_or (reversal_reach_by l items at) o (untried at) ≡ untried at
     by_subtable None e = refl
-    by_subtable (Some subtable) e = by_kind subtable (is_context_subtable l subtable) refl (out i subtable e)
+    by_subtable (Some subtable) e = by_kind subtable (is_context_subtable l subtable) refl (out i subtable below e)
 
 at-uncovered : (l : Lookup) (at : ℕ) (b : Buffer) → l.positioning ≡ false → IsUncovered l (item_at b at).glyph_id → reversed_at l at b ≡ b
 at-uncovered l at b gsub out =
     let n = subtable_count_of l.table.now l.place in
     let still : concat_marked (reversal_reach l b.items at) b ≡ b =
-    ap (λ r. concat_marked r b) (until_untried (reversal_reach_in l b.items at) at (λ i. backwards-reach l b.items at i gsub out) n 0)
+    ap (λ r. concat_marked r b) (until_untried_below (reversal_reach_in l b.items at) at n (λ i below. backwards-reach l b.items at i gsub out below) n 0 (omega arith))
     ∙ concat_marked_untried at b in
     if_same (is_on l (item_at b at)) (first_reversed l at (concat_marked (reversal_reach l b.items at) b)) b b
     (ap (first_reversed l at) still
-    ∙ map_or_none (reversed_by l at b) b _ (first_some_none (reversal_in l b.items at)
-    (λ i. reversal-uncovered l b.items at i gsub out) n 0)) refl
+    ∙ map_or_none (reversed_by l at b) b _ (first_some_none (reversal_in l b.items at) n
+    (λ i below. reversal-uncovered l b.items at i gsub out below) n 0 (omega arith))) refl
 
 abbrev back : Buffer → ℕ → Backwards
 back b at = record { buffer = b; at = at }

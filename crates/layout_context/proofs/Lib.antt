@@ -4,3 +4,4 @@ pub mod ReverseLemmas
 pub mod StageLemmas
 pub mod CoveredLemmas
 mod OffWalks
+pub mod DigestLemmas

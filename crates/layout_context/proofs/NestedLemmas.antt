@@ -1,6 +1,6 @@
 -- Nested lookups preserve what single ones preserve; levels and records, one by one.
 use Prim.Native.Nat.{zero}
-use Rattle.std.proofs.Common.{◌≡◌, ℕ, suc, ◌+◌, ◌-◌, ◌<◌, ◌≤◌, ◌&&◌, not, Bool, true, false, List, Option, Some, None, length, nat_le, nat_eq, refl, sym, ap, ◌∙◌, arith, if◌then◌else◌}
+use Rattle.std.proofs.Common.{◌≡◌, ℕ, suc, ◌+◌, ◌-◌, ◌<◌, not, Bool, true, false, Option, Some, None, nat_eq, refl, sym, ap, ◌∙◌, arith, if◌then◌else◌}
 use Rattle.shape_items.specs.Buffer.{Buffer}
 use Rattle.layout_matching.specs.Found.{is_context, found_of}
 use Rattle.layout_matching.specs.Loops.{times}
@@ -11,8 +11,7 @@ use Rattle.layout_matching.specs.declared.lookup.Lookup.{Lookup}
 use Rattle.layout_matching.specs.declared.nesting.Target.{Target}
 use Rattle.layout_matching.proofs.LoopLemmas.{times_after}
 use Rattle.layout_substitution.specs.Applied.{Applied, unapplied}
-use Rattle.layout_substitution.specs.Edits.{is_inside, is_past, broken}
-use Rattle.layout_substitution.specs.Kinds.{lookup_applied}
+use Rattle.layout_substitution.specs.Edits.{is_inside, is_past}
 use Rattle.layout_substitution.specs.declared.apply.Spot.{Spot}
 use Rattle.layout_substitution.proofs.AppliedLemmas.{or_unapplied, applied-if}
 use Rattle.layout_substitution.proofs.KindLemmas.{lookup-preserves}

@@ -1,6 +1,6 @@
 -- Lookups that apply no others leave the glyphs for which they are off.
 use Prim.Native.Nat.{zero}
-use Rattle.std.proofs.Common.{◌≡◌, ℕ, suc, ◌-◌, ◌&&◌, Bool, true, false, Option, Some, None, length, nat_eq, not, refl, sym, ap, ◌∙◌, subst, if◌then◌else◌}
+use Rattle.std.proofs.Common.{◌≡◌, ℕ, suc, ◌-◌, ◌&&◌, Bool, true, false, Option, Some, None, length, nat_eq, not, refl, sym, ◌∙◌, subst, if◌then◌else◌}
 use Rattle.std.specs.Option.{option_map_or}
 use Rattle.shape_items.specs.Buffer.{Buffer}
 use Rattle.layout_matching.specs.Found.{is_context}
@@ -8,14 +8,14 @@ use Rattle.layout_matching.specs.Loops.{times}
 use Rattle.layout_matching.specs.Skipping.{shares, is_skipped, is_on}
 use Rattle.layout_matching.specs.declared.lookup.Lookup.{Lookup}
 use Rattle.layout_substitution.specs.Applied.{Applied, unapplied}
-use Rattle.layout_substitution.specs.Edits.{item_at, is_inside, is_past, put_at, broken, concat_marked}
+use Rattle.layout_substitution.specs.Edits.{item_at, is_inside, is_past, broken, concat_marked}
 use Rattle.layout_substitution.specs.Kinds.{lookup_applied}
 use Rattle.layout_substitution.specs.Off.{off_glyphs, HasNoFlag}
 use Rattle.layout_substitution.specs.Replaced.{replaced}
 use Rattle.layout_substitution.specs.declared.apply.Spot.{Spot}
 use Rattle.layout_substitution.proofs.AppliedLemmas.{like-replaced}
 use Rattle.layout_substitution.proofs.OffKinds.{lookup-off}
-use Rattle.layout_substitution.proofs.OffLemmas.{Same-then, same-broken, same-concat_marked, on_at, same-off, same-on, put-off}
+use Rattle.layout_substitution.proofs.OffLemmas.{same-broken, same-concat_marked, on_at, same-off, same-on, put-off}
 use Rattle.layout_context.specs.Nested.{tried_marked, first_rule_applied, level_applied, nested_applied}
 use Rattle.layout_context.specs.Reverse.{Backwards, reversal_found, reversal_reach, reversed_by, first_reversed, reversed_at, reverse_step, reversed, is_reverse}
 use Rattle.layout_context.specs.Stages.{Walk, passed, gone_on, lookup_step, first_walk, walked, looked_up}

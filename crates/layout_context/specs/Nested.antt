@@ -1,6 +1,6 @@
 -- Lookups that apply others, by the levels that are left (kinds 5 and 6).
 use Prim.Native.Nat.{zero}
-use Rattle.std.specs.Prelude.{ℕ, suc, Bool, true, false, List, Option, Some, None, ◌+◌, ◌-◌, ◌&&◌, not, map, max, length, remove, insert, nat_eq, nat_lt, if◌then◌else◌}
+use Rattle.std.specs.Prelude.{ℕ, suc, true, false, List, Option, Some, None, ◌+◌, ◌-◌, not, length, nat_eq, if◌then◌else◌}
 use Rattle.std.specs.Option.{option_map_or, unwrap_or}
 use Rattle.shape_items.specs.Buffer.{Buffer}
 use Rattle.layout_matching.specs.Found.{is_context, found_of}
@@ -10,7 +10,6 @@ use Rattle.layout_matching.specs.Tried.{reach_of}
 use Rattle.layout_matching.specs.declared.found.Found.{Found}
 use Rattle.layout_matching.specs.declared.lookup.Lookup.{Lookup}
 use Rattle.layout_matching.specs.declared.nesting.Target.{Target}
-use Rattle.layout_matching.specs.declared.rules.Rule.{Rule}
 use Rattle.layout_matching.specs.declared.spans.Origin.{Origin}
 use Rattle.layout_substitution.specs.Applied.{Applied, unapplied}
 use Rattle.layout_substitution.specs.Edits.{is_inside, is_past, broken, concat_marked}

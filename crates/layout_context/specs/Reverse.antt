@@ -1,6 +1,6 @@
 -- Reverse chained single substitution (kind 8): from the last item to the first.
 use Rattle.std.specs.Prelude.{ℕ, Bool, true, false, List, Option, Some, None, ◌+◌, ◌-◌, ◌*◌, ◌&&◌, length, nat_eq, nat_lt, if◌then◌else◌}
-use Rattle.std.specs.Option.{option_and_then, option_map, option_map_or}
+use Rattle.std.specs.Option.{option_and_then, option_map_or}
 use Rattle.shape_font.specs.Bytes.{u16_of}
 use Rattle.shape_items.specs.Buffer.{Buffer}
 use Rattle.shape_items.specs.Items.{Item}
@@ -65,7 +65,8 @@ reversal_reach_of l items at start i = let rule = reverse_rule l.table.now start
 
 abbrev pub reversal_reach_by : Lookup → List Item → ℕ → LookupSubtable → Reach
 reversal_reach_by l items at subtable = if nat_eq subtable.kind 8 && nat_eq (u16_of l.table.now subtable.start) 1
-    then option_map_or (reversal_reach_of l items at subtable.start) (number_of l.table.now subtable.start (nth items at).glyph_id) (untried at)
+    then option_map_or (reversal_reach_of l items at subtable.start) (number_of l.table.now subtable.start (nth items at).glyph_id)
+    (untried at)
     else untried at
 
 abbrev pub reversal_reach_in : Lookup → List Item → ℕ → ℕ → Reach

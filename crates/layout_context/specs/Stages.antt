@@ -1,5 +1,5 @@
 -- Lookups over a buffer, nested ones included, and stages of lookups.
-use Rattle.std.specs.Prelude.{ℕ, List, [], ◌∷◌, Option, ◌+◌, ◌*◌, ◌<◌, ◌^◌, length, max, min, if◌then◌else◌}
+use Rattle.std.specs.Prelude.{ℕ, List, [], ◌∷◌, ◌+◌, ◌*◌, ◌<◌, ◌^◌, length, max, min, if◌then◌else◌}
 use Rattle.std.specs.Option.{unwrap_or}
 use Rattle.shape_items.specs.Buffer.{Buffer, most_countable}
 use Rattle.layout_matching.specs.Loops.{times}

@@ -3,3 +3,5 @@ pub mod Lookups
 pub mod Contexts
 pub mod Chains
 pub mod Marks
+pub mod Formats
+pub mod Around

@@ -1,15 +1,16 @@
 //! Lookups over a buffer, nested ones included, and stages of lookups.
-ghost use Rattle.std.specs.Prelude.{◌≡◌, ◌<◌, ◌^◌, length, true, IfOk, IsErrOf, IsOkUnless, OnOk, All};
+ghost use Rattle.std.specs.Prelude.{◌≡◌, ◌<◌, ◌^◌, length, true, false, IfOk, IsErrOf, IsOkUnless, OnOk, All};
 ghost use Rattle.shape_buffer.specs.Outcome.{IsWithinLimit, Outcome, step};
 ghost use Rattle.shape_buffer.specs.declared.buffer.error.ShapeError.TheVariants.{Length};
 ghost use Rattle.layout_substitution.specs.Edits.{is_past};
 ghost use Rattle.layout_context.specs.Nested.{nested_applied};
-ghost use Rattle.layout_context.specs.Stages.{next_spot as next_spot_of, lookup_step, walked, looked_up, all_looked_up, most_nested as most_nested_of, stage_made, substituted, HasPlace};
+ghost use Rattle.layout_context.specs.Stages.{next_spot as next_spot_of, lookup_step, walked, looked_up, most_nested as most_nested_of, stage_made, substituted};
+ghost use Rattle.layout_context.specs.Digested.{IsDigested, IsApart, HoldsGlyphs, lookups_in};
 
 use crate::nested::apply_nested;
 use crate::reverse::{is_reverse, reverse};
-use layout_buffer::GapBuffer;
-use layout_matching::lookup::Lookup;
+use layout_buffer::{GapBuffer, ItemList};
+use layout_digests::{Digest, Digested};
 use layout_matching::skipping::is_on;
 use layout_substitution::apply::Spot;
 use layout_substitution::edits::item;
@@ -34,28 +35,32 @@ fn next_spot(spot: Spot, count: usize) -> Spot
     next
 }
 
-/// Applies the lookup at one place, or goes on to the next item.
+/// Applies the lookup at one place, or goes on to the next item. Where its digest doesn't hold the glyph, no table is read.
 fn step_on(
     alloc: Global,
     levels: u32,
-    lookup: &Lookup<'_>,
+    named: &Digested<'_>,
     buffer: &mut GapBuffer,
     spot: Spot,
 ) -> Result<Spot, ShapeError>
-    requires near { lookup.now.place < 2 ^ 17 }
+    requires said { IsDigested named.now }
     ensures ok { IfOk result (λ next. record { buffer = buffer.new; spot = next }
-        ≡ lookup_step (nested_applied levels lookup.now) lookup.now (record { buffer = buffer.old; spot = spot })) }
-    ensures length { IsErrOf result Length → is_past (lookup_step (nested_applied levels lookup.now) lookup.now
+        ≡ lookup_step (nested_applied levels named.now.lookup) named.now.lookup (record { buffer = buffer.old; spot = spot })) }
+    ensures length { IsErrOf result Length → is_past (lookup_step (nested_applied levels named.now.lookup) named.now.lookup
         (record { buffer = buffer.old; spot = spot })).buffer ≡ true }
 {
     if buffer.length_limit() < buffer.len() || buffer.len() <= spot.at {
         return Ok(spot);
     }
     let next = next_spot(spot, buffer.len());
-    if !is_on(lookup, &item(buffer, spot.at)) {
+    let item = item(buffer, spot.at);
+    if !named.digest.has(item.glyph_id) {
         return Ok(next);
     }
-    match apply_nested(alloc, levels, lookup, buffer, spot) {
+    if !is_on(&named.lookup, &item) {
+        return Ok(next);
+    }
+    match apply_nested(alloc, levels, &named.lookup, buffer, spot) {
         Err(error) => Err(error),
         Ok(Some(there)) => Ok(there),
         Ok(None) => Ok(next),
@@ -67,14 +72,14 @@ fn step_on(
 fn walk(
     alloc: Global,
     levels: u32,
-    lookup: &Lookup<'_>,
+    named: &Digested<'_>,
     buffer: &mut GapBuffer,
     spot: Spot,
 ) -> Result<Spot, ShapeError>
-    requires near { lookup.now.place < 2 ^ 17 }
+    requires said { IsDigested named.now }
     ensures ok { IfOk result (λ next. record { buffer = buffer.new; spot = next }
-        ≡ walked (nested_applied levels lookup.now) lookup.now (record { buffer = buffer.old; spot = spot })) }
-    ensures length { IsErrOf result Length → is_past (walked (nested_applied levels lookup.now) lookup.now
+        ≡ walked (nested_applied levels named.now.lookup) named.now.lookup (record { buffer = buffer.old; spot = spot })) }
+    ensures length { IsErrOf result Length → is_past (walked (nested_applied levels named.now.lookup) named.now.lookup
         (record { buffer = buffer.old; spot = spot })).buffer ≡ true }
 {
     let mut spot = Spot {
@@ -84,7 +89,7 @@ fn walk(
         whole: buffer.len(),
     };
     for _i in 0..buffer.len() {
-        match step_on(alloc, levels, lookup, buffer, spot) {
+        match step_on(alloc, levels, named, buffer, spot) {
             Err(error) => return Err(error),
             Ok(next) => spot = next,
         }
@@ -96,21 +101,21 @@ fn walk(
 fn look_up(
     alloc: Global,
     levels: u32,
-    lookup: &Lookup<'_>,
+    named: &Digested<'_>,
     buffer: &mut GapBuffer,
     spot: Spot,
 ) -> Result<Spot, ShapeError>
-    requires near { lookup.now.place < 2 ^ 17 }
+    requires said { IsDigested named.now }
     ensures ok { IfOk result (λ next. record { buffer = buffer.new; spot = next }
-        ≡ looked_up levels lookup.now (record { buffer = buffer.old; spot = spot })) }
+        ≡ looked_up levels named.now.lookup (record { buffer = buffer.old; spot = spot })) }
     ensures length { IsErrOf result Length
-        → is_past (looked_up levels lookup.now (record { buffer = buffer.old; spot = spot })).buffer ≡ true }
+        → is_past (looked_up levels named.now.lookup (record { buffer = buffer.old; spot = spot })).buffer ≡ true }
 {
-    if is_reverse(lookup) {
-        reverse(lookup, buffer);
+    if is_reverse(&named.lookup) {
+        reverse(&named.lookup, buffer);
         return Ok(spot);
     }
-    walk(alloc, levels, lookup, buffer, spot)
+    walk(alloc, levels, named, buffer, spot)
 }
 
 /// How many nested lookups may be applied in a stage that begins with `n` items.
@@ -120,17 +125,38 @@ fn most_nested(n: usize) -> usize
     n.saturating_mul(MAX_OPS_FACTOR).max(MAX_OPS_MIN)
 }
 
-/// Lookups one after the other.
-#[tactic(auto, using(crate::proofs::StageLemmas::past_all))]
+/// A digest that holds the glyphs of a list.
+#[tactic(auto, using(crate::proofs::DigestLemmas::one_held))]
+fn digest_of(items: &ItemList<'_>) -> Digest
+    ensures { HoldsGlyphs result items.now }
+{
+    let mut all = Digest::new();
+    for i in 0..items.len() {
+        all = all.with_glyph(items.at(i).glyph_id);
+    }
+    all
+}
+
+/// Whether the digest of a lookup shares a glyph with that of the list.
+fn any_shares(run: &Digest, lookups: &[Digested<'_>]) -> bool
+    ensures { result ≡ false → All (IsApart run.now) lookups.now }
+{
+    lookups.iter().any(|named| run.may_share(&named.digest))
+}
+
+/// Lookups one after the other, from a digest of the list on. One whose digest shares no glyph with the list is passed over.
+#[tactic(auto, using(crate::proofs::DigestLemmas::looked_on))]
 fn look_all_up(
     alloc: Global,
     levels: u32,
-    lookups: &[Lookup<'_>],
+    lookups: &[Digested<'_>],
+    run: Digest,
     buffer: &mut GapBuffer,
 ) -> Result<(), ShapeError>
-    requires near { All HasPlace lookups.now }
-    ensures ok { OnOk result (buffer.new ≡ stage_made levels lookups.now buffer.old) }
-    ensures length { IsErrOf result Length → is_past (stage_made levels lookups.now buffer.old) ≡ true }
+    requires said { All IsDigested lookups.now }
+    requires run { HoldsGlyphs run buffer.old.items }
+    ensures ok { OnOk result (buffer.new ≡ stage_made levels (lookups_in lookups.now) buffer.old) }
+    ensures length { IsErrOf result Length → is_past (stage_made levels (lookups_in lookups.now) buffer.old) ≡ true }
 {
     let mut spot = Spot {
         at: 0,
@@ -138,11 +164,16 @@ fn look_all_up(
         left: most_nested(buffer.len()),
         whole: 0,
     };
-    for lookup in lookups {
-        match look_up(alloc, levels, lookup, buffer, spot) {
+    let mut run = run;
+    for named in lookups {
+        if !run.may_share(&named.digest) {
+            continue;
+        }
+        match look_up(alloc, levels, named, buffer, spot) {
             Err(error) => return Err(error),
             Ok(next) => spot = next,
         }
+        run = digest_of(&buffer.items());
     }
     Ok(())
 }
@@ -168,19 +199,26 @@ fn put_back(walk: GapBuffer, buffer: &mut hb_buffer_t) -> Result<(), ShapeError>
     outcome
 }
 
-/// Lookups one after the other, over a buffer that edits in linear time.
+/// Lookups one after the other, over a buffer that edits in linear time; if none of them can apply, the buffer isn't touched.
 fn edit_all(
     alloc: Global,
     levels: u32,
-    lookups: &[Lookup<'_>],
+    lookups: &[Digested<'_>],
     buffer: &mut hb_buffer_t,
 ) -> Result<(), ShapeError>
-    requires near { All HasPlace lookups.now }
-    ensures ok { OnOk result (buffer.new ≡ stage_made levels lookups.now buffer.old) }
-    ensures length { IsErrOf result Length → is_past (stage_made levels lookups.now buffer.old) ≡ true }
+    requires said { All IsDigested lookups.now }
+    ensures ok { OnOk result (buffer.new ≡ stage_made levels (lookups_in lookups.now) buffer.old) }
+    ensures length { IsErrOf result Length → is_past (stage_made levels (lookups_in lookups.now) buffer.old) ≡ true }
 {
+    if lookups.is_empty() {
+        return Ok(());
+    }
+    let run = digest_of(&ItemList::of_slice(buffer.infos()));
+    if !any_shares(&run, lookups) {
+        return Ok(());
+    }
     let mut walk = GapBuffer::open(alloc, buffer);
-    match look_all_up(alloc, levels, lookups, &mut walk) {
+    match look_all_up(alloc, levels, lookups, run, &mut walk) {
         Err(error) => {
             *buffer = walk.abandon();
             Err(error)
@@ -193,12 +231,12 @@ fn edit_all(
 fn substitute_within(
     alloc: Global,
     levels: u32,
-    lookups: &[Lookup<'_>],
+    lookups: &[Digested<'_>],
     buffer: &mut hb_buffer_t,
 ) -> Result<(), ShapeError>
-    requires near { All HasPlace lookups.now }
+    requires said { All IsDigested lookups.now }
     requires within { IsWithinLimit buffer.old }
-    ensures { Outcome (step (stage_made levels lookups.now)) buffer.old buffer.new result }
+    ensures { Outcome (step (stage_made levels (lookups_in lookups.now))) buffer.old buffer.new result }
 {
     match edit_all(alloc, levels, lookups, buffer) {
         Err(error) => Err(error),
@@ -211,12 +249,12 @@ fn substitute_within(
 #[tactic(auto, unfolding(crate::specs::Stages::substituted))]
 pub fn substitute(
     alloc: Global,
-    lookups: &[Lookup<'_>],
+    lookups: &[Digested<'_>],
     buffer: &mut hb_buffer_t,
 ) -> Result<(), ShapeError>
-    requires near { All HasPlace lookups.now }
+    requires said { All IsDigested lookups.now }
     requires within { IsWithinLimit buffer.old }
-    ensures { Outcome (step (substituted lookups.now)) buffer.old buffer.new result }
+    ensures { Outcome (step (substituted (lookups_in lookups.now))) buffer.old buffer.new result }
 {
     substitute_within(alloc, LEVELS, lookups, buffer)
 }

@@ -1,7 +1,10 @@
 //! The definitions, computed by hand.
+ghost use Rattle.layout_context.specs.Worked.Around.{WorkedJoiners, WorkedMasks, WorkedSyllablesAround};
+ghost use Rattle.layout_context.specs.Worked.Around.{WorkedComponentsMatched, WorkedClassesOfThreeLists, WorkedBounds, WorkedCovers};
 ghost use Rattle.layout_context.specs.Worked.Chains.{WorkedChainedGlyphs, WorkedNested, WorkedDeletions};
 ghost use Rattle.layout_context.specs.Worked.Contexts.{WorkedRules, WorkedClasses, WorkedChains, WorkedChainsElsewhere};
 ghost use Rattle.layout_context.specs.Worked.Contexts.{WorkedMarkSets, WorkedMarkClasses, WorkedSyllables, WorkedComponents};
+ghost use Rattle.layout_context.specs.Worked.Formats.{WorkedChainedClasses, WorkedBackwards, WorkedFlags};
 ghost use Rattle.layout_context.specs.Worked.Lookups.{WorkedLookups};
 ghost use Rattle.layout_context.specs.Worked.Marks.{WorkedVainLigatures, WorkedVainRules, WorkedRandom, WorkedIds};
 ghost use Rattle.layout_context.specs.Worked.Places.{WorkedPlaces};
@@ -42,4 +45,23 @@ pub fn marks_meet_worked_cases()
     ensures vain_rules { WorkedVainRules }
     ensures random { WorkedRandom }
     ensures ids { WorkedIds }
+{}
+
+/// Chained context by classes over whole lists, lookahead from the end of the list, and flags that ignore classes of glyphs.
+pub fn formats_meet_worked_cases()
+    ensures chained_classes { WorkedChainedClasses }
+    ensures backwards { WorkedBackwards }
+    ensures flags { WorkedFlags }
+{}
+
+/// Joiners, masks, syllables and components of ligatures within a match and around it, chains by
+/// classes, bounds, and which glyphs a lookup may begin at.
+pub fn surroundings_meet_worked_cases()
+    ensures joiners { WorkedJoiners }
+    ensures masks { WorkedMasks }
+    ensures syllables { WorkedSyllablesAround }
+    ensures components { WorkedComponentsMatched }
+    ensures classes_of_three_lists { WorkedClassesOfThreeLists }
+    ensures bounds { WorkedBounds }
+    ensures covers { WorkedCovers }
 {}

@@ -77,7 +77,8 @@ rule_of t is_chain start at = if nat_eq (u16_of t start) 1
 
 abbrev pub found_rule : Lookup → List Item → Origin → LookupSubtable → ℕ → ℕ → Option Found
 found_rule l items origin subtable set r =
-    option_and_then (λ place. found_if l items origin (rule_of l.table.now (is_chained l subtable) subtable.start place)) (rule_place l.table.now set r)
+    option_and_then (λ place. found_if l items origin (rule_of l.table.now (is_chained l subtable) subtable.start place))
+    (rule_place l.table.now set r)
 
 abbrev pub found_in_set : Lookup → List Item → Origin → LookupSubtable → ℕ → Option Found
 found_in_set l items origin subtable set =
@@ -96,7 +97,8 @@ found_in_sets l items origin subtable = option_and_then (found_by_number l items
 
 abbrev pub found_in_subtable : Lookup → List Item → Origin → LookupSubtable → Option Found
 found_in_subtable l items origin subtable = if is_context_subtable l subtable
-    then (if nat_eq (u16_of l.table.now subtable.start) 3 then found_whole l items origin subtable else found_in_sets l items origin subtable)
+    then (if nat_eq (u16_of l.table.now subtable.start) 3 then found_whole l items origin subtable
+    else found_in_sets l items origin subtable)
     else None
 
 abbrev pub found_at_subtable : Lookup → List Item → Origin → ℕ → Option Found

@@ -26,7 +26,8 @@ target_with places index other = record { lookup = other; place = slice_index_or
 abbrev pub target_of : Lookup → Rule → List ℕ → ℕ → Option Target
 target_of l rule places r = let index = u16_of l.table.now (record_at rule r) in
     (if nat_lt index (length places)
-    then option_map (λ place. target_with places index (lookup_with l place)) (lookup_of l.table.now (u16_of l.table.now (record_at rule r + 2)))
+    then option_map (λ place. target_with places index (lookup_with l place))
+    (lookup_of l.table.now (u16_of l.table.now (record_at rule r + 2)))
     else None)
 
 -- the places of the glyphs that a rule matches, the first one at `at`; a rule of no glyph has none

@@ -9,4 +9,5 @@ pub mod NestedLemmas
 pub mod NestedSteps
 pub mod PreservationLemmas
 pub mod UncoveredLemmas
+pub mod DigestLemmas
 pub mod MadeLemmas

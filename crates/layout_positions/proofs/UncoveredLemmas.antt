@@ -1,6 +1,6 @@
 -- a list that no lookup covers stays as it is
 use Prim.Native.Nat.{zero}
-use Rattle.std.proofs.Common.{◌≡◌, ℕ, suc, ◌+◌, ◌&&◌, Bool, true, false, List, [], ◌∷◌, Option, Some, None, is_some, All, fold, length, nat_eq, nat_lt, refl, sym, ap, subst, ◌∙◌, arith, ◌<◌, ◌||◌, if◌then◌else◌}
+use Rattle.std.proofs.Common.{◌≡◌, ℕ, suc, ◌+◌, ◌&&◌, Bool, true, false, List, [], ◌∷◌, Option, Some, None, is_some, All, fold, length, nat_eq, nat_lt, refl, sym, ap, subst, ◌∙◌, arith, ◌<◌, ◌≤◌, ◌||◌, if◌then◌else◌}
 use Rattle.std.proofs.lemmas.Bool.Decides.{nat_tests}
 use Rattle.std.specs.Option.{option_map_or, option_and_then}
 use Rattle.shape_font.specs.Bytes.{u16_of}
@@ -12,7 +12,7 @@ use Rattle.layout_matching.specs.Found.{extension_kind, is_context, is_context_s
 use Rattle.layout_matching.specs.Loops.{times, first_some}
 use Rattle.layout_matching.specs.Skipping.{nth, is_on}
 use Rattle.layout_matching.specs.Tried.{untried, whole_reach, number_reach, sets_reach, subtable_reach, reach_at_subtable, reach_of}
-use Rattle.layout_matching.proofs.ReachLemmas.{until_untried}
+use Rattle.layout_digests.proofs.TriedLemmas.{until_untried_below}
 use Rattle.layout_matching.specs.declared.lookup.Lookup.{Lookup}
 use Rattle.layout_matching.specs.declared.spans.Origin.{Origin}
 use Rattle.layout_matching.specs.declared.tried.Reach.{Reach}
@@ -20,10 +20,10 @@ use Rattle.layout_positions.specs.Anchors.{number_at}
 use Rattle.layout_positions.specs.Cursive.{entry_in, cursive_at, cursive_applied}
 use Rattle.layout_positions.specs.Edits.{concat_marked}
 use Rattle.layout_positions.specs.Lookups.{Applied, unapplied}
-use Rattle.layout_positions.specs.Marks.{mark_base_at, mark_base_applied, mark_ligature_at, mark_ligature_applied, mark_mark_at, mark_mark_applied}
+use Rattle.layout_positions.specs.Marks.{mark_base_at, mark_base_applied, mark_number, base_seen, mark_ligature_at, mark_ligature_applied, mark_mark_at, mark_mark_applied}
 use Rattle.layout_positions.specs.Nested.{rule_placed, origin_at, tried_concat_marked, first_rule_placed, level_placed, nested_placed, LEVELS}
 use Rattle.layout_positions.specs.Pairs.{single_value, single_put, single_applied, pair_at_number, has_pairs, pair_applied}
-use Rattle.layout_positions.specs.Subtables.{if_first_format, kind_applied, seen_at, Trial, subtable_tried, next_tried, trial_of, trial_step, lookup_tried, Placing, unplaced, lookup_placed}
+use Rattle.layout_positions.specs.Subtables.{if_first_format, kind_applied, looks_for_base, seen_at, Trial, subtable_tried, next_tried, trial_of, trial_step, lookup_tried, Placing, unplaced, placed_by, lookup_placed}
 use Rattle.layout_positions.specs.Uncovered.{is_listed_at, rule_lists, subtable_lists, IsUnlisted, IsUncovered}
 use Rattle.layout_positions.specs.Walk.{Walk, gone_on, lookup_step, Budgeted, first_walk, lookup_applied, budgeted, positioned}
 use Rattle.layout_positions.specs.declared.bases.BaseSeen.{BaseSeen}
@@ -79,9 +79,9 @@ none_of (Some x) e = cc
 
 -- a subtable that doesn't list the glyph isn't applied
 subtable-un : (l : Lookup) (b : Buffer) (i : ℕ) → l.positioning ≡ true → IsUnlisted l (nth b.items i).glyph_id
-    → (k : ℕ) (subtable : LookupSubtable) → subtable_of l.table.now 9 l.place k ≡ Some subtable → (base : Option ℕ)
-    → kind_applied l subtable base i b ≡ unapplied b
-subtable-un l b i gpos un k subtable is base = by_kind (is_context_subtable l subtable) refl (un k subtable is)
+    → (k : ℕ) (subtable : LookupSubtable) → k < subtable_count_of l.table.now l.place → subtable_of l.table.now 9 l.place k ≡ Some subtable
+    → (base : Option ℕ) → kind_applied l subtable base i b ≡ unapplied b
+subtable-un l b i gpos un k subtable below is base = by_kind (is_context_subtable l subtable) refl (un k subtable below is)
   where
     by_kind : (t : Bool) → is_context_subtable l subtable ≡ t
         → (if t then rule_lists l subtable (nth b.items i).glyph_id else is_listed_at l subtable (nth b.items i).glyph_id) ≡ false
@@ -90,45 +90,61 @@ subtable-un l b i gpos un k subtable is base = by_kind (is_context_subtable l su
     by_kind false is none = kind-un l subtable base i b
         (none_of (number_at l.table.now subtable.start (subtable.start + 2) (nth b.items i).glyph_id) none)
 
+last-out : {X : Type 0} (x y z : Bool) (p q : X) → z ≡ false → (if x && y && z then p else q) ≡ q
+last-out true true true p q is = cc
+last-out true true false p q is = refl
+last-out true false z p q is = refl
+last-out false y z p q is = refl
+
+-- and looks for no base
+seen-un : (l : Lookup) (subtable : LookupSubtable) (i : ℕ) (b : Buffer) (seen : BaseSeen) → l.positioning ≡ true
+    → subtable_lists l subtable (nth b.items i).glyph_id ≡ false → seen_at l subtable i b seen ≡ seen
+seen-un l subtable i b seen gpos un = by_kind (is_context_subtable l subtable) refl un
+  where
+    by_kind : (t : Bool) → is_context_subtable l subtable ≡ t
+        → (if t then rule_lists l subtable (nth b.items i).glyph_id else is_listed_at l subtable (nth b.items i).glyph_id) ≡ false
+        → seen_at l subtable i b seen ≡ seen
+    by_kind true is none =
+        let kinds : (nat_eq subtable.kind 7 || nat_eq subtable.kind 8) ≡ true =
+        subst (λ t. (nat_eq subtable.kind (if t then 7 else 5) || nat_eq subtable.kind (if t then 8 else 6)) ≡ true) gpos is in
+        let four : nat_eq subtable.kind 4 ≡ false = grind (arith, nat_tests, kinds) in
+        let five : nat_eq subtable.kind 5 ≡ false = grind (arith, nat_tests, kinds) in
+        rw four (rw five refl)
+    by_kind false is none = last-out (nat_eq subtable.kind 4 || nat_eq subtable.kind 5) (nat_eq (u16_of l.table.now subtable.start) 1)
+        (is_some (mark_number l subtable.start i b)) (base_seen l subtable b.items i seen) seen none
+
 -- ---- a lookup at a place
 
--- nothing has been done
-record IsStill (b : Buffer) (s : Trial) : Type 0 where
-  buffer : s.buffer ≡ b
-  next : s.next ≡ None
+-- nothing has been done by so many subtables
+abbrev still : BaseSeen → Buffer → ℕ → Trial
+still seen b n = record { buffer = b; next = None; seen = seen; subtable = n }
 
-tried-un : (l : Lookup) (b : Buffer) (i : ℕ) (s : Trial) → IsStill b s → (o : Option LookupSubtable)
-    → ((subtable : LookupSubtable) → o ≡ Some subtable → (base : Option ℕ) → kind_applied l subtable base i b ≡ unapplied b)
-    → IsStill b (option_map_or (subtable_tried l i s) o (trial_of s (unapplied s.buffer) s.seen))
-tried-un l b i s still None none = record { buffer = still.buffer; next = refl }
-tried-un l b i s still (Some subtable) none =
-    let base = (seen_at l subtable i s.buffer s.seen).place in
-    let is : kind_applied l subtable base i s.buffer ≡ unapplied b =
-    ap (kind_applied l subtable base i) still.buffer ∙ none subtable refl base in
-    record { buffer = ap (λ (a : Applied). a.buffer) is; next = ap (λ (a : Applied). a.next) is }
+tried-un : (l : Lookup) (b : Buffer) (i n : ℕ) (seen : BaseSeen) → l.positioning ≡ true → IsUnlisted l (nth b.items i).glyph_id
+    → n < subtable_count_of l.table.now l.place → (o : Option LookupSubtable) → subtable_of l.table.now 9 l.place n ≡ o
+    → option_map_or (subtable_tried l i (still seen b n)) o (trial_of (still seen b n) (unapplied b) seen) ≡ still seen b (n + 1)
+tried-un l b i n seen gpos un below None e = refl
+tried-un l b i n seen gpos un below (Some subtable) e =
+    let same : seen_at l subtable i b seen ≡ seen = seen-un l subtable i b seen gpos (un n subtable below e) in
+    ap (λ (s : BaseSeen). trial_of (still seen b n) (kind_applied l subtable s.place i b) s) same
+    ∙ ap (λ (a : Applied). trial_of (still seen b n) a seen) (subtable-un l b i gpos un n subtable below e seen.place)
 
-still-if : (b : Buffer) (t : Bool) (x y : Trial) → IsStill b x → IsStill b y → IsStill b (if t then x else y)
-still-if b true x y k m = k
-still-if b false x y k m = m
-
-times-un : (l : Lookup) (b : Buffer) (i : ℕ) → l.positioning ≡ true → IsUnlisted l (nth b.items i).glyph_id
-    → (n : ℕ) (s : Trial) → IsStill b s → IsStill b (times (trial_step l i) n s)
-times-un l b i gpos un zero s still = still
-times-un l b i gpos un (suc n) s still =
-    let before = times (trial_step l i) n s in
-    let kept = times-un l b i gpos un n s still in
-    still-if b (is_some before.next) (record before { subtable = before.subtable + 1 }) (next_tried l i before)
-    (record { buffer = kept.buffer; next = kept.next })
-    (tried-un l b i before kept (subtable_of l.table.now 9 l.place before.subtable) (subtable-un l b i gpos un before.subtable))
+times-un : (l : Lookup) (b : Buffer) (i : ℕ) (seen : BaseSeen) → l.positioning ≡ true → IsUnlisted l (nth b.items i).glyph_id
+    → (n : ℕ) → n ≤ subtable_count_of l.table.now l.place → times (trial_step l i) n (still seen b 0) ≡ still seen b n
+times-un l b i seen gpos un zero within = refl
+times-un l b i seen gpos un (suc n) within =
+    let e : n + 1 ≡ suc n = omega arith in
+    ap (trial_step l i) (times-un l b i seen gpos un n (omega (arith, within)))
+    ∙ tried-un l b i n seen gpos un (omega (arith, within)) (subtable_of l.table.now 9 l.place n) refl
+    ∙ ap (still seen b) e
 
 -- ---- rules at a place
 
 and_then_none : {A B : Type 0} (f : A → Option B) (o : Option A) → o ≡ None → option_and_then f o ≡ None
 and_then_none f o e = ap (option_and_then f) e
 
-first_some_none : {X : Type 0} (f : ℕ → Option X) → ((i : ℕ) → f i ≡ None) → (n i : ℕ) → first_some f n i ≡ None
-first_some_none f none zero i = refl
-first_some_none f none (suc n) i = rw (none i) (first_some_none f none n (suc i))
+first_some_none : {X : Type 0} (f : ℕ → Option X) (m : ℕ) → ((i : ℕ) → i < m → f i ≡ None) → (n i : ℕ) → n + i ≤ m → first_some f n i ≡ None
+first_some_none f m none zero i within = refl
+first_some_none f m none (suc n) i within = rw (none i (omega (arith, within))) (first_some_none f m none n (suc i) (omega (arith, within)))
 
 rules-un : (l : Lookup) (items : List Item) (origin : Origin) (subtable : LookupSubtable)
     → subtable_lists l subtable (nth items origin.at).glyph_id ≡ false → found_in_subtable l items origin subtable ≡ None
@@ -150,8 +166,9 @@ rules-un l items origin subtable out = by_kind (is_context_subtable l subtable) 
     by_kind false is none = refl
 
 at_subtable-un : (l : Lookup) (items : List Item) (origin : Origin) (k : ℕ) → l.positioning ≡ true → IsUnlisted l (nth items origin.at).glyph_id
+    → k < subtable_count_of l.table.now l.place
     → found_at_subtable l items origin k ≡ None
-at_subtable-un l items origin k gpos un =
+at_subtable-un l items origin k gpos un below =
     let far : extension_kind l ≡ 9 = ap (λ t. if t then 9 else 7) gpos in
     ap (λ kind. option_and_then (found_in_subtable l items origin) (subtable_of l.table.now kind l.place k)) far
     ∙ by_concat (subtable_of l.table.now 9 l.place k) refl
@@ -159,12 +176,13 @@ at_subtable-un l items origin k gpos un =
     by_concat : (o : Option LookupSubtable) → subtable_of l.table.now 9 l.place k ≡ o
         → option_and_then (found_in_subtable l items origin) o ≡ None
     by_concat None e = refl
-    by_concat (Some subtable) e = rules-un l items origin subtable (un k subtable e)
+    by_concat (Some subtable) e = rules-un l items origin subtable (un k subtable below e)
 
 found-un : (l : Lookup) (items : List Item) (origin : Origin) → l.positioning ≡ true → IsUnlisted l (nth items origin.at).glyph_id
     → found_of l items origin ≡ None
 found-un l items origin gpos un =
-    first_some_none (found_at_subtable l items origin) (λ k. at_subtable-un l items origin k gpos un) (subtable_count_of l.table.now l.place) 0
+    first_some_none (found_at_subtable l items origin) (subtable_count_of l.table.now l.place)
+    (λ k below. at_subtable-un l items origin k gpos un below) (subtable_count_of l.table.now l.place) 0 (omega arith)
 
 -- ---- what rules look at in vain
 
@@ -188,8 +206,9 @@ reach_in-un l items origin subtable out = by_kind (is_context_subtable l subtabl
     by_kind false is none = refl
 
 reach_at-un : (l : Lookup) (items : List Item) (origin : Origin) (k : ℕ) → l.positioning ≡ true → IsUnlisted l (nth items origin.at).glyph_id
+    → k < subtable_count_of l.table.now l.place
     → reach_at_subtable l items origin k ≡ untried origin.at
-reach_at-un l items origin k gpos un =
+reach_at-un l items origin k gpos un below =
     let far : extension_kind l ≡ 9 = ap (λ t. if t then 9 else 7) gpos in
     ap (λ kind. option_map_or (subtable_reach l items origin) (subtable_of l.table.now kind l.place k) (untried origin.at)) far
     ∙ by_concat (subtable_of l.table.now 9 l.place k) refl
@@ -197,7 +216,7 @@ reach_at-un l items origin k gpos un =
     by_concat : (o : Option LookupSubtable) → subtable_of l.table.now 9 l.place k ≡ o
         → option_map_or (subtable_reach l items origin) o (untried origin.at) ≡ untried origin.at
     by_concat None e = refl
-    by_concat (Some subtable) e = reach_in-un l items origin subtable (un k subtable e)
+    by_concat (Some subtable) e = reach_in-un l items origin subtable (un k subtable below e)
 
 tried-still : (i : ℕ) (b : Buffer) (reach : Reach) → reach ≡ untried i → (if nat_lt reach.from reach.to then concat_marked reach.from reach.to b else b) ≡ b
 tried-still i b reach is =
@@ -206,67 +225,82 @@ tried-still i b reach is =
 
 tried-none : (l : Lookup) (i : ℕ) (b : Buffer) → l.positioning ≡ true → IsUnlisted l (nth b.items i).glyph_id → tried_concat_marked l i b ≡ b
 tried-none l i b gpos un = tried-still i b (reach_of l b.items (origin_at i))
-    (until_untried (reach_at_subtable l b.items (origin_at i)) i (λ k. reach_at-un l b.items (origin_at i) k gpos un)
-    (subtable_count_of l.table.now l.place) 0)
+    (until_untried_below (reach_at_subtable l b.items (origin_at i)) i (subtable_count_of l.table.now l.place)
+    (λ k below. reach_at-un l b.items (origin_at i) k gpos un below) (subtable_count_of l.table.now l.place) 0 (omega arith))
 
 -- ---- levels
 
--- nothing is done, and the lookup goes on to the next glyph
-record IsUnplaced (b : Buffer) (p : Placing) : Type 0 where
-  buffer : p.buffer ≡ b
-  next : p.next ≡ None
-
-unplaced-if : (b : Buffer) (t : Bool) (x y : Placing) → IsUnplaced b x → IsUnplaced b y → IsUnplaced b (if t then x else y)
-unplaced-if b true x y k m = k
-unplaced-if b false x y k m = m
-
 level-un : (next : Lookup → ℕ → ℕ → BaseSeen → Buffer → Placing) (l : Lookup) (i left : ℕ) (seen : BaseSeen) (b : Buffer)
-    → l.positioning ≡ true → IsUnlisted l (nth b.items i).glyph_id → IsUnplaced b (level_placed next l i left seen b)
+    → l.positioning ≡ true → IsUnlisted l (nth b.items i).glyph_id → level_placed next l i left seen b ≡ unplaced left seen b
 level-un next l i left seen b gpos un =
-    let is : first_rule_placed next l i left seen (tried_concat_marked l i b) ≡ unplaced left seen b =
-    ap (first_rule_placed next l i left seen) (tried-none l i b gpos un)
-    ∙ ap (λ o. option_map_or (rule_placed next l i left seen b) o (unplaced left seen b)) (found-un l b.items (origin_at i) gpos un) in
-    let still = times-un l b i gpos un (subtable_count_of l.table.now l.place) (record { buffer = b; next = None; seen = seen; subtable = 0 })
-    (record { buffer = refl; next = refl }) in
-    unplaced-if b (is_context l) _ (lookup_placed l i left seen b)
-    (record { buffer = ap (λ (p : Placing). p.buffer) is; next = ap (λ (p : Placing). p.next) is })
-    (record { buffer = still.buffer; next = still.next })
+    same-if (is_context l) _ (lookup_placed l i left seen b) (unplaced left seen b)
+    (ap (first_rule_placed next l i left seen) (tried-none l i b gpos un)
+    ∙ ap (λ o. option_map_or (rule_placed next l i left seen b) o (unplaced left seen b)) (found-un l b.items (origin_at i) gpos un))
+    (ap (placed_by left) (times-un l b i seen gpos un (subtable_count_of l.table.now l.place) (omega arith)))
 
+-- nothing is done, and the lookup goes on to the next glyph
 nested-un : (level : ℕ) (l : Lookup) (i left : ℕ) (seen : BaseSeen) (b : Buffer) → l.positioning ≡ true
-    → IsUnlisted l (nth b.items i).glyph_id → IsUnplaced b (nested_placed level l i left seen b)
-nested-un zero l i left seen b gpos un = record { buffer = refl; next = refl }
+    → IsUnlisted l (nth b.items i).glyph_id → nested_placed level l i left seen b ≡ unplaced left seen b
+nested-un zero l i left seen b gpos un = refl
 nested-un (suc level) l i left seen b gpos un =
-    unplaced-if b (nat_lt i (length b.items)) (level_placed (nested_placed level) l i left seen b) (unplaced left seen b)
-    (level-un (nested_placed level) l i left seen b gpos un) (record { buffer = refl; next = refl })
+    same-if (nat_lt i (length b.items)) (level_placed (nested_placed level) l i left seen b) (unplaced left seen b) (unplaced left seen b)
+    (level-un (nested_placed level) l i left seen b gpos un) refl
 
 -- ---- over a list
 
-walk-if : (b : Buffer) (t : Bool) (x y : Walk) → (t ≡ true → x.buffer ≡ b) → y.buffer ≡ b → (if t then x else y).buffer ≡ b
-walk-if b true x y k m = k refl
-walk-if b false x y k m = m
+-- to the next glyph
+abbrev passed : Walk → Walk
+passed s = record s { at = s.at + 1 }
 
-step-un : (l : Lookup) (b : Buffer) → IsUncovered b l → (s : Walk) → s.buffer ≡ b → (lookup_step l s).buffer ≡ b
-step-un l b un s is =
-    walk-if b (nat_lt s.at (length s.buffer.items)) _ s
-    (λ t.
-    let inside : s.at < length b.items = grind (arith, nat_tests, ap (λ (c : Buffer). nat_lt s.at (length c.items)) (sym is) ∙ t) in
-    walk-if b (is_on l (nth s.buffer.items s.at)) (gone_on s.at (nested_placed LEVELS l s.at s.left s.seen s.buffer))
-    (record s { at = s.at + 1 })
-    (λ t. ap (λ (c : Buffer). (nested_placed LEVELS l s.at s.left s.seen c).buffer) is
-    ∙ (nested-un LEVELS l s.at s.left s.seen b un.positioning (un.glyphs s.at inside)).buffer) is)
-    is
+-- at a glyph that no subtable lists
+pub step-unlisted : (l : Lookup) (s : Walk) → l.positioning ≡ true → IsUnlisted l (nth s.buffer.items s.at).glyph_id
+    → nat_lt s.at (length s.buffer.items) ≡ true → lookup_step l s ≡ record s { at = s.at + 1 }
+step-unlisted l s gpos un inside =
+    ap (λ t. if t then (if is_on l (nth s.buffer.items s.at) then gone_on s.at (nested_placed LEVELS l s.at s.left s.seen s.buffer)
+    else passed s) else s) inside
+    ∙ same-if (is_on l (nth s.buffer.items s.at)) (gone_on s.at (nested_placed LEVELS l s.at s.left s.seen s.buffer)) (passed s) (passed s)
+    (ap (gone_on s.at) (nested-un LEVELS l s.at s.left s.seen s.buffer gpos un)) refl
 
-walk-un : (l : Lookup) (b : Buffer) → IsUncovered b l → (n : ℕ) (s : Walk) → s.buffer ≡ b → (times (lookup_step l) n s).buffer ≡ b
-walk-un l b un zero s is = is
-walk-un l b un (suc n) s is = step-un l b un (times (lookup_step l) n s) (walk-un l b un n s is)
+-- a walk that has changed nothing
+record IsIdle (b : Buffer) (budget : ℕ) (s : Walk) : Type 0 where
+  buffer : s.buffer ≡ b
+  left : s.left ≡ budget
 
-lookups-un : (lookups : List Lookup) (b : Buffer) → All (IsUncovered b) lookups → (s : Budgeted) → s.buffer ≡ b
-    → (fold lookup_applied s lookups).buffer ≡ b
-lookups-un [] b all s is = is
-lookups-un (l ∷ lookups) b all s is =
+step-un : (l : Lookup) (b : Buffer) (left : ℕ) → IsUncovered b l → (s : Walk) → IsIdle b left s → IsIdle b left (lookup_step l s)
+step-un l b left un s idle = by_place (nat_lt s.at (length s.buffer.items)) refl
+  where
+    by_place : (t : Bool) → nat_lt s.at (length s.buffer.items) ≡ t → IsIdle b left (lookup_step l s)
+    by_place true e =
+        let inside : s.at < length b.items = grind (arith, nat_tests, ap (λ (c : Buffer). nat_lt s.at (length c.items)) (sym idle.buffer) ∙ e) in
+        let listed : IsUnlisted l (nth s.buffer.items s.at).glyph_id =
+        subst (λ (c : Buffer). IsUnlisted l (nth c.items s.at).glyph_id) (sym idle.buffer) (un.glyphs s.at inside) in
+        let is : lookup_step l s ≡ passed s = step-unlisted l s un.positioning listed e in
+        subst (IsIdle b left) (sym is) (record { buffer = idle.buffer; left = idle.left })
+    by_place false e =
+        let is : lookup_step l s ≡ s = ap (λ t. if t then (if is_on l (nth s.buffer.items s.at)
+        then gone_on s.at (nested_placed LEVELS l s.at s.left s.seen s.buffer) else passed s) else s) e in
+        subst (IsIdle b left) (sym is) idle
+
+walk-un : (l : Lookup) (b : Buffer) (left : ℕ) → IsUncovered b l → (n : ℕ) (s : Walk) → IsIdle b left s → IsIdle b left (times (lookup_step l) n s)
+walk-un l b left un zero s idle = idle
+walk-un l b left un (suc n) s idle = step-un l b left un (times (lookup_step l) n s) (walk-un l b left un n s idle)
+
+-- a lookup that covers none leaves all as it is
+pub lookup-uncovered : (l : Lookup) (b : Buffer) (left : ℕ) → IsUncovered b l
+    → lookup_applied (record { buffer = b; left = left }) l ≡ record { buffer = b; left = left }
+lookup-uncovered l b left un =
+    let s : Budgeted = record { buffer = b; left = left } in
+    let end = walk-un l b left un (length b.items) (first_walk s) (record { buffer = refl; left = refl }) in
+    ap (λ (c : Buffer). record { buffer = c; left = (times (lookup_step l) (length b.items) (first_walk s)).left }) end.buffer
+    ∙ ap (λ n. record { buffer = b; left = n }) end.left
+
+lookups-un : (lookups : List Lookup) (b : Buffer) (left : ℕ) → All (IsUncovered b) lookups
+    → fold lookup_applied (record { buffer = b; left = left }) lookups ≡ record { buffer = b; left = left }
+lookups-un [] b left all = refl
+lookups-un (l ∷ lookups) b left all =
     let first : IsUncovered b l = all 0 l (omega arith) in
-    lookups-un lookups b (λ k d inside. all (suc k) d (omega (arith, inside))) (lookup_applied s l)
-    (walk-un l b first (length s.buffer.items) (first_walk s) is)
+    ap (λ s. fold lookup_applied s lookups) (lookup-uncovered l b left first)
+    ∙ lookups-un lookups b left (λ k d inside. all (suc k) d (omega (arith, inside)))
 
 pub positioned-uncovered : (lookups : List Lookup) (b : Buffer) → All (IsUncovered b) lookups → positioned lookups b ≡ b
-positioned-uncovered lookups b all = lookups-un lookups b all (budgeted b) refl
+positioned-uncovered lookups b all = ap (λ (s : Budgeted). s.buffer) (lookups-un lookups b (budgeted b).left all)

@@ -13,4 +13,5 @@ pub mod Nested
 pub mod Walk
 pub mod Preserves
 pub mod Uncovered
+pub mod Digested
 pub mod Worked

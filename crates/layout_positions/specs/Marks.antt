@@ -55,7 +55,8 @@ mark_attached l start i j number row matrix b =
 abbrev pub is_base_seen : Lookup → Item → Bool
 is_base_seen l item = not (shares item.properties.glyph_class.0 8) && not (is_transparent l true item) && has_lookup_on l item
 
--- of a glyph that a multiple substitution took apart, a component right after the component before it; a component after a mark counts as a first one
+-- of a glyph that a multiple substitution took apart, a component right after the component before it; a component after a mark
+-- counts as a first one
 abbrev pub follows_component : Item → Item → Bool
 follows_component before item = item.properties.multiplied && before.properties.multiplied
     && not (shares before.properties.glyph_class.0 8) && nat_eq item.properties.ligature_id before.properties.ligature_id
@@ -70,7 +71,8 @@ is_listed_base l start item = is_some (number_at l.table.now start (start + 4) i
 
 -- a subtable of bases takes a component after the first one only if it lists it; a subtable of ligatures takes any component
 abbrev pub takes_component : Lookup → LookupSubtable → List Item → ℕ → Bool
-takes_component l subtable items j = not (nat_eq subtable.kind 4) || not (is_later_component items j) || is_listed_base l subtable.start (nth items j)
+takes_component l subtable items j =
+    not (nat_eq subtable.kind 4) || not (is_later_component items j) || is_listed_base l subtable.start (nth items j)
 
 abbrev pub is_base_at : Lookup → LookupSubtable → List Item → ℕ → Bool
 is_base_at l subtable items j = is_base_seen l (nth items j) && takes_component l subtable items j

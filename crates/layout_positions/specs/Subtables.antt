@@ -45,10 +45,12 @@ abbrev pub trial_of : Trial → Applied → BaseSeen → Trial
 trial_of s made seen = record { buffer = made.buffer; next = made.next; seen = seen; subtable = s.subtable + 1 }
 
 abbrev pub subtable_tried : Lookup → ℕ → Trial → LookupSubtable → Trial
-subtable_tried l i s subtable = let seen = seen_at l subtable i s.buffer s.seen in trial_of s (kind_applied l subtable seen.place i s.buffer) seen
+subtable_tried l i s subtable = let seen = seen_at l subtable i s.buffer s.seen in
+    trial_of s (kind_applied l subtable seen.place i s.buffer) seen
 
 abbrev pub next_tried : Lookup → ℕ → Trial → Trial
-next_tried l i s = option_map_or (subtable_tried l i s) (subtable_of l.table.now 9 l.place s.subtable) (trial_of s (unapplied s.buffer) s.seen)
+next_tried l i s = option_map_or (subtable_tried l i s) (subtable_of l.table.now 9 l.place s.subtable)
+    (trial_of s (unapplied s.buffer) s.seen)
 
 -- the first subtable that applies ends the trial
 abbrev pub trial_step : Lookup → ℕ → Trial → Trial

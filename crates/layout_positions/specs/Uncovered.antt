@@ -2,7 +2,7 @@
 use Rattle.std.specs.Prelude.{◌≡◌, ℕ, Bool, true, false, Some, ◌+◌, ◌<◌, length, is_some, nat_eq, if◌then◌else◌}
 use Rattle.shape_font.specs.Bytes.{u16_of}
 use Rattle.shape_items.specs.Buffer.{Buffer}
-use Rattle.layout_tables.specs.Lookups.{subtable_of}
+use Rattle.layout_tables.specs.Lookups.{subtable_count_of, subtable_of}
 use Rattle.layout_tables.specs.declared.lookups.LookupSubtable.{LookupSubtable}
 use Rattle.layout_matching.specs.Found.{is_chained, is_context_subtable, whole_rule, is_first}
 use Rattle.layout_matching.specs.Skipping.{nth}
@@ -23,7 +23,8 @@ abbrev pub subtable_lists : Lookup → LookupSubtable → ℕ → Bool
 subtable_lists l subtable glyph = if is_context_subtable l subtable then rule_lists l subtable glyph else is_listed_at l subtable glyph
 
 abbrev pub IsUnlisted : Lookup → ℕ → Type 0
-IsUnlisted l glyph = (k : ℕ) (subtable : LookupSubtable) → subtable_of l.table.now 9 l.place k ≡ Some subtable → subtable_lists l subtable glyph ≡ false
+IsUnlisted l glyph = (k : ℕ) (subtable : LookupSubtable) → k < subtable_count_of l.table.now l.place
+    → subtable_of l.table.now 9 l.place k ≡ Some subtable → subtable_lists l subtable glyph ≡ false
 
 -- a lookup of positioning of which no subtable lists a glyph of the buffer
 pub record IsUncovered (b : Buffer) (l : Lookup) : Type 0 where

@@ -1,15 +1,16 @@
 //! Positioning: no glyph is attached at first; then lookups go over the buffer, one after the other.
 ghost use Rattle.std.specs.Prelude.{◌≡◌, ◌<◌, ◌^◌, fold, length, All};
 ghost use Rattle.shape_buffer.specs.Outcome.{Made};
-ghost use Rattle.layout_positions.specs.Walk.{unattached as unattached_of, started, lookup_step, lookup_applied, budgeted, positioned, HasPlace};
+ghost use Rattle.layout_positions.specs.Walk.{unattached as unattached_of, started, lookup_step, lookup_applied, budgeted, positioned};
+ghost use Rattle.layout_positions.specs.Digested.{IsDigested, HoldsGlyphs, lookups_in};
 
 use crate::bases::BaseSeen;
 use crate::nested::{apply_nested, most_named};
 use crate::subtables::Carried;
-use layout_matching::lookup::Lookup;
+use layout_digests::{Digest, Digested};
 use layout_matching::skipping::{is_on, item_at};
 use shape_buffer::position_walks::update_positions;
-use shape_buffer::{GlyphPosition, hb_buffer_t};
+use shape_buffer::{GlyphPosition, hb_buffer_t, hb_glyph_info_t};
 
 /// How many levels of lookups there are: one of the plan, and 64 below it.
 const LEVELS: u32 = 65;
@@ -39,15 +40,16 @@ pub fn position_start(buffer: &mut hb_buffer_t)
     update_positions(buffer, |_info, position| unattached(position));
 }
 
-/// Applies a lookup at a place of the walk, or goes on to the next glyph.
-fn step_on(lookup: &Lookup<'_>, buffer: &mut hb_buffer_t, spot: Spot) -> Spot
-    requires { lookup.now.place < 2 ^ 17 }
+/// Applies a lookup at a place of the walk, or goes on to the next glyph. Where its digest doesn't hold the glyph, no table
+/// is read.
+fn step_on(named: &Digested<'_>, buffer: &mut hb_buffer_t, spot: Spot) -> Spot
+    requires { IsDigested named.now }
     ensures { record {
       buffer = buffer.new;
       at = result.at;
       seen = result.carried.seen;
       left = result.carried.left;
-    } ≡ lookup_step lookup.now (record {
+    } ≡ lookup_step named.now.lookup (record {
       buffer = buffer.old;
       at = spot.at;
       seen = spot.carried.seen;
@@ -58,13 +60,18 @@ fn step_on(lookup: &Lookup<'_>, buffer: &mut hb_buffer_t, spot: Spot) -> Spot
         return spot;
     }
     let next = spot.at + 1;
-    if !is_on(lookup, &item_at(buffer.infos(), spot.at)) {
-        return Spot {
-            at: next,
-            carried: spot.carried,
-        };
+    let passed = Spot {
+        at: next,
+        carried: spot.carried,
+    };
+    let item = item_at(buffer.infos(), spot.at);
+    if !named.digest.has(item.glyph_id) {
+        return passed;
     }
-    let outcome = apply_nested(LEVELS, lookup, buffer, spot.at, spot.carried);
+    if !is_on(&named.lookup, &item) {
+        return passed;
+    }
+    let outcome = apply_nested(LEVELS, &named.lookup, buffer, spot.at, spot.carried);
     Spot {
         at: match outcome.next {
             Some(there) => there,
@@ -77,10 +84,10 @@ fn step_on(lookup: &Lookup<'_>, buffer: &mut hb_buffer_t, spot: Spot) -> Spot
 /// Goes over a buffer with a lookup, from its first glyph on, whose rules may name so many others.
 /// Returns how many may still be named.
 #[tactic(auto, using(layout_matching::proofs::LoopLemmas::times_step))]
-pub fn apply_over(lookup: &Lookup<'_>, buffer: &mut hb_buffer_t, left: usize) -> usize
-    requires { lookup.now.place < 2 ^ 17 }
+pub fn apply_over(named: &Digested<'_>, buffer: &mut hb_buffer_t, left: usize) -> usize
+    requires { IsDigested named.now }
     ensures { record { buffer = buffer.new; left = result }
-        ≡ lookup_applied (record { buffer = buffer.old; left = left }) lookup.now }
+        ≡ lookup_applied (record { buffer = buffer.old; left = left }) named.now.lookup }
 {
     let seen = BaseSeen {
         until: 0,
@@ -91,29 +98,48 @@ pub fn apply_over(lookup: &Lookup<'_>, buffer: &mut hb_buffer_t, left: usize) ->
         carried: Carried { seen, left },
     };
     for _i in 0..buffer.len() {
-        spot = step_on(lookup, buffer, spot);
+        spot = step_on(named, buffer, spot);
     }
     spot.carried.left
 }
 
-/// Goes over a buffer with each lookup; the rules of all of them share one bound.
-fn apply_each(lookups: &[Lookup<'_>], buffer: &mut hb_buffer_t) -> usize
-    requires { All HasPlace lookups.now }
+/// A digest that holds the glyphs of a list.
+#[tactic(auto, using(crate::proofs::DigestLemmas::one_held))]
+fn run_digest(items: &[hb_glyph_info_t]) -> Digest
+    ensures { HoldsGlyphs result items.now }
+{
+    let mut all = Digest::new();
+    for i in 0..items.len() {
+        all = all.with_glyph(items[i].glyph_id);
+    }
+    all
+}
+
+/// Goes over a buffer with each lookup; the rules of all of them share one bound. A lookup whose digest shares no glyph with
+/// the buffer is passed over.
+#[tactic(auto, using(crate::proofs::DigestLemmas::applied_on, crate::proofs::DigestLemmas::passed_over))]
+fn apply_each(lookups: &[Digested<'_>], buffer: &mut hb_buffer_t) -> usize
+    requires { All IsDigested lookups.now }
     ensures { record { buffer = buffer.new; left = result }
-        ≡ fold lookup_applied (budgeted buffer.old) lookups.now }
+        ≡ fold lookup_applied (budgeted buffer.old) (lookups_in lookups.now) }
 {
     let mut left = most_named(buffer.len());
-    for lookup in lookups {
-        left = apply_over(lookup, buffer, left);
+    let mut run = run_digest(buffer.infos());
+    for named in lookups {
+        if !run.may_share(&named.digest) {
+            continue;
+        }
+        left = apply_over(named, buffer, left);
+        run = run_digest(buffer.infos());
     }
     left
 }
 
 /// Positions the glyphs of a buffer by lookups, one after the other. The number of items and the
 /// limit stay. Takes no memory, and refuses nothing.
-pub fn position(lookups: &[Lookup<'_>], buffer: &mut hb_buffer_t)
-    requires { All HasPlace lookups.now }
-    ensures { Made (positioned lookups.now) buffer.old buffer.new }
+pub fn position(lookups: &[Digested<'_>], buffer: &mut hb_buffer_t)
+    requires { All IsDigested lookups.now }
+    ensures { Made (positioned (lookups_in lookups.now)) buffer.old buffer.new }
 {
     apply_each(lookups, buffer);
 }

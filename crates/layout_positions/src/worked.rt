@@ -3,7 +3,7 @@ ghost use Rattle.layout_positions.specs.Worked.Values.{WorkedValues, WorkedAncho
 ghost use Rattle.layout_positions.specs.Worked.Pairs.{WorkedTables, WorkedLines};
 ghost use Rattle.layout_positions.specs.Worked.Marks.{WorkedMarks, WorkedBases, WorkedMultiplied, WorkedComponents};
 ghost use Rattle.layout_positions.specs.Worked.Cursive.{WorkedCursive};
-ghost use Rattle.layout_positions.specs.Worked.Walk.{WorkedWalk};
+ghost use Rattle.layout_positions.specs.Worked.Walk.{WorkedBounds, WorkedWalk};
 ghost use Rattle.layout_positions.specs.Worked.Attachment.{WorkedAttachment, WorkedTurning};
 ghost use Rattle.layout_positions.specs.Worked.Types.{WorkedFarMarks, WorkedMarkClasses, WorkedPairsDown, WorkedFlags};
 
@@ -29,7 +29,8 @@ pub fn attachment_meets_worked_cases()
 
 /// Lookups over lines: subtables in order, far away, and in context.
 pub fn walks_meet_worked_cases()
-    ensures { WorkedWalk }
+    ensures bounds { WorkedBounds }
+    ensures walk { WorkedWalk }
 {}
 
 /// Subtables of marks that stand far away, marks of class 0, pairs down a line, and flags with a

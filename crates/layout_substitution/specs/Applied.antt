@@ -133,4 +133,5 @@ sequence_put l spot b list = let after = length b.items - (spot.at + 1) in
     record { buffer = made; next = Some (with_as_many_after after spot made) }
 
 abbrev pub multiple_applied : Lookup → ℕ → Spot → Buffer → Applied
-multiple_applied l start spot b = option_map_or (sequence_put l spot b) (set_of l.table.now start (item_at b spot.at).glyph_id) (unapplied b)
+multiple_applied l start spot b =
+    option_map_or (sequence_put l spot b) (set_of l.table.now start (item_at b spot.at).glyph_id) (unapplied b)

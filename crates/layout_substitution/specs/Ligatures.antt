@@ -146,7 +146,13 @@ followed made s = if made.marks || nat_eq s.walk.id 0 then s else times (follow_
 abbrev pub first_joined : Lookup → Components → ℕ → Buffer → Joined
 first_joined l m at b = let item = item_at b at in record {
   buffer = merged at (m.last + 1) b;
-  walk = record { at = at + 1; left = component_count l.table.now m.ligature - 1; id = item.properties.ligature_id; components = components_of item; so_far = components_of item };
+  walk = record {
+    at = at + 1;
+    left = component_count l.table.now m.ligature - 1;
+    id = item.properties.ligature_id;
+    components = components_of item;
+    so_far = components_of item;
+  };
 }
 
 -- all components in one: their clusters are merged first

@@ -8,11 +8,19 @@ use Rattle.layout_tables.specs.Gdef.{has_glyph_classes, glyph_props}
 use Rattle.layout_matching.specs.Skipping.{shares}
 use Rattle.layout_matching.specs.declared.lookup.Lookup.{Lookup}
 
+-- how many components a glyph has: more than one only if its class is that of ligatures
+abbrev pub components_of : Item → ℕ
+components_of item = if shares item.properties.glyph_class.0 4 then item.properties.number_of_components else 1
+
+-- a glyph of another class counts as one component
+abbrev pub counted : Item → Item
+counted item = record item { properties = record item.properties { number_of_components = components_of item } }
+
 -- the class of a glyph, and in the upper byte of its properties its mark attachment class
 abbrev pub with_class : ℕ → Item → Item
-with_class props item = record item {
+with_class props item = counted (record item {
   properties = record item.properties { glyph_class = record { 0 = bit_and props 14 }; mark_attachment_class = props / 256 };
-}
+})
 
 abbrev pub with_glyph : ℕ → Item → Item
 with_glyph glyph item = record item { glyph_id = glyph; properties = record item.properties { substituted = true } }
@@ -22,10 +30,6 @@ abbrev pub replaced : Lookup → ℕ → ℕ → Item → Item
 replaced l guess glyph item =
     if has_glyph_classes l.gdef.now then with_class (glyph_props l.gdef.now glyph) (with_glyph glyph item)
     else (if nat_lt 0 guess then with_class guess (with_glyph glyph item) else with_glyph glyph item)
-
--- how many components a glyph has: more than one only if its class is that of ligatures
-abbrev pub components_of : Item → ℕ
-components_of item = if shares item.properties.glyph_class.0 4 then item.properties.number_of_components else 1
 
 -- a mark on a component of a ligature, or a component of what one glyph was taken apart into
 abbrev pub as_component : ℕ → ℕ → Item → Item

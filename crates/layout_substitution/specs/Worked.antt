@@ -79,7 +79,13 @@ no_classes = words (1 ∷ 0 ∷ 0 ∷ 0 ∷ 0 ∷ 32 ∷ 2 ∷ 2 ∷ 5 ∷ 5 ∷
 abbrev pub made_before : ℕ → Item
 made_before g = record (new_item 0 0) {
   glyph_id = g;
-  properties = record new_properties { substituted = true; multiplied = true; ligature_id = 2; ligature_component = 1; number_of_components = 3 };
+  properties = record new_properties {
+    substituted = true;
+    multiplied = true;
+    ligature_id = 2;
+    ligature_component = 1;
+    number_of_components = 3;
+  };
 }
 
 pub record WorkedBeginnings : Type 0 where
@@ -95,7 +101,8 @@ pub record WorkedBeginnings : Type 0 where
   pub of_no_ligature : (begun_item two_glyphs (made_before 9)).properties.ligature_id ≡ 0
   -- a glyph that is put in place has the class of GDEF
   pub replaced_mark : (l : Lookup) → l.gdef.now ≡ two_glyphs → (replaced l 0 9 (made_before 5)).properties.mark_attachment_class ≡ 3
-  pub replaced_base : (l : Lookup) → l.gdef.now ≡ two_glyphs → (replaced l 0 5 (replaced l 0 9 (made_before 5))).properties.mark_attachment_class ≡ 0
+  pub replaced_base : (l : Lookup) → l.gdef.now ≡ two_glyphs
+      → (replaced l 0 5 (replaced l 0 9 (made_before 5))).properties.mark_attachment_class ≡ 0
 
 pub worked_beginnings : WorkedBeginnings
 worked_beginnings = record {
@@ -110,4 +117,22 @@ worked_beginnings = record {
   of_no_ligature = refl;
   replaced_mark = λ l g. rw g refl;
   replaced_base = λ l g. rw g refl;
+}
+
+-- a ligature has components if its class is that of ligatures: as is guessed without GDEF, or as GDEF says
+pub record WorkedCounts : Type 0 where
+  pub of_a_ligature : Holds (λ l. (as_ligature l true 1 2 5 (with_past false false)).properties.number_of_components ≡ 2)
+  pub of_a_base : (l : Lookup) → l.gdef.now ≡ two_glyphs
+      → (as_ligature l true 1 2 5 (with_past false false)).properties.number_of_components ≡ 1
+  -- one glyph put in place of a ligature, of the class of bases
+  pub replaced_by_a_base : (l : Lookup) → l.gdef.now ≡ two_glyphs → (replaced l 0 5 (made_before 20)).properties.number_of_components ≡ 1
+  pub class_stays : Holds (λ l. (replaced l 0 5 (made_before 20)).properties.number_of_components ≡ 3)
+
+pub worked_counts : WorkedCounts
+unfolding as_ligature
+worked_counts = record {
+  of_a_ligature = λ l g. rw g refl;
+  of_a_base = λ l g. rw g refl;
+  replaced_by_a_base = λ l g. rw g refl;
+  class_stays = λ l g. rw g refl;
 }

@@ -7,13 +7,16 @@ use layout_tables::gdef::{glyph_props, has_glyph_classes};
 use shape_buffer::hb_glyph_info_t;
 use shape_common::{GlyphPropsFlags, hb_unicode_general_category_t};
 
-/// An item with the class of its glyph, and with the mark attachment class in the upper byte of `props`.
+/// An item with the class of its glyph, and with the mark attachment class in the upper byte of `props`. A glyph that is no
+/// ligature any more counts as one component.
 pub fn with_class(props: u16, item: hb_glyph_info_t) -> hb_glyph_info_t
     ensures { result ≡ with_class_of props item }
 {
     let mut item = item;
     item._hb_glyph_info_set_glyph_class(GlyphPropsFlags(props));
     item._hb_glyph_info_set_mark_attachment_class((props / 256) as u8);
+    let count = components_of(&item);
+    item._hb_glyph_info_set_number_of_components(count);
     item
 }
 

@@ -1,5 +1,5 @@
 //! The definitions, computed by hand.
-ghost use Rattle.layout_substitution.specs.Worked.{WorkedLigatures, WorkedPasts, WorkedBeginnings};
+ghost use Rattle.layout_substitution.specs.Worked.{WorkedLigatures, WorkedPasts, WorkedBeginnings, WorkedCounts};
 
 /// Ligatures: their components, and one that leads past the end of the table.
 pub fn ligatures_meet_worked_cases()
@@ -15,4 +15,9 @@ pub fn items_meet_worked_cases()
 /// What glyphs are as substitution begins, and what a ligature of marks is.
 pub fn beginnings_meet_worked_cases()
     ensures { WorkedBeginnings }
+{}
+
+/// How many components a ligature has, by its class.
+pub fn counts_meet_worked_cases()
+    ensures { WorkedCounts }
 {}

@@ -1,5 +1,5 @@
 -- what the engine returns of a face, and what it makes of a buffer
-use Rattle.std.specs.Prelude.{ℕ, List, Bool, true, false, not, nat_eq}
+use Rattle.std.specs.Prelude.{ℕ, List, true, false, not, nat_eq}
 use Rattle.shape_items.specs.Buffer.{Buffer}
 use Rattle.shape_buffer.specs.Layout.{LayoutMeaning, LookupMeaning}
 use Rattle.shape_buffer.specs.MapBuilder.{Builder}

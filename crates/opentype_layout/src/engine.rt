@@ -1,11 +1,12 @@
 //! The engine.
-ghost use Rattle.std.specs.Prelude.{◌≡◌};
+ghost use Rattle.std.specs.Prelude.{◌≡◌, true, false, MatchResult};
 ghost use Rattle.shape_buffer.specs.Outcome.{IsWithinLimit, Made, Outcome, step};
 ghost use Rattle.layout_context.specs.Stages.{substituted};
+ghost use Rattle.layout_digests.specs.Lookups.{AreDigests};
 ghost use Rattle.opentype_layout.specs.Lookups.{lookups_of};
 ghost use Rattle.layout_map.specs.Map.{OtMap, map_meaning};
 ghost use Rattle.opentype_layout.specs.declared.face.OpenTypeFace.{OpenTypeFace as Face};
-ghost use Rattle.opentype_layout.specs.Engine.{table_of as table_of_face, gsub_tables as gsub_tables_of, gpos_tables as gpos_tables_of, positioned_by, opentype_layout, opentype_lookups};
+ghost use Rattle.opentype_layout.specs.Engine.{table_of as table_of_face, gsub_tables as gsub_tables_of, gpos_tables as gpos_tables_of, map_of, positioned_by, opentype_layout, opentype_lookups};
 ghost use Rattle.opentype_layout.specs.EngineLaws.{opentype_lookups-lawful};
 ghost use Rattle.layout_map.proofs.LawfulLemmas.{map_meaning-lawful};
 
@@ -15,6 +16,7 @@ use crate::face::OpenTypeFace;
 use crate::lookups::{LookupTables, lookups};
 use kern_table::tables::{kern_table, subtable_count};
 use layout_context::stages::substitute;
+use layout_digests::Digest;
 use layout_map::lookups::LookupMap;
 use layout_map::map::hb_ot_map_t;
 use layout_positions::attachment::finish_offsets;
@@ -30,7 +32,7 @@ use std::alloc::Global;
 pub struct OpenTypeLayout;
 
 /// A table of lookups.
-fn table_of<'a>(face: &OpenTypeFace<'a>, table: TableIndex) -> &'a [u8]
+pub(crate) fn table_of<'a>(face: &OpenTypeFace<'a>, table: TableIndex) -> &'a [u8]
     ensures { result.now ≡ table_of_face face.now table }
 {
     match table {
@@ -40,7 +42,7 @@ fn table_of<'a>(face: &OpenTypeFace<'a>, table: TableIndex) -> &'a [u8]
 }
 
 /// The tables that lookups of substitution read.
-fn gsub_tables<'a>(face: &OpenTypeFace<'a>) -> LookupTables<'a>
+pub(crate) fn gsub_tables<'a>(face: &OpenTypeFace<'a>) -> LookupTables<'a>
     ensures { result ≡ gsub_tables_of face.now }
 {
     LookupTables {
@@ -51,7 +53,7 @@ fn gsub_tables<'a>(face: &OpenTypeFace<'a>) -> LookupTables<'a>
 }
 
 /// The tables that lookups of positioning read.
-fn gpos_tables<'a>(face: &OpenTypeFace<'a>) -> LookupTables<'a>
+pub(crate) fn gpos_tables<'a>(face: &OpenTypeFace<'a>) -> LookupTables<'a>
     ensures { result ≡ gpos_tables_of face.now }
 {
     LookupTables {
@@ -61,39 +63,62 @@ fn gpos_tables<'a>(face: &OpenTypeFace<'a>) -> LookupTables<'a>
     }
 }
 
-/// Applies the lookups of a stage of substitution.
-fn substitute_by(
+/// Applies the lookups of a stage of substitution, with the digests of the table, by their indexes.
+#[tactic(auto, using(crate::proofs::DigestLemmas::substitutes))]
+pub(crate) fn substitute_by(
     alloc: Global,
     tables: LookupTables<'_>,
+    digests: &[Digest],
     maps: &[LookupMap],
     buffer: &mut hb_buffer_t,
 ) -> Result<(), ShapeError>
-    requires { IsWithinLimit buffer.old }
+    requires within { IsWithinLimit buffer.old }
+    requires kind { tables.positioning ≡ false }
+    requires stored { AreDigests tables.table.now false digests.now }
     ensures { Outcome (step (substituted (lookups_of tables.entry maps.now)))
         buffer.old buffer.new result }
 {
-    match lookups(alloc, tables, maps) {
+    match lookups(alloc, tables, digests, maps) {
         Ok(lookups) => substitute(alloc, lookups.as_slice(), buffer),
         Err(_) => Err(ShapeError::Memory),
     }
 }
 
-/// Applies the lookups of positioning.
-#[tactic(auto, unfolding(crate::specs::Engine::positioned_by))]
-fn position_by(
+/// Applies the lookups of positioning, with the digests of the table, by their indexes.
+#[tactic(auto, using(crate::proofs::DigestLemmas::positioning), unfolding(crate::specs::Engine::positioned_by))]
+pub(crate) fn position_by(
     alloc: Global,
     tables: LookupTables<'_>,
+    digests: &[Digest],
     maps: &[LookupMap],
     buffer: &mut hb_buffer_t,
 ) -> Result<(), ShapeError>
-    requires { IsWithinLimit buffer.old }
+    requires within { IsWithinLimit buffer.old }
+    requires kind { tables.positioning ≡ true }
+    requires stored { AreDigests tables.table.now true digests.now }
     ensures { Outcome (step (positioned_by tables.entry maps.now)) buffer.old buffer.new result }
 {
-    match lookups(alloc, tables, maps) {
+    match lookups(alloc, tables, digests, maps) {
         Ok(lookups) => {
             walk::position(lookups.as_slice(), buffer);
             Ok(())
         }
+        Err(_) => Err(ShapeError::Memory),
+    }
+}
+
+/// Compiles the requests of a plan for the scripts that it has chosen. Refuses with `Memory` alone, if a growth was refused.
+pub(crate) fn compiled(
+    alloc: Global,
+    face: &OpenTypeFace<'_>,
+    builder: &hb_ot_map_builder_t,
+) -> Result<hb_ot_map_t, ShapeError>
+    ensures { MatchResult result (λ map. map ≡ map_of face.now builder.now) (λ e. e ≡ ShapeError.Memory) }
+{
+    let gsub = chosen_for(face.gsub(), TableIndex::GSUB, builder);
+    let gpos = chosen_for(face.gpos(), TableIndex::GPOS, builder);
+    match hb_ot_map_t::compile(alloc, &gsub, &gpos, builder.requests()) {
+        Ok(map) => Ok(map),
         Err(_) => Err(ShapeError::Memory),
     }
 }
@@ -121,12 +146,7 @@ impl<'a> hb_ot_layout_t<OpenTypeFace<'a>> for OpenTypeLayout {
         face: &OpenTypeFace<'a>,
         builder: &hb_ot_map_builder_t,
     ) -> Result<hb_ot_map_t, ShapeError> {
-        let gsub = chosen_for(face.gsub(), TableIndex::GSUB, builder);
-        let gpos = chosen_for(face.gpos(), TableIndex::GPOS, builder);
-        match hb_ot_map_t::compile(alloc, &gsub, &gpos, builder.requests()) {
-            Ok(map) => Ok(map),
-            Err(_) => Err(ShapeError::Memory),
-        }
+        compiled(alloc, face, builder)
     }
 
     fn has_glyph_classes(face: &OpenTypeFace<'a>) -> bool {
@@ -186,7 +206,7 @@ impl<'a> hb_ot_layout_t<OpenTypeFace<'a>> for OpenTypeLayout {
         face: &OpenTypeFace<'a>,
         buffer: &mut hb_buffer_t,
     ) -> Result<(), ShapeError> {
-        substitute_by(alloc, gsub_tables(face), map.gsub_lookups(i), buffer)
+        substitute_by(alloc, gsub_tables(face), &[], map.gsub_lookups(i), buffer)
     }
 
     fn pause_after(map: &hb_ot_map_t, i: usize) -> Option<u32>
@@ -225,7 +245,7 @@ impl<'a> hb_ot_layout_t<OpenTypeFace<'a>> for OpenTypeLayout {
         face: &OpenTypeFace<'a>,
         buffer: &mut hb_buffer_t,
     ) -> Result<(), ShapeError> {
-        position_by(alloc, gpos_tables(face), map.gpos_lookups(), buffer)
+        position_by(alloc, gpos_tables(face), &[], map.gpos_lookups(), buffer)
     }
 
     fn position_finish_advances(_face: &OpenTypeFace<'a>, _buffer: &mut hb_buffer_t) {}

@@ -14,7 +14,10 @@ pub mod engine;
 pub mod face;
 pub mod laws;
 pub mod lookups;
+pub mod opened;
+mod opened_engine;
 pub mod worked;
 
 pub use engine::OpenTypeLayout;
 pub use face::OpenTypeFace;
+pub use opened::OpenedOpenTypeFace;

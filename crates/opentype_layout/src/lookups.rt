@@ -1,9 +1,12 @@
 //! The lookups of a plan, ready to be applied.
-ghost use Rattle.std.specs.Prelude.{◌≡◌, All, IfOk, OnOk, IsOkUnless};
-ghost use Rattle.std.specs.Option.{IfSome};
-ghost use Rattle.layout_context.specs.Stages.{HasPlace};
-ghost use Rattle.opentype_layout.specs.Lookups.{least_bit as least_bit_of, lookup_of, with_lookup, lookups_of};
+ghost use Rattle.std.specs.Prelude.{◌≡◌, ◌<◌, ◌^◌, All, IfOk, OnOk, IsOkUnless};
+ghost use Rattle.std.specs.Option.{IfSome, option_map};
+ghost use Rattle.layout_digests.specs.Lookups.{AreDigests, IsDigestAt};
+ghost use Rattle.layout_digests.specs.declared.digested.Digested.{Digested as DigestedLookup};
+ghost use Rattle.opentype_layout.specs.Digested.{IsSaid, lookups_in};
+ghost use Rattle.opentype_layout.specs.Lookups.{least_bit as least_bit_of, lookup_at, lookup_of, with_lookup, lookups_of};
 
+use layout_digests::{Digest, Digested};
 use layout_map::lookups::LookupMap;
 use layout_matching::lookup::Lookup;
 use layout_tables::lookups::{lookup, lookup_flag, mark_filtering_set};
@@ -29,13 +32,12 @@ fn least_bit(mask: u32) -> u32
     }
 }
 
-/// A lookup with the use that a plan makes of it; none if the table has no such lookup.
-fn made_ready<'a>(tables: LookupTables<'a>, map: &LookupMap) -> Option<Lookup<'a>>
-    ensures value { result ≡ lookup_of tables.entry map.now }
-    ensures near { IfSome result HasPlace }
+/// The lookup at a place with the use that a plan makes of it.
+fn made_ready<'a>(tables: LookupTables<'a>, map: &LookupMap, place: usize) -> Lookup<'a>
+    requires { place < 2 ^ 17 }
+    ensures { result ≡ lookup_at tables.entry map.now place }
 {
-    let place = lookup(tables.table, map.index)?;
-    Some(Lookup {
+    Lookup {
         table: tables.table,
         gdef: tables.gdef,
         place,
@@ -48,40 +50,75 @@ fn made_ready<'a>(tables: LookupTables<'a>, map: &LookupMap) -> Option<Lookup<'a
         per_syllable: map.per_syllable,
         random: map.random,
         positioning: tables.positioning,
+    }
+}
+
+/// The digest of the lookup with this index; one of all glyphs if none is stored for it.
+fn digest_at(tables: LookupTables<'_>, digests: &[Digest], index: u16) -> Digest
+    requires { AreDigests tables.table.now tables.positioning digests.now }
+    ensures { IsDigestAt tables.entry.table.now tables.entry.positioning index result }
+{
+    let i = usize::from(index);
+    if i < digests.len() {
+        digests[i]
+    } else {
+        Digest::every()
+    }
+}
+
+/// A lookup with the use that a plan makes of it, and its digest; none if the table has no such lookup.
+fn digested<'a>(
+    tables: LookupTables<'a>,
+    digests: &[Digest],
+    map: &LookupMap,
+) -> Option<Digested<'a>>
+    requires { AreDigests tables.table.now tables.positioning digests.now }
+    ensures value { option_map (λ (d : DigestedLookup). d.lookup) result ≡ lookup_of tables.entry map.now }
+    ensures said { IfSome result (IsSaid tables.entry.positioning) }
+{
+    let place = lookup(tables.table, map.index)?;
+    Some(Digested {
+        lookup: made_ready(tables, map, place),
+        digest: digest_at(tables, digests, map.index),
     })
 }
 
 /// Appends a lookup with the use that a plan makes of it, if the table has it. Refuses with `Memory` if a growth was
 /// refused.
 fn append<'a>(
-    lookups: &mut Vec<Lookup<'a>>,
+    lookups: &mut Vec<Digested<'a>>,
     tables: LookupTables<'a>,
+    digests: &[Digest],
     map: &LookupMap,
 ) -> Result<(), ShapeError>
-    requires near { All HasPlace lookups.old.items }
-    ensures ok { OnOk result (lookups.new.items ≡ with_lookup tables.entry lookups.old.items map.now) }
-    ensures near { OnOk result (All HasPlace lookups.new.items) }
+    requires stored { AreDigests tables.table.now tables.positioning digests.now }
+    requires said { All (IsSaid tables.positioning) lookups.old.items }
+    ensures ok { OnOk result (lookups_in lookups.new.items ≡ with_lookup tables.entry (lookups_in lookups.old.items) map.now) }
+    ensures said { OnOk result (All (IsSaid tables.entry.positioning) lookups.new.items) }
     ensures memory { IsOkUnless result ShapeError.Memory }
 {
-    if let Some(lookup) = made_ready(tables, map) {
+    if let Some(lookup) = digested(tables, digests, map) {
         lookups.push(lookup)?;
     }
     Ok(())
 }
 
-/// The lookups of a stage. Refuses with `Memory` if a growth was refused.
+/// The lookups of a stage, each with a digest of the glyphs that it may begin at. Refuses with `Memory` if a growth was
+/// refused.
 pub fn lookups<'a>(
     alloc: Global,
     tables: LookupTables<'a>,
+    digests: &[Digest],
     maps: &[LookupMap],
-) -> Result<Vec<Lookup<'a>>, ShapeError>
-    ensures ok { IfOk result (λ lookups. lookups.items ≡ lookups_of tables.entry maps.now) }
-    ensures near { IfOk result (λ lookups. All HasPlace lookups.items) }
+) -> Result<Vec<Digested<'a>>, ShapeError>
+    requires { AreDigests tables.table.now tables.positioning digests.now }
+    ensures ok { IfOk result (λ lookups. lookups_in lookups.items ≡ lookups_of tables.entry maps.now) }
+    ensures said { IfOk result (λ lookups. All (IsSaid tables.entry.positioning) lookups.items) }
     ensures memory { IsOkUnless result ShapeError.Memory }
 {
-    let mut lookups = Vec::new(alloc);
+    let mut lookups = Vec::with_capacity(alloc, maps.len())?;
     for map in maps {
-        append(&mut lookups, tables, map)?;
+        append(&mut lookups, tables, digests, map)?;
     }
     Ok(lookups)
 }

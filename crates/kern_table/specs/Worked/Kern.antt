@@ -49,6 +49,11 @@ cut_off = 0 ∷ 0 ∷ 0 ∷ 1 ∷ 0 ∷ 0 ∷ 0 ∷ 38 ∷ 2 ∷ 1 ∷ 0 ∷ 4 �
     ∷ 0 ∷ 2 ∷ 0 ∷ 200 ∷ 0 ∷ 0 ∷ 0 ∷ 2
     ∷ 0 ∷ 0 ∷ 0xFF ∷ 0xCE ∷ 0xFF ∷ 0xDD ∷ 0 ∷ 7 ∷ []
 
+-- one value, -50 for glyphs 2 and 3, with which the array begins
+abbrev pub one_value : List ℕ
+one_value = 0 ∷ 0 ∷ 0 ∷ 1 ∷ 0 ∷ 0 ∷ 0 ∷ 28 ∷ 2 ∷ 1 ∷ 0 ∷ 2 ∷ 0 ∷ 14 ∷ 0 ∷ 20 ∷ 0 ∷ 26
+    ∷ 0 ∷ 2 ∷ 0 ∷ 1 ∷ 0 ∷ 26 ∷ 0 ∷ 3 ∷ 0 ∷ 1 ∷ 0 ∷ 0 ∷ 0xFF ∷ 0xCE ∷ []
+
 pub record WorkedClasses : Type 0 where
   pub first_row : value_of (class_table 30 34) 4 2 3 ≡ negsuc 49
   pub second_row : value_of (class_table 30 34) 4 3 2 ≡ negsuc 34
@@ -70,6 +75,7 @@ pub record WorkedClasses : Type 0 where
   pub of_the_other_line : is_read (class_table 30 34) 4 false ≡ false
   -- class 0 would be the first value of the row, -35
   pub past_the_room : value_of cut_off 4 3 8 ≡ pos 0
+  pub first_of_the_array : value_of one_value 4 2 3 ≡ negsuc 49
 
 pub worked_classes : WorkedClasses
 unfolding i16_of
@@ -90,6 +96,7 @@ worked_classes = record {
   of_this_line = refl;
   of_the_other_line = refl;
   past_the_room = refl;
+  first_of_the_array = refl;
 }
 
 pub record WorkedValues : Type 0 where

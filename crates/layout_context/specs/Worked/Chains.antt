@@ -9,7 +9,7 @@ use Rattle.layout_matching.specs.declared.found.Found.{Found}
 use Rattle.layout_matching.specs.declared.lookup.Lookup.{Lookup}
 use Rattle.layout_matching.specs.declared.spans.Span.{Span}
 use Rattle.layout_substitution.specs.Replaced.{is_multiplied}
-use Rattle.layout_context.specs.Stages.{Walk, looked_up}
+use Rattle.layout_context.specs.Stages.{looked_up}
 use Rattle.layout_context.specs.Worked.Contexts.{HoldsOf, with_second}
 use Rattle.layout_context.specs.Worked.Lookups.{words, lookup_words, none_for_one, context, on, glyph, off, mark, list, glyphs, after}
 

@@ -1,12 +1,12 @@
 -- Lookups over a list, computed by hand: tables of 16-bit words as the standard lays them out, each with glyph 5 covered.
-use Rattle.std.specs.Prelude.{◌≡◌, ℕ, ◌/◌, ◌%◌, List, [], ◌∷◌, ◌++◌, map, true, false, Bool, refl}
+use Rattle.std.specs.Prelude.{◌≡◌, ℕ, ◌/◌, ◌%◌, List, [], ◌∷◌, ◌++◌, map, true, false, refl}
 use Rattle.shape_items.specs.Buffer.{Buffer, new_buffer}
 use Rattle.shape_items.specs.Clusters.{merge}
 use Rattle.shape_items.specs.Items.{Item, new_item, new_properties}
 use Rattle.shape_common.specs.Positions.{zero_position}
 use Rattle.layout_matching.specs.declared.lookup.Lookup.{Lookup}
 use Rattle.layout_substitution.specs.Replaced.{is_multiplied, as_ligature}
-use Rattle.layout_context.specs.Stages.{Walk, looked_up}
+use Rattle.layout_context.specs.Stages.{looked_up}
 
 abbrev pub words : List ℕ → List ℕ
 words [] = []

@@ -7,7 +7,7 @@ use Rattle.shape_common.specs.FlagNames.{PRODUCE_UNSAFE_TO_CONCAT}
 use Rattle.layout_matching.specs.declared.lookup.Lookup.{Lookup}
 use Rattle.layout_substitution.specs.Applied.{next_random}
 use Rattle.layout_substitution.specs.Replaced.{as_ligature}
-use Rattle.layout_context.specs.Stages.{Walk, looked_up}
+use Rattle.layout_context.specs.Stages.{looked_up}
 use Rattle.layout_context.specs.Worked.Contexts.{HoldsOf, chained_lists, by_glyphs, flags_of, ids_of}
 use Rattle.layout_context.specs.Worked.Lookups.{set_words, ligatures, alternates, backwards, on, glyph, list, glyphs, after}
 

@@ -64,7 +64,8 @@ pub record WorkedAttachment : Type 0 where
   pub out_of_the_list : finished RightToLeft (joins (pos 0) (pos 1) (pos 9) ∷ []) ≡ (pos 0, pos 1) ∷ []
   pub no_more_attached : chains (offsets_finished (placed RightToLeft (joins (pos 0) (pos 1) (pos 1) ∷ at (pos 0) (pos 30) (pos 600) ∷ [])))
       ≡ pos 0 ∷ pos 0 ∷ []
-  pub once : offsets (offsets_finished (offsets_finished (placed RightToLeft (joins (pos 0) (pos 1) (pos 1) ∷ at (pos 0) (pos 30) (pos 600) ∷ []))))
+  pub once : offsets
+      (offsets_finished (offsets_finished (placed RightToLeft (joins (pos 0) (pos 1) (pos 1) ∷ at (pos 0) (pos 30) (pos 600) ∷ []))))
       ≡ (pos 0, pos 31) ∷ (pos 0, pos 30) ∷ []
 
 pub worked_attachment : WorkedAttachment
@@ -114,4 +115,10 @@ pub record WorkedTurning : Type 0 where
 
 pub worked_turning : WorkedTurning
 unfolding ◌+ʷ◌ ◌-ʷ◌ neg_w int_wrap
-worked_turning = record { turned_round = refl; links = refl; not_past_the_new_one = refl; concat_marked = refl; concat_marked_across = refl }
+worked_turning = record {
+  turned_round = refl;
+  links = refl;
+  not_past_the_new_one = refl;
+  concat_marked = refl;
+  concat_marked_across = refl;
+}

@@ -1,10 +1,14 @@
 -- Cursive attachment, on a subtable that was read by hand.
 use Rattle.std.specs.Prelude.{◌≡◌, ℕ, pos, negsuc, List, [], ◌∷◌, Some, None, refl}
 use Rattle.std.specs.Int.{int_wrap}
+use Rattle.shape_common.specs.Positions.{zero_position}
 use Rattle.shape_common.specs.Wrapping.{◌+ʷ◌, ◌-ʷ◌, neg_w}
+use Rattle.shape_common.specs.declared.positions.GlyphPosition.{GlyphPosition}
 use Rattle.shape_common.specs.declared.text_types.Direction.{Direction}
 use Rattle.shape_common.specs.declared.text_types.Direction.TheVariants.{LeftToRight, RightToLeft, TopToBottom, BottomToTop}
 use Rattle.shape_font.specs.Bytes.{i16_of}
+use Rattle.shape_items.specs.Buffer.{Buffer}
+use Rattle.shape_items.specs.Items.{Item}
 use Rattle.layout_matching.specs.declared.lookup.Lookup.{Lookup}
 use Rattle.layout_positions.specs.Cursive.{cursive_applied}
 use Rattle.layout_positions.specs.Lookups.{Applied}
@@ -18,6 +22,18 @@ joins = 0 ∷ 1 ∷ 0 ∷ 14 ∷ 0 ∷ 2 ∷ 0 ∷ 0 ∷ 0 ∷ 22 ∷ 0 ∷ 28 �
 
 abbrev joined : Lookup → Direction → Applied
 joined l direction = cursive_applied l 0 1 (line direction (base 2 0 ∷ base 3 1 ∷ []))
+
+-- the same for glyphs that were moved by 7 and 9 before
+abbrev moved : GlyphPosition
+moved = record zero_position { x_advance = pos 600; x_offset = pos 7; y_offset = pos 9 }
+
+abbrev joined_moved : Lookup → Direction → Buffer
+joined_moved l direction =
+    (cursive_applied l 0 1 (record (line direction (base 2 0 ∷ base 3 1 ∷ [])) { positions = moved ∷ moved ∷ [] })).buffer
+
+-- the masks of a line in which what is unsafe to concat is asked for
+abbrev masks_asked : Lookup → ℕ → List Item → List ℕ
+masks_asked l j items = masks (cursive_applied l 0 j (record (line LeftToRight items) { flags = record { 0 = 64 } })).buffer
 
 pub record WorkedCursive : Type 0 where
   -- the advance of the first glyph reaches to its exit, and the second one begins at its entry
@@ -40,6 +56,24 @@ pub record WorkedCursive : Type 0 where
   pub upwards : (l : Lookup) → IsLookup l joins 0 → advances (joined l BottomToTop).buffer ≡ (pos 600, negsuc 49) ∷ (pos 600, pos 80) ∷ []
   pub no_exit : (l : Lookup) → IsLookup l joins 0 → (cursive_applied l 0 1 (line LeftToRight (base 3 0 ∷ base 3 1 ∷ []))).next ≡ None
   pub no_entry : (l : Lookup) → IsLookup l joins 0 → (cursive_applied l 0 1 (line LeftToRight (base 2 0 ∷ base 2 1 ∷ []))).next ≡ None
+  pub moved_to_the_right : (l : Lookup) → IsLookup l joins 0
+      → advances (joined_moved l LeftToRight) ≡ (pos 507, pos 0) ∷ (pos 573, pos 0) ∷ []
+  pub moved_to_the_right_on : (l : Lookup) → IsLookup l joins 0
+      → offsets (joined_moved l LeftToRight) ≡ (pos 7, pos 9) ∷ (negsuc 19, negsuc 29) ∷ []
+  pub moved_to_the_left : (l : Lookup) → IsLookup l joins 1 → advances (joined_moved l RightToLeft) ≡ (pos 93, pos 0) ∷ (pos 27, pos 0) ∷ []
+  pub moved_to_the_left_on : (l : Lookup) → IsLookup l joins 1
+      → offsets (joined_moved l RightToLeft) ≡ (negsuc 499, pos 30) ∷ (pos 7, pos 9) ∷ []
+  pub moved_downwards : (l : Lookup) → IsLookup l joins 0
+      → advances (joined_moved l TopToBottom) ≡ (pos 600, pos 59) ∷ (pos 600, negsuc 88) ∷ []
+  pub moved_downwards_on : (l : Lookup) → IsLookup l joins 0
+      → offsets (joined_moved l TopToBottom) ≡ (pos 7, pos 9) ∷ (pos 480, negsuc 79) ∷ []
+  pub moved_upwards : (l : Lookup) → IsLookup l joins 0
+      → advances (joined_moved l BottomToTop) ≡ (pos 600, negsuc 58) ∷ (pos 600, pos 80) ∷ []
+  pub moved_upwards_on : (l : Lookup) → IsLookup l joins 0
+      → offsets (joined_moved l BottomToTop) ≡ (pos 7, negsuc 49) ∷ (pos 480, pos 9) ∷ []
+  -- 2 is UNSAFE_TO_CONCAT
+  pub no_exit_in_vain : (l : Lookup) → IsLookup l joins 0 → masks_asked l 1 (base 3 0 ∷ base 3 1 ∷ []) ≡ 18 ∷ 18 ∷ []
+  pub no_glyph_before : (l : Lookup) → IsLookup l joins 0 → masks_asked l 0 (base 3 0 ∷ base 7 1 ∷ []) ≡ 18 ∷ 16 ∷ []
 
 pub worked_cursive : WorkedCursive
 unfolding i16_of ◌+ʷ◌ ◌-ʷ◌ neg_w int_wrap
@@ -58,4 +92,14 @@ worked_cursive = record {
   upwards = λ l is. rw (is.table, is.flags, is.mask) refl;
   no_exit = λ l is. rw (is.table, is.flags, is.mask) refl;
   no_entry = λ l is. rw is.table refl;
+  moved_to_the_right = λ l is. rw (is.table, is.flags, is.mask) refl;
+  moved_to_the_right_on = λ l is. rw (is.table, is.flags, is.mask) refl;
+  moved_to_the_left = λ l is. rw (is.table, is.flags, is.mask) refl;
+  moved_to_the_left_on = λ l is. rw (is.table, is.flags, is.mask) refl;
+  moved_downwards = λ l is. rw (is.table, is.flags, is.mask) refl;
+  moved_downwards_on = λ l is. rw (is.table, is.flags, is.mask) refl;
+  moved_upwards = λ l is. rw (is.table, is.flags, is.mask) refl;
+  moved_upwards_on = λ l is. rw (is.table, is.flags, is.mask) refl;
+  no_exit_in_vain = λ l is. rw (is.table, is.flags, is.mask) refl;
+  no_glyph_before = λ l is. rw is.table refl;
 }

@@ -33,6 +33,13 @@ on_ligature l x = mark_ligature_applied l 0 (Some 0) 1 (line LeftToRight (ligatu
 abbrev on_mark : Lookup → Item → Item → Applied
 on_mark l x y = mark_mark_applied l 0 1 (line LeftToRight (x ∷ y ∷ []))
 
+-- the masks of a line in which what is unsafe to concat is asked for
+abbrev base_asked : Lookup → Option ℕ → List Item → List ℕ
+base_asked l place items = masks (mark_base_applied l 0 place 1 (record (line LeftToRight items) { flags = record { 0 = 64 } })).buffer
+
+abbrev mark_asked : Lookup → List Item → List ℕ
+mark_asked l items = masks (mark_mark_applied l 0 1 (record (line LeftToRight items) { flags = record { 0 = 64 } })).buffer
+
 pub record WorkedMarks : Type 0 where
   pub anchors_meet : (l : Lookup) → IsLookup l on_bases 0
       → offsets (on_base l (base 2 0 ∷ mark 8 0 ∷ [])).buffer ≡ (pos 0, pos 0) ∷ (pos 290, pos 480) ∷ []
@@ -43,6 +50,10 @@ pub record WorkedMarks : Type 0 where
   pub other_base : (l : Lookup) → IsLookup l on_bases 0 → (on_base l (base 3 0 ∷ mark 8 0 ∷ [])).next ≡ None
   pub other_mark : (l : Lookup) → IsLookup l on_bases 0 → (on_base l (base 2 0 ∷ mark 7 0 ∷ [])).next ≡ None
   pub no_base : (l : Lookup) → IsLookup l on_bases 0 → (mark_base_applied l 0 None 0 (line LeftToRight (mark 8 0 ∷ []))).next ≡ None
+  -- 2 is UNSAFE_TO_CONCAT
+  pub other_base_in_vain : (l : Lookup) → IsLookup l on_bases 0
+      → base_asked l (Some 0) (base 3 0 ∷ mark 8 1 ∷ base 7 2 ∷ []) ≡ 18 ∷ 18 ∷ 16 ∷ []
+  pub no_base_in_vain : (l : Lookup) → IsLookup l on_bases 0 → base_asked l None (mark 7 0 ∷ mark 8 1 ∷ base 7 2 ∷ []) ≡ 18 ∷ 18 ∷ 16 ∷ []
 
 pub worked_marks : WorkedMarks
 unfolding i16_of ◌-ʷ◌ int_wrap
@@ -54,6 +65,8 @@ worked_marks = record {
   other_base = λ l is. rw is.table refl;
   other_mark = λ l is. rw is.table refl;
   no_base = λ l is. rw is.table refl;
+  other_base_in_vain = λ l is. rw is.table refl;
+  no_base_in_vain = λ l is. rw is.table refl;
 }
 
 -- ---- the base of a mark
@@ -99,7 +112,8 @@ abbrev base_in : Lookup → LookupSubtable → List Item → Option ℕ
 base_in l subtable items = base_of l subtable (items ++ mark 8 0 ∷ []) (length items) none_seen
 
 pub record WorkedMultiplied : Type 0 where
-  pub first_component : (l : Lookup) → IsLookup l on_bases 0 → base_in l of_bases (component_of 0 (base 2 0) ∷ component_of 1 (base 3 0) ∷ []) ≡ Some 0
+  pub first_component : (l : Lookup) → IsLookup l on_bases 0
+      → base_in l of_bases (component_of 0 (base 2 0) ∷ component_of 1 (base 3 0) ∷ []) ≡ Some 0
   pub first_of_three : (l : Lookup) → IsLookup l on_bases 0
       → base_in l of_bases (component_of 0 (base 5 0) ∷ component_of 1 (base 3 0) ∷ component_of 2 (base 3 0) ∷ []) ≡ Some 0
   pub component_that_is_listed : (l : Lookup) → IsLookup l on_bases 0
@@ -119,14 +133,16 @@ pub record WorkedMultiplied : Type 0 where
       → base_in l of_bases (component_of 0 (of_ligature 1 (base 2 0)) ∷ component_of 1 (of_ligature 1 (base 3 0)) ∷ []) ≡ Some 0
   pub after_a_whole_glyph : (l : Lookup) → IsLookup l on_bases 0 → base_in l of_bases (base 2 0 ∷ component_of 1 (base 3 0) ∷ []) ≡ Some 1
   pub whole_glyph : (l : Lookup) → IsLookup l on_bases 0
-      → base_in l of_bases (component_of 0 (base 2 0) ∷ record (base 3 0) { properties = record (component_of 1 (base 3 0)).properties { multiplied = false } } ∷ [])
+      → base_in l of_bases (component_of 0 (base 2 0)
+      ∷ record (base 3 0) { properties = record (component_of 1 (base 3 0)).properties { multiplied = false } } ∷ [])
       ≡ Some 1
   pub first_in_the_line : (l : Lookup) → IsLookup l on_bases 0 → base_in l of_bases (component_of 1 (base 3 0) ∷ []) ≡ Some 0
   pub for_ligatures : (l : Lookup) → IsLookup l on_bases 0
       → base_in l of_ligatures (component_of 0 (base 2 0) ∷ component_of 1 (base 3 0) ∷ []) ≡ Some 1
   -- a component that one subtable passed over stays passed over for the next one
   pub passed_over_before : (l : Lookup) → IsLookup l on_bases 0
-      → base_of l of_bases (component_of 0 (base 3 0) ∷ component_of 1 (base 2 0) ∷ mark 8 0 ∷ []) 2 (record { until = 2; place = Some 0 }) ≡ Some 0
+      → base_of l of_bases (component_of 0 (base 3 0) ∷ component_of 1 (base 2 0) ∷ mark 8 0 ∷ []) 2 (record { until = 2; place = Some 0 })
+      ≡ Some 0
 
 pub worked_multiplied : WorkedMultiplied
 worked_multiplied = record {
@@ -171,6 +187,12 @@ pub record WorkedComponents : Type 0 where
   pub mark_that_is_a_ligature : (l : Lookup) → IsLookup l on_bases 0 → (on_mark l (mark_on 2 5 0 0) (mark 8 0)).next ≡ Some 2
   -- marks are seen though the flags skip marks
   pub whatever_the_flags : (l : Lookup) → IsLookup l on_bases 8 → (on_mark l (mark 2 0) (mark 8 0)).next ≡ Some 2
+  pub no_ligature_of_this_mark : (l : Lookup) → IsLookup l on_bases 0 → (on_mark l (mark 2 0) (mark_on 8 5 0 0)).next ≡ Some 2
+  pub components_of_no_ligature : (l : Lookup) → IsLookup l on_bases 0 → (on_mark l (mark_on 2 0 1 0) (mark_on 8 0 2 0)).next ≡ Some 2
+  pub one_base_and_a_component : (l : Lookup) → IsLookup l on_bases 0 → (on_mark l (mark 2 0) (mark_on 8 5 1 0)).next ≡ None
+  -- the upper byte is the class of the marks that the lookup sees
+  pub of_another_class : (l : Lookup) → IsLookup l on_bases 0x200 → (on_mark l (mark 2 0) (mark 8 0)).next ≡ None
+  pub base_in_vain : (l : Lookup) → IsLookup l on_bases 0 → mark_asked l (base 2 0 ∷ mark 8 1 ∷ base 7 2 ∷ []) ≡ 18 ∷ 18 ∷ 16 ∷ []
 
 pub worked_components : WorkedComponents
 unfolding i16_of ◌-ʷ◌ int_wrap
@@ -188,4 +210,9 @@ worked_components = record {
   other_ligature = λ l is. rw (is.table, is.flags, is.mask) refl;
   mark_that_is_a_ligature = λ l is. rw (is.table, is.flags, is.mask) refl;
   whatever_the_flags = λ l is. rw (is.table, is.flags, is.mask) refl;
+  no_ligature_of_this_mark = λ l is. rw (is.table, is.flags, is.mask) refl;
+  components_of_no_ligature = λ l is. rw (is.table, is.flags, is.mask) refl;
+  one_base_and_a_component = λ l is. rw (is.table, is.flags, is.mask) refl;
+  of_another_class = λ l is. rw (is.table, is.flags) refl;
+  base_in_vain = λ l is. rw (is.table, is.flags, is.mask) refl;
 }

@@ -3,6 +3,7 @@ use Rattle.std.specs.Prelude.{◌≡◌, ℕ, ℤ, pos, negsuc, List, [], ◌∷
 use Rattle.std.specs.Int.{int_wrap}
 use Rattle.std.specs.Int.Count.{ones}
 use Rattle.shape_common.specs.Wrapping.{◌+ʷ◌, ◌-ʷ◌}
+use Rattle.shape_common.specs.declared.text_types.Direction.{Direction}
 use Rattle.shape_common.specs.declared.text_types.Direction.TheVariants.{LeftToRight, RightToLeft, TopToBottom}
 use Rattle.shape_font.specs.Bytes.{i16_of}
 use Rattle.shape_items.specs.Items.{Item}
@@ -39,10 +40,19 @@ pairs_one = 0 ∷ 1 ∷ 0 ∷ 14 ∷ 0 ∷ 4 ∷ 0 ∷ 0 ∷ 0 ∷ 2 ∷ 0 ∷ 2
 abbrev pub pairs_both : List ℕ
 pairs_both = 0 ∷ 1 ∷ 0 ∷ 12 ∷ 0 ∷ 4 ∷ 0 ∷ 1 ∷ 0 ∷ 1 ∷ 0 ∷ 20 ∷ (list ++ (0 ∷ 1 ∷ 0 ∷ 3 ∷ 0xFF ∷ 0xCE ∷ 0 ∷ 30 ∷ []))
 
--- format 2: 2 is of class 0 as a first glyph and 3 of class 1, 5 is of class 1 as a second one; rows 0: 1, 2; 1: 3, 4
-abbrev pairs_two : List ℕ
-pairs_two = 0 ∷ 2 ∷ 0 ∷ 24 ∷ 0 ∷ 4 ∷ 0 ∷ 0 ∷ 0 ∷ 32 ∷ 0 ∷ 40 ∷ 0 ∷ 2 ∷ 0 ∷ 2 ∷ 0 ∷ 1 ∷ 0 ∷ 2 ∷ 0 ∷ 3 ∷ 0 ∷ 4
+-- format 2 that states so many classes of each: 2 is of class 0 as a first glyph and 3 of class 1, 5 is of class 1 as a second one;
+-- rows 0: 1, 2; 1: 3, 4
+abbrev pairs_of_classes : ℕ → ℕ → List ℕ
+pairs_of_classes firsts seconds = 0 ∷ 2 ∷ 0 ∷ 24 ∷ 0 ∷ 4 ∷ 0 ∷ 0 ∷ 0 ∷ 32 ∷ 0 ∷ 40 ∷ 0 ∷ firsts ∷ 0 ∷ seconds
+    ∷ 0 ∷ 1 ∷ 0 ∷ 2 ∷ 0 ∷ 3 ∷ 0 ∷ 4
     ∷ (list ++ (0 ∷ 1 ∷ 0 ∷ 3 ∷ 0 ∷ 1 ∷ 0 ∷ 1 ∷ 0 ∷ 1 ∷ 0 ∷ 5 ∷ 0 ∷ 1 ∷ 0 ∷ 1 ∷ []))
+
+abbrev pairs_two : List ℕ
+pairs_two = pairs_of_classes 2 2
+
+-- format 2 without lists of classes, so that all glyphs are of class 0, and one value
+abbrev without_classes : List ℕ
+without_classes = 0 ∷ 2 ∷ 0 ∷ 0 ∷ 0 ∷ 4 ∷ 0 ∷ 0 ∷ 0 ∷ 0 ∷ 0 ∷ 0 ∷ 0 ∷ 1 ∷ 0 ∷ 1 ∷ []
 
 pub record WorkedTables : Type 0 where
   pub same_for_all : single_of single_one 0 3
@@ -65,6 +75,13 @@ pub record WorkedTables : Type 0 where
   pub class_0_then_1 : pair_of pairs_two 0 0 2 5 ≡ Some (record { first = wider (pos 2); second = wider (pos 0); has_second = false })
   pub class_1_then_0 : pair_of pairs_two 0 1 3 7 ≡ Some (record { first = wider (pos 3); second = wider (pos 0); has_second = false })
   pub class_1_then_1 : pair_of pairs_two 0 1 3 5 ≡ Some (record { first = wider (pos 4); second = wider (pos 0); has_second = false })
+  pub other_format_of_single : single_of (0 ∷ 3 ∷ 0 ∷ 10 ∷ 0 ∷ 5 ∷ 0 ∷ 10 ∷ 0xFF ∷ 0xCE ∷ list) 0 3 ≡ None
+  pub past_the_first_classes : pair_of (pairs_of_classes 1 2) 0 1 3 5 ≡ None
+  pub past_the_second_classes : pair_of (pairs_of_classes 2 1) 0 0 2 5 ≡ None
+  pub all_of_class_0 : pair_of (without_classes ++ 0 ∷ 9 ∷ []) 0 0 2 5
+      ≡ Some (record { first = wider (pos 9); second = wider (pos 0); has_second = false })
+  pub value_past_the_end : pair_of (without_classes ++ 0 ∷ []) 0 0 2 5 ≡ None
+  pub other_format_of_pairs : pair_of (0 ∷ 3 ∷ 0 ∷ 0 ∷ 0 ∷ 4 ∷ 0 ∷ 0 ∷ 0 ∷ 0 ∷ 0 ∷ 0 ∷ 0 ∷ 1 ∷ 0 ∷ 1 ∷ 0 ∷ 9 ∷ []) 0 0 2 5 ≡ None
 
 pub worked_tables : WorkedTables
 unfolding i16_of ones
@@ -83,6 +100,12 @@ worked_tables = record {
   class_0_then_1 = refl;
   class_1_then_0 = refl;
   class_1_then_1 = refl;
+  other_format_of_single = refl;
+  past_the_first_classes = refl;
+  past_the_second_classes = refl;
+  all_of_class_0 = refl;
+  value_past_the_end = refl;
+  other_format_of_pairs = refl;
 }
 
 -- ---- over lines, by a lookup for bit 16 that passes over default ignorables
@@ -97,6 +120,10 @@ pub record IsLookup (l : Lookup) (t : List ℕ) (f : ℕ) : Type 0 where
 
 abbrev pair_by : Lookup → List Item → Applied
 pair_by l items = pair_applied l 0 0 (line LeftToRight items)
+
+-- the masks of a line in which what is unsafe to concat is asked for
+abbrev masks_asked : Lookup → Direction → List Item → List ℕ
+masks_asked l direction items = masks (pair_applied l 0 0 (record (line direction items) { flags = record { 0 = 64 } })).buffer
 
 pub record WorkedLines : Type 0 where
   pub single : (l : Lookup) → IsLookup l single_one 0
@@ -125,6 +152,17 @@ pub record WorkedLines : Type 0 where
       → advances (pair_applied l 0 0 (line TopToBottom (base 2 0 ∷ base 3 1 ∷ []))).buffer ≡ (pos 600, pos 0) ∷ (pos 600, pos 0) ∷ []
   pub backward : (l : Lookup) → IsLookup l pairs_one 0
       → advances (pair_applied l 0 0 (line RightToLeft (base 2 0 ∷ base 3 1 ∷ []))).buffer ≡ (pos 550, pos 0) ∷ (pos 600, pos 0) ∷ []
+  -- 2 is UNSAFE_TO_CONCAT
+  pub unlisted_in_vain : (l : Lookup) → IsLookup l pairs_one 0
+      → masks_asked l LeftToRight (base 2 0 ∷ base 4 1 ∷ base 7 2 ∷ []) ≡ 18 ∷ 18 ∷ 16 ∷ []
+  pub no_second_glyph : (l : Lookup) → IsLookup l pairs_one 0 → masks_asked l LeftToRight (base 2 0 ∷ []) ≡ 18 ∷ []
+  pub off_for_the_second_glyph : (l : Lookup) → IsLookup l pairs_one 0
+      → masks_asked l LeftToRight (base 2 0 ∷ record (base 3 1) { mask = 8 } ∷ base 7 2 ∷ []) ≡ 18 ∷ 10 ∷ 16 ∷ []
+  -- a value for horizontal lines alone; a listed pair without effect is no reason
+  pub classes_that_move_nothing : (l : Lookup) → IsLookup l pairs_two 0
+      → masks_asked l TopToBottom (base 2 0 ∷ base 7 1 ∷ base 7 2 ∷ []) ≡ 18 ∷ 18 ∷ 16 ∷ []
+  pub listed_that_moves_nothing : (l : Lookup) → IsLookup l pairs_one 0
+      → masks_asked l TopToBottom (base 2 0 ∷ base 3 1 ∷ []) ≡ 16 ∷ 16 ∷ []
 
 pub worked_lines : WorkedLines
 unfolding i16_of ◌+ʷ◌ ◌-ʷ◌ int_wrap ones
@@ -143,4 +181,9 @@ worked_lines = record {
   classes = λ l is. rw (is.table, is.flags, is.mask) refl;
   not_in_a_vertical_line = λ l is. rw (is.table, is.flags, is.mask) refl;
   backward = λ l is. rw (is.table, is.flags, is.mask) refl;
+  unlisted_in_vain = λ l is. rw (is.table, is.flags, is.mask) refl;
+  no_second_glyph = λ l is. rw is.table refl;
+  off_for_the_second_glyph = λ l is. rw (is.table, is.flags, is.mask) refl;
+  classes_that_move_nothing = λ l is. rw (is.table, is.flags, is.mask) refl;
+  listed_that_moves_nothing = λ l is. rw (is.table, is.flags, is.mask) refl;
 }

@@ -1,5 +1,5 @@
 -- Value records and anchors, on bytes that were read by hand.
-use Rattle.std.specs.Prelude.{◌≡◌, ℕ, ℤ, pos, negsuc, List, [], ◌∷◌, Some, None, true, false, refl}
+use Rattle.std.specs.Prelude.{◌≡◌, ℕ, ℤ, pos, negsuc, List, [], ◌∷◌, ◌++◌, Some, None, true, false, refl}
 use Rattle.std.specs.Int.{int_wrap}
 use Rattle.std.specs.Int.Count.{ones}
 use Rattle.shape_common.specs.Positions.{zero_position}
@@ -41,6 +41,7 @@ pub record WorkedValues : Type 0 where
   pub advance_across_has_none : has_effect true (adjustment (pos 0) (pos 0) (pos 0) (pos 1)) ≡ false
   pub vertical_advance_has_effect : has_effect false (adjustment (pos 0) (pos 0) (pos 0) (pos 1)) ≡ true
   pub zeros_have_none : has_effect true (adjustment (pos 0) (pos 0) (pos 0) (pos 0)) ≡ false
+  pub placement_along_has_effect : has_effect true (adjustment (pos 1) (pos 0) (pos 0) (pos 0)) ≡ true
 
 pub worked_values : WorkedValues
 unfolding i16_of ◌+ʷ◌ ◌-ʷ◌ int_wrap ones
@@ -62,6 +63,7 @@ worked_values = record {
   advance_across_has_none = refl;
   vertical_advance_has_effect = refl;
   zeros_have_none = refl;
+  placement_along_has_effect = refl;
 }
 
 -- ---- anchors: an anchor of a format at 100, -5
@@ -97,6 +99,12 @@ pub record WorkedAnchors : Type 0 where
   pub anchor_of_the_first : anchor_of_mark marks 0 (Some 0) ≡ record { x = pos 7; y = pos 8 }
   pub anchor_of_the_second : anchor_of_mark marks 1 (Some 0) ≡ record { x = pos 0; y = pos 0 }
   pub without_an_array : class_of_mark marks 0 None ≡ 0
+  -- format 2 has 8 bytes, format 3 has 10; of another format its own two are enough
+  pub whole_format_2 : anchor_by (0 ∷ 2 ∷ (anchor 2 ++ 0 ∷ 7 ∷ [])) 0 0 ≡ Some (record { x = pos 100; y = negsuc 4 })
+  pub format_3_past_the_end : anchor_by (0 ∷ 2 ∷ (anchor 3 ++ 0 ∷ 0 ∷ 0 ∷ [])) 0 0 ≡ None
+  pub whole_format_3 : anchor_by (0 ∷ 2 ∷ (anchor 3 ++ 0 ∷ 0 ∷ 0 ∷ 0 ∷ [])) 0 0 ≡ Some (record { x = pos 100; y = negsuc 4 })
+  pub two_bytes_of_another_format : anchor_by (0 ∷ 2 ∷ 0 ∷ 4 ∷ []) 0 0 ≡ Some (record { x = pos 0; y = pos 0 })
+  pub one_byte : anchor_by (0 ∷ 2 ∷ 0 ∷ []) 0 0 ≡ None
 
 pub worked_anchors : WorkedAnchors
 unfolding i16_of
@@ -119,4 +127,9 @@ worked_anchors = record {
   anchor_of_the_first = refl;
   anchor_of_the_second = refl;
   without_an_array = refl;
+  whole_format_2 = refl;
+  format_3_past_the_end = refl;
+  whole_format_3 = refl;
+  two_bytes_of_another_format = refl;
+  one_byte = refl;
 }

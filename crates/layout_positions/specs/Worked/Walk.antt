@@ -8,7 +8,11 @@ use Rattle.shape_font.specs.Bytes.{i16_of}
 use Rattle.shape_items.specs.Buffer.{Buffer}
 use Rattle.shape_items.specs.Items.{Item}
 use Rattle.layout_matching.specs.declared.lookup.Lookup.{Lookup}
-use Rattle.layout_positions.specs.Walk.{positioned}
+use Rattle.layout_positions.specs.Attachment.{MOST_LINKS}
+use Rattle.layout_positions.specs.Nested.{LEVELS, most_named, nested_placed}
+use Rattle.layout_positions.specs.Subtables.{Placing}
+use Rattle.layout_positions.specs.Uncovered.{subtable_lists}
+use Rattle.layout_positions.specs.Walk.{none_seen, positioned}
 use Rattle.layout_positions.specs.Worked.Lines.{base, mark, component_of, line, advances, offsets, chains, masks}
 use Rattle.layout_positions.specs.Worked.Marks.{on_bases}
 use Rattle.layout_positions.specs.Worked.Pairs.{single_one, single_two, pairs_one, pairs_both, IsLookup}
@@ -43,12 +47,28 @@ off glyph cluster = record (base glyph cluster) { mask = 8 }
 abbrev pub still : ℤ × ℤ
 still = (pos 0, pos 0)
 
+-- two glyphs that the rule matches, at the first of them, with so many lookups that may still be named
+abbrev named : Lookup → ℕ → Placing
+named l left = nested_placed LEVELS l 0 left none_seen (line LeftToRight (base 2 0 ∷ base 3 1 ∷ []))
+
+pub record WorkedBounds : Type 0 where
+  -- a lookup of the plan and 64 levels below it
+  pub levels : LEVELS ≡ 65
+  pub links : MOST_LINKS ≡ 64
+  pub at_least : most_named 16 ≡ 16384
+  pub for_each_glyph : most_named 17 ≡ 17408
+  pub countable : most_named 18446744073709551615 ≡ 18446744073709551615
+
+pub worked_bounds : WorkedBounds
+worked_bounds = record { levels = refl; links = refl; at_least = refl; for_each_glyph = refl; countable = refl }
+
 pub record WorkedWalk : Type 0 where
   pub each_glyph : (l : Lookup) → IsLookup l (one_subtable 1 single_one) 0 → l.place ≡ 0
       → offsets (over l (base 2 0 ∷ base 7 1 ∷ base 3 2 ∷ [])) ≡ (pos 10, pos 0) ∷ still ∷ (pos 10, pos 0) ∷ []
   pub where_it_is_on : (l : Lookup) → IsLookup l (one_subtable 1 single_one) 0 → l.place ≡ 0
       → offsets (over l (base 2 0 ∷ off 3 1 ∷ [])) ≡ (pos 10, pos 0) ∷ still ∷ []
-  pub first_subtable_alone : (l : Lookup) → IsLookup l two_subtables 0 → l.place ≡ 0 → offsets (over l (base 2 0 ∷ [])) ≡ (pos 10, pos 0) ∷ []
+  pub first_subtable_alone : (l : Lookup) → IsLookup l two_subtables 0 → l.place ≡ 0
+      → offsets (over l (base 2 0 ∷ [])) ≡ (pos 10, pos 0) ∷ []
   pub far_away : (l : Lookup) → IsLookup l far 0 → l.place ≡ 0 → offsets (over l (base 2 0 ∷ [])) ≡ (pos 10, pos 0) ∷ []
   pub pair_after_pair : (l : Lookup) → IsLookup l (one_subtable 2 pairs_one) 0 → l.place ≡ 0
       → advances (over l (base 2 0 ∷ base 3 1 ∷ base 3 2 ∷ [])) ≡ (pos 550, pos 0) ∷ (pos 530, pos 0) ∷ (pos 600, pos 0) ∷ []
@@ -67,6 +87,15 @@ pub record WorkedWalk : Type 0 where
       → masks (over l (base 2 0 ∷ base 7 1 ∷ base 7 2 ∷ base 3 3 ∷ [])) ≡ 16 ∷ 16 ∷ 16 ∷ 16 ∷ []
   pub out_of_context : (l : Lookup) → IsLookup l in_context 0 → l.place ≡ 16
       → offsets (over l (base 2 0 ∷ base 7 1 ∷ base 3 2 ∷ [])) ≡ still ∷ still ∷ still ∷ []
+  pub one_is_named : (l : Lookup) → IsLookup l in_context 0 → l.place ≡ 16 → (named l 5).left ≡ 4
+  pub none_may_be_named : (l : Lookup) → IsLookup l in_context 0 → l.place ≡ 16 → offsets (named l 0).buffer ≡ still ∷ still ∷ []
+  pub goes_on_after_the_rule : (l : Lookup) → IsLookup l in_context 0 → l.place ≡ 16 → (named l 5).next ≡ Some 2
+  pub unsafe_in_the_rule : (l : Lookup) → IsLookup l in_context 0 → l.place ≡ 16 → masks (named l 5).buffer ≡ 16 ∷ 19 ∷ []
+  -- a subtable has a list of its glyphs, a rule of format 3 one of its first glyph
+  pub listed : (l : Lookup) → IsLookup l (one_subtable 1 single_one) 0 → subtable_lists l (record { kind = 1; start = 8 }) 2 ≡ true
+  pub not_listed : (l : Lookup) → IsLookup l (one_subtable 1 single_one) 0 → subtable_lists l (record { kind = 1; start = 8 }) 7 ≡ false
+  pub first_of_a_rule : (l : Lookup) → IsLookup l in_context 0 → subtable_lists l (record { kind = 7; start = 24 }) 2 ≡ true
+  pub not_first_of_a_rule : (l : Lookup) → IsLookup l in_context 0 → subtable_lists l (record { kind = 7; start = 24 }) 7 ≡ false
 
 pub worked_walk : WorkedWalk
 unfolding i16_of ◌+ʷ◌ ◌-ʷ◌ int_wrap ones
@@ -83,4 +112,12 @@ worked_walk = record {
   in_vain = λ l is p. rw (is.table, is.flags, is.mask, is.positioning, is.syllables, p) refl;
   in_vain_unasked = λ l is p. rw (is.table, is.flags, is.mask, is.positioning, is.syllables, p) refl;
   out_of_context = λ l is p. rw (is.table, is.flags, is.mask, is.positioning, is.syllables, p) refl;
+  one_is_named = λ l is p. rw (is.table, is.flags, is.mask, is.positioning, is.syllables, p) refl;
+  none_may_be_named = λ l is p. rw (is.table, is.flags, is.mask, is.positioning, is.syllables, p) refl;
+  goes_on_after_the_rule = λ l is p. rw (is.table, is.flags, is.mask, is.positioning, is.syllables, p) refl;
+  unsafe_in_the_rule = λ l is p. rw (is.table, is.flags, is.mask, is.positioning, is.syllables, p) refl;
+  listed = λ l is. rw (is.table, is.positioning) refl;
+  not_listed = λ l is. rw (is.table, is.positioning) refl;
+  first_of_a_rule = λ l is. rw (is.table, is.positioning) refl;
+  not_first_of_a_rule = λ l is. rw (is.table, is.positioning) refl;
 }

@@ -10,7 +10,7 @@ use Rattle.layout_map.specs.declared.lookups.LookupMap.{LookupMap}
 use Rattle.layout_matching.specs.declared.lookup.Lookup.{Lookup}
 use Rattle.opentype_layout.specs.Chosen.{script_in, chosen_in}
 use Rattle.opentype_layout.specs.Classes.{begun}
-use Rattle.opentype_layout.specs.Engine.{gsub_tables, gpos_tables, map_of, opentype_layout}
+use Rattle.opentype_layout.specs.Engine.{gsub_tables, gpos_tables, opentype_layout}
 use Rattle.opentype_layout.specs.Face.{tables_of}
 use Rattle.opentype_layout.specs.Lookups.{least_bit, lookups_of}
 use Rattle.opentype_layout.specs.Worked.Fonts.{words, gsub, gdef, kern}
@@ -42,13 +42,25 @@ turned_on l = l.auto_zwnj ∷ l.auto_zwj ∷ l.random ∷ l.per_syllable ∷ l.p
 
 -- `liga` asked for everywhere, in a text of script `latn`
 abbrev pub asked : Builder
-asked = record { requests = Feature (tag 0x6C696761) 1 1 ∷ []; is_simple = true; language = None; gsub_script = Some latn; gpos_script = None }
+asked = record {
+  requests = Feature (tag 0x6C696761) 1 1 ∷ [];
+  is_simple = true;
+  language = None;
+  gsub_script = Some latn;
+  gpos_script = None;
+}
 
 -- glyph `n` of a ligature
 abbrev pub ligated : ℕ → Item
 ligated n = record (new_item 0x41 0) {
   glyph_id = n;
-  properties = record new_properties { substituted = true; ligated = true; ligature_id = 3; ligature_component = 1; number_of_components = 2 };
+  properties = record new_properties {
+    substituted = true;
+    ligated = true;
+    ligature_id = 3;
+    ligature_component = 1;
+    number_of_components = 2;
+  };
 }
 
 abbrev pub classes_of : Item → List ℕ

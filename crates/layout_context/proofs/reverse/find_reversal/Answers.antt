@@ -1,4 +1,4 @@
-use Rattle.std.proofs.Common.{◌≡◌, ◌<◌, sym, ◌∙◌, arith}
+use Rattle.std.proofs.Common.{◌<◌, sym, ◌∙◌, arith}
 use Rattle.layout_tables.specs.Lookups.{subtable_count_of}
 use Rattle.layout_matching.proofs.LoopLemmas.{first_some_found}
 use Rattle.layout_context.specs.Reverse.{reversal_in}

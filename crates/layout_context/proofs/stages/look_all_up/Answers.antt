@@ -1,17 +1,24 @@
-use Rattle.std.proofs.Common.{length}
 use Rattle.shape_buffer.specs.declared.buffer.error.ShapeError.TheVariants.{Length}
 use Rattle.layout_substitution.proofs.KindLemmas.{same_error}
-use Rattle.layout_context.specs.Stages.{Walk, most_nested}
-use Rattle.layout_context.proofs.StageLemmas.{past_from}
+use Rattle.layout_context.specs.Digested.{lookups_in}
+use Rattle.layout_context.specs.Stages.{Walk, stage_made}
+use Rattle.layout_context.proofs.DigestLemmas.{passed_over, past_digested}
 use Rattle.layout_context.proofs.stages.look_all_up.Goals as goal
 
 pub returns-in-Err-clause-length : goal.returns-in-Err-clause-length
 returns-in-Err-clause-length c =
-    let first : Walk = record {
-      buffer = c.args.buffer.now;
-      spot =
-          record { at = 0; random = 1; left = most_nested (length c.args.buffer.now.items); whole = 0 };
-    } in
-    let here : Walk = record { buffer = c.loop-lookup.buffer; spot = c.loop-lookup.spot } in
-    λ is. past_from c.args.levels c.args.lookups.now c.loop-lookup.lookup-index here first _ c.loop-lookup-test.true c.loop-lookup.invariant
+    let here : Walk = record { buffer = c.loop-named.buffer; spot = c.loop-named.spot } in
+    λ is. past_digested c.args.levels c.args.lookups.now c.loop-named.named-index _ here
+    (stage_made c.args.levels (lookups_in c.args.lookups.now) c.args.buffer.now) c.loop-named-test.true c.loop-named.invariant.made
     (c.in-Err.ensures.length (same_error c.in-Err.error Length is))
+
+pub loop-named-preserved-then-not-may_share : goal.loop-named-preserved-then-not-may_share
+loop-named-preserved-then-not-may_share c =
+    let here : Walk = record { buffer = c.loop-named.buffer; spot = c.loop-named.spot } in
+    record {
+      made = passed_over c.args.levels c.args.lookups.now c.loop-named.named-index _ here c.loop-named.run
+          (stage_made c.args.levels (lookups_in c.args.lookups.now) c.args.buffer.now) c.loop-named-test.true
+          (c.requires.said c.loop-named.named-index _ c.loop-named-test.true) c.loop-named.invariant.run
+          (c.may_share.ensures c.if-not-may_share.true) c.loop-named.invariant.made;
+      run = c.loop-named.invariant.run;
+    }

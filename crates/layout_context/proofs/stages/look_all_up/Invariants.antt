@@ -1,13 +1,12 @@
-use Rattle.std.proofs.Common.{◌≡◌, drop, length}
-use Rattle.layout_context.specs.Stages.{Walk, all_looked_up, most_nested}
+use Rattle.std.proofs.Common.{◌≡◌, drop}
+use Rattle.layout_context.specs.Digested.{HoldsGlyphs, lookups_in}
+use Rattle.layout_context.specs.Stages.{Walk, all_looked_up, stage_made}
 use Rattle.layout_context.proofs.stages.look_all_up.Given as goal
 
-abbrev pub invariant-loop-lookup : goal.invariant-loop-lookup
-invariant-loop-lookup l =
-    let here : Walk = record { buffer = l.buffer; spot = l.spot } in
-    let first : Walk = record {
-      buffer = l.fn.buffer;
-      spot =
-          record { at = 0; random = 1; left = most_nested (length l.fn.buffer.items); whole = 0 };
-    } in
-    all_looked_up l.levels (drop l.lookup-index l.lookups) here ≡ all_looked_up l.levels l.lookups first
+abbrev pub invariant-loop-named : goal.invariant-loop-named
+invariant-loop-named l =
+    let here : Walk = record { buffer = l.buffer; spot = l.spot } in record {
+      made : (all_looked_up l.levels (lookups_in (drop l.named-index l.lookups)) here).buffer
+          ≡ stage_made l.levels (lookups_in l.lookups) l.fn.buffer;
+      run : HoldsGlyphs l.run l.buffer.items;
+    }

@@ -1,4 +1,4 @@
-use Rattle.std.proofs.Common.{◌≡◌, ◌<◌, length, arith}
+use Rattle.std.proofs.Common.{◌<◌, length, arith}
 use Rattle.layout_context.specs.Nested.{nested_applied}
 use Rattle.layout_context.specs.Stages.{Walk, first_walk}
 use Rattle.layout_context.proofs.StageLemmas.{past_times}
@@ -10,4 +10,4 @@ returns-in-Err-clause-length c =
     let first : Walk = first_walk (record { buffer = c.args.buffer.now; spot = c.args.spot }) in
     let here : Walk = record { buffer = c.loop-i.buffer; spot = c.loop-i.spot } in
     let more : c.loop-i._i < n = omega (arith, c.loop-i-test.true, c.len-i-end.ensures.items) in
-    λ is. past_times (nested_applied c.args.levels c.args.lookup.now) c.args.lookup.now n c.loop-i._i first here more c.loop-i.invariant (c.in-Err.ensures.length is)
+    λ is. past_times (nested_applied c.args.levels c.args.named.now.lookup) c.args.named.now.lookup n c.loop-i._i first here more c.loop-i.invariant (c.in-Err.ensures.length is)

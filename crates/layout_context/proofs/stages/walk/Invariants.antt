@@ -8,4 +8,4 @@ abbrev pub invariant-loop-i : goal.invariant-loop-i
 invariant-loop-i l =
     let here : Walk = record { buffer = l.buffer; spot = l.spot } in
     let first : Walk = first_walk (record { buffer = l.fn.buffer; spot = l.fn.spot }) in
-    here ≡ times (lookup_step (nested_applied l.levels l.lookup) l.lookup) l._i first
+    here ≡ times (lookup_step (nested_applied l.levels l.named.lookup) l.named.lookup) l._i first

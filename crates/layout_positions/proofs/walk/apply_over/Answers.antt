@@ -19,11 +19,11 @@ loop-i-preserved c =
       seen = c.step_on-spot.result.carried.seen;
       left = c.step_on-spot.result.carried.left;
     } in
-    times_step (lookup_step c.args.lookup.now) c.loop-i._i first here there c.loop-i.invariant c.step_on-spot.ensures
+    times_step (lookup_step c.args.named.now.lookup) c.loop-i._i first here there c.loop-i.invariant c.step_on-spot.ensures
 
 pub returns : goal.returns
 returns c =
     let view : Walk → Budgeted = λ w. record { buffer = w.buffer; left = w.left } in
     let first : Walk = first_walk (record { buffer = c.args.buffer.now; left = c.args.left }) in
     let all : c.loop-i._i ≡ c.len-i-end.result = omega (arith, c.loop-i.auto._i-end, c.loop-i-test.false) in
-    ap view c.loop-i.invariant ∙ ap (λ n. view (times (lookup_step c.args.lookup.now) n first)) (all ∙ c.len-i-end.ensures.items)
+    ap view c.loop-i.invariant ∙ ap (λ n. view (times (lookup_step c.args.named.now.lookup) n first)) (all ∙ c.len-i-end.ensures.items)

@@ -6,4 +6,4 @@ use Rattle.layout_positions.proofs.walk.apply_over.Given as goal
 abbrev pub invariant-loop-i : goal.invariant-loop-i
 invariant-loop-i l =
     let here : Walk = record { buffer = l.buffer; at = l.spot.at; seen = l.spot.carried.seen; left = l.spot.carried.left } in
-    here ≡ times (lookup_step l.lookup) l._i (first_walk (record { buffer = l.fn.buffer; left = l.fn.left }))
+    here ≡ times (lookup_step l.named.lookup) l._i (first_walk (record { buffer = l.fn.buffer; left = l.fn.left }))

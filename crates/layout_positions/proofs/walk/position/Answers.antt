@@ -1,5 +1,6 @@
+use Rattle.layout_positions.specs.Digested.{lookups_in}
 use Rattle.layout_positions.proofs.MadeLemmas.{positioned_made}
 use Rattle.layout_positions.proofs.walk.position.Goals as goal
 
 pub returns : goal.returns
-returns c = positioned_made c.args.lookups.now c.apply_each.result c.args.buffer.now c.apply_each.new.buffer c.apply_each.ensures
+returns c = positioned_made (lookups_in c.args.lookups.now) c.apply_each.result c.args.buffer.now c.apply_each.new.buffer c.apply_each.ensures

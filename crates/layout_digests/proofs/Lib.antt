@@ -1,0 +1,4 @@
+mod CoverageLemmas
+mod LookupLemmas
+pub mod TriedLemmas
+mod WordLemmas

@@ -1,0 +1,9 @@
+use Rattle.layout_digests.specs.Coverages.{HasRanges}
+use Rattle.layout_digests.specs.Digests.{IsWithin}
+use Rattle.layout_digests.proofs.coverage.with_ranges.Given as goal
+
+abbrev pub invariant-loop-i : goal.invariant-loop-i
+invariant-loop-i l = record {
+  ranges : HasRanges l.table l.start l.all l.i;
+  kept : IsWithin l.fn.digest l.all;
+}

@@ -1,0 +1,26 @@
+-- sets of glyphs in three words
+use Rattle.std.specs.Prelude.{◌≡◌, ℕ, Bool, true, ◌/◌, ◌%◌, ◌≤◌, ◌&&◌, nat_eq}
+use Rattle.std.specs.Int.{bit_at}
+use Rattle.layout_digests.specs.declared.digest.Digest.{Digest}
+
+-- a word has the bit for a number's last six bits
+unfoldable pub has_bit : ℕ → ℕ → Bool
+has_bit word n = nat_eq (bit_at word (n % 64)) 1
+
+abbrev pub HasBits : ℕ → ℕ → ℕ → Type 0
+HasBits word first last = (n : ℕ) → first ≤ n → n ≤ last → has_bit word n ≡ true
+
+abbrev pub KeepsBits : ℕ → ℕ → Type 0
+KeepsBits word after = (n : ℕ) → has_bit word n ≡ true → has_bit after n ≡ true
+
+-- a glyph is in the set by its number, its sixteenth and its 512th
+unfoldable pub has : Digest → ℕ → Bool
+has d glyph = has_bit d.fine glyph && has_bit d.middle (glyph / 16) && has_bit d.coarse (glyph / 512)
+
+-- all glyphs from one to another
+abbrev pub HasGlyphs : Digest → ℕ → ℕ → Type 0
+HasGlyphs d first last = (glyph : ℕ) → first ≤ glyph → glyph ≤ last → has d glyph ≡ true
+
+-- each glyph of the one set is in the other
+abbrev pub IsWithin : Digest → Digest → Type 0
+IsWithin d e = (glyph : ℕ) → has d glyph ≡ true → has e glyph ≡ true

@@ -1,0 +1,4 @@
+pub mod Coverages
+pub mod Digests
+pub mod Lookups
+pub mod Worked

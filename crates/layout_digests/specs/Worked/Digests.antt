@@ -1,0 +1,85 @@
+-- Sets of glyphs, and the glyphs that subtables begin at, worked out by hand.
+use Rattle.std.specs.Prelude.{◌≡◌, ◌^◌, ℕ, Bool, true, false, List, [], ◌∷◌, map, refl}
+use Rattle.std.proofs.Common.{lit<, arith}
+use Rattle.layout_tables.specs.declared.lookups.LookupSubtable.{LookupSubtable}
+use Rattle.layout_digests.specs.Coverages.{listed_count, range_count}
+use Rattle.layout_digests.specs.Digests.{has, has_bit}
+use Rattle.layout_digests.specs.Lookups.{begins_at, extension_kind, is_chained_kind, is_context_kind, AreDigests, IsDigest}
+use Rattle.layout_digests.specs.declared.digest.Digest.{Digest}
+
+-- of the glyph 4660: its bits are 52, 35 (of 291) and 9
+abbrev pub of_one : Digest
+of_one = record { fine = 4503599627370496; middle = 34359738368; coarse = 512 }
+
+pub record WorkedDigests : Type 0 where
+  pub bits : map (has_bit 5) (0 ∷ 1 ∷ 2 ∷ 3 ∷ []) ≡ true ∷ false ∷ true ∷ false ∷ []
+  pub last_bit : has_bit 0x8000000000000000 63 ≡ true
+  pub last_six_bits : has_bit 5 66 ≡ true
+  pub its_glyph : has of_one 4660 ≡ true
+  pub of_another_number : has of_one 4661 ≡ false
+  -- 4724 has the bits 52, 39 and 9, and 5684 the bits 52, 35 and 11
+  pub of_another_sixteenth : has of_one 4724 ≡ false
+  pub of_another_512th : has of_one 5684 ≡ false
+  -- 32768 further on all three come again
+  pub not_put_in : has of_one 37428 ≡ true
+
+pub worked_digests : WorkedDigests
+unfolding has has_bit
+worked_digests = record {
+  bits = refl;
+  last_bit = refl;
+  last_six_bits = refl;
+  its_glyph = refl;
+  of_another_number = refl;
+  of_another_sixteenth = refl;
+  of_another_512th = refl;
+  not_put_in = refl;
+}
+
+-- a lookup of type 1 with one subtable, at 8, whose Coverage table at 14 has glyph 5
+abbrev pub single : List ℕ
+single = 0 ∷ 1 ∷ 0 ∷ 0 ∷ 0 ∷ 1 ∷ 0 ∷ 8 ∷ 0 ∷ 1 ∷ 0 ∷ 6 ∷ 0 ∷ 1 ∷ 0 ∷ 1 ∷ 0 ∷ 1 ∷ 0 ∷ 5 ∷ []
+
+-- a context of format 3 with one glyph, whose list at 8 has glyph 5
+abbrev pub context : List ℕ
+context = 0 ∷ 3 ∷ 0 ∷ 1 ∷ 0 ∷ 0 ∷ 0 ∷ 8 ∷ 0 ∷ 1 ∷ 0 ∷ 1 ∷ 0 ∷ 5 ∷ []
+
+-- a chained context of format 3 with one glyph and none around it, whose list at 12 has glyph 5
+abbrev pub chain : List ℕ
+chain = 0 ∷ 3 ∷ 0 ∷ 0 ∷ 0 ∷ 1 ∷ 0 ∷ 12 ∷ 0 ∷ 0 ∷ 0 ∷ 0 ∷ 0 ∷ 1 ∷ 0 ∷ 1 ∷ 0 ∷ 5 ∷ []
+
+abbrev pub at : ℕ → ℕ → LookupSubtable
+at kind start = record { kind = kind; start = start }
+
+pub record WorkedFirsts : Type 0 where
+  pub contexts : map (is_context_kind false) (4 ∷ 5 ∷ 6 ∷ 7 ∷ []) ≡ false ∷ true ∷ true ∷ false ∷ []
+  pub contexts_of_positions : map (is_context_kind true) (6 ∷ 7 ∷ 8 ∷ 9 ∷ []) ≡ false ∷ true ∷ true ∷ false ∷ []
+  pub chains : map (is_chained_kind false) (5 ∷ 6 ∷ 8 ∷ []) ≡ false ∷ true ∷ false ∷ []
+  pub chains_of_positions : map (is_chained_kind true) (6 ∷ 7 ∷ 8 ∷ []) ≡ false ∷ false ∷ true ∷ []
+  pub extensions : map extension_kind (false ∷ true ∷ []) ≡ 7 ∷ 9 ∷ []
+  pub of_a_list : map (begins_at single false (at 1 8)) (4 ∷ 5 ∷ 6 ∷ []) ≡ false ∷ true ∷ false ∷ []
+  pub of_a_context : map (begins_at context false (at 5 0)) (4 ∷ 5 ∷ []) ≡ false ∷ true ∷ []
+  pub of_a_chain : map (begins_at chain false (at 6 0)) (4 ∷ 5 ∷ []) ≡ false ∷ true ∷ []
+  pub of_a_chain_of_positions : map (begins_at chain true (at 8 0)) (4 ∷ 5 ∷ []) ≡ false ∷ true ∷ []
+  -- four glyphs are stated and two are there; two ranges and one
+  pub listed : listed_count (0 ∷ 1 ∷ 0 ∷ 4 ∷ 0 ∷ 5 ∷ 0 ∷ 9 ∷ []) 0 ≡ 2
+  pub ranges : range_count (0 ∷ 2 ∷ 0 ∷ 2 ∷ 0 ∷ 5 ∷ 0 ∷ 9 ∷ 0 ∷ 0 ∷ []) 0 ≡ 1
+  pub none : AreDigests [] false []
+  pub of_the_lookup : (d : Digest) → IsDigest single false 0 d → has d 5 ≡ true
+
+pub worked_firsts : WorkedFirsts
+worked_firsts = record {
+  contexts = refl;
+  contexts_of_positions = refl;
+  chains = refl;
+  chains_of_positions = refl;
+  extensions = refl;
+  of_a_list = refl;
+  of_a_context = refl;
+  of_a_chain = refl;
+  of_a_chain_of_positions = refl;
+  listed = refl;
+  ranges = refl;
+  none = λ index less. absurd (omega (arith, less));
+  of_the_lookup = λ d is. is 0 (lit< tt) (at 1 8) 5 refl refl;
+}

@@ -1,0 +1,149 @@
+//! Sets of glyphs in three words: of a glyph's number, its sixteenth and its 512th, the last six bits each.
+ghost use Rattle.std.specs.Prelude.{◌≡◌, ◌≤◌, ◌<◌, ◌%◌, ℕ, true, false};
+ghost use Rattle.layout_digests.specs.Digests.{has_bit as has_bit_of, HasBits, KeepsBits, has as has_of, HasGlyphs, IsWithin};
+
+/// A set of glyphs. It may hold glyphs that were not put in.
+#[derive(Clone, Copy, PartialEq, Eq, Debug)]
+pub struct Digest {
+    pub fine: u64,
+    pub middle: u64,
+    pub coarse: u64,
+}
+
+/// Whether the word has the bit for a number.
+#[tactic(auto, using(crate::proofs::WordLemmas::tested))]
+fn has_bit(word: u64, n: u32) -> bool
+    ensures { result ≡ has_bit_of word n }
+{
+    word >> (n % 64) & 1 == 1
+}
+
+/// The bits from this one on.
+#[tactic(auto, using(crate::proofs::WordLemmas::from_on))]
+fn ones_from(k: u32) -> u64
+    requires { k < 64 }
+    ensures { (n : ℕ) → k ≤ n % 64 → has_bit_of result n ≡ true }
+{
+    u64::MAX - ((1 << k) - 1)
+}
+
+/// The bits up to this one.
+#[tactic(auto, using(crate::proofs::WordLemmas::up_to))]
+fn ones_to(k: u32) -> u64
+    requires { k < 64 }
+    ensures { (n : ℕ) → n % 64 ≤ k → has_bit_of result n ≡ true }
+{
+    let bit = 1 << k;
+    bit - 1 + bit
+}
+
+/// The bits for the numbers from one to another.
+#[tactic(auto, using(crate::proofs::WordLemmas::in_block, crate::proofs::WordLemmas::in_two, crate::proofs::WordLemmas::all_set))]
+fn span(first: u32, last: u32) -> u64
+    ensures { HasBits result first last }
+{
+    let from = ones_from(first % 64);
+    let to = ones_to(last % 64);
+    if first / 64 == last / 64 {
+        from & to
+    } else if first / 64 + 1 == last / 64 {
+        from | to
+    } else {
+        u64::MAX
+    }
+}
+
+/// A word with the bits for the numbers from one to another, and those that it had.
+#[tactic(auto, using(crate::proofs::WordLemmas::set_before, crate::proofs::WordLemmas::set_after))]
+fn with_span(word: u64, first: u32, last: u32) -> u64
+    ensures set { HasBits result first last }
+    ensures kept { KeepsBits word result }
+{
+    word | span(first, last)
+}
+
+/// A word with the bit for a number, and those that it had.
+#[tactic(auto, using(crate::proofs::WordLemmas::set_before, crate::proofs::WordLemmas::bit_set))]
+fn with_bit(word: u64, n: u32) -> u64
+    ensures set { has_bit_of result n ≡ true }
+    ensures kept { KeepsBits word result }
+{
+    word | 1 << (n % 64)
+}
+
+/// Whether two words share a bit.
+#[tactic(auto, using(crate::proofs::WordLemmas::unshared))]
+fn share(word: u64, other: u64) -> bool
+    ensures { result ≡ false → (n : ℕ) → has_bit_of word n ≡ true → has_bit_of other n ≡ false }
+{
+    word & other != 0
+}
+
+impl Digest {
+    /// The set of no glyph.
+    pub fn new() -> Self {
+        Digest {
+            fine: 0,
+            middle: 0,
+            coarse: 0,
+        }
+    }
+
+    /// The set of all glyphs.
+    #[tactic(auto, using(crate::proofs::WordLemmas::all_glyphs))]
+    pub fn every() -> Self
+        ensures { (glyph : ℕ) → has_of result glyph ≡ true }
+    {
+        Digest {
+            fine: u64::MAX,
+            middle: u64::MAX,
+            coarse: u64::MAX,
+        }
+    }
+
+    /// Whether the set holds a glyph.
+    #[tactic(auto, unfolding(crate::specs::Digests::has))]
+    pub fn has(&self, glyph: u32) -> bool
+        ensures { result ≡ has_of self.now glyph }
+    {
+        has_bit(self.fine, glyph)
+            && has_bit(self.middle, glyph / 16)
+            && has_bit(self.coarse, glyph / 512)
+    }
+
+    /// The set with the glyphs from one to another. If the last is before the first, there is none.
+    #[tactic(auto, using(crate::proofs::WordLemmas::ranged, crate::proofs::WordLemmas::kept))]
+    pub fn with_range(self, first: u32, last: u32) -> Self
+        ensures glyphs { HasGlyphs result first last }
+        ensures kept { IsWithin self result }
+    {
+        Digest {
+            fine: with_span(self.fine, first, last),
+            middle: with_span(self.middle, first / 16, last / 16),
+            coarse: with_span(self.coarse, first / 512, last / 512),
+        }
+    }
+
+    /// The set with a glyph.
+    #[tactic(auto, using(crate::proofs::WordLemmas::glyph_in, crate::proofs::WordLemmas::kept))]
+    pub fn with_glyph(self, glyph: u32) -> Self
+        ensures glyph { has_of result glyph ≡ true }
+        ensures kept { IsWithin self result }
+    {
+        Digest {
+            fine: with_bit(self.fine, glyph),
+            middle: with_bit(self.middle, glyph / 16),
+            coarse: with_bit(self.coarse, glyph / 512),
+        }
+    }
+
+    /// Whether two sets may share a glyph. If not, no glyph of the one is in the other.
+    #[tactic(auto, using(crate::proofs::WordLemmas::apart_fine, crate::proofs::WordLemmas::apart_middle, crate::proofs::WordLemmas::apart_coarse))]
+    pub fn may_share(&self, other: &Digest) -> bool
+        ensures { result ≡ false → (glyph : ℕ) → has_of self.now glyph ≡ true → has_of other.now glyph ≡ false }
+    {
+        share(self.fine, other.fine)
+            && share(self.middle, other.middle)
+            && share(self.coarse, other.coarse)
+    }
+}

@@ -1,0 +1,15 @@
+//! Digests of lookups: which glyphs a lookup may begin at, in three words (as HarfBuzz's `hb_set_digest_t`).
+//!
+//! A digest holds more glyphs than were put in, and never fewer: so a lookup whose digest doesn't hold a glyph does
+//! nothing there, and a walk may pass on without a look into the table. [`digest`] has digests, [`coverage`] makes them of
+//! Coverage tables, and [`lookups`] of the lookups of a table, in time in step with its bytes, whatever they are.
+#![tactic(auto)]
+
+pub mod coverage;
+pub mod digest;
+pub mod digested;
+pub mod lookups;
+pub mod worked;
+
+pub use digest::Digest;
+pub use digested::Digested;

@@ -1,0 +1,70 @@
+-- a lookup whose digest holds no glyph of the list may be passed over, and a place whose glyph it doesn't hold
+use Prim.Native.Nat.{zero}
+use Rattle.std.proofs.Common.{◌≡◌, ℕ, ◌+◌, ◌<◌, ◌^◌, Bool, true, false, List, [], ◌∷◌, length, nat_eq, nat_lt, fold, refl, sym, ap, ◌∙◌, subst, arith, drop, slice_index_or, map}
+use Rattle.std.proofs.lemmas.Bool.Decides.{nat_tests}
+use Rattle.std.proofs.lemmas.List.{drop_more}
+use Rattle.shape_items.specs.Buffer.{Buffer}
+use Rattle.shape_items.specs.Items.{Item}
+use Rattle.layout_matching.specs.Loops.{times}
+use Rattle.layout_matching.specs.Skipping.{nth}
+use Rattle.layout_matching.specs.declared.lookup.Lookup.{Lookup}
+use Rattle.layout_digests.specs.Digests.{has, IsWithin}
+use Rattle.layout_digests.specs.declared.digest.Digest.{Digest}
+use Rattle.layout_digests.specs.declared.digested.Digested.{Digested}
+use Rattle.layout_positions.specs.Digested.{IsOut, IsDigested, HoldsFirst, HoldsGlyphs, lookups_in}
+use Rattle.layout_positions.specs.Uncovered.{IsUncovered}
+use Rattle.layout_positions.specs.Walk.{Walk, lookup_step, Budgeted, first_walk, lookup_applied}
+use Rattle.layout_positions.proofs.UncoveredLemmas.{step-unlisted, lookup-uncovered}
+
+pub step_out : (l : Lookup) (s : Walk) → IsOut l (nth s.buffer.items s.at).glyph_id → nat_lt s.at (length s.buffer.items) ≡ true
+    → lookup_step l s ≡ record s { at = s.at + 1 }
+step_out l s out inside = step-unlisted l s out.positions out.unlisted inside
+
+pub one_held : (items : List Item) (d e : Digest) (i : ℕ) → HoldsFirst d items i → IsWithin d e → has e (nth items i).glyph_id ≡ true
+    → HoldsFirst e items (i + 1)
+one_held items d e i before kept new j below = by_last (nat_eq j i) refl
+  where
+    by_last : (t : Bool) → nat_eq j i ≡ t → has e (nth items j).glyph_id ≡ true
+    by_last true is = let same : i ≡ j = grind (arith, nat_tests, is) in subst (λ k. has e (nth items k).glyph_id ≡ true) same new
+    by_last false is = kept (nth items j).glyph_id (before j (grind (arith, nat_tests, is, below)))
+
+pub applied_on : (ds : List Digested) (k : ℕ) (x : Digested) (here next made : Budgeted) → k < length ds
+    → fold lookup_applied here (lookups_in (drop k ds)) ≡ made → next ≡ lookup_applied here (slice_index_or ds k x).lookup
+    → fold lookup_applied next (lookups_in (drop (k + 1) ds)) ≡ made
+applied_on ds k x here next made more before is =
+    ap (λ s. fold lookup_applied s (lookups_in (drop (k + 1) ds))) is
+    ∙ sym (ap (λ (rest : List Digested). fold lookup_applied here (lookups_in rest)) (drop_more ds k x more)) ∙ before
+
+-- in an empty list nothing is done, whatever the lookup is
+digest-idle : (d : Digested) (here : Budgeted) (run : Digest) → IsDigested d → HoldsGlyphs run here.buffer.items
+    → ((g : ℕ) → has run g ≡ true → has d.digest g ≡ false) → lookup_applied here d.lookup ≡ here
+digest-idle d here run said held apart = by_length (nat_eq (length here.buffer.items) 0) refl
+  where
+    out_at : (i : ℕ) → i < length here.buffer.items → IsOut d.lookup (nth here.buffer.items i).glyph_id
+    out_at i inside = said.out (nth here.buffer.items i).glyph_id (apart (nth here.buffer.items i).glyph_id (held i inside))
+
+    end : ℕ → Budgeted
+    end n = let w = times (lookup_step d.lookup) n (first_walk here) in record { buffer = w.buffer; left = w.left }
+
+    by_length : (t : Bool) → nat_eq (length here.buffer.items) 0 ≡ t → lookup_applied here d.lookup ≡ here
+    by_length true e = let none : length here.buffer.items ≡ 0 = grind (arith, nat_tests, e) in ap end none
+    by_length false e = lookup-uncovered d.lookup here.buffer here.left (record {
+      positioning = (out_at 0 (grind (arith, nat_tests, e))).positions;
+      glyphs = λ i inside. (out_at i inside).unlisted;
+    })
+
+pub passed_over : (ds : List Digested) (k : ℕ) (x : Digested) (here made : Budgeted) (run : Digest) → k < length ds
+    → IsDigested (slice_index_or ds k x) → HoldsGlyphs run here.buffer.items
+    → ((g : ℕ) → has run g ≡ true → has (slice_index_or ds k x).digest g ≡ false)
+    → fold lookup_applied here (lookups_in (drop k ds)) ≡ made
+    → fold lookup_applied here (lookups_in (drop (k + 1) ds)) ≡ made
+passed_over ds k x here made run more said held apart before =
+    applied_on ds k x here here made more before (sym (digest-idle (slice_index_or ds k x) here run said held apart))
+
+-- the set of all glyphs serves any lookup
+pub every_said : (d : Digested) → d.lookup.place < 2 ^ 17 → ((glyph : ℕ) → has d.digest glyph ≡ true) → IsDigested d
+every_said d near all = record { near = near; out = λ glyph none. never glyph (has d.digest glyph) (all glyph) none }
+  where
+    never : (glyph : ℕ) (t : Bool) → t ≡ true → t ≡ false → IsOut d.lookup glyph
+    never glyph true is not = cc
+    never glyph false is not = cc

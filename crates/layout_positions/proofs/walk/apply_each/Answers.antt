@@ -1,0 +1,16 @@
+use Rattle.std.proofs.Common.{◌≡◌, fold}
+use Rattle.layout_positions.specs.Digested.{lookups_in}
+use Rattle.layout_positions.specs.Walk.{Budgeted, lookup_applied, budgeted}
+use Rattle.layout_positions.proofs.DigestLemmas.{passed_over}
+use Rattle.layout_positions.proofs.walk.apply_each.Goals as goal
+
+pub loop-named-preserved-then-not-may_share : goal.loop-named-preserved-then-not-may_share
+loop-named-preserved-then-not-may_share c =
+    let here : Budgeted = record { buffer = c.loop-named.buffer; left = c.loop-named.left } in
+    record {
+      made = passed_over c.args.lookups.now c.loop-named.named-index _ here
+          (fold lookup_applied (budgeted c.args.buffer.now) (lookups_in c.args.lookups.now)) c.loop-named.run c.loop-named-test.true
+          (c.requires c.loop-named.named-index _ c.loop-named-test.true) c.loop-named.invariant.run
+          (c.may_share.ensures c.if-not-may_share.true) c.loop-named.invariant.made;
+      run = c.loop-named.invariant.run;
+    }

@@ -1,0 +1,126 @@
+//! The face that is opened once, for the engine.
+ghost use Rattle.std.specs.Prelude.{◌≡◌, true, false, IfOk, IsOkUnless};
+ghost use Rattle.layout_digests.specs.Lookups.{AreDigests};
+ghost use Rattle.opentype_layout.specs.Face.{opentype_face};
+
+use crate::face::OpenTypeFace;
+use layout_digests::Digest;
+use layout_digests::lookups::{Lookups, digests};
+use opened_face::OpenedFace;
+use shape_buffer::{GlyphId, ShapeError, hb_font_t, hb_glyph_extents_t, hb_tables_t};
+use std::alloc::Global;
+use std::marker::Model;
+
+/// A face over the bytes of a font file with tables beside it: those of [`OpenedFace`], and for each lookup of `GSUB` and
+/// `GPOS` a digest of the glyphs that it may begin at, of 24 bytes. It returns what the [`OpenTypeFace`] returns, and
+/// contracts see it as that face.
+#[derive(Drop)]
+pub struct OpenedOpenTypeFace<'a> {
+    face: OpenTypeFace<'a>,
+    font: OpenedFace<'a>,
+    substitution: Vec<Digest>,
+    positioning: Vec<Digest>,
+}
+
+impl<'a> Model for OpenedOpenTypeFace<'a> {
+    ghost use Rattle.opentype_layout.specs.declared.face.OpenTypeFace.{OpenTypeFace};
+    ghost use Rattle.opentype_layout.specs.Digested.{IsStored};
+
+    ghost Value = { OpenTypeFace };
+
+    ghost view = { λ o. o.face };
+
+    ghost invariant = { λ o. IsStored o.font o.face o.substitution.items o.positioning.items };
+}
+
+impl<'a> OpenedOpenTypeFace<'a> {
+    /// Opens a face: stores the pages of its character map, its advances, and the digests of its lookups. Takes time in
+    /// step with the bytes of the tables, whatever they are. Refuses with `Memory` if a growth was refused.
+    pub fn new(alloc: Global, face: OpenTypeFace<'a>) -> Result<OpenedOpenTypeFace<'a>, ShapeError>
+        ensures ok { IfOk result (λ opened. opened ≡ face.entry) }
+        ensures memory { IsOkUnless result ShapeError.Memory }
+    {
+        let font = OpenedFace::new(alloc, face.font())?;
+        let gsub = Lookups {
+            table: face.gsub(),
+            positioning: false,
+        };
+        let gpos = Lookups {
+            table: face.gpos(),
+            positioning: true,
+        };
+        let substitution = digests(alloc, gsub)?;
+        let positioning = digests(alloc, gpos)?;
+        Ok(OpenedOpenTypeFace {
+            face,
+            font,
+            substitution,
+            positioning,
+        })
+    }
+
+    /// The face without the tables.
+    pub fn face(&self) -> &OpenTypeFace<'a>
+        ensures { result.now ≡ self.now }
+    {
+        &self.face
+    }
+
+    /// The digests of the lookups of `GSUB`.
+    pub(crate) fn gsub_digests(&self) -> &[Digest]
+        ensures { AreDigests self.now.gsub.now false result.now }
+    {
+        self.substitution.as_slice()
+    }
+
+    /// The digests of the lookups of `GPOS`.
+    pub(crate) fn gpos_digests(&self) -> &[Digest]
+        ensures { AreDigests self.now.gpos.now true result.now }
+    {
+        self.positioning.as_slice()
+    }
+}
+
+impl<'a> hb_font_t for OpenedOpenTypeFace<'a> {
+    ghost face = { opentype_face };
+
+    fn get_nominal_glyph(&self, c: char) -> Option<GlyphId> {
+        self.font.get_nominal_glyph(c)
+    }
+
+    fn has_glyph(&self, c: char) -> bool {
+        self.font.has_glyph(c)
+    }
+
+    fn glyph_variation_index(&self, c: char, selector: char) -> Option<GlyphId> {
+        self.font.glyph_variation_index(c, selector)
+    }
+
+    fn glyph_h_advance(&self, glyph: GlyphId) -> i32 {
+        self.font.glyph_h_advance(glyph)
+    }
+
+    fn glyph_v_advance(&self, glyph: GlyphId) -> i32 {
+        self.font.glyph_v_advance(glyph)
+    }
+
+    fn glyph_h_origin(&self, glyph: GlyphId) -> i32 {
+        self.font.glyph_h_origin(glyph)
+    }
+
+    fn glyph_v_origin(&self, glyph: GlyphId) -> i32 {
+        self.font.glyph_v_origin(glyph)
+    }
+
+    fn glyph_extents(&self, glyph: GlyphId) -> Option<hb_glyph_extents_t> {
+        self.font.glyph_extents(glyph)
+    }
+
+    fn units_per_em(&self) -> u16 {
+        self.font.units_per_em()
+    }
+
+    fn tables(&self) -> hb_tables_t {
+        self.face.tables()
+    }
+}

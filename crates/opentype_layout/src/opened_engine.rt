@@ -1,0 +1,194 @@
+//! The engine over the face that is opened once: what it makes is what it makes over the face below, and lookups are passed
+//! over by their digests.
+ghost use Rattle.std.specs.Prelude.{◌≡◌};
+ghost use Rattle.shape_buffer.specs.Outcome.{Made};
+ghost use Rattle.layout_map.specs.Map.{OtMap, map_meaning};
+ghost use Rattle.opentype_layout.specs.declared.face.OpenTypeFace.{OpenTypeFace as Face};
+ghost use Rattle.opentype_layout.specs.Engine.{opentype_layout, opentype_lookups};
+ghost use Rattle.opentype_layout.specs.EngineLaws.{opentype_lookups-lawful};
+ghost use Rattle.layout_map.proofs.LawfulLemmas.{map_meaning-lawful};
+
+use crate::chosen::script_in;
+use crate::classes::begin_glyphs;
+use crate::engine::{
+    OpenTypeLayout, compiled, gpos_tables, gsub_tables, position_by, substitute_by, table_of,
+};
+use crate::opened::OpenedOpenTypeFace;
+use kern_table::tables::{kern_table, subtable_count};
+use layout_map::map::hb_ot_map_t;
+use layout_positions::attachment::finish_offsets;
+use layout_positions::walk;
+use layout_tables::gdef;
+use shape_buffer::buffer::{
+    Feature, Language, Script, ShapeError, hb_buffer_t, hb_mask_t, hb_tag_t,
+};
+use shape_buffer::interfaces::{TableIndex, hb_ot_layout_t, hb_ot_map_builder_t};
+use std::alloc::Global;
+
+impl<'a> hb_ot_layout_t<OpenedOpenTypeFace<'a>> for OpenTypeLayout {
+    type Map = hb_ot_map_t;
+
+    ghost layout = { opentype_layout };
+
+    ghost masks = { map_meaning };
+
+    ghost lookups = { opentype_lookups };
+
+    fn chosen_script(
+        face: &OpenedOpenTypeFace<'a>,
+        script: Option<Script>,
+        language: Option<&Language>,
+        table: TableIndex,
+    ) -> Option<hb_tag_t> {
+        script_in(table_of(face.face(), table), script, language)
+    }
+
+    fn compile(
+        alloc: Global,
+        face: &OpenedOpenTypeFace<'a>,
+        builder: &hb_ot_map_builder_t,
+    ) -> Result<hb_ot_map_t, ShapeError> {
+        compiled(alloc, face.face(), builder)
+    }
+
+    fn has_glyph_classes(face: &OpenedOpenTypeFace<'a>) -> bool {
+        gdef::has_glyph_classes(face.face().gdef())
+    }
+
+    fn has_kerning(face: &OpenedOpenTypeFace<'a>) -> bool {
+        subtable_count(face.face().kern()) != 0
+    }
+
+    fn has_machine_kerning(_face: &OpenedOpenTypeFace<'a>) -> bool {
+        false
+    }
+
+    fn has_cross_kerning(_face: &OpenedOpenTypeFace<'a>) -> bool {
+        false
+    }
+
+    fn global_mask(map: &hb_ot_map_t) -> hb_mask_t
+        ensures { result ≡ (map_meaning map.now).global_mask }
+    {
+        map.global_mask()
+    }
+
+    fn get_1_mask(map: &hb_ot_map_t, tag: hb_tag_t) -> hb_mask_t
+        ensures { result ≡ (map_meaning map.now).one_mask tag }
+    {
+        map.one_mask(tag)
+    }
+
+    fn get_mask(map: &hb_ot_map_t, tag: hb_tag_t) -> (hb_mask_t, u32)
+        ensures { result ≡ (map_meaning map.now).mask tag }
+    {
+        map.mask(tag)
+    }
+
+    fn get_feature_index(map: &hb_ot_map_t, table: TableIndex, tag: hb_tag_t) -> Option<u16>
+        ensures { result ≡ (map_meaning map.now).feature_index table tag }
+    {
+        map.feature_index(table, tag)
+    }
+
+    fn substitute_start(face: &OpenedOpenTypeFace<'a>, buffer: &mut hb_buffer_t) {
+        begin_glyphs(face.face().gdef(), buffer);
+    }
+
+    fn stages(map: &hb_ot_map_t) -> usize
+        ensures { result ≡ (map_meaning map.now).stages }
+    {
+        map.stages()
+    }
+
+    fn substitute_stage(
+        alloc: Global,
+        map: &hb_ot_map_t,
+        i: usize,
+        face: &OpenedOpenTypeFace<'a>,
+        buffer: &mut hb_buffer_t,
+    ) -> Result<(), ShapeError> {
+        substitute_by(
+            alloc,
+            gsub_tables(face.face()),
+            face.gsub_digests(),
+            map.gsub_lookups(i),
+            buffer,
+        )
+    }
+
+    fn pause_after(map: &hb_ot_map_t, i: usize) -> Option<u32>
+        ensures { result ≡ (map_meaning map.now).pause_after i }
+    {
+        map.pause_after(i)
+    }
+
+    fn aat_substitute(
+        _alloc: Global,
+        _map: &hb_ot_map_t,
+        _user_features: &[Feature],
+        _face: &OpenedOpenTypeFace<'a>,
+        _buffer: &mut hb_buffer_t,
+    ) -> Result<(), ShapeError> {
+        Ok(())
+    }
+
+    fn aat_remove_deleted(buffer: &mut hb_buffer_t)
+        ensures { (map : OtMap) (face : Face)
+            → Made (opentype_lookups map face).aat_remove_deleted buffer.old buffer.new }
+    {}
+
+    fn aat_zero_width_deleted(buffer: &mut hb_buffer_t)
+        ensures { (map : OtMap) (face : Face)
+            → Made (opentype_lookups map face).aat_zero_width_deleted buffer.old buffer.new }
+    {}
+
+    fn position_start(_face: &OpenedOpenTypeFace<'a>, buffer: &mut hb_buffer_t) {
+        walk::position_start(buffer);
+    }
+
+    fn position(
+        alloc: Global,
+        map: &hb_ot_map_t,
+        face: &OpenedOpenTypeFace<'a>,
+        buffer: &mut hb_buffer_t,
+    ) -> Result<(), ShapeError> {
+        position_by(
+            alloc,
+            gpos_tables(face.face()),
+            face.gpos_digests(),
+            map.gpos_lookups(),
+            buffer,
+        )
+    }
+
+    fn position_finish_advances(_face: &OpenedOpenTypeFace<'a>, _buffer: &mut hb_buffer_t) {}
+
+    fn position_finish_offsets(_face: &OpenedOpenTypeFace<'a>, buffer: &mut hb_buffer_t) {
+        finish_offsets(buffer);
+    }
+
+    fn aat_position(
+        _alloc: Global,
+        _map: &hb_ot_map_t,
+        _kern_mask: hb_mask_t,
+        _face: &OpenedOpenTypeFace<'a>,
+        _buffer: &mut hb_buffer_t,
+    ) -> Result<(), ShapeError> {
+        Ok(())
+    }
+
+    fn kern(
+        _alloc: Global,
+        kern_mask: hb_mask_t,
+        face: &OpenedOpenTypeFace<'a>,
+        buffer: &mut hb_buffer_t,
+    ) -> Result<(), ShapeError> {
+        kern_table(face.face().kern(), kern_mask, buffer);
+        Ok(())
+    }
+
+    ghost lawful_masks = { map_meaning-lawful };
+
+    ghost lawful_lookups = { opentype_lookups-lawful };
+}
