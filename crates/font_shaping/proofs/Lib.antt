@@ -1,2 +1,3 @@
 mod PlanLemmas
+mod ScriptLemmas
 mod StringLemmas

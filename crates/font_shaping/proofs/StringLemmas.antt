@@ -37,6 +37,11 @@ pub if_err-then : {T E : Type 0} {P Q : E → Type 0} (result : Result T E) → 
 if_err-then (Ok x) then holds = tt
 if_err-then (Err e) then holds = then e holds
 
+-- clusters come in the order of a direction by its other name
+pub come-for : {run : Run} {target direction : Direction} {text glyphs : Buffer} → target ≡ direction
+    → ComesInOrder run target text glyphs → ComesInOrder run direction text glyphs
+come-for {run} {target} {direction} {text} {glyphs} same come = subst (λ (d : Direction). ComesInOrder run d text glyphs) same come
+
 -- the limit of a run, for few characters and for many
 limit-few : (n : ℕ) → n ≤ 256 → run_limit n ≤ 16384
 limit-few n few = omega arith
@@ -92,12 +97,6 @@ module _ (bytes : List ℕ) (text : Buffer) (is : IsTextOf bytes text) where
 
   pub string-cleared : cleared text ≡ new_buffer
   string-cleared = ap (λ (b : Buffer). cleared b) is.rest
-
-  -- what is said of clusters of glyphs of such a text
-  pub string-come : (run : Run) (target : Direction) (glyphs : Buffer)
-      → ClustersComeInOrder run target (guessed run.unicode text) glyphs → RunPreservesClusters run
-      → ComesInOrder run target (guessed run.unicode text) glyphs
-  string-come run target glyphs come preserves = come preserves string-level is.rising
 
   pub string-few : (n : ℕ) → length (chars bytes) ≤ 256 → n ≤ run_limit (length text.items) → n ≤ 16384
   string-few n few within =

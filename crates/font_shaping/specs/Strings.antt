@@ -5,6 +5,7 @@ use Rattle.std.specs.Str.{IsCharBoundary}
 use Rattle.shape_items.specs.Buffer.{Buffer, new_buffer}
 use Rattle.shape_items.specs.Clusters.{clusters}
 use Rattle.shape_common.specs.Positions.{zero_position}
+use Rattle.shape_common.specs.Unicode.{UnicodeMeaning}
 use Rattle.shape_buffer.specs.Guess.{guessed}
 use Rattle.shape_buffer.specs.Text.{text_items}
 use Rattle.shape_plan.specs.Run.{Run}
@@ -28,10 +29,14 @@ pub record IsTextOf (bytes : List ℕ) (text : Buffer) : Type 0 where
 unfoldable pub string_text : List ℕ → Buffer
 string_text bytes = record new_buffer { items = text_items bytes; positions = replicate (length (text_items bytes)) zero_position }
 
--- a string was shaped: exactly what a run makes of its text, and no step made a list past the run's limit
-abbrev pub AreGlyphsOf : Run → List ℕ → Buffer → Type 0
-AreGlyphsOf run bytes glyphs = let text = string_text bytes in Shapes run (target_of run text) (guessed run.unicode text) glyphs
+-- so much holds of the text of a string
+abbrev pub WithTextOf : List ℕ → (Buffer → Type 0) → Type 0
+WithTextOf bytes Holds = (text : Buffer) × (text ≡ string_text bytes) × Holds text
 
--- some step of a run over the text of a string would make such a list
-abbrev pub StringPasses : Run → List ℕ → Type 0
-StringPasses run bytes = let text = string_text bytes in ShapingPasses run (target_of run text) (guessed run.unicode text)
+-- a text was shaped: exactly what a run makes of it, and no step made a list past the run's limit
+abbrev pub AreGlyphsOf : UnicodeMeaning → Run → Buffer → Buffer → Type 0
+AreGlyphsOf unicode run text glyphs = Shapes run (target_of run text) (guessed unicode text) glyphs
+
+-- some step of a run over a text would make such a list
+abbrev pub TextPasses : UnicodeMeaning → Run → Buffer → Type 0
+TextPasses unicode run text = ShapingPasses run (target_of run text) (guessed unicode text)

@@ -1,15 +1,28 @@
 //! What a run with a font file must provide: nothing is left of it.
+ghost use Rattle.std.specs.Prelude.{◌≡◌, List};
 ghost use Rattle.layout_map.specs.Map.{OtMap as Map};
+ghost use Rattle.opentype_layout.specs.Engine.{opentype_layout};
 ghost use Rattle.opentype_layout.specs.declared.face.OpenTypeFace.{OpenTypeFace as Face};
+ghost use Rattle.script_shapers.specs.Choice.{category_for};
+ghost use Rattle.shape_common.specs.declared.text_types.Feature.{Feature as AnyFeature};
+ghost use Rattle.shape_items.specs.Buffer.{Buffer};
+ghost use Rattle.shape_pipeline.specs.Canonical.{RunPreservesEquivalence};
+ghost use Rattle.shape_pipeline.specs.Order.{RunPreservesClusters};
 ghost use Rattle.shape_pipeline.specs.Premises.{HasNoObligations};
 ghost use Rattle.shape_plan.specs.Plan.{Plan};
+ghost use Rattle.shape_plan.specs.Preservation.{RunPreservesFlags};
 ghost use Rattle.shape_plan.specs.declared.ot_shaper.shapers.hb_default_shaper_t.{hb_default_shaper_t as DefaultShaper};
 
 use opentype_layout::laws::opentype_layout_preserves;
 use opentype_layout::{OpenTypeFace, OpenTypeLayout};
-use shape_pipeline::hb_unicode_funcs_t;
+use script_shapers::arabic::{ArabicShaper, arabic_runs_preserve};
+use script_shapers::choice::{Category, ScriptRuns, TextRuns, by_script};
+use script_shapers::hangul::{HangulShaper, hangul_runs_preserve};
+use script_shapers::hebrew::{HebrewShaper, hebrew_runs_preserve};
+use script_shapers::thai::{ThaiShaper, thai_runs_preserve};
+use shape_buffer::interfaces::{hb_font_t, hb_ot_layout_t, hb_unicode_funcs_t};
 use shape_pipeline::laws::runs_without_hooks_have_no_obligations;
-use shape_pipeline::ot_shaper::{Runs, hb_default_shaper_t};
+use shape_pipeline::ot_shaper::{Runs, hb_default_shaper_t, hb_ot_shaper_t};
 
 /// A run of the default shaper with the tables of a font file has no obligations, whatever the bytes of the file are
 /// and whatever the plan: every premise of the promises about a run holds of it.
@@ -24,4 +37,53 @@ pub fn opentype_runs_have_no_obligations<'a, U: hb_unicode_funcs_t>()
         OpenTypeLayout,
         hb_default_shaper_t,
     >();
+}
+
+/// What is preserved by every run of a shaper is preserved by the run that it makes of a text.
+fn text_runs_preserve<U, F, M, S>()
+where
+    U: hb_unicode_funcs_t,
+    F: hb_font_t,
+    M: hb_ot_layout_t<F>,
+    S: hb_ot_shaper_t<U, F, M>,
+    ensures clusters { ((plan : Plan S M.Map S.Data) (face : F)
+        → RunPreservesClusters (⟦<S as Runs<U, F, M>>⟧.run plan face))
+        → (face : F) (shaper : S) (features : List AnyFeature) (text : Buffer)
+        → RunPreservesClusters (⟦<S as TextRuns<U, F, M>>⟧.text_run face shaper features text) }
+    ensures flags { ((plan : Plan S M.Map S.Data) (face : F)
+        → RunPreservesFlags (⟦<S as Runs<U, F, M>>⟧.run plan face))
+        → (face : F) (shaper : S) (features : List AnyFeature) (text : Buffer)
+        → RunPreservesFlags (⟦<S as TextRuns<U, F, M>>⟧.text_run face shaper features text) }
+    ensures equivalence { ((plan : Plan S M.Map S.Data) (face : F)
+        → RunPreservesEquivalence (⟦<S as Runs<U, F, M>>⟧.run plan face))
+        → (face : F) (shaper : S) (features : List AnyFeature) (text : Buffer)
+        → RunPreservesEquivalence (⟦<S as TextRuns<U, F, M>>⟧.text_run face shaper features text) }
+{}
+
+/// A run by the shaper of a text's script with the tables of a font file preserves clusters and flags, whatever the bytes of
+/// the file are; by the default shaper it preserves equivalence, too. Its Unicode functions are those that it is given.
+pub fn script_runs_preserve<'a, U: hb_unicode_funcs_t>()
+    ensures unicode { (face : Face) (features : List AnyFeature) (text : Buffer)
+        → (⟦<by_script as ScriptRuns<U, OpenTypeFace<'a>, OpenTypeLayout>>⟧.text_run face features text).unicode
+        ≡ U.unicode }
+    ensures clusters { (face : Face) (features : List AnyFeature) (text : Buffer) → RunPreservesClusters
+        (⟦<by_script as ScriptRuns<U, OpenTypeFace<'a>, OpenTypeLayout>>⟧.text_run face features text) }
+    ensures flags { (face : Face) (features : List AnyFeature) (text : Buffer) → RunPreservesFlags
+        (⟦<by_script as ScriptRuns<U, OpenTypeFace<'a>, OpenTypeLayout>>⟧.text_run face features text) }
+    ensures equivalence { (face : Face) (features : List AnyFeature) (text : Buffer)
+        → category_for U.unicode (opentype_layout face) text ≡ Category.Default
+        → RunPreservesEquivalence
+        (⟦<by_script as ScriptRuns<U, OpenTypeFace<'a>, OpenTypeLayout>>⟧.text_run face features text) }
+{
+    opentype_layout_preserves();
+    opentype_runs_have_no_obligations::<U>();
+    arabic_runs_preserve::<U, OpenTypeFace, OpenTypeLayout>();
+    hangul_runs_preserve::<U, OpenTypeFace, OpenTypeLayout>();
+    hebrew_runs_preserve::<U, OpenTypeFace, OpenTypeLayout>();
+    thai_runs_preserve::<U, OpenTypeFace, OpenTypeLayout>();
+    text_runs_preserve::<U, OpenTypeFace, OpenTypeLayout, hb_default_shaper_t>();
+    text_runs_preserve::<U, OpenTypeFace, OpenTypeLayout, ArabicShaper>();
+    text_runs_preserve::<U, OpenTypeFace, OpenTypeLayout, HangulShaper>();
+    text_runs_preserve::<U, OpenTypeFace, OpenTypeLayout, HebrewShaper>();
+    text_runs_preserve::<U, OpenTypeFace, OpenTypeLayout, ThaiShaper>();
 }

@@ -12,17 +12,14 @@ ghost use Rattle.shape_buffer.specs.Guess.{first_script, script_or_ltr};
 ghost use Rattle.shape_buffer.specs.Text.{text_items};
 ghost use Rattle.shape_font.specs.Bytes.{u16_of};
 ghost use Rattle.shape_font.specs.Directory.{bytes_of};
-ghost use Rattle.shape_pipeline.specs.Planned.{planned_for};
-ghost use Rattle.font_shaping.specs.Strings.{AreGlyphsOf, IsPlaceIn, IsTextOf, StringPasses, string_text};
+ghost use Rattle.font_shaping.specs.Strings.{AreGlyphsOf, IsPlaceIn, IsTextOf, TextPasses, WithTextOf, string_text};
 
-use crate::laws::opentype_runs_have_no_obligations;
+use crate::shaping::shape_with_font;
 use opentype_layout::{OpenTypeFace, OpenTypeLayout};
-use shape_pipeline::ot_shaper::Runs;
+use script_shapers::choice::{ScriptRuns, by_script};
 use shape_pipeline::{
-    DEFAULT_SHAPER, Feature, GlyphBuffer, ShapeError, ShapeFault, UnicodeBuffer,
-    hb_default_shaper_t, hb_unicode_funcs_t, shape,
+    Feature, GlyphBuffer, ShapeError, ShapeFault, UnicodeBuffer, hb_unicode_funcs_t,
 };
-use shape_plan::planner::Plans;
 use std::alloc::Global;
 
 /// Why a string was not shaped with the bytes of a font file.
@@ -84,8 +81,8 @@ fn append(buffer: &mut UnicodeBuffer, string: &str) -> Result<(), ShapeError>
     buffer.push_str(string)
 }
 
-/// The glyphs of a string with a font file, in the direction of its script: those that `shape` makes of its text with
-/// these features and nothing else set. Nothing is asked of the string or the font: each cluster is the place of a
+/// The glyphs of a string with a font file, in the direction of its script and by the shaper that this asks for: those that
+/// `shape_by_script` makes of its text with these features and nothing else set. Nothing is asked of the string or the font: each cluster is the place of a
 /// character's first byte in the string, clusters stand in the order in which the glyphs run, neighbours in one cluster
 /// have the same flags, no glyph is unsafe to concat, and a string of at most 256 characters has at most 16384 glyphs,
 /// a longer one at most 64 for each. Refuses with `Length` a string of 2^32 bytes and more, or one of which a step
@@ -96,15 +93,13 @@ pub fn shape_str<'a, U: hb_unicode_funcs_t>(
     features: &[Feature],
     string: &str,
 ) -> Result<GlyphBuffer, ShapeFault>
-    ensures glyphs { let run = ⟦<hb_default_shaper_t as Runs<U, OpenTypeFace<'a>, OpenTypeLayout>>⟧.run
-        (planned_for U.unicode ⟦<hb_default_shaper_t as Plans<U, OpenTypeFace<'a>, OpenTypeLayout>>⟧.planning
-        face.now DEFAULT_SHAPER features.now (string_text string.now)) face.now in
-        IfOk result (λ glyphs. AreGlyphsOf run string.now glyphs) }
-    ensures length { let run = ⟦<hb_default_shaper_t as Runs<U, OpenTypeFace<'a>, OpenTypeLayout>>⟧.run
-        (planned_for U.unicode ⟦<hb_default_shaper_t as Plans<U, OpenTypeFace<'a>, OpenTypeLayout>>⟧.planning
-        face.now DEFAULT_SHAPER features.now (string_text string.now)) face.now in
-        IfErr result (λ fault. fault.cause ≡ ShapeError.Length
-        → (2 ^ 32 ≤ length string.now) ⊎ StringPasses run string.now) }
+    ensures glyphs { IfOk result (λ glyphs. WithTextOf string.now (λ text.
+        let run = ⟦<by_script as ScriptRuns<U, OpenTypeFace<'a>, OpenTypeLayout>>⟧.text_run
+        face.now features.now text in AreGlyphsOf U.unicode run text glyphs)) }
+    ensures length { IfErr result (λ fault. fault.cause ≡ ShapeError.Length
+        → (2 ^ 32 ≤ length string.now) ⊎ WithTextOf string.now (λ text.
+        let run = ⟦<by_script as ScriptRuns<U, OpenTypeFace<'a>, OpenTypeLayout>>⟧.text_run
+        face.now features.now text in TextPasses U.unicode run text)) }
     ensures bytes { 2 ^ 32 ≤ length string.now
         → MatchResult result (λ _. ⊥) (λ fault. fault.cause ≡ ShapeError.Length) }
     ensures direction { IfOk result (λ glyphs. glyphs.direction
@@ -121,15 +116,8 @@ pub fn shape_str<'a, U: hb_unicode_funcs_t>(
         → IfOk result (λ glyphs. length glyphs.items ≤ length (chars string.now) * 64) }
     ensures refused { IfErr result (λ fault. fault.buffer ≡ new_buffer) }
 {
-    opentype_runs_have_no_obligations::<U>();
     match text_of_str(alloc, string) {
-        Ok(text) => shape::<U, OpenTypeFace, OpenTypeLayout, hb_default_shaper_t>(
-            alloc,
-            face,
-            &DEFAULT_SHAPER,
-            features,
-            text,
-        ),
+        Ok(text) => shape_with_font::<U>(alloc, face, features, text),
         Err(fault) => Err(fault),
     }
 }

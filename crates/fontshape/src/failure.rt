@@ -1,4 +1,6 @@
 //! Why the program gives up, what it says of it, and the status that it ends with.
+ghost use Rattle.std.specs.Prelude.{◌≡◌, ◌≤◌, ◌⊎◌};
+
 use clap::Error;
 use clap::error::ErrorKind;
 use shape_pipeline::ShapeError;
@@ -77,8 +79,16 @@ impl Failure {
         }
     }
 
-    /// The status that the program ends with: 0 only after help and the version.
-    pub fn status(&self) -> u8 {
+    /// The status that the program ends with: 2 if the arguments are wrong, 1 for a file or for want of memory, 3 for a
+    /// text that was refused, and 0 only after help and the version.
+    pub fn status(&self) -> u8
+        ensures within { result ≤ 3 }
+        ensures usage { (e : _) → self.now ≡ Failure.Usage e → (result ≡ 0) ⊎ (result ≡ 2) }
+        ensures argument { (text : _) → self.now ≡ Failure.Argument text → result ≡ 2 }
+        ensures file { (text : _) → self.now ≡ Failure.File text → result ≡ 1 }
+        ensures refused { (text : _) → self.now ≡ Failure.Refused text → result ≡ 3 }
+        ensures memory { self.now ≡ Failure.Memory → result ≡ 1 }
+    {
         match self {
             Failure::Usage(error) if !error.use_stderr() => 0,
             Failure::Usage(_) => 2,

@@ -22,9 +22,10 @@ use crate::failure::Failure;
 use crate::line::Line;
 use crate::options::{Format, Options, Source};
 use crate::picture::Picture;
-use crate::shaping::shaped;
+use crate::shaping::{opened, shaped};
 use crate::written::{Given, written};
 use glyph_outlines::Outlines;
+use opentype_layout::OpenedOpenTypeFace;
 use shape_font::FontFace;
 use shape_pipeline::hb_font_t;
 use shape_text_forms::SerializeFlags;
@@ -44,6 +45,7 @@ const OUTPUT: &str = "standard output";
 struct Work<'a, W: Write + Drop> {
     options: &'a Options,
     face: FontFace<'a>,
+    opened: Option<OpenedOpenTypeFace<'a>>,
     outlines: Option<Outlines<'a>>,
     picture: Picture,
     writer: BufWriter<W>,
@@ -61,7 +63,7 @@ impl<'a, W: Write + Drop> Work<'a, W> {
     /// Shapes a line, and draws it or writes it.
     fn take_line(&mut self, alloc: Global, text: &[u8], number: usize) -> Result<(), Failure> {
         let line = Line::new(alloc, text, self.options.utf8_clusters())?;
-        let glyphs = match shaped(alloc, self.options, &self.face, &line) {
+        let glyphs = match shaped(alloc, self.options, &self.face, self.opened.as_ref(), &line) {
             Ok(glyphs) => glyphs,
             Err(error) => return Err(Failure::line(alloc, number, error)),
         };
@@ -196,9 +198,13 @@ fn run_to<W: Write + Drop>(
     let Ok(writer) = BufWriter::new(alloc, writer) else {
         return Err(Failure::Memory);
     };
+    let Ok(opened) = opened(alloc, options, face) else {
+        return Err(Failure::Memory);
+    };
     let mut work = Work {
         options,
         face,
+        opened,
         outlines,
         picture: Picture::new(alloc, face.units_per_em()),
         writer,

@@ -4,7 +4,7 @@ ghost use Rattle.std.specs.Prelude.{◌≡◌};
 use crate::line::Line;
 use crate::options::Options;
 use kern_table::KernTable;
-use opentype_layout::{OpenTypeFace, OpenTypeLayout};
+use opentype_layout::{OpenTypeFace, OpenTypeLayout, OpenedOpenTypeFace};
 use script_shapers::choice::shape_by_script;
 use shape_font::FontFace;
 use shape_pipeline::ot_shaper::{
@@ -126,18 +126,34 @@ fn shaped_without_layout(
     }
 }
 
-/// The glyphs of a line, by the font's tables of lookups unless the options say not to. Refuses as `shape` does.
+/// The face for the font's tables of lookups, opened once for all lines; none if the options say to leave them alone. Refuses
+/// with `Memory` if a growth was refused.
+pub fn opened<'a>(
+    alloc: Global,
+    options: &Options,
+    face: FontFace<'a>,
+) -> Result<Option<OpenedOpenTypeFace<'a>>, ShapeError> {
+    if options.layout() {
+        let opened = OpenedOpenTypeFace::new(alloc, OpenTypeFace::new(face))?;
+        Ok(Some(opened))
+    } else {
+        Ok(None)
+    }
+}
+
+/// The glyphs of a line, by the font's tables of lookups if the face was opened for them. Refuses as `shape` does.
 pub fn shaped(
     alloc: Global,
     options: &Options,
     face: &FontFace,
+    opened: Option<&OpenedOpenTypeFace>,
     line: &Line,
 ) -> Result<GlyphBuffer, ShapeError> {
     let buffer = filled(alloc, options, line)?;
-    if options.layout() {
-        let face = OpenTypeFace::new(*face);
-        shaped_with::<OpenTypeFace, OpenTypeLayout>(alloc, options, &face, buffer)
-    } else {
-        shaped_without_layout(alloc, options, face, buffer)
+    match opened {
+        Some(opened) => {
+            shaped_with::<OpenedOpenTypeFace, OpenTypeLayout>(alloc, options, opened, buffer)
+        }
+        None => shaped_without_layout(alloc, options, face, buffer),
     }
 }

@@ -1,5 +1,5 @@
 -- Composing syllables, taking them apart and moving their tone marks preserves the order of clusters and the flags of
--- glyphs, and so do the masks of jamo.
+-- glyphs.
 use Rattle.std.proofs.Common.{◌≡◌, ℕ, zero, suc, ◌+◌, ◌-◌, ◌<◌, ◌≤◌, ◌==◌, ◌||◌, not, Bool, true, false, if◌then◌else◌, List, [], ◌∷◌, ◌++◌, Option, None, Some, length, min, drop, refl, ap, sym, subst, ◌∙◌, inl, inr, arith}
 use Rattle.std.specs.Prelude.{slice_get}
 use Rattle.std.proofs.Math.Dec.{eqb-suc-zero}
@@ -10,7 +10,6 @@ use Rattle.shape_common.specs.Face.{FaceMeaning}
 use Rattle.shape_common.specs.Unicode.{UnicodeMeaning}
 use Rattle.shape_common.specs.declared.text_types.BufferClusterLevel.{BufferClusterLevel}
 use Rattle.shape_common.specs.declared.text_types.BufferClusterLevel.TheVariants.{MonotoneGraphemes, MonotoneCharacters, Characters}
-use Rattle.shape_common.specs.declared.text_types.hb_tag_t.{hb_tag_t}
 use Rattle.shape_items.specs.Buffer.{Buffer}
 use Rattle.shape_items.specs.BufferClusters.{merge_out_clusters, unsafe_to_break}
 use Rattle.shape_items.specs.Clusters.{clusters}
@@ -19,19 +18,14 @@ use Rattle.shape_items.specs.Items.{Item}
 use Rattle.shape_items.specs.PreservesFlags.{has_flag, some_has}
 use Rattle.shape_items.proofs.Flags.FlagLemmas.{PreservesFlags-then}
 use Rattle.shape_items.proofs.Order.DrawsInOrder.{DrawsInOrder, DrawsInOrder-same, DrawsInOrder-after, DrawsInOrder-again}
-use Rattle.shape_buffer.specs.Layout.{HasNoDefinedFlag}
 use Rattle.shape_buffer.specs.Preservation.{IsClusterPreserving, IsFlagPreserving}
-use Rattle.shape_buffer.specs.Walks.{items_mapped}
 use Rattle.shape_buffer.proofs.Steps.PreservationLemmas.{PreservesOrder-then}
 use Rattle.script_shapers.specs.Hangul.{at_graphemes, merged_syllable, joined_syllable, joined_tone, with_tone, is_zero_width, is_nothing, is_tone, if_tone, tone_after, taken_of, syllable_at, marks_of, joined_at, joined_next, joined_to, taken_at}
-use Rattle.script_shapers.specs.Hangul.{glyphs_of, of_kind, with_circle, turned, both_of, glyphs_with, block_at, block_taken, one_more_if, next_skip, built, wants_circle, composed_text, jamo_mask, jamo_masks, jamo_masked}
-use Rattle.script_shapers.specs.declared.hangul.JamoMasks.{JamoMasks}
-use Rattle.script_shapers.specs.declared.hangul.TheConstants.{LJMO, VJMO, TJMO}
+use Rattle.script_shapers.specs.Hangul.{glyphs_of, of_kind, with_circle, turned, both_of, glyphs_with, block_at, block_taken, one_more_if, next_skip, built, wants_circle, composed_text}
 use Rattle.script_shapers.specs.declared.hangul.syllables.Size.{Size}
 use Rattle.script_shapers.specs.declared.hangul.syllables.Size.TheVariants.{Two, Three}
 use Rattle.script_shapers.specs.declared.hangul.syllables.Syllable.{Syllable}
 use Rattle.script_shapers.specs.declared.hangul.syllables.Syllable.TheVariants as is
-use Rattle.script_shapers.proofs.MaskLemmas.{added_flag, flags-mapped}
 use Rattle.script_shapers.proofs.PreservationLemmas.{PreservesAll, PreservesAll-same, PreservesAll-then, PreservesAll-merge, PreservesAll-merge_out, PreservesAll-unsafe_to_break, order-replaced, flags-replaced, BringsNone}
 
 -- ---- what is marked and merged in place
@@ -388,20 +382,3 @@ composing_preserves_flags unicode face b =
     let first = joined_preserves unicode face (length b.items) b (omega arith) in
     PreservesFlags-then b mid _ first.flags
     (flags-replaced mid _ (built_brings unicode face mid.cluster_level (wants_circle face mid.flags) 0 mid.items))
-
--- ---- masks of jamo
-
-no_flag : (mask : hb_tag_t → ℕ) → ((tag : hb_tag_t) → HasNoDefinedFlag (mask tag)) → (kind : ℕ) → HasNoDefinedFlag (jamo_mask (jamo_masks mask) kind)
-no_flag mask none kind =
-    elim (kind == 1) as (λ a. HasNoDefinedFlag (if a then mask LJMO else (if kind == 2 then mask VJMO else (if kind == 3 then mask TJMO else 0)))) [
-      | true ↦ none LJMO
-      | false ↦ elim (kind == 2) as (λ a. HasNoDefinedFlag (if a then mask VJMO else (if kind == 3 then mask TJMO else 0))) [
-        | true ↦ none VJMO
-        | false ↦ elim (kind == 3) as (λ a. HasNoDefinedFlag (if a then mask TJMO else 0)) [ true ↦ none TJMO | false ↦ refl ]
-      ]
-    ]
-
-pub flags-jamo : (mask : hb_tag_t → ℕ) → ((tag : hb_tag_t) → HasNoDefinedFlag (mask tag))
-    → IsFlagPreserving (items_mapped (jamo_masked (jamo_masks mask)))
-flags-jamo mask none = flags-mapped (jamo_masked (jamo_masks mask)) (λ flag defined x.
-    added_flag (jamo_mask (jamo_masks mask) x.properties.shaper_auxiliary) flag x (no_flag mask none x.properties.shaper_auxiliary) defined)

@@ -1,3 +1,4 @@
+pub mod ArabicPauses
 pub mod ArabicRequests
 pub mod Choice
 pub mod Hangul

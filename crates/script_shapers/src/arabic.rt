@@ -1,14 +1,14 @@
 //! The script shaper for Arabic and Syriac. Letters get the forms that their neighbours ask for, and modifier marks
 //! step to the front of their letter's marks.
 //!
-//! The shaper gives three hooks. Two things of HarfBuzz are left out: stretching (`stch`), which belongs into the
-//! first pause and into `postprocess_glyphs`, and the forms of fonts without `GSUB`, which belong into the pause after
-//! `rlig`.
+//! The shaper gives five hooks. Signs that stretch over a word (`stch`) are noted at the first pause, and stretched once glyphs
+//! have positions. Fonts of Arabic without forms get them at the pause after `rlig`.
 ghost use Rattle.std.specs.Prelude.{◌≡◌, true, false, None, pos, refl};
 ghost use Rattle.shape_buffer.specs.Preservation.{LookupsPreserveClusters, LookupsPreserveFlags};
 ghost use Rattle.shape_plan.specs.Preservation.{RunPreservesFlags};
 ghost use Rattle.shape_plan.specs.Plan.{Plan};
 ghost use Rattle.shape_pipeline.specs.Order.{RunPreservesClusters};
+ghost use Rattle.script_shapers.specs.Worked.ArabicPauses.{WorkedPauses};
 ghost use Rattle.script_shapers.specs.Worked.ArabicRequests.{WorkedRequests};
 ghost use Rattle.script_shapers.specs.Worked.JoinedText.{WorkedJoiningFlags};
 ghost use Rattle.script_shapers.specs.Worked.JoinedText.{WorkedForms};
@@ -19,17 +19,23 @@ ghost use Rattle.script_shapers.specs.ArabicFlags.{joined, joined-alone};
 ghost use Rattle.script_shapers.specs.Worked.Joining.{WorkedJoining};
 ghost use Rattle.script_shapers.specs.Worked.Modifiers.{WorkedModifiers};
 ghost use Rattle.script_shapers.specs.ArabicRequests.{arabic_requests, is_mongolian};
-ghost use Rattle.shape_buffer.specs.Outcome.{Made};
+ghost use Rattle.shape_buffer.specs.Outcome.{IsWithinLimit, Made, Outcome, step};
+ghost use Rattle.arabic_fallback.specs.Classes.{class_by};
+ghost use Rattle.arabic_stretching.specs.Stretching.{stretched};
+ghost use Rattle.script_shapers.specs.ArabicPauses.{made_by_pause};
 
 mod flags;
 mod forms;
 pub mod joining;
 mod modifiers;
+mod pauses;
 mod requests;
 
+use arabic_stretching::stretch_tiles;
 use flags::mark_all;
 use forms::{FormMasks, form_all};
 use modifiers::reorder_modifiers;
+use pauses::pause_at;
 use requests::{
     FIN2, FIN3, FINA, INIT, ISOL, MED2, MEDI, ask_final_forms, ask_first, ask_last,
     ask_other_forms, has_fallback, is_mongolian,
@@ -42,7 +48,8 @@ use shape_pipeline::laws::given_hooks_preserve;
 use shape_pipeline::ot_shape_normalize::HB_OT_SHAPE_NORMALIZATION_MODE_AUTO;
 use shape_pipeline::ot_shape_plan::hb_ot_shape_plan_t;
 use shape_pipeline::ot_shaper::hooks::{
-    collect_features_hook, reorder_marks_hook, setup_masks_hook,
+    collect_features_hook, pause_hook, postprocess_glyphs_hook, reorder_marks_hook,
+    setup_masks_hook,
 };
 use shape_pipeline::ot_shaper::{
     HB_OT_SHAPE_ZERO_WIDTH_MARKS_BY_GDEF_LATE, Runs, hb_ot_shaper_t, no_hook, script_shaper,
@@ -65,9 +72,9 @@ impl<U: hb_unicode_funcs_t, F: hb_font_t, M: hb_ot_layout_t<F>> script_shaper<U,
 
     type PreprocessText = no_hook;
 
-    type PostprocessGlyphs = no_hook;
+    type PostprocessGlyphs = Self;
 
-    type Pause = no_hook;
+    type Pause = Self;
 
     type Decompose = no_hook;
 
@@ -183,6 +190,56 @@ impl<U: hb_unicode_funcs_t, F, M: hb_ot_layout_t<F>> reorder_marks_hook<ArabicSh
     ghost reorders = { λ _ _. modifiers_reordered-reorders };
 }
 
+impl<U: hb_unicode_funcs_t, F: hb_font_t, M: hb_ot_layout_t<F>> pause_hook<
+    ArabicShaper,
+    (),
+    U,
+    F,
+    M,
+> for ArabicShaper {
+    ghost paused = { λ _ plan face n. made_by_pause n (M.masks plan.ot_map) (F.face face)
+        (class_by (M.layout face).has_glyph_classes (M.lookups plan.ot_map face).substitute_start) };
+
+    ghost GIVEN = { true };
+
+    const GIVEN: bool = true;
+
+    fn pause(
+        _shaper: &ArabicShaper,
+        alloc: Global,
+        n: u32,
+        plan: &hb_ot_shape_plan_t<'_, ArabicShaper, M::Map, ()>,
+        face: &F,
+        buffer: &mut hb_buffer_t,
+    ) -> Result<(), ShapeError> {
+        pause_at::<F, M>(alloc, n, plan.ot_map(), face, buffer)
+    }
+}
+
+impl<U: hb_unicode_funcs_t, F: hb_font_t, M: hb_ot_layout_t<F>> postprocess_glyphs_hook<
+    ArabicShaper,
+    (),
+    U,
+    F,
+    M,
+> for ArabicShaper {
+    ghost postprocessed = { λ _ _ face. stretched (F.face face) };
+
+    ghost GIVEN = { true };
+
+    const GIVEN: bool = true;
+
+    fn postprocess_glyphs(
+        _shaper: &ArabicShaper,
+        alloc: Global,
+        _plan: &hb_ot_shape_plan_t<'_, ArabicShaper, M::Map, ()>,
+        face: &F,
+        buffer: &mut hb_buffer_t,
+    ) -> Result<(), ShapeError> {
+        stretch_tiles(alloc, face, buffer)
+    }
+}
+
 /// A run by this shaper preserves clusters if its engine's lookups do, and flags if they do, whatever the
 /// Unicode functions, the plan and the face.
 pub fn arabic_runs_preserve<U: hb_unicode_funcs_t, F: hb_font_t, M: hb_ot_layout_t<F>>()
@@ -207,8 +264,11 @@ pub fn modifiers_meet_worked_cases()
 {}
 
 /// What a run takes from the shaper: marks lose their widths late, whatever their class (2), and are placed by their boxes if
-/// no table places them.
+/// no table places them; positioning lookups of any script serve; texts are normalised as the font's tables ask (4).
 pub fn arabic_marks_are_placed<U: hb_unicode_funcs_t, F: hb_font_t, M: hb_ot_layout_t<F>>()
+    ensures normalises { ⟦<ArabicShaper as hb_ot_shaper_t<U, F, M>>⟧.constants.preference ≡ pos 4 }
+    ensures script { ⟦<ArabicShaper as hb_ot_shaper_t<U, F, M>>⟧.constants.gpos_tag ≡ None }
+    ensures own { ⟦<ArabicShaper as hb_ot_shaper_t<U, F, M>>⟧.constants.is_default ≡ false }
     ensures widths { ⟦<ArabicShaper as hb_ot_shaper_t<U, F, M>>⟧.constants.zero_width_marks ≡ 2 }
     ensures places { ⟦<ArabicShaper as hb_ot_shaper_t<U, F, M>>⟧.constants.fallback_position ≡ true }
 {}
@@ -226,4 +286,9 @@ pub fn flags_meet_worked_cases()
 /// The features of Arabic and Syriac, and their stages.
 pub fn requests_meet_worked_cases()
     ensures { WorkedRequests }
+{}
+
+/// When tiles are noted, when forms are made for fonts without them, and by which masks.
+pub fn pauses_meet_worked_cases()
+    ensures { WorkedPauses }
 {}

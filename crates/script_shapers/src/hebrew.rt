@@ -151,9 +151,12 @@ pub fn points_meet_worked_cases()
     ensures { WorkedPoints }
 {}
 
-/// What a run takes from the shaper: `GPOS` is applied if it has the script `hebr`, and not by another one; marks lose their widths late, whatever their class (2), and are placed by their boxes if
-/// no table places them.
+/// What a run takes from the shaper: `GPOS` is applied if it has the script `hebr`, and not by another one; marks lose
+/// their widths late, whatever their class (2), and are placed by their boxes if no table places them; texts are normalised as
+/// the font's tables ask (4).
 pub fn hebrew_marks_are_placed<U: hb_unicode_funcs_t, F: hb_font_t, M: hb_ot_layout_t<F>>()
+    ensures normalises { ⟦<HebrewShaper as hb_ot_shaper_t<U, F, M>>⟧.constants.preference ≡ pos 4 }
+    ensures own { ⟦<HebrewShaper as hb_ot_shaper_t<U, F, M>>⟧.constants.is_default ≡ false }
     ensures widths { ⟦<HebrewShaper as hb_ot_shaper_t<U, F, M>>⟧.constants.zero_width_marks ≡ 2 }
     ensures script { ⟦<HebrewShaper as hb_ot_shaper_t<U, F, M>>⟧.constants.gpos_tag ≡ Some HEBR }
     ensures places { ⟦<HebrewShaper as hb_ot_shaper_t<U, F, M>>⟧.constants.fallback_position ≡ true }

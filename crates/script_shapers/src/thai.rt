@@ -27,7 +27,7 @@ use shape_pipeline::ot_shape_normalize::HB_OT_SHAPE_NORMALIZATION_MODE_AUTO;
 use shape_pipeline::ot_shape_plan::hb_ot_shape_plan_t;
 use shape_pipeline::ot_shaper::hooks::preprocess_text_hook;
 use shape_pipeline::ot_shaper::{
-    HB_OT_SHAPE_ZERO_WIDTH_MARKS_BY_GDEF_LATE, Runs, no_hook, script_shaper,
+    HB_OT_SHAPE_ZERO_WIDTH_MARKS_BY_GDEF_LATE, Runs, hb_ot_shaper_t, no_hook, script_shaper,
 };
 use std::alloc::Global;
 
@@ -165,6 +165,16 @@ pub fn thai_runs_preserve<U: hb_unicode_funcs_t, F: hb_font_t, M: hb_ot_layout_t
 {
     given_hooks_preserve::<U, F, M, ThaiShaper>();
 }
+
+/// What a run takes from the shaper: marks lose their widths late, whatever their class (2), and aren't placed by their boxes;
+/// positioning lookups of any script serve; texts are normalised as the font's tables ask (4).
+pub fn thai_marks_are_placed<U: hb_unicode_funcs_t, F: hb_font_t, M: hb_ot_layout_t<F>>()
+    ensures normalises { ⟦<ThaiShaper as hb_ot_shaper_t<U, F, M>>⟧.constants.preference ≡ pos 4 }
+    ensures script { ⟦<ThaiShaper as hb_ot_shaper_t<U, F, M>>⟧.constants.gpos_tag ≡ None }
+    ensures own { ⟦<ThaiShaper as hb_ot_shaper_t<U, F, M>>⟧.constants.is_default ≡ false }
+    ensures widths { ⟦<ThaiShaper as hb_ot_shaper_t<U, F, M>>⟧.constants.zero_width_marks ≡ 2 }
+    ensures places { ⟦<ThaiShaper as hb_ot_shaper_t<U, F, M>>⟧.constants.fallback_position ≡ false }
+{}
 
 /// SARA AM after letters and marks, at each level of clusters.
 pub fn sara_am_meets_worked_cases()

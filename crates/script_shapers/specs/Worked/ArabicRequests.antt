@@ -7,20 +7,21 @@ use Rattle.shape_buffer.specs.declared.interfaces.map_request.MapRequest.TheVari
 use Rattle.script_shapers.specs.ArabicRequests.{arabic_requests}
 
 -- a feature with its flags (1 on for the whole text, 2 has a fallback, 8 takes ZWJ as it stands) and its value, or a
--- pause
+-- pause with its number, 0 for none
 abbrev pub Shown : Type 0
 Shown = ℕ × ℕ × ℕ
 
 abbrev pub shown : MapRequest → Shown
 shown (Feature tag flags value) = (tag.0, flags, value)
-shown (Pause number) = (0, 0, 0)
+shown (Pause None) = (0, 0, 0)
+shown (Pause (Some number)) = (0, 0, number)
 
 abbrev pub script : ℕ → Script
 script tag = record { 0 = record { 0 = tag } }
 
--- stch, pause, ccmp, locl, pause
+-- stch, pause 2, ccmp, locl, pause
 abbrev pub first : List Shown
-first = (0x73746368, 1, 1) ∷ (0, 0, 0) ∷ (0x63636D70, 9, 1) ∷ (0x6C6F636C, 9, 1) ∷ (0, 0, 0) ∷ []
+first = (0x73746368, 1, 1) ∷ (0, 0, 2) ∷ (0x63636D70, 9, 1) ∷ (0x6C6F636C, 9, 1) ∷ (0, 0, 0) ∷ []
 
 abbrev pub stop : Shown
 stop = (0, 0, 0)
@@ -39,8 +40,8 @@ abbrev pub rlig : Shown
 rlig = (0x726C6967, 11, 1)
 
 pub record WorkedRequests : Type 0 where
-  -- Arabic has a pause after rlig, Syriac and a text without a script have none
-  pub arabic : map shown (arabic_requests (Some (script 0x41726162))) ≡ first ++ forms 10 ++ (rlig ∷ stop ∷ []) ++ last
+  -- Arabic has pause 1 after rlig, Syriac and a text without a script have none
+  pub arabic : map shown (arabic_requests (Some (script 0x41726162))) ≡ first ++ forms 10 ++ (rlig ∷ (0, 0, 1) ∷ []) ++ last
   pub syriac : map shown (arabic_requests (Some (script 0x53797263))) ≡ first ++ forms 8 ++ (rlig ∷ []) ++ last
   pub no_script : map shown (arabic_requests None) ≡ first ++ forms 8 ++ (rlig ∷ []) ++ last
 

@@ -56,6 +56,12 @@ pub const CLIG: hb_tag_t = hb_tag_t(0x636C_6967);
 /// Marks placed by substitution.
 pub const MSET: hb_tag_t = hb_tag_t(0x6D73_6574);
 
+/// The number of the pause after `rlig`, where forms and ligatures are made for fonts without them.
+pub const FALLBACK: u32 = 1;
+
+/// The number of the pause after `stch`, where the tiles that it makes are noted.
+pub const STRETCH: u32 = 2;
+
 /// Whether a script is Arabic, which alone has forms for fonts without `GSUB`.
 fn is_arabic(script: Option<Script>) -> bool
     ensures { result ≡ is_arabic script }
@@ -87,13 +93,13 @@ pub fn has_fallback(script: Option<Script>) -> hb_ot_map_feature_flags_t
     }
 }
 
-/// Asks for what comes before the forms of letters. The first pause is the place of stretching.
+/// Asks for what comes before the forms of letters. The tiles of stretching are noted at the first pause.
 pub fn ask_first(builder: &mut hb_ot_map_builder_t) -> Result<(), ShapeError>
     ensures ok { OnOk result (builder.new ≡ with_requests builder.old first_requests) }
     ensures memory { IfErr result (λ e. e ≡ ShapeError.Memory) }
 {
     builder.enable_feature(STCH, F_NONE, 1)?;
-    builder.add_gsub_pause(None)?;
+    builder.add_gsub_pause(Some(STRETCH))?;
     builder.enable_feature(CCMP, F_MANUAL_ZWJ, 1)?;
     builder.enable_feature(LOCL, F_MANUAL_ZWJ, 1)?;
     builder.add_gsub_pause(None)
@@ -163,7 +169,7 @@ fn ask_ligatures(
 {
     builder.enable_feature(RLIG, F_MANUAL_ZWJ | F_HAS_FALLBACK, 1)?;
     if is_arabic(script) {
-        builder.add_gsub_pause(None)?;
+        builder.add_gsub_pause(Some(FALLBACK))?;
     }
     Ok(())
 }

@@ -1,5 +1,6 @@
 use Rattle.std.proofs.Common.{refl, inl, inr}
-use Rattle.script_shapers.proofs.HangulLemmas.{composing_preserves_clusters, composing_preserves_flags, flags-jamo}
+use Rattle.script_shapers.proofs.HangulLemmas.{composing_preserves_clusters, composing_preserves_flags}
+use Rattle.script_shapers.proofs.JamoLemmas.{flags-jamo}
 use Rattle.script_shapers.proofs.hangul.hangul_runs_preserve.Goals as goal
 
 pub returns-clause-clusters : goal.returns-clause-clusters

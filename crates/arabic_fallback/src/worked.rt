@@ -1,0 +1,19 @@
+//! The definitions, computed by hand.
+ghost use Rattle.arabic_fallback.specs.Worked.Faces.{WorkedFaces};
+ghost use Rattle.arabic_fallback.specs.Worked.Forms.{WorkedForms};
+ghost use Rattle.arabic_fallback.specs.Worked.Ligatures.{WorkedLigatures};
+
+/// The forms of letters by the code charts, and where they are put.
+pub fn forms_meet_worked_cases()
+    ensures { WorkedForms }
+{}
+
+/// Ligatures over marks and joiners, of three letters and of marks, their clusters, and what becomes of marks.
+pub fn ligatures_meet_worked_cases()
+    ensures { WorkedLigatures }
+{}
+
+/// Which forms and ligatures a face has glyphs for, and which of two ligatures is made.
+pub fn faces_meet_worked_cases()
+    ensures { WorkedFaces }
+{}

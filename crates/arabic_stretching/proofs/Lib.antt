@@ -1,0 +1,4 @@
+mod DrawnLemmas
+mod OutcomeLemmas
+mod TurnedLemmas
+pub mod PreservationLemmas

@@ -1,0 +1,6 @@
+use Rattle.std.proofs.Common.{◌≡◌, ◌++◌, drop, map}
+use Rattle.arabic_stretching.specs.Stretching.{glyph_info}
+use Rattle.arabic_stretching.proofs.stretching.infos_of.Given as goal
+
+abbrev pub invariant-loop-glyph : goal.invariant-loop-glyph
+invariant-loop-glyph l = record { left : l.out.items ++ map glyph_info (drop l.glyph-index l.glyphs) ≡ map glyph_info l.glyphs }
