@@ -131,6 +131,8 @@ pub fn find_plan<U: hb_unicode_funcs_t, P>(
 ) -> Option<usize>
     ensures found { IfSome result (λ place. IsKeptAt U.unicode plans.now place face
         features.now text.now) }
+    ensures first { IfSome result (λ place. NoneKept U.unicode plans.now place face
+        features.now text.now) }
     ensures nowhere { IfNone result (NoneKept U.unicode plans.now (length plans.now) face
         features.now text.now) }
 {

@@ -11,4 +11,7 @@ pub mod UniqueLemmas
 pub mod SpotLemmas
 pub mod MeasureLemmas
 pub mod AtUniqueLemmas
+mod EndRows
+mod CanCutRows
+mod PlaceRows
 pub mod AtDecideLemmas

@@ -2,6 +2,8 @@
 ghost use Rattle.shape_lines.specs.Worked.CanCut.{WorkedCanCut, WorkedCannotCut};
 ghost use Rattle.shape_lines.specs.Worked.Lines.{WorkedLines};
 ghost use Rattle.shape_lines.specs.Worked.LinesAt.{WorkedLinesAt};
+ghost use Rattle.shape_lines.specs.Worked.Ends.{WorkedEnds};
+ghost use Rattle.shape_lines.specs.Worked.Spots.{WorkedSpots};
 ghost use Rattle.shape_lines.specs.Worked.Places.{WorkedTextOrder, WorkedPlaces};
 
 /// What can be cut into lines, and what can't.
@@ -24,4 +26,10 @@ pub fn lines_meet_worked_cases()
 /// Lines at allowed places.
 pub fn lines_at_meet_worked_cases()
     ensures { WorkedLinesAt }
+{}
+
+/// What lists of places say of glyphs, and which ends of lines are right by it.
+pub fn ends_meet_worked_cases()
+    ensures spots { WorkedSpots }
+    ensures ends { WorkedEnds }
 {}

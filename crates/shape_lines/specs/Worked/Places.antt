@@ -30,6 +30,7 @@ pub record WorkedTextOrder : Type 0 where
   pub none : clusters_in_text [] ≡ []
   pub rising : clusters_in_text (0 ∷ 0 ∷ 2 ∷ []) ≡ 0 ∷ 0 ∷ 2 ∷ []
   pub falling : clusters_in_text (2 ∷ 0 ∷ 0 ∷ []) ≡ 0 ∷ 0 ∷ 2 ∷ []
+  pub falling_at_the_end : clusters_in_text (2 ∷ 2 ∷ 0 ∷ []) ≡ 0 ∷ 2 ∷ 2 ∷ []
   pub rightward : widths_in LeftToRight 0 2 ≡ pos 600 ∷ pos 500 ∷ []
   pub leftward : widths_in RightToLeft 2 0 ≡ pos 500 ∷ pos 600 ∷ []
   pub downward : widths_in TopToBottom 0 2 ≡ negsuc 6 ∷ pos 9 ∷ []
@@ -44,6 +45,7 @@ worked_text_order = record {
   none = refl;
   rising = refl;
   falling = refl;
+  falling_at_the_end = refl;
   rightward = refl;
   leftward = refl;
   downward = refl;

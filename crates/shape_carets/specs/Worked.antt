@@ -1,0 +1,3 @@
+pub mod Carets
+pub mod Selections
+pub mod Places

@@ -1,0 +1,4 @@
+pub mod TotalLemmas
+pub mod KeyLemmas
+pub mod ShapingLemmas
+pub mod LawLemmas

@@ -1,0 +1,5 @@
+pub mod Keys
+pub mod Words
+pub mod Shaping
+pub mod Laws
+pub mod Worked

@@ -1,0 +1,7 @@
+//! The definitions, computed on small cases whose results were worked out by hand.
+ghost use Rattle.word_cache.specs.Worked.Words.{WorkedWords};
+
+/// Which word is found, which of them go, and that keys of two plans differ.
+pub fn words_meet_worked_cases()
+    ensures { WorkedWords }
+{}
