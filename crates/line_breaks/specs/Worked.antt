@@ -1,5 +1,7 @@
 -- The rules on single places, worked out by hand from the standard: the letters before a place, the last one first, the one after it, and
 -- those after that.
+pub mod Classes
+pub mod Texts
 use Rattle.std.specs.Prelude.{◌≡◌, true, false, List, [], ◌∷◌, map, refl}
 use Rattle.ucd_breaks.specs.declared.LineBreak.{LineBreak}
 use Rattle.ucd_breaks.specs.declared.LineBreak.TheVariants.{Aksara, AksaraPrebase, AksaraStart, Alphabetic, BreakAfter, BreakBefore, BreakBoth, BreakSymbols, CarriageReturn, CloseParenthesis, ClosePunctuation, ContingentBreak, EBase, EModifier, Glue, H2, HebrewLetter, Hyphen, Ideographic, InfixNumeric, Inseparable, Jl, Jt, Jv, LineFeed, MandatoryBreak, NextLine, Nonstarter, Numeric, OpenPunctuation, PostfixNumeric, PrefixNumeric, Quotation, RegionalIndicator, Space, UnambiguousHyphen, Virama, ViramaFinal, WordJoiner, ZWSpace}
@@ -11,25 +13,25 @@ use Rattle.line_breaks.specs.declared.rules.Verdict.{Verdict}
 use Rattle.line_breaks.specs.declared.rules.Verdict.TheVariants.{Mandatory, Allowed, Prohibited}
 use Rattle.line_breaks.specs.declared.units.Unit.{Unit}
 
-abbrev letter : LineBreak → Letter
+abbrev pub letter : LineBreak → Letter
 letter class = record edge { class = class }
 
-abbrev opening : LineBreak → Letter
+abbrev pub opening : LineBreak → Letter
 opening class = record edge { class = class; opens = true }
 
-abbrev closing : LineBreak → Letter
+abbrev pub closing : LineBreak → Letter
 closing class = record edge { class = class; closes = true }
 
-abbrev wide : LineBreak → Letter
+abbrev pub wide : LineBreak → Letter
 wide class = record edge { class = class; wide = true }
 
-abbrev reserved : LineBreak → Letter
+abbrev pub reserved : LineBreak → Letter
 reserved class = record edge { class = class; reserved = true }
 
-abbrev alone : Letter → Unit
+abbrev pub alone : Letter → Unit
 alone l = unit 0 l false
 
-abbrev place : List Letter → Letter → List Letter → Verdict
+abbrev pub place : List Letter → Letter → List Letter → Verdict
 place before after rest = verdict_between (map alone before) (alone after) (map alone rest)
 
 pub record WorkedRules : Type 0 where

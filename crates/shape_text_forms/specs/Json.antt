@@ -1,5 +1,5 @@
 -- glyphs as a list of JSON (RFC 8259), as `hb-shape` writes it
-use Rattle.std.specs.Prelude.{ℕ, ℤ, pos, List, [], ◌∷◌, ◌++◌, Bool, true, false, Option, nat_lt, ◌&&◌, ◌%◌, codes, if◌then◌else◌}
+use Rattle.std.specs.Prelude.{ℕ, ℤ, pos, List, [], ◌∷◌, ◌++◌, Bool, Option, nat_lt, ◌&&◌, ◌%◌, codes, if◌then◌else◌}
 use Rattle.std.specs.Fmt.{decimal, signed_decimal}
 use Rattle.std.specs.Option.{option_map_or}
 use Rattle.json.specs.Print.{quoted}
@@ -8,8 +8,8 @@ use Rattle.shape_common.specs.Wrapping.{◌+ʷ◌}
 use Rattle.shape_common.specs.declared.positions.GlyphPosition.{GlyphPosition}
 use Rattle.shape_common.specs.declared.text_types.GlyphId.{GlyphId}
 use Rattle.shape_common.specs.declared.face.hb_glyph_extents_t.{hb_glyph_extents_t}
-use Rattle.shape_text_forms.specs.Serialize.{Form, asks, NO_CLUSTERS, NO_POSITIONS, NO_GLYPH_NAMES, GLYPH_EXTENTS, GLYPH_FLAGS, NO_ADVANCES, pen_after}
-use Rattle.shape_text_forms.specs.declared.glyph_text.Pen.{Pen}
+use Rattle.shape_text_forms.specs.Serialize.{Form, asks, NO_CLUSTERS, NO_POSITIONS, NO_GLYPH_NAMES, GLYPH_EXTENTS, GLYPH_FLAGS, NO_ADVANCES}
+use Rattle.shape_text_forms.specs.declared.content.Pen.{Pen}
 
 -- `,"` (44, 34), a member's name, `":` (34, 58) and its value
 abbrev pub member : List ℕ → List ℕ → List ℕ
@@ -65,15 +65,3 @@ json_entry form first pen item p =
     ++ flags_member form.flags item.mask
     ++ extents_members form.flags form.extents item.glyph_id
     ++ 125 ∷ []
-
--- glyphs from some pen on; `]` (93) ends them
-abbrev pub json_from : Form → Bool → Pen → List Item → List GlyphPosition → List ℕ
-json_from form first pen [] ps = 93 ∷ []
-json_from form first pen (x ∷ xs) [] = 93 ∷ []
-json_from form first pen (x ∷ xs) (p ∷ ps) =
-    json_entry form first pen x p ++ json_from form false (pen_after form.flags pen p) xs ps
-
--- the whole; nothing for no glyphs, as in `hb-shape`
-abbrev pub json_text : Form → List Item → List GlyphPosition → List ℕ
-json_text form [] ps = []
-json_text form (x ∷ xs) ps = json_from form true (record { x = pos 0; y = pos 0 }) (x ∷ xs) ps

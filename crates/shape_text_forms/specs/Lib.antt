@@ -4,4 +4,5 @@ pub mod Names
 pub mod Serialize
 pub mod Worked
 pub mod Json
+pub mod Lists
 pub mod FontNames

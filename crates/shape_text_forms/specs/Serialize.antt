@@ -1,21 +1,25 @@
 -- glyphs as text, as `hb-shape` writes them
-use Rattle.std.specs.Prelude.{ℕ, ℤ, pos, List, [], ◌∷◌, ◌++◌, Bool, true, false, Option, Some, None, nat_lt, ◌==◌, ◌&&◌, ◌%◌, codes, if◌then◌else◌}
+use Rattle.std.specs.Prelude.{ℕ, ℤ, pos, List, [], ◌∷◌, ◌++◌, Bool, Option, Some, None, nat_lt, ◌==◌, ◌&&◌, ◌%◌, codes, if◌then◌else◌}
 use Rattle.std.specs.Ordering.{int_eq}
 use Rattle.std.specs.Fmt.{decimal, signed_decimal}
 use Rattle.std.specs.Int.RustNames.{bit_and}
 use Rattle.std.specs.Option.{option_map_or}
 use Rattle.shape_items.specs.Items.{Item}
+use Rattle.shape_common.specs.Face.{FaceMeaning}
 use Rattle.shape_common.specs.Wrapping.{◌+ʷ◌}
 use Rattle.shape_common.specs.declared.positions.GlyphPosition.{GlyphPosition}
 use Rattle.shape_common.specs.declared.text_types.GlyphId.{GlyphId}
 use Rattle.shape_common.specs.declared.face.hb_glyph_extents_t.{hb_glyph_extents_t}
-use Rattle.shape_text_forms.specs.declared.glyph_text.Pen.{Pen}
+use Rattle.shape_text_forms.specs.declared.content.Pen.{Pen}
 
 -- what a text of glyphs depends on: what is asked for, the names of glyphs, their boxes
 pub record Form : Type 0 where
   pub flags : ℕ
   pub name : ℕ → Option (List ℕ)
   pub extents : GlyphId → Option hb_glyph_extents_t
+
+abbrev pub form_of : ℕ → (ℕ → Option (List ℕ)) → FaceMeaning → Form
+form_of flags name face = record { flags = flags; name = name; extents = face.extents }
 
 -- HarfBuzz's flags
 abbrev pub NO_CLUSTERS : ℕ
@@ -107,15 +111,3 @@ entry_text form first pen item p =
 abbrev pub pen_after : ℕ → Pen → GlyphPosition → Pen
 pen_after flags pen p =
     if asks NO_ADVANCES flags then record { x = pen.x +ʷ p.x_advance; y = pen.y +ʷ p.y_advance } else pen
-
--- glyphs from some pen on; `]` (93) ends them
-abbrev pub glyphs_from : Form → Bool → Pen → List Item → List GlyphPosition → List ℕ
-glyphs_from form first pen [] ps = 93 ∷ []
-glyphs_from form first pen (x ∷ xs) [] = 93 ∷ []
-glyphs_from form first pen (x ∷ xs) (p ∷ ps) =
-    entry_text form first pen x p ++ glyphs_from form false (pen_after form.flags pen p) xs ps
-
--- the whole; nothing for no glyphs
-abbrev pub serialized : Form → List Item → List GlyphPosition → List ℕ
-serialized form [] ps = []
-serialized form (x ∷ xs) ps = glyphs_from form true (record { x = pos 0; y = pos 0 }) (x ∷ xs) ps

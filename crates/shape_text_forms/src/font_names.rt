@@ -4,7 +4,7 @@ ghost use Rattle.std.specs.Option.{option_map};
 ghost use Rattle.shape_font.specs.declared.names.TheConstants.{STANDARD};
 ghost use Rattle.shape_text_forms.specs.FontNames.{text_of, written_name};
 
-use crate::glyph_text::glyph_names;
+use crate::content::glyph_names;
 use shape_buffer::GlyphId;
 use shape_font::FontFace;
 

@@ -3,19 +3,18 @@
 //! A glyph is an object: `g` is its name or number, `cl` its cluster, `dx` and `dy` say where it is moved to, `ax` and
 //! `ay` how far the pen moves on; if they are asked for, `fl` has its flags, and `xb`, `yb`, `w` and `h` its box. Names
 //! are written by `serde_json`, which escapes what a string of JSON can't hold.
-ghost use Rattle.std.specs.Prelude.{◌≡◌, ◌++◌, true, pos, [], ◌∷◌, codes, length, string_bytes, IfOk, IsOk};
+ghost use Rattle.std.specs.Prelude.{◌≡◌, ◌++◌, [], ◌∷◌, codes, string_bytes, IfOk};
 ghost use Rattle.std.specs.Option.{option_map_or};
 ghost use Rattle.std.specs.Fmt.{decimal, signed_decimal};
 ghost use Rattle.json.specs.Print.{quoted};
 ghost use Rattle.shape_text_forms.specs.Json.{member, members, opening, glyph_value, cluster_member, position_members};
-ghost use Rattle.shape_text_forms.specs.Json.{flags_member, no_box, box_members, extents_members, json_entry, json_from, json_text};
+ghost use Rattle.shape_text_forms.specs.Json.{flags_member, no_box, box_members, extents_members, json_entry};
+ghost use Rattle.shape_text_forms.specs.Serialize.{form_of};
 
-use crate::glyph_text::{Pen, SerializeFlags, glyph_names, pen_after};
+use crate::content::{Content, Pen, SerializeFlags, Spot, glyph_names};
 use serde_json::{Error, to_string};
 use shape_buffer::wrapping::sum;
-use shape_buffer::{
-    GlyphBuffer, GlyphId, GlyphPosition, hb_font_t, hb_glyph_extents_t, hb_glyph_info_t,
-};
+use shape_buffer::{GlyphId, GlyphPosition, hb_font_t, hb_glyph_extents_t, hb_glyph_info_t};
 use std::alloc::{AllocError, Global};
 
 /// A text as a string of JSON.
@@ -236,115 +235,25 @@ fn append_end(out: &mut String) -> Result<(), AllocError>
 }
 
 /// Appends all of a glyph.
-fn append_entry<F: hb_font_t, N: glyph_names>(
+pub(crate) fn append_entry<F: hb_font_t, N: glyph_names>(
     alloc: Global,
     out: &mut String,
-    first: bool,
-    flags: SerializeFlags,
-    face: &F,
-    names: &N,
-    pen: Pen,
+    content: &Content<'_, F, N>,
+    spot: Spot,
     info: &hb_glyph_info_t,
     position: &GlyphPosition,
 ) -> Result<(), AllocError>
     ensures { IfOk result (λ _. string_bytes out.new
-        ≡ string_bytes out.old ++ json_entry (record {
-          flags = flags.0;
-          name = N.name names.now;
-          extents = (F.face face.now).extents;
-        }) first pen info.now position.now) }
+        ≡ string_bytes out.old ++ json_entry (form_of content.now.flags.0
+        (N.name content.now.names.now) (F.face content.now.face.now))
+        spot.first spot.pen info.now position.now) }
 {
-    append_opening(out, first)?;
-    append_glyph(alloc, out, flags, names, info.glyph_id)?;
-    append_cluster(out, flags, info.cluster)?;
-    append_position(out, flags, pen, position)?;
-    append_flags(out, flags, info.mask)?;
-    append_extents(out, flags, face, info.glyph_id)?;
+    append_opening(out, spot.first)?;
+    append_glyph(alloc, out, content.flags, content.names, info.glyph_id)?;
+    append_cluster(out, content.flags, info.cluster)?;
+    append_position(out, content.flags, spot.pen, position)?;
+    append_flags(out, content.flags, info.mask)?;
+    append_extents(out, content.flags, content.face, info.glyph_id)?;
     append_end(out)?;
     Ok(())
-}
-
-/// Appends glyphs, and the end of the list.
-fn append_glyphs<F: hb_font_t, N: glyph_names>(
-    alloc: Global,
-    out: &mut String,
-    flags: SerializeFlags,
-    face: &F,
-    names: &N,
-    infos: &[hb_glyph_info_t],
-    positions: &[GlyphPosition],
-) -> Result<(), AllocError>
-    requires { length positions.now ≡ length infos.now }
-    ensures { IfOk result (λ _. string_bytes out.new
-        ≡ string_bytes out.old ++ json_from (record {
-          flags = flags.0;
-          name = N.name names.now;
-          extents = (F.face face.now).extents;
-        }) true (record { x = pos 0; y = pos 0 }) infos.now positions.now) }
-{
-    let mut first = true;
-    let mut pen = Pen { x: 0, y: 0 };
-    for i in 0..infos.len() {
-        append_entry(
-            alloc,
-            out,
-            first,
-            flags,
-            face,
-            names,
-            pen,
-            &infos[i],
-            &positions[i],
-        )?;
-        pen = pen_after(flags, pen, &positions[i]);
-        first = false;
-    }
-    out.push(']')?;
-    Ok(())
-}
-
-/// Glyphs at these positions as a list of JSON: an empty text for no glyphs, which takes no memory. Boxes are the
-/// face's. Refuses only if a growth of memory was refused.
-pub fn serialize_placed_json<F: hb_font_t, N: glyph_names>(
-    alloc: Global,
-    infos: &[hb_glyph_info_t],
-    positions: &[GlyphPosition],
-    face: &F,
-    names: &N,
-    flags: SerializeFlags,
-) -> Result<String, AllocError>
-    requires { length positions.now ≡ length infos.now }
-    ensures text { IfOk result (λ text. string_bytes text ≡ json_text (record {
-      flags = flags.0;
-      name = N.name names.now;
-      extents = (F.face face.now).extents;
-    }) infos.now positions.now) }
-    ensures empty { infos.now ≡ [] → IsOk result }
-{
-    let mut out = String::new(alloc);
-    if infos.is_empty() {
-        return Ok(out);
-    }
-    append_glyphs(alloc, &mut out, flags, face, names, infos, positions)?;
-    Ok(out)
-}
-
-/// The glyphs of a run as a list of JSON, as [`serialize_placed_json`] writes them where they stand. Refuses only if a
-/// growth of memory was refused.
-pub fn serialize_json<F: hb_font_t, N: glyph_names>(
-    alloc: Global,
-    glyphs: &GlyphBuffer,
-    face: &F,
-    names: &N,
-    flags: SerializeFlags,
-) -> Result<String, AllocError>
-    ensures text { IfOk result (λ text. string_bytes text ≡ json_text (record {
-      flags = flags.0;
-      name = N.name names.now;
-      extents = (F.face face.now).extents;
-    }) glyphs.now.items glyphs.now.positions) }
-    ensures empty { glyphs.now.items ≡ [] → IsOk result }
-{
-    let infos = glyphs.glyph_infos();
-    serialize_placed_json(alloc, infos, glyphs.glyph_positions(), face, names, flags)
 }

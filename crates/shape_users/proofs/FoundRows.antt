@@ -1,12 +1,15 @@
 -- The rows of words and plans that are found.
-use Rattle.std.proofs.Common.{◌⊎◌, ℕ, zero, suc, ◌<◌, ◌≤◌, List, [], ◌∷◌, inl, inr, refl, arith}
+use Rattle.std.proofs.Common.{◌⊎◌, ℕ, zero, suc, ◌<◌, ◌≤◌, ◌^◌, List, [], ◌∷◌, length, inl, inr, refl, arith}
 use Rattle.std.specs.Str.{chars}
 use Rattle.shape_items.specs.Buffer.{Buffer}
 use Rattle.shape_common.specs.Unicode.{UnicodeMeaning}
 use Rattle.shape_plan.specs.Plan.{Plan, Fits}
 use Rattle.shape_plan.specs.Run.{Run}
-use Rattle.shape_users.specs.Words.{IsTooLong, IsTooLongToPrepare, IsTooLongToShape, IsNowhere, FindsTooLong, KeepsTooLong, NoneFits}
-use Rattle.shape_users.specs.Worked.Found.{IsLike, WordsFound, TooLong, NotTooLong, FoundTooLong, PlansFound, WorkedFound}
+use Rattle.shape_buffer.specs.Guess.{guessed}
+use Rattle.shape_pipeline.specs.Headline.{target_of}
+use Rattle.shape_pipeline.specs.Shaped.{PreparingPasses, ShapingPasses}
+use Rattle.shape_users.specs.Words.{spelled, IsTooLong, IsTooLongToPrepare, IsTooLongToShape, IsNowhere, FindsTooLong, KeepsTooLong, NoneFits}
+use Rattle.shape_users.specs.Worked.Found.{IsLike, WordsFound, ExpandsWithinLimit, TooLong, NotTooLong, FoundTooLong, PlansFound, WorkedFound}
 use Rattle.shape_users.specs.Worked.Words.{bytes_of}
 use Rattle.shape_users.specs.declared.words.Word.{Word}
 
@@ -41,6 +44,10 @@ module _ (run : Run) (a b : Word) (spelling : List ℕ) where
   not_kept (inl finds) = absurd (no_words finds)
   not_kept (inr long) = long.1
 
+  found_first : IsLike run a spelling → KeepsTooLong run (a ∷ b ∷ []) spelling → FindsTooLong run (a ∷ b ∷ []) spelling
+  found_first like (inl finds) = finds
+  found_first like (inr long) = absurd (long.0 0 a (omega arith) like)
+
   found_too_long : FoundTooLong run a b spelling
   found_too_long = record {
     first = λ long. (0, omega arith, (λ k d below like. absurd (omega arith), λ d. inl long));
@@ -51,6 +58,8 @@ module _ (run : Run) (a b : Word) (spelling : List ℕ) where
     kept_first = λ long. inr (λ k d below like. absurd (omega arith), long);
     not_kept = not_kept;
     found_before = λ finds. inl finds;
+    found_first = found_first;
+    not_found = λ first second long. inr (nowhere first second, long);
   }
 
 too_long : (run : Run) (spelling : List ℕ) → TooLong run spelling
@@ -73,8 +82,29 @@ unfolding chars
 empty_to_shape run (inl long) = let le : 4294967296 ≤ 0 = long in omega (arith, le)
 empty_to_shape run (inr passes) = passes.0 refl
 
+counted : (run : Run) (spelling : List ℕ) → length spelling < 2 ^ 32 → IsTooLongToPrepare run spelling
+    → PreparingPasses run (target_of run (spelled spelling)) (guessed run.unicode (spelled spelling))
+counted run spelling below (inl long) = absurd (omega (arith, below, long))
+counted run spelling below (inr passes) = passes.1
+
+counted_to_shape : (run : Run) (spelling : List ℕ) → length spelling < 2 ^ 32 → IsTooLongToShape run spelling
+    → ShapingPasses run (target_of run (spelled spelling)) (guessed run.unicode (spelled spelling))
+counted_to_shape run spelling below (inl long) = absurd (omega (arith, below, long))
+counted_to_shape run spelling below (inr passes) = passes.1
+
+up_to_the_limit : (run : Run) (spelling : List ℕ) → (IsTooLongToPrepare run spelling → ⊥) → ExpandsWithinLimit run spelling
+    → IsTooLong run spelling → ⊥
+up_to_the_limit run spelling prepared within (inl long) = prepared long
+up_to_the_limit run spelling prepared within (inr past) = omega (arith, within, past)
+
 not_too_long : (run : Run) → NotTooLong run
-not_too_long run = record { empty = empty run; empty_to_shape = empty_to_shape run }
+not_too_long run = record {
+  empty = empty run;
+  empty_to_shape = empty_to_shape run;
+  counted = counted run;
+  counted_to_shape = counted_to_shape run;
+  up_to_the_limit = up_to_the_limit run;
+}
 
 module _ (unicode : UnicodeMeaning) (a b : Plan ℕ ℕ ℕ) (text : Buffer) where
   no_plan : (Fits unicode a text → ⊥) → (Fits unicode b text → ⊥) → NoneFits unicode (a ∷ b ∷ []) 2 text

@@ -13,8 +13,8 @@ use Rattle.shape_common.specs.declared.text_types.GlyphId.{GlyphId}
 use Rattle.shape_lines.specs.Worked.CanCut.{in_clusters}
 use Rattle.shape_plan.specs.Rules.{has_glyph}
 use Rattle.shape_plan.specs.Run.{Run}
-use Rattle.shape_users.specs.PlainGlyphs.{AreOfText, HaveGlyphs, OneStep, SomeStepPasses, IsPlaceIn, IsTextOf}
-use Rattle.shape_users.specs.Worked.Plain.{ClustersOfTexts, HasOneOfTwo, CharactersWithGlyphs, begun_text, HasSteps, FirstPasses, SecondPasses, StepsOfRuns, WhatIsLeft, euro_string, euro_text, PlacesOfStrings, TextsOfStrings, WorkedPlain}
+use Rattle.shape_users.specs.PlainGlyphs.{AreOfText, HaveGlyphs, OneStep, SomeStepPasses, IsPlaceIn, IsTextOf, string_text}
+use Rattle.shape_users.specs.Worked.Plain.{ClustersOfTexts, HasOneOfTwo, CharactersWithGlyphs, begun_text, HasSteps, FirstPasses, SecondPasses, FirstKeeps, SecondKeeps, StepsOfRuns, WhatIsLeft, euro_string, euro_text, PlacesOfStrings, TextsOfStrings, RunsOfStrings, WorkedPlain}
 
 -- ---- clusters and characters
 
@@ -131,6 +131,23 @@ module _ (run : Run) (text : Buffer) where
   which one two (first ∷ second ∷ third ∷ before) at behind is past =
       let e : suc (suc (suc (length (before ++ (at ∷ behind))))) ≡ 2 = ap length is in absurd (omega (arith, e))
 
+  -- a step of two that keep the limit keeps it
+  keeps : (one two : Step) → FirstKeeps run text one → SecondKeeps run text one two → (before : List Step) (at : Step) (behind : List Step)
+      → (before ++ (at ∷ behind)) ≡ (one ∷ two ∷ [])
+      → at.counts (run_steps before (begun_text run text)) ≤ limit_of (run_steps before (begun_text run text))
+  keeps one two first_keeps second_keeps [] at behind is =
+      let same : one ≡ at = sym (ap (λ (steps : List Step). get_or steps 0 at) is) in
+      subst (λ (step : Step). step.counts (begun_text run text) ≤ limit_of (begun_text run text)) same first_keeps
+  keeps one two first_keeps second_keeps (first ∷ []) at behind is =
+      let same : one ≡ first = sym (ap (λ (steps : List Step). get_or steps 0 first) is) in
+      let next : two ≡ at = sym (ap (λ (steps : List Step). get_or steps 1 at) is) in
+      subst (λ (step : Step). at.counts (step.makes (begun_text run text)) ≤ limit_of (step.makes (begun_text run text))) same
+      (subst (λ (step : Step). step.counts (one.makes (begun_text run text)) ≤ limit_of (one.makes (begun_text run text))) next second_keeps)
+  keeps one two first_keeps second_keeps (first ∷ second ∷ []) at behind is =
+      let e : suc (suc (suc (length behind))) ≡ 2 = ap length is in absurd (omega (arith, e))
+  keeps one two first_keeps second_keeps (first ∷ second ∷ third ∷ before) at behind is =
+      let e : suc (suc (suc (length (before ++ (at ∷ behind))))) ≡ 2 = ap length is in absurd (omega (arith, e))
+
   both_within : (one two : Step) → HasSteps run text (one ∷ two ∷ []) → SomeStepPasses run text
       → FirstPasses run text one ⊎ SecondPasses run text one two
   both_within one two has some = which one two some.at.before some.at.one some.at.behind (sym some.at.of_run ∙ has) some.past
@@ -147,6 +164,7 @@ module _ (run : Run) (text : Buffer) where
     first_passes = λ one two has past. record { at = first_of one two has; past = past };
     second_passes = λ one two has past. record { at = second_of one two has; past = past };
     no_steps = λ has some. nothing some.at.before some.at.one some.at.behind (sym some.at.of_run ∙ has);
+    up_to_the_limit = λ one two has first second at. keeps one two first second at.before at.one at.behind (sym at.of_run ∙ has);
     not_both = λ none some. let within = none some.at in let past = some.past in omega (arith, within, past);
   }
 
@@ -234,6 +252,16 @@ texts_of_strings = record {
   with_limit = λ is. let e : true ≡ false = ap (λ (b : Buffer). is_some b.length_limit) is.rest in absurd cc;
 }
 
+runs_of_strings : (run : Run) → RunsOfStrings run
+unfolding chars string_text
+runs_of_strings run = record {
+  text = refl;
+  shaped = λ glyphs is. is;
+  nothing_else = λ glyphs is. is;
+  passes = λ passes. passes;
+  passes_alone = λ passes. passes;
+}
+
 pub worked_plain : WorkedPlain
 worked_plain = record {
   clusters = clusters_of_texts;
@@ -242,4 +270,5 @@ worked_plain = record {
   left = what_is_left;
   places = places_of_strings;
   texts = texts_of_strings;
+  runs = runs_of_strings;
 }

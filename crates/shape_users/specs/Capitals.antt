@@ -19,7 +19,8 @@ capitals_marked mask b = items_mapped (capital_marked mask) b
 
 marked-aside : (mask : ℕ) (item : Item) → without_mask (capital_marked mask item) ≡ without_mask item
 marked-aside mask item = elim (is_capital item.codepoint)
-    as (λ t. without_mask (if t then record item { mask = bit_or item.mask mask } else item) ≡ without_mask item) [ true ↦ refl | false ↦ refl ]
+    as (λ t. without_mask (if t then record item { mask = bit_or item.mask mask } else item) ≡ without_mask item)
+    [ true ↦ refl | false ↦ refl ]
 
 masks-aside : (mask : ℕ) (items : List Item) → map without_mask (map (capital_marked mask) items) ≡ map without_mask items
 masks-aside mask [] = refl

@@ -18,7 +18,11 @@ bit_of (Some n) = if nat_lt n 28 then (2 ^ (n + 3), n + 3) else (0, 0)
 
 -- no feature is on everywhere
 abbrev pub staged_masks : ℕ → (hb_tag_t → Option ℕ) → MapMeaning
-staged_masks stages number = record no_masks { one_mask = λ tag. (bit_of (number tag)).0; mask = λ tag. bit_of (number tag); stages = stages }
+staged_masks stages number = record no_masks {
+  one_mask = λ tag. (bit_of (number tag)).0;
+  mask = λ tag. bit_of (number tag);
+  stages = stages;
+}
 
 abbrev pub staged_lookups : (ℕ → Buffer → Buffer) → LookupMeaning
 staged_lookups stage = record no_lookups { stage = stage }

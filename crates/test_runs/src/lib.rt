@@ -46,6 +46,8 @@ mod runs;
 #[cfg(test)]
 mod steps;
 #[cfg(test)]
+mod stretching;
+#[cfg(test)]
 mod texts;
 #[cfg(test)]
 mod unlawful;

@@ -1,7 +1,7 @@
 -- Features, on texts that were read by hand: the first are the table of HarfBuzz's own documentation.
 use Rattle.std.specs.Prelude.{◌≡◌, ℕ, [], ◌∷◌, Option, Some, None, codes, refl}
 use Rattle.shape_common.specs.declared.text_types.Feature.{Feature}
-use Rattle.shape_text_forms.specs.Feature.{feature_of}
+use Rattle.shape_text_forms.specs.Feature.{feature_of, value_of}
 
 abbrev pub of : ℕ → ℕ → ℕ → ℕ → Option Feature
 of tag value start end = Some (record { tag = record { 0 = tag }; value = value; start = start; end = end })
@@ -47,6 +47,9 @@ pub record WorkedFeatures : Type 0 where
   pub word_after_equals : feature_of (codes "kern=off") ≡ kern 0 0 4294967295
   pub space_before_quotes : feature_of (codes " 'kern'") ≡ kern 1 0 4294967295
   pub quote_in_a_tag : feature_of (codes "ke'n") ≡ of 0x6B65276E 1 0 4294967295
+  pub zero_below_zero : feature_of (codes "kern=-0") ≡ kern 0 0 4294967295
+  pub capital_switch : feature_of (codes "kern=ON") ≡ kern 1 0 4294967295
+  pub tab_before_a_value : feature_of (107 ∷ 101 ∷ 114 ∷ 110 ∷ 61 ∷ 9 ∷ 50 ∷ []) ≡ kern 2 0 4294967295
 
 pub worked_features : WorkedFeatures
 worked_features = record {
@@ -83,6 +86,9 @@ worked_features = record {
   word_after_equals = refl;
   space_before_quotes = refl;
   quote_in_a_tag = refl;
+  zero_below_zero = refl;
+  capital_switch = refl;
+  tab_before_a_value = refl;
 }
 
 pub record WorkedRefusals : Type 0 where
@@ -104,6 +110,12 @@ pub record WorkedRefusals : Type 0 where
   pub space_in_quotes : feature_of (39 ∷ 97 ∷ 98 ∷ 32 ∷ 32 ∷ 39 ∷ []) ≡ None
   pub space_after_minus : feature_of (codes "kern=- 1") ≡ None
   pub past_64_bits : feature_of (codes "kern=18446744073709551617") ≡ None
+  pub almost_on : feature_of (codes "kern=ox") ≡ None
+  pub almost_off : feature_of (codes "kern=ofx") ≡ None
+  pub off_by_its_end : feature_of (codes "kern=xff") ≡ None
+  -- after the sign of equality a value must stand
+  pub no_value_after_equals : value_of 1 (codes "=yes") ≡ None
+  pub three_of_four : feature_of (codes "kern=offf") ≡ None
 
 pub worked_refusals : WorkedRefusals
 worked_refusals = record {
@@ -123,4 +135,9 @@ worked_refusals = record {
   space_in_quotes = refl;
   space_after_minus = refl;
   past_64_bits = refl;
+  almost_on = refl;
+  almost_off = refl;
+  off_by_its_end = refl;
+  no_value_after_equals = refl;
+  three_of_four = refl;
 }

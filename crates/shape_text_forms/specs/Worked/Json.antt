@@ -5,7 +5,7 @@ use Rattle.std.specs.Int.{int_wrap}
 use Rattle.json.specs.Print.{escape_byte}
 use Rattle.shape_common.specs.Wrapping.{◌+ʷ◌}
 use Rattle.shape_text_forms.specs.Serialize.{Form}
-use Rattle.shape_text_forms.specs.Json.{json_text}
+use Rattle.shape_text_forms.specs.Lists.{json_text}
 use Rattle.shape_text_forms.specs.Worked.Texts.{form, glyph, place}
 
 -- glyph 2 of cluster 0, 600 wide; glyph 30 of cluster 1, moved to (-50, 7), unsafe to break (1) with a bit of a feature
@@ -24,7 +24,8 @@ pub record WorkedLists : Type 0 where
   pub no_clusters : list_of 3 ≡ codes "[{\"g\":\"A\"},{\"g\":\"gid30\"}]"
   pub no_positions : list_of 2 ≡ codes "[{\"g\":\"A\",\"cl\":0},{\"g\":\"gid30\",\"cl\":1}]"
   pub no_glyph_names : list_of 6 ≡ codes "[{\"g\":2,\"cl\":0},{\"g\":30,\"cl\":1}]"
-  pub extents : list_of 11 ≡ codes "[{\"g\":\"A\",\"xb\":10,\"yb\":700,\"w\":580,\"h\":-700},{\"g\":\"gid30\",\"xb\":0,\"yb\":0,\"w\":0,\"h\":0}]"
+  pub extents : list_of 11
+      ≡ codes "[{\"g\":\"A\",\"xb\":10,\"yb\":700,\"w\":580,\"h\":-700},{\"g\":\"gid30\",\"xb\":0,\"yb\":0,\"w\":0,\"h\":0}]"
   pub glyph_flags : list_of 18 ≡ codes "[{\"g\":\"A\",\"cl\":0},{\"g\":\"gid30\",\"cl\":1,\"fl\":1}]"
   -- the second glyph stands 600 from the start of the line
   pub no_advances : list_of 33 ≡ codes "[{\"g\":\"A\",\"dx\":0,\"dy\":0},{\"g\":\"gid30\",\"dx\":550,\"dy\":7}]"

@@ -1,14 +1,19 @@
 -- What one word names, and glyphs as text, read by hand.
-use Rattle.std.specs.Prelude.{◌≡◌, ◌==◌, if◌then◌else◌, ℕ, ℤ, pos, negsuc, List, [], ◌∷◌, Option, Some, None, codes, refl}
+use Rattle.std.specs.Prelude.{◌≡◌, ◌==◌, if◌then◌else◌, ℕ, ℤ, pos, negsuc, List, [], ◌∷◌, Option, Some, None, codes, map, refl}
 use Rattle.std.specs.Fmt.{digits}
 use Rattle.std.specs.Int.{int_wrap}
+use Rattle.std.specs.Str.{is_utf8, chars}
+use lib.Utf8.{encode}
 use Rattle.shape_items.specs.Items.{Item, new_item}
 use Rattle.shape_common.specs.Wrapping.{◌+ʷ◌}
 use Rattle.shape_common.specs.declared.positions.GlyphPosition.{GlyphPosition}
 use Rattle.shape_common.specs.declared.text_types.Script.{Script}
 use Rattle.shape_common.specs.declared.text_types.Direction.TheVariants.{Invalid, LeftToRight, RightToLeft, TopToBottom, BottomToTop}
+use Rattle.shape_font.specs.Worked.Names.{left_out, four_names}
+use Rattle.shape_text_forms.specs.FontNames.{written_name}
 use Rattle.shape_text_forms.specs.Names.{direction_of_text, language_of_text, tag_of_text, script_of_text}
-use Rattle.shape_text_forms.specs.Serialize.{Form, serialized}
+use Rattle.shape_text_forms.specs.Serialize.{Form}
+use Rattle.shape_text_forms.specs.Lists.{serialized}
 
 abbrev pub script : ℕ → Option Script
 script tag = Some (record { 0 = record { 0 = tag } })
@@ -35,6 +40,12 @@ pub record WorkedNames : Type 0 where
   pub unknown : script_of_text (codes "1234") ≡ script 0x5A7A7A7A
   pub no_script : script_of_text (codes "") ≡ None
   pub capital_left : direction_of_text (codes "LTR") ≡ LeftToRight
+  pub whole_alphabet : language_of_text (codes "AZ_az-09") ≡ Some (codes "az-az-09")
+  -- the bytes beside A, Z, a, z, 0 and 9
+  pub beside_the_alphabet : map (λ c. language_of_text (c ∷ [])) (64 ∷ 91 ∷ 96 ∷ 123 ∷ 47 ∷ 58 ∷ []) ≡ None ∷ None ∷ None ∷ None ∷ None ∷ None ∷ []
+  pub small_top : direction_of_text (codes "ttb") ≡ TopToBottom
+  pub capital_right : direction_of_text (codes "Rtl") ≡ RightToLeft
+  pub capital_bottom : direction_of_text (codes "BTT") ≡ BottomToTop
 
 pub worked_names : WorkedNames
 worked_names = record {
@@ -59,6 +70,11 @@ worked_names = record {
   unknown = refl;
   no_script = refl;
   capital_left = refl;
+  whole_alphabet = refl;
+  beside_the_alphabet = refl;
+  small_top = refl;
+  capital_right = refl;
+  capital_bottom = refl;
 }
 
 -- glyph 2 has the name `A` and a box; no other glyph has either
@@ -126,3 +142,14 @@ worked_texts = record {
   tatweel = refl;
   pen_down = refl;
 }
+
+pub record WorkedFontNames : Type 0 where
+  pub letters : written_name left_out four_names 2 ≡ Some (98 ∷ 99 ∷ [])
+  pub no_name : written_name left_out four_names 3 ≡ None
+  -- U+00E9 in two bytes, and the first of them alone
+  pub past_ascii : written_name (2 ∷ 0xC3 ∷ 0xA9 ∷ []) (0 ∷ 1 ∷ 0 ∷ 0 ∷ []) 0 ≡ Some (0xC3 ∷ 0xA9 ∷ [])
+  pub no_text : written_name (1 ∷ 0xC3 ∷ []) (0 ∷ 1 ∷ 0 ∷ 0 ∷ []) 0 ≡ None
+
+pub worked_font_names : WorkedFontNames
+unfolding is_utf8 chars encode
+worked_font_names = record { letters = refl; no_name = refl; past_ascii = refl; no_text = refl }

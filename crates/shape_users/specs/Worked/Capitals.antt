@@ -25,4 +25,11 @@ pub record WorkedCapitals : Type 0 where
 
 pub worked_capitals : WorkedCapitals
 unfolding items_mapped
-worked_capitals = record { first_and_last = refl; beside_them = refl; small = refl; of_other_scripts = refl; one_of_two = refl; feature = refl }
+worked_capitals = record {
+  first_and_last = refl;
+  beside_them = refl;
+  small = refl;
+  of_other_scripts = refl;
+  one_of_two = refl;
+  feature = refl;
+}

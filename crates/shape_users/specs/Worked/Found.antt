@@ -31,6 +31,12 @@ ExpandsPastLimit run spelling =
     let text = prepared_text run (spelled spelling) in
     limit_of text < length (round_one run.rules text).items
 
+-- it doesn't
+abbrev pub ExpandsWithinLimit : Run → List ℕ → Type 0
+ExpandsWithinLimit run spelling =
+    let text = prepared_text run (spelled spelling) in
+    length (round_one run.rules text).items ≤ limit_of text
+
 pub record TooLong (run : Run) (spelling : List ℕ) : Type 0 where
   pub by_bytes : 2 ^ 32 ≤ length spelling → IsTooLongToPrepare run spelling
   pub by_a_step : HasItems (spelled spelling)
@@ -44,6 +50,14 @@ pub record TooLong (run : Run) (spelling : List ℕ) : Type 0 where
 pub record NotTooLong (run : Run) : Type 0 where
   pub empty : IsTooLongToPrepare run [] → ⊥
   pub empty_to_shape : IsTooLongToShape run [] → ⊥
+  -- a spelling that 32 bits count is too long by a step alone
+  pub counted : (spelling : List ℕ) → length spelling < 2 ^ 32 → IsTooLongToPrepare run spelling
+      → PreparingPasses run (target_of run (spelled spelling)) (guessed run.unicode (spelled spelling))
+  pub counted_to_shape : (spelling : List ℕ) → length spelling < 2 ^ 32 → IsTooLongToShape run spelling
+      → ShapingPasses run (target_of run (spelled spelling)) (guessed run.unicode (spelled spelling))
+  -- one that is expanded up to the limit isn't too long
+  pub up_to_the_limit : (spelling : List ℕ) → (IsTooLongToPrepare run spelling → ⊥) → ExpandsWithinLimit run spelling
+      → IsTooLong run spelling → ⊥
 
 pub record FoundTooLong (run : Run) (a b : Word) (spelling : List ℕ) : Type 0 where
   pub first : IsTooLong run (bytes_of a) → FindsTooLong run (a ∷ b ∷ []) spelling
@@ -55,6 +69,10 @@ pub record FoundTooLong (run : Run) (a b : Word) (spelling : List ℕ) : Type 0 
   pub kept_first : IsTooLongToShape run spelling → KeepsTooLong run [] spelling
   pub not_kept : KeepsTooLong run [] spelling → IsTooLongToShape run spelling
   pub found_before : FindsTooLong run (a ∷ b ∷ []) spelling → KeepsTooLong run (a ∷ b ∷ []) spelling
+  -- a word that is found isn't shaped
+  pub found_first : IsLike run a spelling → KeepsTooLong run (a ∷ b ∷ []) spelling → FindsTooLong run (a ∷ b ∷ []) spelling
+  pub not_found : (IsLike run a spelling → ⊥) → (IsLike run b spelling → ⊥) → IsTooLongToShape run spelling
+      → KeepsTooLong run (a ∷ b ∷ []) spelling
 
 pub record PlansFound (unicode : UnicodeMeaning) (a b : Plan ℕ ℕ ℕ) (text : Buffer) : Type 0 where
   pub second : Fits unicode b text → FitsAt unicode (a ∷ b ∷ []) 1 text

@@ -1,6 +1,6 @@
 -- What a caller knows of glyphs and of a string's text, on cases that are worked out by hand: what each fact takes, and
 -- what it refuses.
-use Rattle.std.specs.Prelude.{◌≡◌, ◌⊎◌, ◌<◌, ℕ, List, [], ◌∷◌, Option, Some, None, pos, Contains}
+use Rattle.std.specs.Prelude.{◌≡◌, ◌⊎◌, ◌<◌, ◌≤◌, ℕ, List, [], ◌∷◌, Option, Some, None, pos, Contains}
 use Rattle.std.specs.List.Sorted.{IsNonDecreasing}
 use Rattle.shape_items.specs.Buffer.{Buffer, limit_of, new_buffer}
 use Rattle.shape_items.specs.Clusters.{clusters}
@@ -14,9 +14,9 @@ use Rattle.shape_common.specs.declared.text_types.Direction.TheVariants.{RightTo
 use Rattle.shape_common.specs.declared.text_types.GlyphId.{GlyphId}
 use Rattle.shape_lines.specs.Worked.CanCut.{in_clusters}
 use Rattle.shape_pipeline.specs.Headline.{target_of}
-use Rattle.shape_pipeline.specs.Shaped.{all_steps, entered}
+use Rattle.shape_pipeline.specs.Shaped.{all_steps, entered, Shapes, ShapingPasses}
 use Rattle.shape_plan.specs.Run.{Run}
-use Rattle.shape_users.specs.PlainGlyphs.{AreOfText, HaveGlyphs, IsGivenBackEmpty, NoStepPasses, SomeStepPasses, IsPlaceIn, IsTextOf}
+use Rattle.shape_users.specs.PlainGlyphs.{AreOfText, HaveGlyphs, IsGivenBackEmpty, NoStepPasses, SomeStepPasses, IsPlaceIn, IsTextOf, string_text, AreGlyphsOf, StringPasses}
 
 -- ---- clusters and characters
 
@@ -59,6 +59,15 @@ SecondPasses run text one two =
     let found = one.makes (begun_text run text) in
     limit_of found < two.counts found
 
+-- they don't
+abbrev pub FirstKeeps : Run → Buffer → Step → Type 0
+FirstKeeps run text one = one.counts (begun_text run text) ≤ limit_of (begun_text run text)
+
+abbrev pub SecondKeeps : Run → Buffer → Step → Step → Type 0
+SecondKeeps run text one two =
+    let found = one.makes (begun_text run text) in
+    two.counts found ≤ limit_of found
+
 pub record StepsOfRuns (run : Run) (text : Buffer) : Type 0 where
   pub first_within : (one two : Step) → HasSteps run text (one ∷ two ∷ []) → NoStepPasses run text → FirstPasses run text one → ⊥
   pub second_within : (one two : Step) → HasSteps run text (one ∷ two ∷ []) → NoStepPasses run text → SecondPasses run text one two → ⊥
@@ -67,6 +76,9 @@ pub record StepsOfRuns (run : Run) (text : Buffer) : Type 0 where
   pub first_passes : (one two : Step) → HasSteps run text (one ∷ two ∷ []) → FirstPasses run text one → SomeStepPasses run text
   pub second_passes : (one two : Step) → HasSteps run text (one ∷ two ∷ []) → SecondPasses run text one two → SomeStepPasses run text
   pub no_steps : HasSteps run text [] → SomeStepPasses run text → ⊥
+  -- a list as long as the limit is within it
+  pub up_to_the_limit : (one two : Step) → HasSteps run text (one ∷ two ∷ []) → FirstKeeps run text one → SecondKeeps run text one two
+      → NoStepPasses run text
   pub not_both : NoStepPasses run text → SomeStepPasses run text → ⊥
 
 -- ---- what is left of a text
@@ -149,6 +161,16 @@ pub record TextsOfStrings : Type 0 where
   pub with_flags : IsTextOf euro_string (record euro_text { flags = record { 0 = 64 } }) → ⊥
   pub with_limit : IsTextOf euro_string (record euro_text { length_limit = Some 5 }) → ⊥
 
+-- what a run makes of a string: of its text with what is guessed for it
+pub record RunsOfStrings (run : Run) : Type 0 where
+  pub text : string_text euro_string ≡ euro_text
+  pub shaped : (glyphs : Buffer) → Shapes run (target_of run euro_text) (guessed run.unicode euro_text) glyphs
+      → AreGlyphsOf run euro_string glyphs
+  pub nothing_else : (glyphs : Buffer) → AreGlyphsOf run euro_string glyphs
+      → Shapes run (target_of run euro_text) (guessed run.unicode euro_text) glyphs
+  pub passes : ShapingPasses run (target_of run euro_text) (guessed run.unicode euro_text) → StringPasses run euro_string
+  pub passes_alone : StringPasses run euro_string → ShapingPasses run (target_of run euro_text) (guessed run.unicode euro_text)
+
 pub record WorkedPlain : Type 0 where
   pub clusters : ClustersOfTexts
   pub characters : (face : FaceMeaning) → HasOneOfTwo face → CharactersWithGlyphs face
@@ -156,3 +178,4 @@ pub record WorkedPlain : Type 0 where
   pub left : WhatIsLeft
   pub places : PlacesOfStrings
   pub texts : TextsOfStrings
+  pub runs : (run : Run) → RunsOfStrings run

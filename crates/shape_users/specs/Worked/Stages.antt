@@ -2,7 +2,8 @@
 use Rattle.std.specs.Prelude.{◌≡◌, ℕ, [], ◌∷◌, map, Some, None, refl}
 use Rattle.shape_buffer.specs.Layout.{MapMeaning}
 use Rattle.shape_common.specs.declared.text_types.hb_tag_t.{hb_tag_t}
-use Rattle.shape_users.specs.Stages.{bit_of, staged_masks}
+use Rattle.shape_items.specs.Buffer.{Buffer}
+use Rattle.shape_users.specs.Stages.{bit_of, staged_masks, staged_lookups}
 
 -- an engine of three stages, in which every feature has the number 4
 abbrev pub fours : MapMeaning
@@ -18,6 +19,18 @@ pub record WorkedStages : Type 0 where
   pub mask : (tag : hb_tag_t) → fours.mask tag ≡ (128, 7)
   pub everywhere : fours.global_mask ≡ 0
   pub stages : fours.stages ≡ 3
+  -- each stage is the one that is given with its number
+  pub stage : (stage : ℕ → Buffer → Buffer) (i : ℕ) (b : Buffer) → (staged_lookups stage).stage i b ≡ stage i b
 
 pub worked_stages : WorkedStages
-worked_stages = record { first = refl; last = refl; past_the_last = refl; unknown = refl; one_mask = λ tag. refl; mask = λ tag. refl; everywhere = refl; stages = refl }
+worked_stages = record {
+  first = refl;
+  last = refl;
+  past_the_last = refl;
+  unknown = refl;
+  one_mask = λ tag. refl;
+  mask = λ tag. refl;
+  everywhere = refl;
+  stages = refl;
+  stage = λ stage i b. refl;
+}

@@ -3,6 +3,7 @@
 //! A line is `DIRECTION GLYPH ..`, each glyph 600 long: its number, or `GLYPH:ID.COMPONENT` with the ligature that it is of. What
 //! is found is `X,Y,ADVANCE` for each glyph, the advance along the line.
 use crate::positions::tables::{GDEF, Host, bytes_of, gpos_lookup, gpos_of};
+use layout_digests::{Digest, Digested};
 use layout_positions::attachment::finish_offsets;
 use layout_positions::walk::{position, position_start};
 use layout_tables::gdef::glyph_props;
@@ -88,13 +89,18 @@ fn positions_of(rt: &impl Host, buffer: &hb_buffer_t) -> String {
 }
 
 /// What the first lookup makes of a line.
+#[tactic(auto, using(layout_positions::proofs::DigestLemmas::every_said))]
 pub fn positioned(rt: &impl Host, lookups: &str, line: &str) -> String {
     let gpos = gpos_of(rt, lookups);
     let gdef = bytes_of(rt, GDEF);
     let lookup = gpos_lookup(rt, gpos.as_slice(), gdef.as_slice(), 0);
     let mut buffer = buffer_of(rt, gdef.as_slice(), line);
     position_start(&mut buffer);
-    position(&[lookup], &mut buffer);
+    let named = Digested {
+        lookup,
+        digest: Digest::every(),
+    };
+    position(&[named], &mut buffer);
     finish_offsets(&mut buffer);
     positions_of(rt, &buffer)
 }
