@@ -4,8 +4,8 @@
  *   faces ENGINE FONT TEXT TIMES
  *
  * ENGINE: hblook, look, opened (glyph and advance of each character of a text, by HarfBuzz, by the face, by the face that is
- * opened once), hbrun, run, runopened, kern, kernopened (whole runs without lookups or with kern alone, one plan; built with
- * -DRUNS), hbopen, open, openonce (the face is made anew each time). TEXT is a file in UTF-8. Prints a sum, or the number of glyphs, which must be equal for the three.
+ * opened once), hbrun, run, runopened, kern, kernopened, layout, layoutopened (whole runs without lookups, with kern alone or
+ * with all tables of lookups, one plan; built with -DRUNS), hbopen, open, openonce (the face is made anew each time). TEXT is a file in UTF-8. Prints a sum, or the number of glyphs, which must be equal for the three.
  * check in place of ENGINE compares the look-ups of the three for every character of Unicode. */
 #include <hb.h>
 #include <stdint.h>
@@ -145,8 +145,8 @@ main(int argc, char **argv)
     for (int k = 0; k < times; k++) { hb_font_t *font = hb_opened(); sum = hb_looked_up(font, chars, 1, 0); hb_font_destroy(font); }
   else if (!strcmp(engine, "hbrun")) sum = hb_runs(times);
 #ifdef RUNS
-  else if (!strncmp(engine, "run", 3) || !strncmp(engine, "kern", 4)) {
-    uint32_t how = 1 | (engine[0] == 'k') << 1 | (strstr(engine, "opened") != NULL) << 2;
+  else if (!strncmp(engine, "run", 3) || !strncmp(engine, "kern", 4) || !strncmp(engine, "layout", 6)) {
+    uint32_t how = 1 | (engine[0] == 'k') << 1 | (strstr(engine, "opened") != NULL) << 2 | (engine[0] == 'l') << 3;
     sum = bench_font(bytes, font_size, (uint8_t *) text, text_size, how, (uint32_t) times);
   }
 #endif

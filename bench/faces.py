@@ -12,7 +12,7 @@ SIZES = 5, 80, 2000
 OURS = "*run_kept*"
 # HarfBuzz has a shaper for Hebrew, and composes other marks in runs of more than 32.
 OTHERWISE = "hebrew", "marks33"
-RUNS = {"hbrun": "hb_run", "run": OURS, "runopened": OURS, "kern": OURS, "kernopened": OURS}
+RUNS = {"hbrun": "hb_run", "run": OURS, "runopened": OURS, "kern": OURS, "kernopened": OURS, "layout": OURS, "layoutopened": OURS}
 
 
 def counted(engine, font, text, times, inside=None):
@@ -51,7 +51,8 @@ with tempfile.TemporaryDirectory() as folder:
     print("| text | HarfBuzz | `FontFace` | `OpenedFace` |\n|---|---|---|---|")
     for kind in KINDS:
         print(f"| {kind} | " + " | ".join(row(folder, kind, 2000, ("hblook", "look", "opened"), FONT)) + " |", flush=True)
-    for what, font, engines in ("without lookups", PLAIN, ("hbrun", "run", "runopened")), ("with `kern`", KERN, ("hbrun", "kern", "kernopened")):
+    for what, font, engines in ("without lookups", PLAIN, ("hbrun", "run", "runopened")), ("with `kern`", KERN, ("hbrun", "kern", "kernopened")), \
+            ("with all tables of lookups", FONT, ("hbrun", "layout", "layoutopened")):
         for size in SIZES:
             print(f"\nRuns {what}, plan kept, {size:,} characters, instructions a character\n")
             print("| text | HarfBuzz | `FontFace` | `OpenedFace` |\n|---|---|---|---|")

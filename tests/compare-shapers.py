@@ -4,19 +4,21 @@ Hebrew, Hangul, Thai and Lao; and on real lines of some scripts that have none.
 
 The fonts are the installed ones that have the script (DejaVu, Noto, Amiri, Scheherazade): some drawn at random, with
 `--all` each of them; for Hangul fonts that are made here, since Debian's has none that is small: with all syllables,
-with half of them, with half of the jamo, with tone marks of no width, with features `ljmo`, `vjmo` and `tjmo`. Each is
-compared whole, without GPOS, without GSUB, and without GSUB, GPOS and GDEF.
+with half of them, with half of the jamo, with tone marks of no width, with features `ljmo`, `vjmo` and `tjmo`; for Syriac
+also fonts whose sign U+070F stretches over words, by tiles of several widths. Each is compared whole, without GPOS, without
+GSUB, without both, and without GDEF too.
 
 The texts are lines of tests/lines (a file to a script, whole, without marks, decomposed, and cut into words) and random
 ones: letters, marks, joiners, digits, spaces, other scripts. Each list of options has one form of lines, mostly with
 flags, and by chance a cluster level, a direction, a script, features, texts before and after.
 
-Left out, since the two are known to differ: U+034F beside 6.0.0, which attaches no mark past it, as 10 does; flags of glyphs
-that are unsafe to concat beside 6.0.0 (10 has more); and where marks pass one another twice at level 2, `fontshape` may
-mark more of them as unsafe to break (counted as named).
+Left out, since the two are known to differ: U+034F beside 6.0.0, which attaches no mark past it, as 10 does; U+070F beside
+6.0.0, where the tiles of a sign that stretches take room of their own; flags of glyphs that are unsafe to concat beside 6.0.0
+(10 has more), in Arabic without GSUB, where `fontshape` sets none if a ligature was looked for in vain, and with `kern=0`,
+where 10 flags all glyphs of a font with the table `kern`. Where marks pass
+one another twice at level 2, `fontshape` may mark more of them as unsafe to break (counted as named).
 
-It ends with status 77, and says why, where a package is missing, as compare-hb-shape.py does. Arabic over fonts without
-GSUB and the sign that stretches (U+070F) over fonts with `stch` are left out while FALLBACK_FORMS is false.
+It ends with status 77, and says why, where a package is missing, as compare-hb-shape.py does.
 """
 import argparse
 import collections
@@ -31,9 +33,6 @@ import unicodedata
 
 TESTS = os.path.dirname(os.path.abspath(__file__))
 CRATE = os.path.join(TESTS, "../crates/fontshape")
-
-# whether the forms that are made for fonts without GSUB are compared, and glyphs that are stretched
-FALLBACK_FORMS = False
 
 INSTALLED = ["/usr/share/fonts/truetype/dejavu/DejaVu*.ttf", "/usr/share/fonts/truetype/noto/Noto*.ttf",
              "/usr/share/fonts/opentype/fonts-hosny-amiri/*.ttf", "/usr/share/fonts/truetype/scheherazade/*.ttf"]
@@ -51,7 +50,7 @@ SPANS = {
 # what is drawn more often, since the shapers have rules for it
 OFTEN = {
     "Arab": "\u0627\u0644\u0645\u0628\u0647\u0648\u062f\u064b\u064e\u0651\u0655\u0654\u0640\u06d4\u0670\u0653\u0671\u0623",
-    "Syrc": "\u0710\u0715\u0716\u072a\u0712\u0717\u0721\u0308\u0730\u0742\u0714\u0722",
+    "Syrc": "\u0710\u0715\u0716\u072a\u0712\u0717\u0721\u0308\u0730\u0742\u0714\u0722\u070f",
     "Hebr": "\u05e9\u05bc\u05c1\u05c2\u05d5\u05b9\u05dc\u05b7\u05bd\u05d9\u05b4\u05d0\u034f\u05bf",
     "Hang": "\u1100\u1112\u1161\u1175\u11a8\u11c2\uac00\uac01\ud788\u302e\u302f\u119e\u11f0\u115f\u1160",
     "Thai": "\u0e01\u0e33\u0e48\u0e49\u0e38\u0e0d\u0e10\u0e0e\u0e1b\u0e1d\u0e31\u0e34\u0e4d\u0e32\u0e47",
@@ -63,7 +62,8 @@ FORMS = [["--show-flags"], ["--show-flags"], ["--show-flags", "--no-glyph-names"
 FEATURES = ["kern=0", "-liga", "-calt", "-ccmp,-locl", "-mark", "-mkmk", "-curs", "-init", "-medi,-fina", "-isol", "-rlig", "-rclt", "dlig", "ss01",
             "salt=2", "aalt[1:3]=2", "-ljmo", "-vjmo[1:4]", "-tjmo", "init[2:4]=0", "mset=0", "-dist", "liga[1:3]=0", "cv01=2,hlig"]
 LANGUAGES = ["fa", "ur", "ar", "sd", "ks", "ku", "he", "yi", "ko", "th", "lo", "syr", "ms"]
-DROPPED = {"whole": (), "no GPOS": ("GPOS", "kern"), "no GSUB": ("GSUB",), "bare": ("GSUB", "GPOS", "GDEF", "kern")}
+DROPPED = {"whole": (), "no GPOS": ("GPOS", "kern"), "no GSUB": ("GSUB",), "no lookups": ("GSUB", "GPOS", "kern"),
+           "bare": ("GSUB", "GPOS", "GDEF", "kern")}
 
 
 def beside():
@@ -136,6 +136,41 @@ def hangul_fonts(folder):
     return [os.path.join(folder, "hangul_%s.ttf" % name) for name in kinds]
 
 
+def stretching_font(path, widths, joined):
+    """A font for Syriac, whose sign U+070F is taken apart into tiles of these widths; all letters are 437 wide."""
+    from fontTools.feaLib.builder import addOpenTypeFeaturesFromString
+    from fontTools.fontBuilder import FontBuilder
+    from fontTools.ttLib.tables._g_l_y_f import Glyph
+    chars = list(range(0x20, 0x7F)) + [c for c in range(0x700, 0x750) if unicodedata.category(chr(c)) != "Cn"] + [0x25CC, 0x640]
+    tiles = ["tile%d" % i for i in range(len(widths))]
+    names = [".notdef"] + ["u%04X" % c for c in chars] + tiles
+    advances = {name: 0 if name[0] == "u" and unicodedata.category(chr(int(name[1:], 16))) == "Mn" else 437 for name in names}
+    advances.update(zip(tiles, widths))
+    font = FontBuilder(1000, isTTF=True)
+    font.setupGlyphOrder(names)
+    font.setupCharacterMap({c: "u%04X" % c for c in chars})
+    font.setupGlyf({name: Glyph() for name in names})
+    font.setupHorizontalMetrics({name: (advances[name], 0) for name in names})
+    font.setupHorizontalHeader(ascent=800, descent=-200)
+    font.setupOS2()
+    font.setupPost()
+    rules = "feature stch { script syrc; sub u070F by %s; } stch;" % " ".join(tiles)
+    if joined:
+        rules += " feature rlig { script syrc; sub u0712 u0713 by u0714; } rlig;"
+    addOpenTypeFeaturesFromString(font.font, rules)
+    font.save(path)
+
+
+def stretching_fonts(folder):
+    """The paths of fonts whose sign stretches, made in a folder: tiles that fit, don't fit, repeat two at a time, not at all, or have no
+    width."""
+    kinds = [(100, 50, 100), (100, 437, 100), (300, 71, 10, 33, 200), (0, 437, 0), (90, 0, 90), (61, 1), (500, 2000, 500), (437, 219)]
+    paths = [os.path.join(folder, "stretching_%d.ttf" % i) for i in range(len(kinds))]
+    for i, (path, widths) in enumerate(zip(paths, kinds)):
+        stretching_font(path, widths, i % 2 == 0)
+    return paths
+
+
 def fonts_of(script, folder):
     """The paths of the fonts that have a script's letters."""
     from fontTools.ttLib import TTFont
@@ -144,7 +179,8 @@ def fonts_of(script, folder):
     letter = {"Arab": 0x628, "Syrc": 0x712, "Hebr": 0x5D0, "Thai": 0xE01, "Laoo": 0xE81,
               "Latn": 0x61, "Grek": 0x3B1, "Cyrl": 0x430, "Armn": 0x561, "Geor": 0x10D0}[script]
     paths = sorted(path for pattern in INSTALLED for path in glob.glob(pattern))
-    return [path for path in paths if letter in (TTFont(path, lazy=True).getBestCmap() or {})]
+    have = [path for path in paths if letter in (TTFont(path, lazy=True).getBestCmap() or {})]
+    return have + stretching_fonts(folder) if script == "Syrc" else have
 
 
 def copy_of(path, kind, folder):
@@ -207,7 +243,8 @@ def options(chance, texts):
         vertical = [] if "--unsafe-to-concat" in found else ["ttb", "btt"]
         found.append("--direction=" + chance.choice(["ltr", "rtl"] + vertical))
     if chance.random() < 0.4:
-        found.append("--features=" + chance.choice(FEATURES))
+        # (HarfBuzz 10 flags all glyphs also where the feature `kern` is off)
+        found.append("--features=" + chance.choice(FEATURES[1:] if "--unsafe-to-concat" in found else FEATURES))
     if chance.random() < 0.3:
         found.append("--language=" + chance.choice(LANGUAGES))
     for side in ("before", "after"):
@@ -233,18 +270,26 @@ def compare_font(comparison, chance, texts, path, kinds, args):
                 comparison.compare(kind, texts.script, font, options(chance, texts), texts.some(chance, args.texts))
 
 
+def loose_kinds(script, ten):
+    """The kinds of fonts in which flags of glyphs that are unsafe to concat aren't compared: all beside 6.0.0; for Arabic those without
+    GSUB, since forms that are made without it mark nothing where a ligature was looked for in vain."""
+    return tuple(kind for kind, dropped in DROPPED.items() if not ten or (script == "Arab" and "GSUB" in dropped))
+
+
+def left_out_of(script, ten):
+    """What no text of a script has; U+0628 has a text without a script taken for Arabic."""
+    return ("" if ten else "\u034f\u070f") + ("" if script == "Arab" else "\u0628")
+
+
 def compare_script(comparison, script, args, chance):
     """Some fonts of a script, or all."""
+    comparison.loose = loose_kinds(script, args.ten)
     with tempfile.TemporaryDirectory() as folder:
         paths = fonts_of(script, folder)
         if not args.all:
             paths = chance.sample(paths, min(args.fonts, len(paths)))
-        # (U+0628 has a text without a script taken for Arabic)
-        forms = "" if FALLBACK_FORMS else "\u070f" if script in ("Arab", "Syrc") else "\u0628"
-        texts = Texts(script, forms + ("" if args.ten else "\u034f"))
+        texts = Texts(script, left_out_of(script, args.ten))
         kinds = list(DROPPED) if script in SHAPED else ["whole"]
-        if script == "Arab" and not FALLBACK_FORMS:
-            kinds = ["whole", "no GPOS"]
         for path in paths:
             compare_font(comparison, chance, texts, path, kinds, args)
     return len(paths)
@@ -269,8 +314,7 @@ def main():
     if lack:
         print("skipped: " + lack)
         sys.exit(77)
-    loose = () if args.ten else tuple(DROPPED)
-    comparison, fonts = module.Comparison(args.program, args.examples, args.hb, loose, marks_twice), collections.Counter()
+    comparison, fonts = module.Comparison(args.program, args.examples, args.hb, (), marks_twice), collections.Counter()
     for script in args.scripts.split(","):
         fonts[script] = compare_script(comparison, script, args, random.Random("%s %d" % (script, args.seed)))
     for script, count in fonts.items():
