@@ -65,8 +65,11 @@ stage_made levels ls b = (all_looked_up levels ls
     (record { buffer = b; spot = record { at = 0; random = 1; left = most_nested (length b.items); whole = 0 } })).buffer
 
 -- a lookup over the text names others, and these others again, 64 levels deep
+abbrev pub most_levels : ℕ
+most_levels = 65
+
 unfoldable pub substituted : List Lookup → Buffer → Buffer
-substituted ls = stage_made 65 ls
+substituted ls = stage_made most_levels ls
 
 -- a lookup of a list stands near the start of its table
 abbrev pub HasPlace : Lookup → Type 0

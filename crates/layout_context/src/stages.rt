@@ -4,7 +4,7 @@ ghost use Rattle.shape_buffer.specs.Outcome.{IsWithinLimit, Outcome, step};
 ghost use Rattle.shape_buffer.specs.declared.buffer.error.ShapeError.TheVariants.{Length};
 ghost use Rattle.layout_substitution.specs.Edits.{is_past};
 ghost use Rattle.layout_context.specs.Nested.{nested_applied};
-ghost use Rattle.layout_context.specs.Stages.{next_spot as next_spot_of, lookup_step, walked, looked_up, most_nested as most_nested_of, stage_made, substituted};
+ghost use Rattle.layout_context.specs.Stages.{next_spot as next_spot_of, lookup_step, walked, looked_up, most_nested as most_nested_of, stage_made, substituted, most_levels};
 ghost use Rattle.layout_context.specs.Digested.{IsDigested, IsApart, HoldsGlyphs, lookups_in};
 
 use crate::nested::apply_nested;
@@ -16,9 +16,6 @@ use layout_substitution::apply::Spot;
 use layout_substitution::edits::item;
 use shape_buffer::{ShapeError, hb_buffer_t};
 use std::alloc::Global;
-
-/// A lookup over the text, and 64 levels of others that it names.
-const LEVELS: u32 = 65;
 
 /// How many nested lookups may be applied in a stage for each item that it begins with.
 const MAX_OPS_FACTOR: usize = 1024;
@@ -244,6 +241,13 @@ fn substitute_within(
     }
 }
 
+/// A lookup over the text, and 64 levels of others that it names.
+fn levels() -> u32
+    ensures { result ≡ most_levels }
+{
+    65
+}
+
 /// A stage of substitution: lookups one after the other, in their order. Refuses with `Length` if the list passes the limit of
 /// the run, and with `Memory` if a growth of the list, or of the places of a rule, was refused.
 #[tactic(auto, unfolding(crate::specs::Stages::substituted))]
@@ -256,5 +260,5 @@ pub fn substitute(
     requires within { IsWithinLimit buffer.old }
     ensures { Outcome (step (substituted (lookups_in lookups.now))) buffer.old buffer.new result }
 {
-    substitute_within(alloc, LEVELS, lookups, buffer)
+    substitute_within(alloc, levels(), lookups, buffer)
 }

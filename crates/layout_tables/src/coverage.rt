@@ -1,17 +1,18 @@
 //! Coverage tables: which glyphs a subtable is for, and the index of each.
-ghost use Rattle.std.specs.Prelude.{◌≡◌, ◌<◌, ◌^◌, is_some};
+ghost use Rattle.std.specs.Prelude.{◌≡◌, ◌<◌, ◌+◌, ◌^◌, is_some};
+ghost use Rattle.shape_font.specs.Bytes.{u16_of, fitting};
 ghost use Rattle.layout_tables.specs.Coverage.{side_of_listed, listed, side_of_range, ranged, index_in_range as index_in_range_of, coverage_index as coverage_index_of, covers as covers_of};
 
-use shape_font::bytes::{records, u16_at};
-use shape_font::search::{found, side};
+use shape_font::bytes::{records, u16_at, word};
+use shape_font::search::{found_within, side};
 use std::cmp::Ordering;
 
-/// Where a glyph stands to glyph `i` of the list.
+/// Where a glyph stands to glyph `i` of the list. It is read behind no test.
 fn listed_side(table: &[u8], start: usize, glyph: u32, i: u32) -> Ordering
-    requires { start < 2 ^ 40 }
+    requires { i < fitting table.now (u16_of table.now (start + 2)) (start + 4) 2 }
     ensures { result ≡ side_of_listed table.now start glyph i }
 {
-    let there = u32::from(u16_at(table, start + 4 + 2 * i as usize));
+    let there = u32::from(word(table, start + 4 + 2 * i as usize));
     side(glyph, there, there)
 }
 
@@ -21,19 +22,24 @@ fn in_list(table: &[u8], start: usize, glyph: u32) -> Option<u32>
     ensures { result ≡ listed table.now start glyph }
 {
     let count = records(table, u32::from(u16_at(table, start + 2)), start + 4, 2);
-    found(count, |i| listed_side(table, start, glyph, i))
+    found_within(
+        count,
+        |i|
+            requires { i < fitting table.now (u16_of table.now (start + 2)) (start + 4) 2 }
+        { listed_side(table, start, glyph, i) },
+    )
 }
 
-/// Where a glyph stands to range `i` of the list.
+/// Where a glyph stands to range `i` of the list. It is read behind no test.
 fn range_side(table: &[u8], start: usize, glyph: u32, i: u32) -> Ordering
-    requires { start < 2 ^ 40 }
+    requires { i < fitting table.now (u16_of table.now (start + 2)) (start + 4) 6 }
     ensures { result ≡ side_of_range table.now start glyph i }
 {
     let at = start + 4 + 6 * i as usize;
     side(
         glyph,
-        u32::from(u16_at(table, at)),
-        u32::from(u16_at(table, at + 2)),
+        u32::from(word(table, at)),
+        u32::from(word(table, at + 2)),
     )
 }
 
@@ -43,7 +49,12 @@ pub(crate) fn range(table: &[u8], start: usize, glyph: u32) -> Option<u32>
     ensures { result ≡ ranged table.now start glyph }
 {
     let count = records(table, u32::from(u16_at(table, start + 2)), start + 4, 6);
-    found(count, |i| range_side(table, start, glyph, i))
+    found_within(
+        count,
+        |i|
+            requires { i < fitting table.now (u16_of table.now (start + 2)) (start + 4) 6 }
+        { range_side(table, start, glyph, i) },
+    )
 }
 
 /// The index of a glyph of range `i`.
