@@ -31,9 +31,9 @@ table_at bytes start tag = table_among bytes start (record_count bytes start) ta
 abbrev pub table_of : List ℕ → ℕ → ℕ → Option (List ℕ)
 table_of bytes index tag = option_and_then (λ start. table_at bytes start tag) (font_start bytes index)
 
-abbrev pub has_table : List ℕ → ℕ → ℕ → Bool
+unfoldable pub has_table : List ℕ → ℕ → ℕ → Bool
 has_table bytes index tag = is_some (table_of bytes index tag)
 
 -- a table that isn't there reads as an empty one
-abbrev pub bytes_of : List ℕ → ℕ → ℕ → List ℕ
+unfoldable pub bytes_of : List ℕ → ℕ → ℕ → List ℕ
 bytes_of bytes index tag = unwrap_or (table_of bytes index tag) []

@@ -60,6 +60,7 @@ pub record WorkedDirectory : Type 0 where
   pub length_of_32_bits : table_of (header 1 ++ 65 ∷ 65 ∷ 32 ∷ 32 ∷ 9 ∷ 9 ∷ 9 ∷ 9 ∷ 0 ∷ 0 ∷ 0 ∷ 0 ∷ 0 ∷ 1 ∷ 0 ∷ 1 ∷ []) 0 0x41412020 ≡ None
 
 pub worked_directory : WorkedDirectory
+unfolding has_table bytes_of
 worked_directory = record {
   first = refl;
   second = refl;
