@@ -1,4 +1,4 @@
-/* One program with HarfBuzz and the library (crates/bench_shape, a static library), over the same texts and the same face.
+/* One program with HarfBuzz and the library (crates/bench_runs, a static library), over the same texts and the same face.
  *
  *   bench ENGINE LEVEL KIND SIZE TIMES
  *

@@ -20,8 +20,8 @@ mkdir -p "$work"
 flags="-O2 -g -DNDEBUG"
 [ -f "$work/harfbuzz.o" ] || g++ $flags -fno-exceptions -fno-rtti -c "$source/src/harfbuzz.cc" -o "$work/harfbuzz.o"
 g++ $flags -fno-exceptions -fno-rtti -I"$source/src" -c "$here/hidden.cc" -o "$work/hidden.o"
-(cd "$here/../crates/bench_shape" && rt lib) >&2
+(cd "$here/../crates/bench_runs" && rt lib) >&2
 gcc $flags -Wall -I"$source/src" -o "$work/bench" "$here/bench.c" "$work/harfbuzz.o" "$work/hidden.o" \
-    "$here/../crates/bench_shape/out/libbench_shape.a" "$kit/c/liblibc_c.a" -lstdc++ -lm -lpthread
+    "$here/../crates/bench_runs/out/libbench_runs.a" "$kit/c/liblibc_c.a" -lstdc++ -lm -lpthread
 gcc -O2 -Wall -shared -fPIC -o "$work/heap.so" "$here/heap.c" -ldl
 python3 "$here/tables.py" "$work"

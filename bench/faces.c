@@ -1,4 +1,4 @@
-/* Faces over the bytes of a font file, beside HarfBuzz's over the same bytes (crates/bench_font, a static
+/* Faces over the bytes of a font file, beside HarfBuzz's over the same bytes (crates/bench_runs, a static
  * library).
  *
  *   faces ENGINE FONT TEXT TIMES

@@ -20,9 +20,9 @@ fi
 mkdir -p "$work"
 flags="-O2 -g -DNDEBUG"
 [ -f "$work/harfbuzz.o" ] || g++ $flags -fno-exceptions -fno-rtti -c "$source/src/harfbuzz.cc" -o "$work/harfbuzz.o"
-(cd "$here/../crates/bench_font" && rt lib) >&2
+(cd "$here/../crates/bench_runs" && rt lib) >&2
 gcc $flags -DRUNS -Wall -I"$source/src" -o "$work/faces" "$here/faces.c" "$work/harfbuzz.o" \
-    "$here/../crates/bench_font/out/libbench_font.a" "$kit/c/liblibc_c.a" \
+    "$here/../crates/bench_runs/out/libbench_runs.a" "$kit/c/liblibc_c.a" \
     -lstdc++ -lm -lpthread
 "$work/faces" check "$font"
 python3 "$here/fonts.py" "$font" "$work/plain.ttf" kern

@@ -7,8 +7,8 @@ FOLDER = sys.argv[1]
 GUESS = "hb_buffer_guess_segment_properties"
 # What a run is, of each engine: a function's cost has that of all that it calls, so none of these calls another.
 RUNS = {"hb": rf"^(hb_shape_full|{GUESS})$", "hbplan": rf"^(hb_shape_plan_execute|{GUESS})$",
-        "ours": r"^bench_shape::run_fresh", "kept": r"^bench_shape::run_kept"}
-FITS = r"^bench_shape::plan_fits"
+        "ours": r"^bench_runs::runs::run_fresh", "kept": r"^bench_runs::runs::run_kept"}
+FITS = r"^bench_runs::runs::plan_fits"
 
 
 def functions(path):
@@ -124,9 +124,9 @@ WORKS = [("mark", "mark"), ("delete, plain", "delete"), ("merge all", "merge"), 
          ("merge graphemes that chain", "merge_graphemes")]
 head("the buffer's calls, instructions an item", "1,000", "10,000", "100,000")
 for number, (said, function) in enumerate(WORKS):
-    row(said, *(f"{run('buffer', 'plain', n, number, rf'^bench_shape::buffer::{function}$') / n:,.0f}" for n in (1000, 10000, 100000)))
+    row(said, *(f"{run('buffer', 'plain', n, number, rf'^bench_runs::buffer::{function}$') / n:,.0f}" for n in (1000, 10000, 100000)))
 
 head("cutting lines, instructions a glyph", "width 0", "width 60,000", "one line")
 for even, odd in [(600, 600), (-600, -600), (0, 0), (600, -600)]:
-    row(f"advances {even} and {odd}", *(f"{run('lines', f'{even},{odd},{width}', 100000, pattern='^bench_shape::lines::cut$') / 100000:,.0f}"
+    row(f"advances {even} and {odd}", *(f"{run('lines', f'{even},{odd},{width}', 100000, pattern='^bench_runs::lines::cut$') / 100000:,.0f}"
                                         for width in (0, 60000, 2**32 - 1)))

@@ -1,7 +1,7 @@
 use Rattle.std.proofs.Common.{ℕ, ◌+◌, ◌-◌, ◌∷◌, [], ◌++◌, arith, ap, sym, subst, ◌∙◌, append_assoc, append-nil}
 use Rattle.shape_items.specs.Spans.{AreSpansInOrder}
 use Rattle.shape_items.proofs.MergingInOrder.EachSpanLemmas.{AreSpansInOrder-lower}
-use Rattle.bench_shape.proofs.buffer.neighbours.Goals as goal
+use Rattle.bench_runs.proofs.buffer.neighbours.Goals as goal
 
 pub loop-i-preserved : goal.loop-i-preserved
 loop-i-preserved c = λ later in_order.

@@ -1,8 +1,8 @@
 //! A face that is tables: glyphs by characters, 0 for none, advances by glyphs, and boxes by glyphs;
 //! U+0061 with U+FE00 after it has glyph 7. It has no tables of lookups.
 ghost use Rattle.std.specs.Prelude.{◌≡◌};
-ghost use Rattle.bench_shape.specs.Face.{advance_of as advance_of_glyph, extents_of as extents_of_glyph};
-ghost use Rattle.bench_shape.specs.Face.{glyph_of as glyph_of_number, table_face};
+ghost use Rattle.bench_runs.specs.Face.{advance_of as advance_of_glyph, extents_of as extents_of_glyph};
+ghost use Rattle.bench_runs.specs.Face.{glyph_of as glyph_of_number, table_face};
 
 use shape_buffer::buffer::GlyphId;
 use shape_buffer::interfaces::{hb_font_t, hb_glyph_extents_t, hb_tables_t};

@@ -1,6 +1,6 @@
 use Rattle.std.proofs.Common.{ℕ, ◌-◌, ◌++◌, List}
 use Rattle.shape_items.specs.Spans.{AreSpansInOrder}
-use Rattle.bench_shape.proofs.buffer.neighbours.Given as goal
+use Rattle.bench_runs.proofs.buffer.neighbours.Given as goal
 
 -- whatever comes after the spans may begin where the next one does
 abbrev pub invariant-loop-i : goal.invariant-loop-i
