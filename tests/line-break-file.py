@@ -15,7 +15,7 @@ from pathlib import Path
 
 ROOT = Path(__file__).resolve().parent.parent
 FILE = Path("/usr/share/unicode/auxiliary/LineBreakTest.txt")
-PROGRAM = ROOT / "crates" / "test_breaks" / "out" / "test_breaks"
+PROGRAM = ROOT / "crates" / "test_unicode" / "out" / "test_unicode"
 # What stands before a place and after it, the sign here, and the rule that a later version brought.
 REASONS = [
     (r"(002C|002E)( 0308)?$", r"^003[0-9]", "×", "LB25 of 16.0: IS × NU, with no tailoring for numbers"),
@@ -62,8 +62,8 @@ def main():
         print(f"skipped: {FILE} is not installed (Debian's package unicode-data)")
         return 77
     if not PROGRAM.is_file():
-        with open(ROOT / "crates" / "test_breaks" / "stdin", "rb") as given:
-            subprocess.run(["rt", "run"], cwd=ROOT / "crates" / "test_breaks", stdin=given, capture_output=True)
+        with open(ROOT / "crates" / "test_unicode" / "stdin", "rb") as given:
+            subprocess.run(["rt", "run"], cwd=ROOT / "crates" / "test_unicode", stdin=given, capture_output=True)
     text = FILE.read_text(encoding="utf-8")
     lines = [line for line in (line.split("#")[0].strip() for line in text.splitlines()) if line]
     run = subprocess.run([PROGRAM], input=text.encode(), capture_output=True)

@@ -8,7 +8,7 @@
 # whose ccc in shaping sets it apart from the marks of its combining class: these are listed with their reason.
 cd "$(dirname "$0")/.." || exit 1
 file=/usr/share/unicode/NormalizationTest.txt
-program=crates/test_programs/out/test_programs
+program=crates/test_unicode/out/test_unicode
 work=$(mktemp -d) || exit 1
 trap 'rm -rf "$work"' EXIT
 
@@ -20,10 +20,10 @@ else
     echo "skipped: $file is not installed (Debian's package unicode-data)"
     exit 77
 fi
-[ -x "$program" ] || (cd crates/test_programs && rt run -- lines < stdin > /dev/null) || exit 1
+[ -x "$program" ] || (cd crates/test_unicode && rt run < stdin > /dev/null) || exit 1
 
 sed 's/#.*//' "$work/file" | grep ';' > "$work/lines"
-"$program" lines < "$work/file" > "$work/lists" || { tail -n 1 "$work/lists"; exit 1; }
+"$program" < "$work/file" > "$work/lists" || { tail -n 1 "$work/lists"; exit 1; }
 [ "$(wc -l < "$work/lines")" -eq "$(wc -l < "$work/lists")" ] || { echo "not each line has an answer"; exit 1; }
 
 paste -d '|' "$work/lines" "$work/lists" | awk -F '|' '

@@ -1,9 +1,10 @@
-//! One line: its columns read, normalised and written.
+//! A line of NormalizationTest.txt: each of its five columns is normalised in mode 1, then in mode 3, after a base with a mark
+//! and under a face that has every glyph.
 
+use crate::normalising::normalised;
 use shape_buffer::buffer::ShapeError;
 use shape_pipeline::ot_shaper::{ComposedDiacriticsNoShortCircuit, Decomposed, Preferring};
 use std::alloc::{AllocError, Global};
-use test_unicode::normalising::normalised;
 
 /// How many columns a line has: a text, its NFC, NFD, NFKC and NFKD.
 const COLUMNS: usize = 5;
@@ -40,7 +41,7 @@ fn append_list(answer: &mut String, list: &[char]) -> Result<(), AllocError> {
 /// The lists of the first five columns, by the two modes that split fully: 1, which composes nothing, and 3,
 /// which composes again. They stand in one line, each with a semicolon after it. None if there are
 /// fewer columns or one names no character. Refuses if memory is refused.
-pub fn answer(alloc: Global, columns: &str) -> Result<Option<String>, ShapeError> {
+pub fn lists_of(alloc: Global, columns: &str) -> Result<Option<String>, ShapeError> {
     let splitting = Preferring::<Decomposed>::new();
     let composing = Preferring::<ComposedDiacriticsNoShortCircuit>::new();
     let mut answer = String::new(alloc);

@@ -1,7 +1,15 @@
-//! The lines of the input, over any reader and writer.
+//! Lines of Unicode's test files, over any reader and writer.
+//!
+//! A line of NormalizationTest.txt, which has five columns, is answered by a line of lists ([`normalization`]), one of
+//! LineBreakTest.txt by its code points with signs ([`breaks`]); another is passed.
 ghost use Rattle.std.specs.Prelude.{◌≡◌, ◌≤◌};
 
-use crate::normalization::row::answer;
+mod breaks;
+mod normalization;
+
+use breaks::signs_of;
+use normalization::lists_of;
+use shape_buffer::buffer::ShapeError;
 use std::alloc::Global;
 use std::io::{BufRead, Write};
 use std::str;
@@ -16,21 +24,23 @@ const FAILED: u8 = 1;
 /// The status of a run that met a malformed line.
 const MALFORMED: u8 = 2;
 
-/// What stands before a comment, if the line has columns there. A line that is no UTF-8 stands for an empty
-/// one, which is malformed.
-fn columns_of(line: &[u8]) -> Option<&str> {
+/// What a line is answered by, a line too, or nothing if it has neither columns nor signs before its comment. None if it
+/// is malformed.
+fn answer(alloc: Global, line: &[u8]) -> Result<Option<String>, ShapeError> {
     let Ok(line) = str::from_utf8(line) else {
-        return Some("");
+        return Ok(None);
     };
     let (columns, _) = line.split_once('#').unwrap_or((line, ""));
     if columns.contains(';') {
-        Some(columns)
+        lists_of(alloc, columns)
+    } else if columns.contains('÷') {
+        Ok(signs_of(alloc, columns)?)
     } else {
-        None
+        Ok(Some(String::new(alloc)))
     }
 }
 
-/// Answers the lines that have columns, and gives the exit status: 0 at the end of the input, 1 if a
+/// Answers the lines, and gives the exit status: 0 at the end of the input, 1 if a
 /// read, a write or a growth of memory failed, 2 at a malformed line.
 pub fn run<R: BufRead + Drop, W: Write + Drop>(alloc: Global, mut reader: R, mut writer: W) -> u8
     ensures { result ≤ 2 }
@@ -45,11 +55,8 @@ pub fn run<R: BufRead + Drop, W: Write + Drop>(alloc: Global, mut reader: R, mut
             Err(_) => return failed(&mut writer),
         }
         number = number.saturating_add(1);
-        let Some(columns) = columns_of(line.as_slice()) else {
-            continue;
-        };
-        match answer(alloc, columns) {
-            Ok(Some(lists)) => if writer.write_all(lists.as_bytes()).is_err() {
+        match answer(alloc, line.as_slice()) {
+            Ok(Some(made)) => if writer.write_all(made.as_bytes()).is_err() {
                 return FAILED;
             },
             Ok(None) => return malformed(number, &mut writer),

@@ -1,5 +1,5 @@
 use Rattle.std.proofs.Common.{◌^◌, ◌-◌}
-use Rattle.test_programs.proofs.normalization.lines.run.Given as goal
+use Rattle.test_unicode.proofs.files.run.Given as goal
 
 abbrev pub decreases-loop : goal.decreases-loop
 decreases-loop g l = 2 ^ 128 - l.counter
