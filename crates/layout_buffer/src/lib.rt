@@ -13,8 +13,6 @@ mod gap;
 mod gap_buffer;
 mod gap_items;
 mod item_list;
-#[cfg(test)]
-mod tests;
 pub mod worked;
 
 pub use gap_buffer::GapBuffer;

@@ -1,5 +1,5 @@
-//! Tests of what stands on font files, through public calls: faces, lookups of `GPOS`, outlines, glyphs as text, and texts
-//! shaped with a file that has GDEF, GSUB, GPOS and `kern`.
+//! Tests of what stands on font files, through public calls: faces, lookups of `GPOS`, outlines, glyphs as text, texts
+//! shaped with a file that has GDEF, GSUB, GPOS and `kern`, and a walk of substitution with many edits.
 #![tactic(auto)]
 #![allow(non_camel_case_types)]
 
@@ -7,6 +7,8 @@
 mod faces;
 #[cfg(test)]
 mod forms;
+#[cfg(test)]
+mod many_edits;
 #[cfg(test)]
 mod positions;
 #[cfg(test)]

@@ -1,5 +1,5 @@
 //! Walks with many edits: with a buffer's own `insert` and `remove` they would take minutes.
-use crate::GapBuffer;
+use layout_buffer::GapBuffer;
 use shape_buffer::{ShapeError, UnicodeBuffer, hb_buffer_t};
 use std::alloc::Global;
 
