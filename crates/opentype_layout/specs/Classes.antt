@@ -1,5 +1,5 @@
 -- glyphs as the lookups find them
-use Rattle.std.specs.Prelude.{ℕ, List, false, ◌/◌}
+use Rattle.std.specs.Prelude.{ℕ, List, false, ◌≡◌, ◌<◌, ◌/◌, length, slice_index}
 use Rattle.std.specs.Int.RustNames.{bit_and}
 use Rattle.shape_items.specs.Buffer.{Buffer}
 use Rattle.shape_items.specs.Items.{Item}
@@ -24,3 +24,7 @@ begun gdef item = let props = glyph_props gdef item.glyph_id in record item {
 
 unfoldable pub glyphs_begun : List ℕ → Buffer → Buffer
 glyphs_begun gdef b = items_mapped (begun gdef) b
+
+-- what is stored of the first glyphs is what the table says of them
+abbrev pub AreProps : List ℕ → List ℕ → Type 0
+AreProps gdef props = (g : ℕ) → g < length props → slice_index props g ≡ glyph_props gdef g

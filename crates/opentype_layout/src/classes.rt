@@ -1,19 +1,65 @@
 //! Glyphs as the lookups find them: with the class that the font gives each.
-ghost use Rattle.std.specs.Prelude.{◌≡◌};
+ghost use Rattle.std.specs.Prelude.{◌≡◌, ◌≤◌, length, IfOk, IsOkUnless};
 ghost use Rattle.shape_buffer.specs.Outcome.{Made};
-ghost use Rattle.opentype_layout.specs.Classes.{begun as begun_of, glyphs_begun};
+ghost use Rattle.layout_tables.specs.Gdef.{glyph_props as glyph_props_of};
+ghost use Rattle.opentype_layout.specs.Classes.{begun as begun_of, glyphs_begun, AreProps};
 
-use layout_tables::gdef::glyph_props;
+use layout_tables::gdef::{glyph_props, has_glyph_classes};
 use shape_buffer::walks::update_items;
-use shape_buffer::{hb_buffer_t, hb_glyph_info_t};
+use shape_buffer::{ShapeError, hb_buffer_t, hb_glyph_info_t};
 use shape_common::GlyphPropsFlags;
+use std::alloc::Global;
+
+/// What `GDEF` says of glyphs, and what it says of the first ones, stored one after the other. None need be stored.
+#[derive(Clone, Copy)]
+pub(crate) struct GlyphClasses<'a> {
+    gdef: &'a [u8],
+    props: &'a [u16],
+    ghost stored: { AreProps gdef.now props.now },
+}
+
+impl<'a> GlyphClasses<'a> {
+    /// The table with what is stored of it.
+    pub fn new(gdef: &'a [u8], props: &'a [u16]) -> GlyphClasses<'a>
+        requires { AreProps gdef.now props.now }
+        ensures { result.gdef.now ≡ gdef.now }
+    {
+        GlyphClasses { gdef, props }
+    }
+
+    /// The properties of a glyph: a look-up in place of a search among classes.
+    fn props(self, glyph: u32) -> u16
+        ensures { result ≡ glyph_props_of self.gdef.now glyph }
+    {
+        if (glyph as usize) < self.props.len() {
+            self.props[glyph as usize]
+        } else {
+            glyph_props(self.gdef, glyph)
+        }
+    }
+}
+
+/// What the table says of the first `count` glyphs; nothing if it has no classes. Refuses with `Memory` if a growth was
+/// refused.
+pub(crate) fn props_of(alloc: Global, gdef: &[u8], count: u16) -> Result<Vec<u16>, ShapeError>
+    ensures ok { IfOk result (λ props. AreProps gdef.now props.items) }
+    ensures few { IfOk result (λ props. length props.items ≤ count) }
+    ensures memory { IsOkUnless result ShapeError.Memory }
+{
+    let count = if has_glyph_classes(gdef) { count } else { 0 };
+    let mut props = Vec::with_capacity(alloc, usize::from(count))?;
+    for glyph in 0..count {
+        props.push(glyph_props(gdef, u32::from(glyph)))?;
+    }
+    Ok(props)
+}
 
 /// A glyph that no lookup has made, with the class that the font says, and in no ligature.
-fn begun(gdef: &[u8], info: &hb_glyph_info_t) -> hb_glyph_info_t
-    ensures { result ≡ begun_of gdef.now info.now }
+fn begun(classes: GlyphClasses<'_>, info: &hb_glyph_info_t) -> hb_glyph_info_t
+    ensures { result ≡ begun_of classes.gdef.now info.now }
 {
     let mut info = *info;
-    let props = glyph_props(gdef, info.glyph_id);
+    let props = classes.props(info.glyph_id);
     info._hb_glyph_info_set_glyph_class(GlyphPropsFlags(props));
     info._hb_glyph_info_set_mark_attachment_class((props / 256) as u8);
     info._hb_glyph_info_set_substituted(false);
@@ -26,8 +72,8 @@ fn begun(gdef: &[u8], info: &hb_glyph_info_t) -> hb_glyph_info_t
 }
 
 /// Makes the glyphs ones that no lookup has made. Takes no memory.
-pub fn begin_glyphs(gdef: &[u8], buffer: &mut hb_buffer_t)
-    ensures { Made (glyphs_begun gdef.now) buffer.old buffer.new }
+pub(crate) fn begin_glyphs(classes: GlyphClasses<'_>, buffer: &mut hb_buffer_t)
+    ensures { Made (glyphs_begun classes.gdef.now) buffer.old buffer.new }
 {
-    update_items(buffer, |info| begun(gdef, info));
+    update_items(buffer, |info| begun(classes, info));
 }

@@ -11,7 +11,7 @@ ghost use Rattle.opentype_layout.specs.EngineLaws.{opentype_lookups-lawful};
 ghost use Rattle.layout_map.proofs.LawfulLemmas.{map_meaning-lawful};
 
 use crate::chosen::{chosen_for, script_in};
-use crate::classes::begin_glyphs;
+use crate::classes::{GlyphClasses, begin_glyphs};
 use crate::face::OpenTypeFace;
 use crate::lookups::{LookupTables, lookups};
 use kern_table::tables::{kern_table, subtable_count};
@@ -190,7 +190,7 @@ impl<'a> hb_ot_layout_t<OpenTypeFace<'a>> for OpenTypeLayout {
     }
 
     fn substitute_start(face: &OpenTypeFace<'a>, buffer: &mut hb_buffer_t) {
-        begin_glyphs(face.gdef(), buffer);
+        begin_glyphs(GlyphClasses::new(face.gdef(), &[]), buffer);
     }
 
     fn stages(map: &hb_ot_map_t) -> usize

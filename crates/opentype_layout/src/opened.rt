@@ -3,6 +3,7 @@ ghost use Rattle.std.specs.Prelude.{◌≡◌, true, false, IfOk, IsOkUnless};
 ghost use Rattle.layout_digests.specs.Lookups.{AreDigests};
 ghost use Rattle.opentype_layout.specs.Face.{opentype_face};
 
+use crate::classes::{GlyphClasses, props_of};
 use crate::face::OpenTypeFace;
 use layout_digests::Digest;
 use layout_digests::lookups::{Lookups, digests};
@@ -11,13 +12,14 @@ use shape_buffer::{GlyphId, ShapeError, hb_font_t, hb_glyph_extents_t, hb_tables
 use std::alloc::Global;
 use std::marker::Model;
 
-/// A face over the bytes of a font file with tables beside it: those of [`OpenedFace`], and for each lookup of `GSUB` and
-/// `GPOS` a digest of the glyphs that it may begin at, of 24 bytes. It returns what the [`OpenTypeFace`] returns, and
+/// A face over the bytes of a font file with tables beside it: those of [`OpenedFace`], for each glyph what `GDEF` says of it, in
+/// 2 bytes, and for each lookup of `GSUB` and `GPOS` a digest of the glyphs that it may begin at, of 24 bytes. It returns what the [`OpenTypeFace`] returns, and
 /// contracts see it as that face.
 #[derive(Drop)]
 pub struct OpenedOpenTypeFace<'a> {
     face: OpenTypeFace<'a>,
     font: OpenedFace<'a>,
+    props: Vec<u16>,
     substitution: Vec<Digest>,
     positioning: Vec<Digest>,
 }
@@ -30,17 +32,18 @@ impl<'a> Model for OpenedOpenTypeFace<'a> {
 
     ghost view = { λ o. o.face };
 
-    ghost invariant = { λ o. IsStored o.font o.face o.substitution.items o.positioning.items };
+    ghost invariant = { λ o. IsStored o.font o.face o.props.items o.substitution.items o.positioning.items };
 }
 
 impl<'a> OpenedOpenTypeFace<'a> {
-    /// Opens a face: stores the pages of its character map, its advances, and the digests of its lookups. Takes time in
+    /// Opens a face: stores the pages of its character map, the advances and classes of its glyphs, and the digests of its lookups. Takes time in
     /// step with the bytes of the tables, whatever they are. Refuses with `Memory` if a growth was refused.
     pub fn new(alloc: Global, face: OpenTypeFace<'a>) -> Result<OpenedOpenTypeFace<'a>, ShapeError>
         ensures ok { IfOk result (λ opened. opened ≡ face.entry) }
         ensures memory { IsOkUnless result ShapeError.Memory }
     {
         let font = OpenedFace::new(alloc, face.font())?;
+        let props = props_of(alloc, face.gdef(), face.font().glyph_count())?;
         let gsub = Lookups {
             table: face.gsub(),
             positioning: false,
@@ -54,6 +57,7 @@ impl<'a> OpenedOpenTypeFace<'a> {
         Ok(OpenedOpenTypeFace {
             face,
             font,
+            props,
             substitution,
             positioning,
         })
@@ -64,6 +68,13 @@ impl<'a> OpenedOpenTypeFace<'a> {
         ensures { result.now ≡ self.now }
     {
         &self.face
+    }
+
+    /// What `GDEF` says of glyphs.
+    pub(crate) fn classes(&self) -> GlyphClasses<'_>
+        ensures { result.gdef.now ≡ self.now.gdef.now }
+    {
+        GlyphClasses::new(self.face.gdef(), self.props.as_slice())
     }
 
     /// The digests of the lookups of `GSUB`.

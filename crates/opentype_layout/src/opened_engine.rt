@@ -92,7 +92,7 @@ impl<'a> hb_ot_layout_t<OpenedOpenTypeFace<'a>> for OpenTypeLayout {
     }
 
     fn substitute_start(face: &OpenedOpenTypeFace<'a>, buffer: &mut hb_buffer_t) {
-        begin_glyphs(face.face().gdef(), buffer);
+        begin_glyphs(face.classes(), buffer);
     }
 
     fn stages(map: &hb_ot_map_t) -> usize

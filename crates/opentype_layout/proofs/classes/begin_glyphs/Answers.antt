@@ -4,4 +4,4 @@ use Rattle.opentype_layout.proofs.classes.begin_glyphs.Goals as goal
 
 pub returns : goal.returns
 unfolding glyphs_begun
-returns c = c.update_items.ensures (begun c.args.gdef.now) (λ x y said. search rules)
+returns c = c.update_items.ensures (begun c.args.classes.gdef.now) (λ x y said. search rules)
