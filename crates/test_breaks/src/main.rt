@@ -2,7 +2,7 @@
 //! standard input its code points, with `÷` where a line may end and `×` where none does.
 //!
 //! A line without a code point gives none. The exit status is 0 at the end of the input, 1 if a read, a
-//! write or a growth of memory failed, 2 at a malformed line. `tests/line-break-file.py` compares what
+//! write or a growth of memory failed, 2 at a malformed line. `tests/unicode-files.py` compares what
 //! is written with the file.
 #![tactic(auto)]
 

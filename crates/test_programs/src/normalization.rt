@@ -2,7 +2,7 @@
 //!
 //! Each line of the standard input that has columns is answered by a line of lists: each of the five columns
 //! normalised in mode 1, then in mode 3, after a base with a mark and under a face that has every glyph.
-//! `tests/normalization-file.sh` compares the lists.
+//! `tests/unicode-files.py` compares the lists.
 
 mod lines;
 mod row;
