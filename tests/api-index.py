@@ -2,12 +2,13 @@
 """Writes docs/API.md, the public items of each library, from the sources.
 
     tests/api-index.py            writes the page
-    tests/api-index.py --check    ends with status 1 if the page isn't what it would write, or if the table of must-fail edits
-                                  in docs/TESTING.md doesn't name exactly those that there are, or if
-                                  docs/SAFE_AND_TOTAL.md lacks a public function that requires something
+    tests/api-index.py --check    ends with status 1 if the page isn't what it would write, or if
+                                  the table of must-fail edits in docs/TESTING.md doesn't name
+                                  exactly those that there are, or if docs/SAFE_AND_TOTAL.md lacks
+                                  a public function that requires something
 
-An item is public if every module on its path is, or if a `pub use` of such a module names it. Crates of tests and of benches
-are left out, and so are programs.
+An item is public if every module on its path is, or if a `pub use` of such a module names it.
+Crates of tests and of benches are left out, and so are programs.
 """
 
 import re
@@ -20,12 +21,14 @@ PAGE = ROOT / "docs" / "API.md"
 TESTING = ROOT / "docs" / "TESTING.md"
 SAFE_AND_TOTAL = ROOT / "docs" / "SAFE_AND_TOTAL.md"
 YARD = re.compile(r"^(test|bench)_|_(tests|bench)$|^test_fixtures$|^unlawful_search$")
-ITEM = re.compile(r"(pub )?(?:const )?(?:unsafe )?(fn|struct|enum|trait|const|static|type|mod) (\w+)")
+ITEM = re.compile(r"(pub )?(?:const )?(?:unsafe )?"
+                  r"(fn|struct|enum|trait|const|static|type|mod) (\w+)")
 HEAD = """# Public items, by library
 
-Made by `tests/api-index.py` from the sources, lowest crate first; the gate checks that it isn't stale. Items stand
-under the module that a caller names, with the first sentence of their documentation and the names of their methods.
-What each promises stands in its contract; [PROMISES](PROMISES.md) is the index of these.
+Made by `tests/api-index.py` from the sources, lowest crate first; the gate checks that it isn't
+stale. Items stand under the module that a caller names, with the first sentence of their
+documentation and the names of their methods. What each promises stands in its contract;
+[PROMISES](PROMISES.md) is the index of these.
 """
 # The most constants of a module that are listed one by one.
 FEW = 8
@@ -37,7 +40,8 @@ class Item:
 
 
 class Module:
-    """A module: its items, the names that it shows by `pub use`, and its modules with whether each is public."""
+    """A module: its items, the names that it shows by `pub use`, and its modules with whether each
+    is public."""
 
     def __init__(self, doc):
         self.doc, self.items, self.shown, self.children = doc, [], [], []
@@ -91,7 +95,8 @@ def read(path, methods):
                 line += " " + lines[at].strip()
                 at += 1
             named = re.match(r"impl(?:<.*?>)? (\w+)(?:<[^{]*>)? *(?:where.*)?\{", line)
-            owner = methods.setdefault(named.group(1), []) if named and " for " not in line.split("{")[0] else None
+            inherent = named and " for " not in line.split("{")[0]
+            owner = methods.setdefault(named.group(1), []) if inherent else None
         elif line.startswith("}"):
             owner = None
         else:
@@ -111,7 +116,8 @@ def read(path, methods):
                             at += 1
                         if line.rstrip().endswith("{}"):
                             owner = None
-                elif owner is not None and kind in ("fn", "const") and not line.startswith("     "):
+                elif (owner is not None and kind in ("fn", "const")
+                      and not line.startswith("     ")):
                     if public or owner is module.items[-1].members if module.items else public:
                         owner.append(name)
         if bare and not bare.startswith("///"):
@@ -129,7 +135,8 @@ def modules_of(crate):
         for child_public, child in module.children:
             child_path = folder / f"{child}.rt"
             if child_path.exists():
-                walk(child_path, folder / child, f"{name}::{child}" if name else child, public and child_public)
+                inner = f"{name}::{child}" if name else child
+                walk(child_path, folder / child, inner, public and child_public)
 
     source = ROOT / "crates" / crate / "src"
     walk(source / "lib.rt", source, "", True)
@@ -153,7 +160,8 @@ def entry(item, methods):
 def section(crate):
     found, methods = modules_of(crate)
     own = {item.name: item for _, module in found.values() for item in module.items}
-    private = {item.name for public, module in found.values() if not public for item in module.items}
+    private = {item.name for public, module in found.values() if not public
+               for item in module.items}
     lines = [f"## `{crate}`", "", textwrap.fill(found[""][1].doc + ".", 118), ""]
     for name, (public, module) in found.items():
         if not public:
@@ -169,22 +177,26 @@ def section(crate):
             continue
         if name:
             lines += [f"### `{crate}::{name}`", ""]
-        named = items if name.endswith("worked") else [item for item in items if item.kind == "const"]
-        if not name.endswith("worked") and len(named) <= FEW:
-            named = []
+        named = items
+        if not name.endswith("worked"):
+            named = [item for item in items if item.kind == "const"]
+            named = named if len(named) > FEW else []
         for item in items:
             if item not in named:
                 lines += entry(item, methods)
         if named:
-            lines.append(wrapped(f"{named[0].kind} " + ", ".join(f"`{item.name}`" for item in named), ""))
+            names = ", ".join(f"`{item.name}`" for item in named)
+            lines.append(wrapped(f"{named[0].kind} {names}", ""))
         if others:
-            lines.append(wrapped("shown here too: " + ", ".join(f"`{other}`" for other in dict.fromkeys(others)), ""))
+            names = ", ".join(f"`{other}`" for other in dict.fromkeys(others))
+            lines.append(wrapped(f"shown here too: {names}", ""))
         lines.append("")
     return lines
 
 
 def page():
-    listed = [line.split(":")[0].split()[0] for line in (ROOT / "crates.txt").read_text().split("\n")
+    listed = [line.split(":")[0].split()[0]
+              for line in (ROOT / "crates.txt").read_text().split("\n")
               if ":" in line and not line.startswith("#")]
     lines = [HEAD]
     for crate in listed:
@@ -194,7 +206,8 @@ def page():
 
 
 def edits_of_page():
-    """The must-fail edits that docs/TESTING.md names; a row without a crate goes on with the one above."""
+    """The must-fail edits that docs/TESTING.md names; a row without a crate goes on with the one
+    above."""
     named, crate = set(), ""
     for row in re.finditer(r"^\| (?:`(\w+)` )?\| `(\w+)` \| [^|]* \|$", TESTING.read_text(), re.M):
         crate = row.group(1) or crate
@@ -222,8 +235,9 @@ def modules_with_files(root, path=()):
             file = base / f"{match[2]}.rt"
             if file.exists():
                 public = match[1] == "pub "
-                for inner, inner_file, inner_public in modules_with_files(file, path + (match[2],)):
-                    found.append((inner, inner_file, public and inner_public))
+                below = modules_with_files(file, path + (match[2],))
+                found += [(inner, inner_file, public and inner_public)
+                          for inner, inner_file, inner_public in below]
     return found
 
 
@@ -240,7 +254,8 @@ def contract_of(lines, at):
     """What stands between a function's name and its body."""
     text = ""
     for line in lines[at:]:
-        if re.match(r"^ *(\{|\{\}|\}) *$", line) or (line.rstrip().endswith("{") and "requires" not in line and "ensures" not in line):
+        clause = "requires" in line or "ensures" in line
+        if re.match(r"^ *(\{|\{\}|\}) *$", line) or (line.rstrip().endswith("{") and not clause):
             return text
         text += line + "\n"
         if line.rstrip().endswith(";"):
@@ -264,7 +279,8 @@ def conditions(crate):
             if not match or not (match[2] or (inside and re.match(r"pub trait\b", inside))):
                 continue
             name = match[3]
-            reached = public or name in names or bool(inside and names & set(re.findall(r"\w+", inside)))
+            shown = bool(inside and names & set(re.findall(r"\w+", inside)))
+            reached = public or name in names or shown
             text = contract_of(lines, at)
             asked = re.search(r"\brequires\b ?(\w+)? ?\{ ?(.*)", text)
             if reached and asked:
@@ -272,15 +288,17 @@ def conditions(crate):
 
 
 def lacking_conditions():
-    """The public functions with a `requires` that docs/SAFE_AND_TOTAL.md doesn't name, in a code span by themselves, with their
-    path, or as `module::*`."""
+    """The public functions with a `requires` that docs/SAFE_AND_TOTAL.md doesn't name, in a code
+    span by themselves, with their path, or as `module::*`."""
     spans = re.findall(r"`([^`]+)`", SAFE_AND_TOTAL.read_text())
     named = {span.split("::")[-1].split("(")[0] for span in spans}
     wholes = {span.split("::")[-2] for span in spans if span.endswith("::*")}
     lines = (ROOT / "crates.txt").read_text().splitlines()
-    crates = sorted(line.split(":")[0].split()[0] for line in lines if line.strip() and not line.startswith("#"))
+    crates = sorted(line.split(":")[0].split()[0] for line in lines
+                    if line.strip() and not line.startswith("#"))
     for crate in crates:
-        if YARD.search(crate) or crate in LEFT_OUT or not (ROOT / "crates" / crate / "src/lib.rt").exists():
+        library = ROOT / "crates" / crate / "src/lib.rt"
+        if YARD.search(crate) or crate in LEFT_OUT or not library.exists():
             continue
         for path, name, asked in conditions(crate):
             if name not in named and not wholes & ({crate} | set(path)):
@@ -292,9 +310,12 @@ def check():
     stale = []
     if not PAGE.exists() or PAGE.read_text() != page():
         stale.append("docs/API.md: run tests/api-index.py")
-    edits = {f"{edit.parent.parent.name}/{edit.stem}" for edit in ROOT.glob("crates/*/must-fail/*.edit")}
-    stale += [f"docs/TESTING.md lacks the edit {edit}" for edit in sorted(edits - edits_of_page())]
-    stale += [f"docs/TESTING.md names an edit that isn't there: {edit}" for edit in sorted(edits_of_page() - edits)]
+    edits = {f"{edit.parent.parent.name}/{edit.stem}"
+             for edit in ROOT.glob("crates/*/must-fail/*.edit")}
+    named = edits_of_page()
+    stale += [f"docs/TESTING.md lacks the edit {edit}" for edit in sorted(edits - named)]
+    stale += [f"docs/TESTING.md names an edit that isn't there: {edit}"
+              for edit in sorted(named - edits)]
     stale += [f"docs/SAFE_AND_TOTAL.md lacks {line}" for line in lacking_conditions()]
     return stale
 

@@ -1,13 +1,14 @@
-#!/usr/bin/env python3
-"""Runs the built programs on their sessions, and compares what they write and their status: `shapeline` on those of
-tests/sessions, `fontshape` on those of tests/fontshape.
+#!/usr/bin/env -S python3 -B
+"""Runs the built programs on their sessions, and compares what they write and their status.
 
     tests/sessions.py [FILE ..]
 
-tests/sessions/README.md says how a session is written. If no file is named it takes all, then the inputs that fuzzing
-kept, in tests/fuzz, then runs `shapeline` with each of its reads failing in turn, and with each of its writes, until a
-run has no such call, and `fontshape` on a long text and to a full device. It ends with status 1 if something isn't as
-it should be, and says at which case, input or call.
+Those of tests/sessions are of `shapeline`, those of tests/fontshape of `fontshape`;
+tests/sessions/README.md says how a session is written. If no file is named it takes all, then the
+inputs that fuzzing kept, in tests/fuzz, then runs `shapeline` with each of its reads failing in
+turn, and with each of its writes, until a run has no such call, and `fontshape` on a long text and
+to a full device. It ends with status 1 if something isn't as it should be, and says at which case,
+input or call.
 """
 import os
 import re
@@ -19,12 +20,11 @@ import sys
 import tempfile
 from pathlib import Path
 
-TESTS = Path(__file__).resolve().parent
-CRATES = TESTS.parent / "crates"
-PROGRAM = CRATES / "shapeline/out/shapeline"
-FONTSHAPE = CRATES / "fontshape/out/fontshape"
-FILES = [CRATES / "fontshape/data/tiny.ttf",
-         *(TESTS / "fontshape" / name for name in ("tall.ttf", "two.ttc", "flat.ttf", "heavy.ttf", "lines"))]
+from checks.programs import CRATES, FONTSHAPE, TESTS, build, program_of
+
+PROGRAM = program_of("shapeline")
+GIVEN = ("tall.ttf", "two.ttc", "flat.ttf", "heavy.ttf", "lines")
+FILES = [CRATES / "fontshape/data/tiny.ttf", *(TESTS / "fontshape" / name for name in GIVEN)]
 
 # How long a run may take, in seconds.
 LIMIT = 60
@@ -46,7 +46,8 @@ class Block:
 
 
 def line_of(text):
-    """The bytes that a line stands for, with a line feed at their end unless a backslash ends it."""
+    """The bytes that a line stands for, with a line feed at their end unless a backslash ends
+    it."""
     data, end = b"", b"\n"
     for escape, other in re.findall(r"(\\x[0-9A-F]{2}|\\[rt\\]|\\$)|(.)", text):
         if other == "\\":
@@ -64,7 +65,8 @@ def line_of(text):
 
 def words_of(text):
     """Arguments, with the quotes of a shell; U+0301 stands for that character."""
-    return [re.sub(r"U\+([0-9A-F]{4})", lambda m: chr(int(m[1], 16)), word) for word in shlex.split(text)]
+    return [re.sub(r"U\+([0-9A-F]{4})", lambda m: chr(int(m[1], 16)), word)
+            for word in shlex.split(text)]
 
 
 def read_line(block, text, folder):
@@ -100,7 +102,8 @@ def blocks_of(file):
 
 
 def cases_of(file):
-    """The cases of a file, each with what its section says. A section that no case follows is a case itself."""
+    """The cases of a file, each with what its section says. A section that no case follows is a
+    case itself."""
     cases, section, place = [], Block(0, ""), file
     try:
         for lines in blocks_of(file):
@@ -126,10 +129,11 @@ def cases_of(file):
 
 
 def run(program, case, folder):
-    """What a run of a case writes, also on standard error, and its status: negative after a signal, none if the run
-    goes on too long."""
+    """What a run of a case writes, also on standard error, and its status: negative after a
+    signal, none if the run goes on too long."""
     try:
-        ended = subprocess.run([program, *case.words], input=case.given, capture_output=True, cwd=folder, timeout=LIMIT)
+        ended = subprocess.run([program, *case.words], input=case.given, capture_output=True,
+                               cwd=folder, timeout=LIMIT)
     except subprocess.TimeoutExpired as late:
         return late.stdout or b"", late.stderr or b"", None
     return ended.stdout, ended.stderr, ended.returncode
@@ -143,7 +147,8 @@ def shown(data):
 def compared(written, left_out):
     """What is written, except for the lines that begin with these words."""
     begins = tuple(word.encode() for word in left_out)
-    return b"".join(line for line in re.findall(rb"[^\n]*\n|[^\n]+$", written) if not line.startswith(begins))
+    lines = re.findall(rb"[^\n]*\n|[^\n]+$", written)
+    return b"".join(line for line in lines if not line.startswith(begins))
 
 
 def fault_of(program, case, folder):
@@ -160,7 +165,7 @@ def fault_of(program, case, folder):
 
 
 def run_sessions(files, folder):
-    """Runs all cases, and says which aren't as they should be. Gives whether all are."""
+    """Runs all cases, and says which aren't as they should be. Returns whether all are."""
     count, bad = 0, 0
     for file in files:
         program = FONTSHAPE if file.resolve().parent.name == "fontshape" else PROGRAM
@@ -170,8 +175,9 @@ def run_sessions(files, folder):
             if fault:
                 bad += 1
                 words = shlex.join(case.words)
-                print(f"{file}:{case.number}: {case.title} {words}\n  on\n{shown(case.given)}  {fault}", end="")
-    print(f"sessions: {count - bad} of {count} cases in {len(files)} files answer as they should")
+                print(f"{file}:{case.number}: {case.title} {words}\n  on\n{shown(case.given)}"
+                      f"  {fault}", end="")
+    print(f"sessions: {count - bad} of {count} cases in {len(files)} files end as they should")
     return count > 0 and bad == 0
 
 
@@ -181,14 +187,16 @@ def limit_processor_time():
 
 
 def run_fuzzed():
-    """Runs the inputs that fuzzing kept. Each ends within a second of processor time, never by a signal, and in one
-    of two ways: with status 0 and no error line, or with status 2 and the malformed line's number. Gives whether all do."""
+    """Runs the inputs that fuzzing kept. Each ends within a second of processor time, never by a
+    signal, and in one of two ways: with status 0 and no error line, or with status 2 and the
+    malformed line's number. Returns whether all do."""
     inputs = sorted((TESTS / "fuzz").iterdir())
     for file in inputs:
-        ended = subprocess.run([PROGRAM], input=file.read_bytes(), stdout=subprocess.PIPE, timeout=LIMIT,
-                               preexec_fn=limit_processor_time, check=False)
+        ended = subprocess.run([PROGRAM], input=file.read_bytes(), stdout=subprocess.PIPE,
+                               timeout=LIMIT, preexec_fn=limit_processor_time, check=False)
         last = (ended.stdout.splitlines() or [b""])[-1]
-        wanted = 2 if last.startswith(b"error: line ") else None if last.startswith(b"error: ") else 0
+        malformed, other = last.startswith(b"error: line "), last.startswith(b"error: ")
+        wanted = 2 if malformed else None if other else 0
         if ended.returncode != wanted:
             print(f"{file}: status {ended.returncode}, and the last line is {last!r}")
             return False
@@ -206,30 +214,33 @@ ANSWERED = (b"prepared 0041@0\nnormal 0041@0\nglyphs 0@0(0,0,0,0)/0\nsame yes\nl
 
 
 def run_failing(work, kind, number, given):
-    """A run in which the read or the write with this number fails, counted from 1. Gives what it writes, its status,
-    and how many such calls it makes."""
+    """A run in which the read or the write with this number fails, counted from 1. Returns what it
+    writes, its status, and how many such calls it makes."""
     source, count = work / "given", work / "count"
     source.write_bytes(given)
-    variables = {"LD_PRELOAD": work / "refuse.so", f"REFUSED_{kind}": number, f"COUNTED_{kind}S": count}
+    variables = {"LD_PRELOAD": work / "refuse.so", f"REFUSED_{kind}": number,
+                 f"COUNTED_{kind}S": count}
     environment = os.environ | {name: str(value) for name, value in variables.items()}
     with source.open("rb") as reader:
-        ended = subprocess.run([PROGRAM], stdin=reader, stdout=subprocess.PIPE, env=environment, timeout=LIMIT,
-                               check=False)
+        ended = subprocess.run([PROGRAM], stdin=reader, stdout=subprocess.PIPE, env=environment,
+                               timeout=LIMIT, check=False)
     return ended.stdout, ended.returncode, int(count.read_text())
 
 
 def run_all_failing(work, kind, given, whole, least):
-    """Has each read or each write fail in turn, until a run has no such call. A failure ends a run with status 1:
-    that of a read says so and nothing else, after that of a write nothing more is written. Gives whether all is so,
-    and the last run is whole and has more than so many calls."""
+    """Has each read or each write fail in turn, until a run has no such call. A failure ends a run
+    with status 1: that of a read says so and nothing else, after that of a write nothing more is
+    written. Returns whether all is so, and the last run is whole and has more than so many
+    calls."""
     for number in range(1, 1000):
         written, status, calls = run_failing(work, kind, number, given)
         if calls < number and (written, status) == whole and calls > least:
-            print(f"failing calls: {calls} of {kind.lower()}, each answered as it should be")
+            print(f"failing calls: {calls} of {kind.lower()}, each ends as it should")
             return True
         right = written == b"error: input\n" if kind == "READ" else whole[0].startswith(written)
         if status != 1 or calls != number or not right:
-            print(f"call {number} of {kind.lower()} fails, of {calls}: status {status}, and this is written:")
+            print(f"call {number} of {kind.lower()} fails, of {calls}: status {status}, and this "
+                  "is written:")
             print(shown(written), end="")
             return False
     print(f"no run was without the failing call of {kind.lower()}")
@@ -237,7 +248,8 @@ def run_all_failing(work, kind, given, whole, least):
 
 
 def run_failing_calls():
-    """Has each read and each write of a session fail in turn. Gives whether all is as it should be."""
+    """Has each read and each write of a session fail in turn. Returns whether all is as it should
+    be."""
     with tempfile.TemporaryDirectory() as folder:
         work = Path(folder)
         library, source = work / "refuse.so", TESTS / "refuse.c"
@@ -248,11 +260,12 @@ def run_failing_calls():
 
 
 def run_long_text(folder):
-    """`fontshape` writes a text of 3,000 letters whole, and reads a language's name of 30,000 bytes. Gives whether it
-    does."""
+    """`fontshape` writes a text of 3,000 letters whole, and reads a language's name of 30,000
+    bytes. Returns whether it does."""
     wanted = b"[" + b"|".join(b"2=%d+600" % at for at in range(3000)) + b"]\n"
     words = [FONTSHAPE, "tiny.ttf", "--no-glyph-names", "--language=" + "ab-" * 10000]
-    ended = subprocess.run(words, input=b"A" * 3000 + b"\n", stdout=subprocess.PIPE, cwd=folder, timeout=LIMIT)
+    ended = subprocess.run(words, input=b"A" * 3000 + b"\n", stdout=subprocess.PIPE, cwd=folder,
+                           timeout=LIMIT)
     right = (ended.returncode, ended.stdout) == (0, wanted)
     if not right:
         print("fontshape doesn't write 3,000 letters whole")
@@ -260,46 +273,45 @@ def run_long_text(folder):
 
 
 def run_full_device(folder):
-    """A write that fails ends `fontshape` with status 1, and it says so. Gives whether it does."""
+    """A write that fails ends `fontshape` with status 1, and it says so. Returns whether it
+    does."""
     with open("/dev/full", "wb") as full:
         words = [FONTSHAPE, "tiny.ttf", "AB"]
-        ended = subprocess.run(words, stdout=full, stderr=subprocess.PIPE, cwd=folder, timeout=LIMIT)
-    right = (ended.returncode, ended.stderr) == (1, b"error: standard output: No space left on device (os error 28)\n")
+        ended = subprocess.run(words, stdout=full, stderr=subprocess.PIPE, cwd=folder,
+                               timeout=LIMIT)
+    said = b"error: standard output: No space left on device (os error 28)\n"
+    right = (ended.returncode, ended.stderr) == (1, said)
     if not right:
         print(f"fontshape on a full device: status {ended.returncode}, {ended.stderr}")
     return right
 
 
 def run_heavy_font(folder):
-    """The picture of a line has at most a megabyte and takes little time, whatever the font: A has 65,536 points.
-    Gives whether it does."""
+    """The picture of a line has at most a megabyte and takes little time, whatever the font: A has
+    65,536 points. Returns whether it does."""
     given = b"A" * 5000 + b"\n" + b"A" * 5000 + b"\n"
-    ended = subprocess.run([FONTSHAPE, "heavy.ttf", "--svg"], input=given, stdout=subprocess.PIPE, cwd=folder,
-                           timeout=LIMIT, preexec_fn=limit_processor_time)
+    ended = subprocess.run([FONTSHAPE, "heavy.ttf", "--svg"], input=given, stdout=subprocess.PIPE,
+                           cwd=folder, timeout=LIMIT, preexec_fn=limit_processor_time)
     right = ended.returncode == 0 and 1_500_000 < len(ended.stdout) < 2_001_000
     if not right:
-        print(f"fontshape draws a heavy font: status {ended.returncode}, {len(ended.stdout)} bytes")
+        print(f"fontshape draws a heavy font: status {ended.returncode}, "
+              f"{len(ended.stdout)} bytes")
     return right
 
 
-def build(program, words):
-    """Builds a program if it isn't built."""
-    if not program.exists():
-        crate = program.parent.parent
-        subprocess.run(["rt", "run", *words], cwd=crate, stdin=subprocess.DEVNULL, stdout=subprocess.DEVNULL)
-
-
 def main():
-    build(PROGRAM, [])
-    build(FONTSHAPE, ["--", "data/tiny.ttf", ""])
+    build("shapeline")
+    build("fontshape")
     named = [Path(name) for name in sys.argv[1:]]
     with tempfile.TemporaryDirectory() as folder:
         for file in FILES:
             shutil.copy(file, folder)
-        all_files = sorted([*(TESTS / "sessions").glob("*.txt"), *(TESTS / "fontshape").glob("*.txt")])
+        all_files = sorted([*(TESTS / "sessions").glob("*.txt"),
+                            *(TESTS / "fontshape").glob("*.txt")])
         right = [run_sessions(named or all_files, folder)]
         if not named:
-            right += [run_fuzzed(), run_failing_calls(), run_long_text(folder), run_full_device(folder), run_heavy_font(folder)]
+            right += [run_fuzzed(), run_failing_calls(), run_long_text(folder),
+                      run_full_device(folder), run_heavy_font(folder)]
     sys.exit(0 if all(right) else 1)
 
 

@@ -1,0 +1,140 @@
+"""Tables of fonts that ask for much work. Their glyphs are letters, 1 to 26, and marks, 27 to
+42."""
+import struct
+
+
+def words(*numbers):
+    """Numbers of 16 bits."""
+    return struct.pack(">%dH" % len(numbers), *numbers)
+
+
+# the coverage of all glyphs
+EVERY = words(2, 1, 1, 42, 0)
+GLYPHS = 43
+
+
+def lookup(kind, subtables, flag=0):
+    """A lookup: `subtables` are bytes, or pairs of how often a subtable is named and its bytes."""
+    pairs = [it if isinstance(it, tuple) else (1, it) for it in subtables]
+    count = sum(times for times, _ in pairs)
+    at, offsets, body = 6 + 2 * count, [], b""
+    for times, part in pairs:
+        offsets += [at + len(body)] * times
+        body += part
+    return words(kind, flag, count, *offsets) + body
+
+
+def layout(lookups, tag=b"ccmp", shared=0, version=b""):
+    """GSUB or GPOS with one feature of all lookups; the last of them is named `shared` times
+    more."""
+    count = len(lookups) + shared
+    scripts = words(1) + b"DFLT" + words(8) + words(4, 0) + words(0, 0xFFFF, 1, 0)
+    features = words(1) + tag + words(8) + words(0, count, *range(count))
+    at, offsets, body = 2 + 2 * count, [], b""
+    for part in lookups:
+        offsets.append(at + len(body))
+        body += part
+    offsets += [offsets[-1]] * shared
+    head = 10
+    # (the list of lookups comes before the features, since places of these are counted from it)
+    order = words(count, *offsets) + body
+    scripts_end = head + len(scripts)
+    if scripts_end + len(order) > 65535:
+        order_at = scripts_end + len(features)
+        return words(1, 0, head, scripts_end, order_at) + scripts + features + order
+    features_at = scripts_end + len(order)
+    return words(1, 0, head, features_at, scripts_end) + scripts + order + features
+
+
+def variations(count):
+    """GSUB of one lookup whose table of variations says that it has so many records, and has one
+    that never applies."""
+    whole = layout([lookup(1, [words(1, 6, 0) + EVERY])])
+    places = [n + 4 for n in struct.unpack(">3H", whole[4:10])]
+    body = words(1, 1, *places) + struct.pack(">I", 4 + len(whole)) + whole[10:]
+    condition = words(1, 0, 6, 1, 0, 0x4000, 0x4000)
+    return body + words(1, 0) + struct.pack(">III", count, 16, 0) + condition
+
+
+def features(count):
+    """GSUB whose list of features has many of one tag, and whose language names each."""
+    scripts = words(1) + b"DFLT" + words(8) + words(4, 0) + words(0, 0xFFFF, count, *range(count))
+    order = words(1, 4) + lookup(1, [words(1, 6, 0) + EVERY])
+    at = 2 + 6 * count
+    found = words(count) + (b"ccmp" + words(min(at, 65535))) * count + words(0, 1, 0)
+    head = words(1, 0, 10, 10 + len(scripts) + len(order), 10 + len(scripts))
+    return head + scripts + order + found
+
+
+def context(depth, records, covered=EVERY):
+    """A context of `depth` glyphs that applies records: pairs of a place and a lookup."""
+    at = 6 + 2 * depth + 4 * len(records)
+    numbers = [number for pair in records for number in pair]
+    return words(3, depth, len(records), *[at] * depth, *numbers) + covered
+
+
+def vain():
+    """A context of two glyphs of which the second is never there."""
+    return words(3, 2, 0, 10, 10 + len(EVERY)) + EVERY + words(1, 1, 42)
+
+
+def rules(count, row):
+    """Contexts of format 1 with one set for all glyphs, whose `count` rules share one place."""
+    head = 6 + 2 * GLYPHS
+    covered = head
+    rule_set = words(count, *[2 + 2 * count] * count) + row
+    return words(1, covered, 42, *[head + len(EVERY)] * 42) + words(0) + EVERY + rule_set
+
+
+def ligatures(count, length):
+    """Ligatures of one set, which share one place, and whose last component is never there."""
+    head = 6 + 2 * 42
+    row = words(5, length, *[1] * (length - 2), 42)
+    ligature_set = words(count, *[2 + 2 * count] * count) + row
+    return words(1, head, 42, *[head + len(EVERY)] * 42) + EVERY + ligature_set
+
+
+def grows(times):
+    """Each glyph becomes so many."""
+    head = 6 + 2 * 42
+    return words(1, head, 42, *[head + len(EVERY)] * 42) + EVERY + words(times, *[1] * times)
+
+
+def marks_on(kind):
+    """Marks on bases, which are the letters, or on marks: one anchor."""
+    marks = words(2, 1, 27, 42, 0)
+    bases = words(2, 1, 1, 26, 0) if kind == 4 else marks
+    count = 26 if kind == 4 else 16
+    one = 12 + len(marks) + len(bases)
+    array = words(16, *[0, 2 + 64] * 16) + words(1, 10, 10)
+    base = words(count, *[2 + 2 * count] * count) + words(1, 30, 40)
+    return words(1, 12, 12 + len(marks), 1, one, one + len(array)) + marks + bases + array + base
+
+
+def cursive():
+    """Each glyph is attached to the next."""
+    head = 6 + 4 * 42
+    return words(1, head, 42, *[head + len(EVERY)] * 84) + EVERY + words(1, 5, 7)
+
+
+def pairs(count):
+    """Pairs of which one list is shared by all glyphs, and has `count` records of glyph 42."""
+    head = 10 + 2 * 42
+    pair_set = words(count, *[42, 9] * count)
+    return words(1, head, 4, 0, 42, *[head + len(EVERY)] * 42) + EVERY + pair_set
+
+
+def kern(count, length):
+    """A table `kern` of `count` parts, each of which says that it has this length."""
+    return words(0, count) + words(0, length, 1, 1, 6, 0, 0, 1, 1, 50)
+
+
+def gdef(ranges):
+    """Classes of glyphs: letters are bases, marks marks; so many ranges of no glyph before."""
+    classes = words(2, ranges + 2, *[0, 0, 1] * ranges, 1, 26, 1, 27, 42, 3)
+    return words(1, 0, 12, 0, 0, 0) + classes
+
+
+# an extension of an extension, and a rule of 64 glyphs of which the last is never there
+LOOP = words(1, 5, 0, 8)
+ROW = words(64, 1, *[1] * 62, 42, 0, 0)

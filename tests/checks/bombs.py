@@ -1,0 +1,154 @@
+"""Fonts made by hand that are small and ask for much work, and the worst of earlier searches.
+
+Each runs with a text of 10,000 characters: no run ends by a signal, takes more than six seconds of
+processor time (the gate's machine may be slow), or more than 200 MB. The bombs are lookups that
+apply themselves, substitutions that grow, parts of tables that are shared, kerning of 65,535
+parts. Those that are known to take longer, since time is bounded by a product, stand in OPEN: of
+each docs/SAFE_AND_TOTAL.md says the bound, and it runs here over a shorter text.
+
+The worst fonts of earlier searches are named in tests/hostile/worst.txt (`search`).
+"""
+from checks.bomb_tables import (EVERY, LOOP, ROW, context, cursive, features, gdef, grows, kern,
+                                layout, ligatures, lookup, marks_on, pairs, rules, vain,
+                                variations, words)
+from checks.fonts import add_table, bytes_of, new_font
+from checks.hostile_runs import LENGTH, SECONDS, Runs, add_run_options, need_all
+from checks.mutated import load_bases, mutated_font
+from checks.programs import TESTS
+
+WORST = TESTS / "hostile" / "worst.txt"
+# the gate's machine may be slower than that of the figures
+GATE_SECONDS = 3 * SECONDS
+LETTERS = range(0x61, 0x7B)
+MARKS = range(0x300, 0x310)
+
+AT_ONCE = [lookup(1, [words(1, 6, 0) + EVERY])]
+IN_VAIN = [lookup(5, [(30000, vain())])]
+RULES = [lookup(5, [rules(32000, ROW)])]
+SKIPPING = [lookup(5, [context(2, [], words(1, 1, 1))], 8)]
+TO_BASES = [lookup(4, [marks_on(4)])]
+
+
+def calls(depth, records, count=1):
+    """GSUB of lookups that apply lookups."""
+    return {"GSUB": layout([lookup(5, [context(depth, records)]) for _ in range(count)])}
+
+
+def marks(lookups, shared=0):
+    return {"GPOS": layout(lookups, b"mark", shared=shared), "GDEF": gdef(0)}
+
+
+GROWS_IN_ITSELF = [lookup(5, [context(1, [(0, 1), (0, 0)])]), lookup(2, [grows(9)])]
+# the tables of each, and what its text is of: letters, marks, or letters and marks
+BOMBS = {
+    "calls itself": (calls(1, [(0, 0)]), "a"),
+    "calls itself twice": (calls(1, [(0, 0), (0, 0)]), "a"),
+    "calls itself at each of 64 places": (calls(64, [(i, 0) for i in range(64)]), "a"),
+    "calls all of 60 lookups": (calls(1, [(0, i) for i in range(60)], 60), "a"),
+    "grows": ({"GSUB": layout([lookup(2, [grows(60)])])}, "a"),
+    "grows twice": ({"GSUB": layout([lookup(2, [grows(60)])] * 2)}, "a"),
+    "grows in itself": ({"GSUB": layout(GROWS_IN_ITSELF)}, "a"),
+    "one lookup, named 20,000 times": ({"GSUB": layout(AT_ONCE, shared=20000)}, "a"),
+    "one subtable, named 30,000 times": ({"GSUB": layout(IN_VAIN)}, "a"),
+    "30,000 subtables of 100 lookups": ({"GSUB": layout(IN_VAIN, shared=100)}, "a"),
+    "32,000 rules at one place": ({"GSUB": layout(RULES)}, "a"),
+    "32,000 rules, 100 lookups": ({"GSUB": layout(RULES, shared=100)}, "a"),
+    "32,000 ligatures at one place": (
+        {"GSUB": layout([lookup(4, [ligatures(32000, 64)])])}, "a"),
+    "skips half of the text": ({"GSUB": layout(SKIPPING), "GDEF": gdef(0)}, "am"),
+    "skips half of the text, 1,000 lookups": (
+        {"GSUB": layout(SKIPPING, shared=1000), "GDEF": gdef(0)}, "am"),
+    "variations without end": ({"GSUB": variations(0xFFFFFFFF)}, "a"),
+    "10,000 features": ({"GSUB": features(10000)}, "a"),
+    "extension of itself": ({"GSUB": layout([lookup(7, [words(1, 7, 0, 0)])])}, "a"),
+    "extension of an extension": (
+        {"GSUB": layout([lookup(7, [words(1, 7, 0, 8) + LOOP])])}, "a"),
+    "marks without a base": (marks(TO_BASES), "m"),
+    "marks without a base, 1,000 lookups": (marks(TO_BASES, shared=1000), "m"),
+    "marks on marks": (
+        {"GPOS": layout([lookup(6, [marks_on(6)])], b"mkmk"), "GDEF": gdef(0)}, "m"),
+    "marks on one base": (marks(TO_BASES), "am"),
+    "one chain of letters": ({"GPOS": layout([lookup(3, [cursive()], 1)], b"curs")}, "a"),
+    "pairs of 15,000 records": (
+        {"GPOS": layout([lookup(2, [pairs(15000)])], b"kern")}, "a"),
+    "kern of 65,535 parts at one place": ({"kern": kern(65535, 0)}, "a"),
+    "kern of 65,535 parts past the end": ({"kern": kern(65535, 20)}, "a"),
+    "classes of 10,000 ranges": (
+        {"GDEF": gdef(10000), "GPOS": layout(TO_BASES, b"mark")}, "am"),
+}
+# Bombs that take more than two seconds over the whole length, or nearly, and the length that each
+# is run with: those that apply nested lookups as often as the limit of operations has it, as
+# HarfBuzz does, those of 1,000 lookups (1.6 and 2.0 s), and those that share parts, which HarfBuzz
+# refuses.
+OPEN = {
+    "calls itself twice": 5000,
+    "calls itself at each of 64 places": 3000,
+    "skips half of the text, 1,000 lookups": 5000,
+    "marks without a base, 1,000 lookups": 5000,
+    "one lookup, named 20,000 times": 200,
+    "one subtable, named 30,000 times": 80,
+    "30,000 subtables of 100 lookups": 1,
+    "32,000 rules at one place": 20,
+    "32,000 rules, 100 lookups": 1,
+    "32,000 ligatures at one place": 20,
+}
+
+
+def bomb_font(tables):
+    """The bytes of a font of letters a to z, glyphs 1 to 26, and of marks U+0300 to U+030F, glyphs
+    27 to 42, with these tables."""
+    characters = {c: f"u{c:04X}" for c in [*LETTERS, *MARKS]}
+    advances = {name: 500 for name in [".notdef", *characters.values()]}
+    font = new_font(characters, advances, glyph_names=False)
+    for tag, data in tables.items():
+        add_table(font, tag, data)
+    return bytes_of(font)
+
+
+def bomb_text(kind, length):
+    """Letters, marks, or one half of each, letters first."""
+    half = length // 2
+    texts = {"a": "a" * length, "m": "\u0301" * length,
+             "am": "a" * half + "\u0301" * (length - half)}
+    return texts[kind]
+
+
+def take_bomb(runs, name, length):
+    tables, kind = BOMBS[name]
+    options = ["--direction=ltr", "--script=Latn"]
+    runs.take(name, bomb_font(tables), bomb_text(kind, length), options)
+
+
+def take_worst(runs):
+    """The worst fonts of earlier searches."""
+    bases = load_bases()
+    with open(WORST, encoding="utf-8") as file:
+        for line in file:
+            if not line.startswith("#"):
+                seed, index, length = map(int, line.split()[:3])
+                runs.take(*mutated_font(bases, seed, index, length))
+
+
+def add_options(parser):
+    parser.add_argument("--bomb", metavar="NAME", choices=BOMBS,
+                        help="one bomb alone, over the whole text")
+    parser.add_argument("--write", metavar="FILE", help="writes the font of that bomb")
+    add_run_options(parser)
+
+
+def run(args):
+    need_all(args.program)
+    with Runs(args.program, GATE_SECONDS) as runs:
+        if args.bomb:
+            if args.write:
+                with open(args.write, "wb") as file:
+                    file.write(bomb_font(BOMBS[args.bomb][0]))
+            take_bomb(runs, args.bomb, LENGTH)
+        else:
+            for name in BOMBS:
+                take_bomb(runs, name, OPEN.get(name, LENGTH))
+            take_worst(runs)
+        runs.print_counts()
+        if args.keep:
+            runs.keep(args.keep)
+    return runs.wrong == 0 and runs.slow == 0

@@ -1,0 +1,22 @@
+#!/usr/bin/env -S python3 -B
+"""Compares what `fontshape` and `shapeline` print with what other programs and a model print.
+
+    tests/compare.py KIND [OPTION ..]
+    tests/compare.py KIND --help
+
+Status 0: no difference. 1: there are some, which are shown. 77: something is not installed.
+"""
+from checks import cuts, normalising, options, random_fonts, scripts, texts
+from checks.command import run_kind
+
+KINDS = {
+    "texts": texts,
+    "scripts": scripts,
+    "options": options,
+    "fonts": random_fonts,
+    "cuts": cuts,
+    "normalising": normalising,
+}
+
+if __name__ == "__main__":
+    run_kind(__doc__, KINDS)
