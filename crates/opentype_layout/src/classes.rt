@@ -29,7 +29,7 @@ impl<'a> GlyphClasses<'a> {
 
     /// The properties of a glyph: a look-up in place of a search among classes.
     fn props(self, glyph: u32) -> u16
-        ensures { result ≡ glyph_props_of self.gdef.now glyph }
+        ensures { result ≡ glyph_props_of self.entry.gdef.now glyph }
     {
         if (glyph as usize) < self.props.len() {
             self.props[glyph as usize]
@@ -56,7 +56,7 @@ pub(crate) fn props_of(alloc: Global, gdef: &[u8], count: u16) -> Result<Vec<u16
 
 /// A glyph that no lookup has made, with the class that the font says, and in no ligature.
 fn begun(classes: GlyphClasses<'_>, info: &hb_glyph_info_t) -> hb_glyph_info_t
-    ensures { result ≡ begun_of classes.gdef.now info.now }
+    ensures { result ≡ begun_of classes.entry.gdef.now info.now }
 {
     let mut info = *info;
     let props = classes.props(info.glyph_id);
@@ -73,7 +73,7 @@ fn begun(classes: GlyphClasses<'_>, info: &hb_glyph_info_t) -> hb_glyph_info_t
 
 /// Makes the glyphs ones that no lookup has made. Takes no memory.
 pub(crate) fn begin_glyphs(classes: GlyphClasses<'_>, buffer: &mut hb_buffer_t)
-    ensures { Made (glyphs_begun classes.gdef.now) buffer.old buffer.new }
+    ensures { Made (glyphs_begun classes.entry.gdef.now) buffer.old buffer.new }
 {
     update_items(buffer, |info| begun(classes, info));
 }
