@@ -3,5 +3,7 @@ pub mod PreparedLemmas
 pub mod CompareLemmas
 pub mod NormalFormLemmas
 mod CutFormLemmas
+mod OrderedFormLemmas
 pub mod CanonicalFormLemmas
+mod FrontLemmas
 pub mod PremiseTestLemmas

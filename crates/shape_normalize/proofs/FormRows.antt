@@ -5,13 +5,14 @@ use Rattle.std.specs.List.{list_all}
 use Rattle.std.proofs.lemmas.Bool.Decides.{nat_tests}
 use Rattle.std.proofs.lemmas.List.{length-append}
 use Rattle.std.proofs.lemmas.List.Sums.{AllPass-from_list_all}
+use Rattle.canonical_form.specs.Chain.{full, full_text}
 use Rattle.shape_items.specs.Items.{Item, ccc_of_item}
 use Rattle.shape_items.specs.Clusters.{merge}
 use Rattle.shape_items.specs.UnicodeProps.{is_hidden_char}
 use Rattle.shape_plan.specs.Rules.{Rules, has_glyph}
 use Rattle.shape_normalize.specs.Normalized.{content, hidden_char}
 use Rattle.shape_normalize.specs.RoundTwo.{run_settled}
-use Rattle.shape_normalize.specs.Worked.Form.{GlyphsBroughtIn, GlyphsOfItems, items_compared, placed, with_hidden, HiddenItems, ShortRuns, MarksOfLists, SelectorsAsked, PremisesAsked, FormWorked}
+use Rattle.shape_normalize.specs.Worked.Form.{GlyphsBroughtIn, GlyphsOfItems, items_compared, placed, with_hidden, HiddenItems, ShortRuns, MarksOfLists, SelectorsAsked, OrderAsked, SpellingsTested, PremisesAsked, FormWorked}
 use Rattle.shape_normalize.specs.CanonicalForm.{HasNoSelector}
 use Rattle.shape_normalize.specs.Worked.Fixture.{item, rules_in, face_of}
 
@@ -128,11 +129,38 @@ selectors_asked = record {
   one = λ none. absurd (let e : true ≡ false = none 1 0 (omega arith) in cc);
 }
 
+order_asked : OrderAsked
+unfolding full full_text
+order_asked = record {
+  composed_alone = inr (refl, (λ mark. omega arith, tt));
+  after_a_starter = inr (refl, (λ mark. omega arith, (λ mark. omega arith, (λ mark. omega arith, tt))));
+  marked = inl refl;
+  composing = λ order. elim order [
+    | inl is ↦ let e : false ≡ true = is in cc
+    | inr (leaves, ordered) ↦ let e : true ≡ false = leaves in cc
+  ];
+  falling = λ order. elim order [
+    | inl is ↦ let e : false ≡ true = is in cc
+    | inr (leaves, ordered) ↦ let le : 230 ≤ 220 = ordered.1.0 (omega arith) in omega (arith, le)
+  ];
+}
+
+spellings_tested : SpellingsTested
+unfolding full full_text
+spellings_tested = record {
+  composed = refl;
+  decomposed = refl;
+  composing = refl;
+  composing_decomposed = refl;
+  falling = refl;
+}
+
 premises_asked : (rules : Rules) → PremisesAsked rules
 premises_asked rules = record {
   of_a_text = λ text lawful none stays. record { lawful_hooks = lawful; no_selector = none; no_reordering = stays };
   of_a_buffer = λ b text prepared. record { text = text; prepared = prepared };
-  of_characters = λ text fully supported marked. record { decomposes_fully = fully; supported = supported; marked = marked };
+  of_characters = λ text fully supported order. record { decomposes_fully = fully; supported = supported; in_order = order };
+  of_marks = λ text marked. inl marked;
   of_both = λ b equivalence canonical. record { equivalence = equivalence; canonical = canonical };
   of_a_plain_text = λ b prepared none stays. record { prepared = prepared; no_selector = none; no_reordering = stays };
   of_a_cut = λ old front back parts plain plain_front plain_back unmarked choice front_marked back_marked. record {
@@ -156,5 +184,7 @@ form_worked = record {
   short_runs = short_runs;
   marks = marks_of_lists;
   selectors = selectors_asked;
+  order = order_asked;
+  tested = spellings_tested;
   premises = premises_asked;
 }

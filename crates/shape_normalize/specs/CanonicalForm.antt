@@ -1,11 +1,13 @@
 -- Canonical form: what normalising promises of equivalent texts (UAX 15; The Unicode Standard, D70 and D118).
-use Rattle.std.specs.Prelude.{◌≡◌, ◌↔◌, ℕ, Bool, true, false, List, ◌++◌, map, drop, All, None}
+use Rattle.std.specs.Prelude.{◌≡◌, ◌⊎◌, ◌↔◌, ℕ, Bool, true, false, List, ◌++◌, map, drop, All, None}
 use Rattle.std.specs.List.{list_any}
 use Rattle.shape_items.specs.Buffer.{Buffer}
+use Rattle.canonical_form.specs.Chain.{full_text}
 use Rattle.canonical_form.specs.Equivalent.{IsEquivalent, IsCanonical, ComposesSoundly}
 use Rattle.canonical_form.specs.Expanded.{begins_with_mark}
 use Rattle.shape_items.specs.Items.{char_of, is_mark_item}
 use Rattle.canonical_form.specs.Laws.{IsWhollySupported}
+use Rattle.canonical_form.specs.Order.{IsOrdered}
 use Rattle.canonical_form.specs.Recompose.{is_blocked, compose_with_glyph, recomposed}
 use Rattle.shape_common.specs.Unicode.{is_mark}
 use Rattle.canonical_form.specs.SplitsFall.{SplitsFall}
@@ -52,12 +54,19 @@ pub record EquivalencePremises (rules : Rules) (b : Buffer) : Type 0 where
   pub text : TextPremises rules (text_of b)
   pub prepared : IsPrepared rules.unicode b.items
 
+-- the marks of a text end in order: one stands past its first character, so that round two orders them; or, in a mode
+-- that doesn't compose, no neighbours in Full of the text have ccc x > y > 0, so that nothing is left to do
+abbrev pub EndsInOrder : Rules → List ℕ → Type 0
+EndsInOrder rules text =
+    (list_any (is_mark rules.unicode) (drop 1 text) ≡ true)
+    ⊎ ((rules.recomposes ≡ false) × IsOrdered rules.unicode.ccc (full_text (decompositions rules) text))
+
 -- what canonical form asks of a text besides: a mode that decomposes fully, glyphs for all of Full, runs that are short
--- enough, and a mark past the first character
+-- enough, and marks that end in order
 pub record CanonicalTextPremises (rules : Rules) (text : List ℕ) : Type 0 where
   pub decomposes_fully : (with_marks : Bool) → rules.short with_marks ≡ false
   pub supported : IsSupported rules text
-  pub marked : list_any (is_mark rules.unicode) (drop 1 text) ≡ true
+  pub in_order : EndsInOrder rules text
 
 pub record CanonicalFormPremises (rules : Rules) (b : Buffer) : Type 0 where
   pub equivalence : EquivalencePremises rules b

@@ -35,8 +35,8 @@ pub record RunPreservesEquivalence (run : Run) : Type 0 where
 abbrev pub HasPlainText : Run → Buffer → Type 0
 HasPlainText run text = HasNoSelector run.rules (prepared_characters run text)
 
--- and it is one that canonical form is asked of: in a mode that decomposes fully, with glyphs, short runs and a mark
--- past the first
+-- and it is one that canonical form is asked of: in a mode that decomposes fully, with glyphs, short runs and marks that
+-- end in order
 pub record HasCanonicalText (run : Run) (text : Buffer) : Type 0 where
   pub plain : HasPlainText run text
   pub canonical : CanonicalTextPremises run.rules (prepared_characters run text)

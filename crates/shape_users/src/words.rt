@@ -2,8 +2,8 @@
 //!
 //! A plan serves every text that it fits, so plans are kept and found by `fits`. A word is found by its
 //! normalised characters; if `equivalent_spellings` can tell, these are the equivalent spellings, so that
-//! U+0071 U+0301 U+00E9 and U+0071 U+0301 U+0065 U+0301 are kept once. A cache that must never show one word
-//! for another needs no more than that; it may use any mode.
+//! U+00E9 and U+0065 U+0301 are kept once. A cache that must never show one word for another needs no more
+//! than that, and may use any mode; the one that decomposes fully finds most spellings.
 ghost use Rattle.std.specs.Prelude.{◌≡◌, [], length, Err, IsOk, IsErr, IfOk, OnErr, IfSome, IfNone};
 ghost use Rattle.shape_plan.specs.Plan.{Fits};
 ghost use Rattle.shape_users.specs.Words.{spelled as text_spelled, FitsAt, IsPlaceOf, IsNowhere};

@@ -13,8 +13,10 @@ fn spellings(rt: HostRuntime) {
         face: q e 0301
         q 0301 00E9 -> yes
         q 0301 e 0301 -> yes
-        00E9 -> no
-        q e -> no
+        00E9 -> yes
+        0301 -> yes
+        q e -> yes
+        x -> no
         q 0301 x -> no
         q 0301 00EA -> no
         face: every
@@ -43,6 +45,7 @@ fn marks_in_a_row(rt: HostRuntime) {
     );
 }
 
+/// In a mode that composes a mark must stand past the first character.
 #[test]
 fn modes(rt: HostRuntime) {
     check::<Lists>(
@@ -52,6 +55,8 @@ fn modes(rt: HostRuntime) {
         face: every
         shaper: recomposed
         q 0301 00E9 -> yes
+        00E9 -> no
+        q e -> no
         shaper: default
         q 0301 00E9 -> no
         shaper: composed_diacritics

@@ -1,8 +1,8 @@
 //! Words shaped once, and then found.
-ghost use Rattle.std.specs.Prelude.{◌≡◌, ◌↔◌, ◌≤◌, ◌^◌, false, length, string_bytes, IsTrue, IfOk, OnErr, Err};
+ghost use Rattle.std.specs.Prelude.{◌≡◌, ◌↔◌, ◌≤◌, ◌^◌, false, length, string_bytes, IsTrue, IsErr, IfOk, OnErr, Err};
 ghost use Rattle.shape_plan.specs.Plan.{Fits};
 ghost use Rattle.word_cache.specs.Keys.{key_of, spelled as text_spelled};
-ghost use Rattle.word_cache.specs.Shaping.{IsFresh, IsShapedTo};
+ghost use Rattle.word_cache.specs.Shaping.{IsFresh, IsShapedTo, IsTooLong, IsTooLongToShape};
 ghost use Rattle.word_cache.specs.Words.{made, brought_first, HasKey};
 
 use crate::key::word_key;
@@ -18,8 +18,9 @@ use std::alloc::{AllocError, Global};
 /// Finds the word of a spelling, by a plan of this number, or shapes it and keeps it: then it is the first word of the
 /// cache ([`WordCache::first`]). Whether it was found: exactly if one was kept under the same key, so for each spelling
 /// with the same normalised characters. Its glyphs are those of the spelling that it was kept with: for another spelling of it
-/// its clusters are not. The plan must fit the text of the spelling. Refuses as [`word_key`] and `shape_with_plan` do,
-/// with `Length` if the spelling has 4 GiB or more, and with `Memory` if a growth was refused; then nothing changes.
+/// its clusters are not. The plan must fit the text of the spelling. Refuses as [`word_key`] does and, if there is no such
+/// word, as `shape_with_plan`, with `Length` if the spelling has 4 GiB or more, and with `Memory` if a growth was refused;
+/// then nothing changes. If one of these is too long the call is always refused.
 pub fn shape_word<U, F, M, S>(
     alloc: Global,
     cache: &mut WordCache,
@@ -45,6 +46,11 @@ where
         IfOk result (λ found. found ≡ false
         → IsFresh run number spelling.now cache.old cache.new) }
     ensures refused { OnErr result (cache.new ≡ cache.old) }
+    ensures length { let run = ⟦<S as Runs<U, F, M>>⟧.run plan.now face.now in
+        result ≡ Err ShapeError.Length
+        → IsTooLong run number spelling.now cache.old.entries }
+    ensures too_long { let run = ⟦<S as Runs<U, F, M>>⟧.run plan.now face.now in
+        IsTooLong run number spelling.now cache.old.entries → IsErr result }
 {
     let text = spelled(alloc, spelling)?;
     let key = word_key::<U, F, M, S>(alloc, face, plan, number, text)?;
@@ -64,8 +70,12 @@ fn shaped<T: ShapingTypes>(
     spelling: &str,
 ) -> Result<Word, ShapeError>
     requires { Fits T.Unicode.unicode plan.now (text_spelled spelling.now) }
-    ensures { IfOk result (λ word. IsShapedTo (⟦<T as Meaning>⟧.run plan.now face.now)
+    ensures word { IfOk result (λ word. IsShapedTo (⟦<T as Meaning>⟧.run plan.now face.now)
         spelling.now word) }
+    ensures length { result ≡ Err ShapeError.Length
+        → IsTooLongToShape (⟦<T as Meaning>⟧.run plan.now face.now) spelling.now }
+    ensures too_long { IsTooLongToShape (⟦<T as Meaning>⟧.run plan.now face.now) spelling.now
+        → IsErr result }
 {
     let text = spelled(alloc, spelling)?;
     match shape_with_plan::<T::Unicode, T::Face, T::Engine, T::Shaper>(alloc, face, plan, text) {

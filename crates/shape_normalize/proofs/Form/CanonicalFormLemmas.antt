@@ -1,15 +1,18 @@
 -- The normalised list is equivalent to its text, canonical or recomposed of a canonical one if glyphs and runs allow
 -- it, and equal exactly for equivalent texts.
-use Rattle.std.proofs.Common.{◌≡◌, ◌↔◌, ℕ, Bool, true, false, List, [], refl, sym, ◌∙◌, ap, subst, inl, inr}
-use Rattle.std.proofs.lemmas.Bool.{cases_Bool}
-use Rattle.canonical_form.proofs.Expanding.ChoiceLemmas.{full_text-expanded}
+use Rattle.std.proofs.Common.{◌≡◌, ◌↔◌, ℕ, Bool, true, false, List, [], drop, refl, sym, ◌∙◌, ap, subst, inl, inr}
+use Rattle.std.proofs.lemmas.Bool.{cases_Bool, both_ways}
+use Rattle.std.specs.List.{list_any}
+use Rattle.canonical_form.proofs.Expanding.ChoiceLemmas.{full_text-expanded, expanded-full}
 use Rattle.canonical_form.proofs.Expanding.ExpandedLemmas.{expanded-plain}
 use Rattle.canonical_form.proofs.LawLemmas.{choices_are_equivalent, ordered_is_equivalent, decomposed_is_canonical, decomposed_decides}
 use Rattle.canonical_form.proofs.NormaliseLemmas.{sound_with_glyph, equivalent_normalised, recomposed_equal_iff}
 use Rattle.shape_items.specs.Buffer.{Buffer}
+use Rattle.canonical_form.specs.Chain.{full_text}
 use Rattle.canonical_form.specs.Expanded.{expanded_text}
 use Rattle.canonical_form.specs.Expansion.{choice}
 use Rattle.canonical_form.specs.Laws.{IsDecomposed}
+use Rattle.canonical_form.specs.Order.{IsOrdered}
 use Rattle.canonical_form.specs.Recompose.{compose_with_glyph}
 use Rattle.canonical_form.specs.Runs.{AreRunsSettled}
 use Rattle.shape_common.specs.Unicode.{LawfulUnicode, is_mark}
@@ -18,7 +21,8 @@ use Rattle.shape_normalize.specs.Normalized.{ordered, normalized}
 use Rattle.shape_normalize.specs.RoundTwo.{max_run, has_mark_past_first}
 use Rattle.shape_plan.specs.Rules.{Rules, decompositions, has_glyph}
 use Rattle.shape_normalize.proofs.Form.CutFormLemmas.{normalized_cuts}
-use Rattle.shape_normalize.proofs.Form.NormalFormLemmas.{IsPlain, IsPlain-from, choices, mark_past_first_char, normalized_is_ordered, normalized_is_choices, normalized_by_characters, IsPlain-premises, ordered_settles, normalized_is_recomposed}
+use Rattle.shape_normalize.proofs.Form.OrderedFormLemmas.{settled_where_in_order}
+use Rattle.shape_normalize.proofs.Form.NormalFormLemmas.{IsPlain, IsPlain-from, choices, mark_past_first_char, normalized_is_ordered, ordered_is_choices, normalized_is_choices, normalized_by_characters, IsPlain-premises, ordered_settles, normalized_is_recomposed}
 
 module _ (rules : Rules) where
   -- if the mode goes short nowhere, each character is asked for its longest expansion
@@ -81,19 +85,57 @@ module _ (rules : Rules) where
 
     -- ---- canonical form
 
-    marked_items : (b : Buffer) → CanonicalFormPremises rules b → has_mark_past_first b.items ≡ true
-    marked_items b premises =
-        mark_past_first_char rules.unicode b.items (plain_of b premises.equivalence).prepared ∙ premises.canonical.marked
-
     abbrev IsDecomposedTo : List ℕ → List ℕ → Type 0
     IsDecomposedTo text new =
         IsDecomposed (decompositions rules) (has_glyph rules.face.nominal_glyph) (is_mark rules.unicode) max_run text new
 
-    ordered_is_decomposed : (b : Buffer) → CanonicalFormPremises rules b → IsDecomposedTo (text_of b) (text_of (ordered rules b))
-    ordered_is_decomposed b premises =
+    marked_is_decomposed : (b : Buffer) → CanonicalFormPremises rules b → has_mark_past_first b.items ≡ true
+        → IsDecomposedTo (text_of b) (text_of (ordered rules b))
+    marked_is_decomposed b premises marked =
         subst (λ l. AreRunsSettled rules.unicode.ccc max_run [] l (text_of (ordered rules b)))
         (choices_are_longest premises.canonical.decomposes_fully (text_of b))
-        (ordered_settles rules lawful b (plain_of b premises.equivalence) (marked_items b premises))
+        (ordered_settles rules lawful b (plain_of b premises.equivalence) marked)
+
+    -- without a mark past the first the ordered list is Full, which is in order
+    unmarked_is_decomposed : (b : Buffer) → CanonicalFormPremises rules b → has_mark_past_first b.items ≡ false
+        → IsOrdered rules.unicode.ccc (full_text (decompositions rules) (text_of b))
+        → IsDecomposedTo (text_of b) (text_of (ordered rules b))
+    unmarked_is_decomposed b premises unmarked in_order =
+        let glyph = has_glyph rules.face.nominal_glyph in
+        let longest = expanded_text (decompositions rules) glyph (is_mark rules.unicode) (λ with_marks. false) (text_of b) in
+        let whole : longest ≡ full_text (decompositions rules) (text_of b) =
+        expanded-full (decompositions rules) premises.equivalence.text.lawful_hooks.splits.height_falls glyph
+        (is_mark rules.unicode) (text_of b) premises.canonical.supported.glyphs in
+        let is : text_of (ordered rules b) ≡ longest =
+        ordered_is_choices rules b (plain_of b premises.equivalence) unmarked
+        ∙ choices_are_longest premises.canonical.decomposes_fully (text_of b) in
+        subst (IsDecomposedTo (text_of b)) (sym is)
+        (settled_where_in_order rules.unicode.ccc max_run longest (subst (IsOrdered rules.unicode.ccc) (sym whole) in_order))
+
+    -- the premise on marks, of the items
+    marked_items : (b : Buffer) → CanonicalFormPremises rules b → list_any (is_mark rules.unicode) (drop 1 (text_of b)) ≡ true
+        → has_mark_past_first b.items ≡ true
+    marked_items b premises marked = mark_past_first_char rules.unicode b.items (plain_of b premises.equivalence).prepared ∙ marked
+
+    -- in a mode that composes, a mark stands past the first
+    marked_where_composing : (b : Buffer) → CanonicalFormPremises rules b → rules.recomposes ≡ true
+        → has_mark_past_first b.items ≡ true
+    marked_where_composing b premises composes =
+        elim premises.canonical.in_order [
+          | inl marked ↦ marked_items b premises marked
+          | inr (leaves, in_order) ↦ absurd (both_ways _ leaves composes)
+        ]
+
+    ordered_is_decomposed : (b : Buffer) → CanonicalFormPremises rules b → IsDecomposedTo (text_of b) (text_of (ordered rules b))
+    ordered_is_decomposed b premises =
+        elim (cases_Bool (has_mark_past_first b.items)) [
+          | inl marked ↦ marked_is_decomposed b premises marked
+          | inr unmarked ↦
+              elim premises.canonical.in_order [
+                | inl marked ↦ absurd (both_ways _ unmarked (marked_items b premises marked))
+                | inr (leaves, in_order) ↦ unmarked_is_decomposed b premises unmarked in_order
+              ]
+        ]
 
     ordered_is_canonical : (b : Buffer) → CanonicalFormPremises rules b → HasCanonicalForm rules (text_of (ordered rules b))
     ordered_is_canonical b premises =
@@ -104,7 +146,7 @@ module _ (rules : Rules) where
     text_of-composed : (b : Buffer) → CanonicalFormPremises rules b → rules.recomposes ≡ true
         → text_of (normalized rules b) ≡ recomposed_text rules (text_of (ordered rules b))
     text_of-composed b premises composes =
-        normalized_is_recomposed rules lawful b (plain_of b premises.equivalence) (marked_items b premises) composes
+        normalized_is_recomposed rules lawful b (plain_of b premises.equivalence) (marked_where_composing b premises composes) composes
 
     pub normalized_is_canonical : (b : Buffer) → rules.recomposes ≡ false → CanonicalFormPremises rules b
         → HasCanonicalForm rules (text_of (normalized rules b))
@@ -118,7 +160,7 @@ module _ (rules : Rules) where
         record {
           canonical = text_of (ordered rules b);
           is_canonical = canonical;
-          equivalent = ordered_is_equivalent_to_text b premises.equivalence (marked_items b premises);
+          equivalent = ordered_is_equivalent_to_text b premises.equivalence (marked_where_composing b premises composes);
           is = text_of-composed b premises composes;
         }
 

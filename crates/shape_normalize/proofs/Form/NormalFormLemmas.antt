@@ -106,13 +106,18 @@ module _ (rules : Rules) where
   pub normalized_is_ordered : (b : Buffer) → rules.recomposes ≡ false → text_of (normalized rules b) ≡ text_of (ordered rules b)
   normalized_is_ordered b leaves = normalized-ordered b (and_right (has_mark_past_first b.items) rules.recomposes leaves)
 
-  -- without a mark past the first item it is the choices alone
+  -- without a mark past the first item the ordered list is the choices alone
+  pub ordered_is_choices : (b : Buffer) → IsPlain rules b → has_mark_past_first b.items ≡ false
+      → text_of (ordered rules b) ≡ choices (text_of b)
+  ordered_is_choices b plain unmarked =
+      ap text_of (ordered-unmarked b unmarked) ∙ chars-cgj_unhidden_where_seen (round_one rules b)
+      ∙ chars-round_one rules b plain.prepared plain.no_selector
+
+  -- and so is the normalised one
   pub normalized_is_choices : (b : Buffer) → IsPlain rules b → has_mark_past_first b.items ≡ false
       → text_of (normalized rules b) ≡ choices (text_of b)
   normalized_is_choices b plain unmarked =
-      normalized-ordered b (and_left (has_mark_past_first b.items) rules.recomposes unmarked)
-      ∙ ap text_of (ordered-unmarked b unmarked) ∙ chars-cgj_unhidden_where_seen (round_one rules b)
-      ∙ chars-round_one rules b plain.prepared plain.no_selector
+      normalized-ordered b (and_left (has_mark_past_first b.items) rules.recomposes unmarked) ∙ ordered_is_choices b plain unmarked
 
   module _ (lawful : LawfulUnicode rules.unicode) where
     -- with one, the runs of the ordered list are settled

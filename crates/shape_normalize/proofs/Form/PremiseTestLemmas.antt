@@ -1,7 +1,6 @@
 -- The test of the premises of canonical form tells whether they hold.
-use Rattle.std.proofs.Common.{◌≡◌, ◌↔◌, ℕ, ◌+◌, ◌<◌, ◌≤◌, ◌==◌, ◌&&◌, nat_lt, not, Bool, if◌then◌else◌, lit≤, true, false, List, [], ◌∷◌, ◌++◌, length, map, Option, None, Some, flat_map, refl, sym, ◌∙◌, ap, arith, inl, inr, eqb-true, eq-eqb, ne_eqb, suc, add-one}
-use Rattle.std.proofs.lemmas.Bool.{cases_Bool, both_ways, and_parts, and_from}
-use Rattle.std.proofs.lemmas.Bool.Decides.{nat_tests}
+use Rattle.std.proofs.Common.{◌≡◌, ◌↔◌, ℕ, ◌==◌, ◌&&◌, not, Bool, if◌then◌else◌, true, false, List, [], ◌∷◌, ◌++◌, length, map, Option, None, Some, flat_map, refl, sym, ◌∙◌, ap, arith, inl, inr, eqb-true, eq-eqb, ne_eqb}
+use Rattle.std.proofs.lemmas.Bool.{and_parts, and_from}
 use Rattle.std.proofs.lemmas.Grind.{flat_map-append}
 use Rattle.std.proofs.lemmas.List.{map-append, append-nil}
 use Rattle.std.proofs.lemmas.List.Elements.{All-from_recursion, recursion_from_All}
@@ -9,7 +8,6 @@ use Rattle.std.specs.List.{AllByRecursion, list_all}
 use Rattle.std.specs.Option.{is_some}
 use Rattle.canonical_form.specs.Chain.{FallsAlong, kept_part, full, full_text}
 use Rattle.canonical_form.specs.Decompositions.{Decompositions}
-use Rattle.canonical_form.specs.Runs.{HasNoLongerRun}
 use Rattle.canonical_form.proofs.Expanding.ChainLemmas.{full-stays, full-splits, kept_part_zero}
 use Rattle.shape_items.specs.Buffer.{Buffer}
 use Rattle.shape_items.specs.Items.{Item, char_of, ccc_of_item, is_mark_item}
@@ -17,197 +15,63 @@ use Rattle.shape_items.specs.Prepared.{IsPreparedItem}
 use Rattle.shape_common.specs.Unicode.{UnicodeMeaning, is_mark}
 use Rattle.shape_plan.specs.Rules.{Rules, decompositions, has_glyph}
 use Rattle.shape_normalize.specs.CanonicalForm.{CanonicalFormPremises, HasLawfulHooks, text_of}
-use Rattle.shape_normalize.specs.PremiseTest.{row_with, row_before, is_plain_item, is_full_mode, is_supported_text, meets_premises}
-use Rattle.shape_normalize.specs.RoundTwo.{max_run, has_mark_past_first}
+use Rattle.shape_normalize.specs.PremiseTest.{front_with, front_before, no_front, is_plain_item, is_full_mode, is_supported_text, meets_premises}
+use Rattle.shape_normalize.specs.RoundTwo.{has_mark_past_first}
+use Rattle.shape_normalize.specs.declared.ot_shape_normalize.premises.Front.{Front}
+use Rattle.shape_normalize.proofs.Form.FrontLemmas.{FrontDecides, front_decides, test_of_front, front_of_test}
 use Rattle.shape_normalize.proofs.Form.NormalFormLemmas.{mark_past_first_char}
 use Rattle.shape_normalize.proofs.Form.PreparedLemmas.{ArePrepared}
 
--- ---- marks in a row
+-- ---- lists joined
 
 module _ (ccc : ℕ → ℕ) (glyph : ℕ → Bool) where
-  pub row_before-append : (xs ys : List ℕ) (row : Option ℕ)
-      → row_before ccc glyph (xs ++ ys) row ≡ row_before ccc glyph xs (row_before ccc glyph ys row)
-  row_before-append [] ys row = refl
-  row_before-append (x ∷ xs) ys row = ap (row_with ccc glyph x) (row_before-append xs ys row)
+  pub front_before-append : (xs ys : List ℕ) (front : Option Front)
+      → front_before ccc glyph (xs ++ ys) front ≡ front_before ccc glyph xs (front_before ccc glyph ys front)
+  front_before-append [] ys front = refl
+  front_before-append (x ∷ xs) ys front = ap (front_with ccc glyph x) (front_before-append xs ys front)
 
   -- what is refused stays refused, whatever comes in front
-  row_before-refused : (xs : List ℕ) → row_before ccc glyph xs None ≡ None
-  row_before-refused [] = refl
-  row_before-refused (x ∷ xs) = ap (row_with ccc glyph x) (row_before-refused xs)
-
-  abbrev AreMarks : List ℕ → Type 0
-  AreMarks xs = AllByRecursion (λ c. 0 < ccc c) xs
-
-  -- each character has a glyph, no run of marks is too long, and the list begins with this many marks
-  record BeginsWith (xs : List ℕ) (row : ℕ) : Type 0 where
-    glyphs : list_all glyph xs ≡ true
-    run : List ℕ
-    after : List ℕ
-    is : xs ≡ run ++ after
-    marks : AreMarks run
-    long : length run ≡ row
-    longest : (run after : List ℕ) → xs ≡ run ++ after → AreMarks run → length run ≤ row
-    within : row ≤ max_run
-    fits : HasNoLongerRun ccc max_run xs
-
-  abbrev RowDecides : List ℕ → Option ℕ → Type 0
-  RowDecides xs (Some row) = BeginsWith xs row
-  RowDecides xs None = list_all glyph xs ≡ true → HasNoLongerRun ccc max_run xs → ⊥
-
-  -- a run that is found in a list with one more character begins with it, or lies after it
-  fits-more : (x : ℕ) (xs : List ℕ) (row : ℕ)
-      → ((run after : List ℕ) → x ∷ xs ≡ run ++ after → AreMarks run → length run ≤ row) → row ≤ max_run
-      → HasNoLongerRun ccc max_run xs → HasNoLongerRun ccc max_run (x ∷ xs)
-  fits-more x xs row longest within fits [] run after is marks =
-      let short = longest run after is (recursion_from_All (λ c. 0 < ccc c) run marks) in omega (arith, short, within)
-  fits-more x xs row longest within fits (y ∷ before) run after is marks =
-      fits before run after (let e : xs ≡ before ++ (run ++ after) = cc in e) marks
-
-  fits-rest : (x : ℕ) (xs : List ℕ) → HasNoLongerRun ccc max_run (x ∷ xs) → HasNoLongerRun ccc max_run xs
-  fits-rest x xs fits before run after is marks = fits (x ∷ before) run after (ap (λ l. x ∷ l) is) marks
-
-  at_starter : (x : ℕ) (xs : List ℕ) (row : ℕ) → BeginsWith xs row → glyph x ≡ true → (ccc x == 0) ≡ true → BeginsWith (x ∷ xs) 0
-  at_starter x xs row found has starter =
-      let none : ccc x ≡ 0 = eqb-true (ccc x) 0 starter in
-      let longest : (run after : List ℕ) → x ∷ xs ≡ run ++ after → AreMarks run → length run ≤ 0 =
-      λ run after is marks. starts run after is marks none in
-      record {
-        glyphs = and_from (glyph x) (list_all glyph xs) has found.glyphs;
-        run = [];
-        after = x ∷ xs;
-        is = refl;
-        marks = tt;
-        long = refl;
-        longest = longest;
-        within = lit≤ tt;
-        fits = fits-more x xs 0 longest (lit≤ tt) found.fits;
-      }
-    where
-      starts : (run after : List ℕ) → x ∷ xs ≡ run ++ after → AreMarks run → ccc x ≡ 0 → length run ≤ 0
-      starts [] after is marks none = lit≤ tt
-      starts (y ∷ run) after is marks none =
-          let same : x ≡ y = cc in
-          let first : ccc x ≡ ccc y = ap ccc same in
-          absurd (omega (arith, none, first, marks.0))
-
-  at_mark : (x : ℕ) (xs : List ℕ) (row : ℕ) → BeginsWith xs row → glyph x ≡ true → (ccc x == 0) ≡ false → row < max_run
-      → BeginsWith (x ∷ xs) (row + 1)
-  at_mark x xs row found has mark below =
-      let some : 0 < ccc x = grind (arith, nat_tests) in
-      record {
-        glyphs = and_from (glyph x) (list_all glyph xs) has found.glyphs;
-        run = x ∷ found.run;
-        after = found.after;
-        is = ap (λ l. x ∷ l) found.is;
-        marks = (some, found.marks);
-        long = ap suc found.long ∙ sym (add-one row);
-        longest = one_more;
-        within = omega (arith, below);
-        fits = fits-more x xs (row + 1) one_more (omega (arith, below)) found.fits;
-      }
-    where
-      one_more : (run after : List ℕ) → x ∷ xs ≡ run ++ after → AreMarks run → length run ≤ row + 1
-      one_more [] after is marks = omega arith
-      one_more (y ∷ run) after is marks =
-          let e : xs ≡ run ++ after = cc in
-          let short = found.longest run after e marks.1 in
-          omega (arith, short)
-
-  past_limit : (x : ℕ) (xs : List ℕ) (row : ℕ) → BeginsWith xs row → (ccc x == 0) ≡ false → nat_lt row max_run ≡ false
-      → HasNoLongerRun ccc max_run (x ∷ xs) → ⊥
-  past_limit x xs row found mark full fits =
-      let some : 0 < ccc x = grind (arith, nat_tests) in
-      let long : max_run ≤ row = grind (arith, nat_tests) in
-      let marks = All-from_recursion (λ c. 0 < ccc c) (x ∷ found.run) (some, found.marks) in
-      let short = fits [] (x ∷ found.run) found.after (ap (λ l. x ∷ l) found.is) marks in
-      omega (arith, short, long, found.long)
-
-  one_more_decides : (x : ℕ) (xs : List ℕ) (row : Option ℕ) → RowDecides xs row → RowDecides (x ∷ xs) (row_with ccc glyph x row)
-  one_more_decides x xs None none = λ glyphs fits. none (and_parts (glyph x) (list_all glyph xs) glyphs).1 (fits-rest x xs fits)
-  one_more_decides x xs (Some row) found =
-      elim (cases_Bool (glyph x)) [
-        | inr lacks ↦ rw lacks (λ glyphs fits. both_ways _ lacks (and_parts (glyph x) (list_all glyph xs) glyphs).0)
-        | inl has ↦
-            elim (cases_Bool (ccc x == 0)) [
-              | inl starter ↦ rw (has, starter) (at_starter x xs row found has starter)
-              | inr mark ↦
-                  elim (cases_Bool (nat_lt row max_run)) [
-                    | inl below ↦ rw (has, mark, below) (at_mark x xs row found has mark (grind (arith, nat_tests)))
-                    | inr full ↦ rw (has, mark, full) (λ glyphs fits. past_limit x xs row found mark full fits)
-                  ]
-            ]
-      ]
-
-  row_decides : (xs : List ℕ) → RowDecides xs (row_before ccc glyph xs (Some 0))
-  row_decides [] = record {
-    glyphs = refl;
-    run = [];
-    after = [];
-    is = refl;
-    marks = tt;
-    long = refl;
-    longest = none;
-    within = lit≤ tt;
-    fits = λ before run after is marks. empty before run after is;
-  }
-    where
-      none : (run after : List ℕ) → [] ≡ run ++ after → AreMarks run → length run ≤ 0
-      none [] after is marks = lit≤ tt
-      none (y ∷ run) after is marks = cc
-
-      empty : (before run after : List ℕ) → [] ≡ before ++ (run ++ after) → length run ≤ max_run
-      empty [] [] after is = lit≤ tt
-      empty [] (y ∷ run) after is = cc
-      empty (y ∷ before) run after is = cc
-  row_decides (x ∷ xs) = one_more_decides x xs (row_before ccc glyph xs (Some 0)) (row_decides xs)
-
-  supported_by : (xs : List ℕ) (row : Option ℕ) → RowDecides xs row → is_some row ≡ true
-      → (list_all glyph xs ≡ true) × HasNoLongerRun ccc max_run xs
-  supported_by xs (Some row) found some = (found.glyphs, found.fits)
-  supported_by xs None none some = cc
-
-  some_where_supported : (xs : List ℕ) (row : Option ℕ) → RowDecides xs row → list_all glyph xs ≡ true → HasNoLongerRun ccc max_run xs
-      → is_some row ≡ true
-  some_where_supported xs (Some row) found glyphs fits = refl
-  some_where_supported xs None none glyphs fits = absurd (none glyphs fits)
+  front_before-refused : (xs : List ℕ) → front_before ccc glyph xs None ≡ None
+  front_before-refused [] = refl
+  front_before-refused (x ∷ xs) = ap (front_with ccc glyph x) (front_before-refused xs)
 
 -- ---- along a chain, and from the last item to the first
 
 module _ (D : Decompositions) (glyph : ℕ → Bool) where
   module _ (falls : FallsAlong D.split D.height) where
     -- the last part of Full is put in front first, if it isn't U+0000
-    row_before-split : (c a b : ℕ) (row : Option ℕ) → D.split c ≡ Some (a, b)
-        → row_before D.ccc glyph (full D c) row
-        ≡ row_before D.ccc glyph (full D a) (row_before D.ccc glyph (kept_part b) row)
-    row_before-split c a b row splits =
-        ap (λ xs. row_before D.ccc glyph xs row) (full-splits D falls c a b splits)
-        ∙ row_before-append D.ccc glyph (full D a) (kept_part b) row
+    front_before-split : (c a b : ℕ) (front : Option Front) → D.split c ≡ Some (a, b)
+        → front_before D.ccc glyph (full D c) front
+        ≡ front_before D.ccc glyph (full D a) (front_before D.ccc glyph (kept_part b) front)
+    front_before-split c a b front splits =
+        ap (λ xs. front_before D.ccc glyph xs front) (full-splits D falls c a b splits)
+        ∙ front_before-append D.ccc glyph (full D a) (kept_part b) front
 
-    pub row_before-kept : (c a b : ℕ) (row next : Option ℕ) → D.split c ≡ Some (a, b) → (b ≡ 0 → ⊥) → next ≡ row_with D.ccc glyph b row
-        → row_before D.ccc glyph (full D c) row ≡ row_before D.ccc glyph (full D a) next
-    row_before-kept c a b row next splits some is =
+    pub front_before-kept : (c a b : ℕ) (front next : Option Front) → D.split c ≡ Some (a, b) → (b ≡ 0 → ⊥) → next ≡ front_with D.ccc glyph b front
+        → front_before D.ccc glyph (full D c) front ≡ front_before D.ccc glyph (full D a) next
+    front_before-kept c a b front next splits some is =
         let kept : kept_part b ≡ b ∷ [] = rw (ne_eqb b 0 some) refl in
-        row_before-split c a b row splits
-        ∙ ap (λ xs. row_before D.ccc glyph (full D a) (row_before D.ccc glyph xs row)) kept
-        ∙ ap (λ o. row_before D.ccc glyph (full D a) o) (sym is)
+        front_before-split c a b front splits
+        ∙ ap (λ xs. front_before D.ccc glyph (full D a) (front_before D.ccc glyph xs front)) kept
+        ∙ ap (λ o. front_before D.ccc glyph (full D a) o) (sym is)
 
-    pub row_before-dropped : (c a b : ℕ) (row : Option ℕ) → D.split c ≡ Some (a, b) → b ≡ 0
-        → row_before D.ccc glyph (full D c) row ≡ row_before D.ccc glyph (full D a) row
-    row_before-dropped c a b row splits none =
-        row_before-split c a b row splits
-        ∙ ap (λ xs. row_before D.ccc glyph (full D a) (row_before D.ccc glyph xs row)) (kept_part_zero b none)
+    pub front_before-dropped : (c a b : ℕ) (front : Option Front) → D.split c ≡ Some (a, b) → b ≡ 0
+        → front_before D.ccc glyph (full D c) front ≡ front_before D.ccc glyph (full D a) front
+    front_before-dropped c a b front splits none =
+        front_before-split c a b front splits
+        ∙ ap (λ xs. front_before D.ccc glyph (full D a) (front_before D.ccc glyph xs front)) (kept_part_zero b none)
 
-    pub row_before-whole : (c : ℕ) (row : Option ℕ) → D.split c ≡ None
-        → row_before D.ccc glyph (full D c) row ≡ row_with D.ccc glyph c row
-    row_before-whole c row stays = ap (λ xs. row_before D.ccc glyph xs row) (full-stays D falls c stays)
+    pub front_before-whole : (c : ℕ) (front : Option Front) → D.split c ≡ None
+        → front_before D.ccc glyph (full D c) front ≡ front_with D.ccc glyph c front
+    front_before-whole c front stays = ap (λ xs. front_before D.ccc glyph xs front) (full-stays D falls c stays)
 
-  abbrev row_before_items : List Item → Option ℕ → Option ℕ
-  row_before_items items row = row_before D.ccc glyph (full_text D (map char_of items)) row
+  abbrev front_before_items : List Item → Option Front → Option Front
+  front_before_items items front = front_before D.ccc glyph (full_text D (map char_of items)) front
 
-  pub row_before-last : (items before : List Item) (item : Item) (row : Option ℕ) → items ≡ before ++ item ∷ []
-      → row_before_items items row ≡ row_before_items before (row_before D.ccc glyph (full D item.codepoint) row)
+  pub front_before-last : (items before : List Item) (item : Item) (front : Option Front) → items ≡ before ++ item ∷ []
+      → front_before_items items front ≡ front_before_items before (front_before D.ccc glyph (full D item.codepoint) front)
   unfolding full_text
-  row_before-last items before item row is =
+  front_before-last items before item front is =
       let parts = flat_map (full D) in
       let last = full D item.codepoint in
       let chars : map char_of items ≡ map char_of before ++ item.codepoint ∷ [] =
@@ -215,19 +79,19 @@ module _ (D : Decompositions) (glyph : ℕ → Bool) where
       let full_of : parts (map char_of items) ≡ parts (map char_of before) ++ last =
       ap parts chars ∙ flat_map-append (full D) (map char_of before) (item.codepoint ∷ [])
       ∙ ap (λ cs. parts (map char_of before) ++ cs) (append-nil last) in
-      ap (λ cs. row_before D.ccc glyph cs row) full_of ∙ row_before-append D.ccc glyph (parts (map char_of before)) last row
+      ap (λ cs. front_before D.ccc glyph cs front) full_of ∙ front_before-append D.ccc glyph (parts (map char_of before)) last front
 
   -- if the last item is refused, so are all
-  pub row_before-last_refused : (items before : List Item) (item : Item) (row : Option ℕ) → items ≡ before ++ item ∷ []
-      → row_before D.ccc glyph (full D item.codepoint) row ≡ None → row_before_items items row ≡ None
-  row_before-last_refused items before item row is refused =
-      row_before-last items before item row is
-      ∙ ap (row_before_items before) refused ∙ row_before-refused D.ccc glyph (full_text D (map char_of before))
+  pub front_before-last_refused : (items before : List Item) (item : Item) (front : Option Front) → items ≡ before ++ item ∷ []
+      → front_before D.ccc glyph (full D item.codepoint) front ≡ None → front_before_items items front ≡ None
+  front_before-last_refused items before item front is refused =
+      front_before-last items before item front is
+      ∙ ap (front_before_items before) refused ∙ front_before-refused D.ccc glyph (full_text D (map char_of before))
 
-  pub row_before-none : (items : List Item) (row : Option ℕ) → length items ≡ 0 → row_before_items items row ≡ row
+  pub front_before-none : (items : List Item) (front : Option Front) → length items ≡ 0 → front_before_items items front ≡ front
   unfolding full_text
-  row_before-none [] row none = refl
-  row_before-none (item ∷ items) row none = absurd (omega (arith, none))
+  front_before-none [] front none = refl
+  front_before-none (item ∷ items) front none = absurd (omega (arith, none))
 
 -- ---- plain items, the mode, and all of it
 
@@ -304,7 +168,7 @@ module _ (rules : Rules) (lawful : HasLawfulHooks rules) (b : Buffer) where
   abbrev full_of_text : List ℕ
   full_of_text = full_text (decompositions rules) (text_of b)
 
-  -- the five tests
+  -- the four tests
   abbrev mode : Bool
   mode = is_full_mode rules.short
 
@@ -314,23 +178,23 @@ module _ (rules : Rules) (lawful : HasLawfulHooks rules) (b : Buffer) where
   abbrev plain : Bool
   plain = list_all (is_plain_item rules.unicode) b.items
 
-  abbrev marked : Bool
-  marked = has_mark_past_first b.items
-
   abbrev supported_test : Bool
   supported_test = is_supported_text rules b.items
 
-  tells : RowDecides rules.unicode.ccc glyph full_of_text (row_before rules.unicode.ccc glyph full_of_text (Some 0))
-  tells = row_decides rules.unicode.ccc glyph full_of_text
+  abbrev front_known : Option Front
+  front_known = front_before rules.unicode.ccc glyph full_of_text (Some no_front)
+
+  tells : FrontDecides rules.unicode.ccc glyph full_of_text front_known
+  tells = front_decides rules.unicode.ccc glyph full_of_text
 
   premises_where_met : meets_premises rules b.items ≡ true → CanonicalFormPremises rules b
   premises_where_met met =
-      let last = and_parts (mode && order && plain && marked) supported_test met in
-      let fourth = and_parts (mode && order && plain) marked last.0 in
-      let third = and_parts (mode && order) plain fourth.0 in
+      let last = and_parts (mode && order && plain) supported_test met in
+      let third = and_parts (mode && order) plain last.0 in
       let first = and_parts mode order third.0 in
       let items = plain-items rules.unicode b.items third.1 in
-      let supported = supported_by rules.unicode.ccc glyph full_of_text _ tells last.1 in
+      let found = test_of_front rules.unicode.ccc glyph full_of_text front_known tells (has_mark_past_first b.items)
+      (not rules.recomposes) last.1 in
       record {
         equivalence = record {
           text = record {
@@ -342,8 +206,11 @@ module _ (rules : Rules) (lawful : HasLawfulHooks rules) (b : Buffer) where
         };
         canonical = record {
           decomposes_fully = full-mode rules.short first.0;
-          supported = record { glyphs = supported.0; fits = supported.1 };
-          marked = sym (mark_past_first_char rules.unicode b.items items.0) ∙ fourth.1;
+          supported = record { glyphs = found.0.0; fits = found.0.1 };
+          in_order = elim found.1 [
+            | inl marked ↦ inl (sym (mark_past_first_char rules.unicode b.items items.0) ∙ marked)
+            | inr (leaves, ordered) ↦ inr (not-true rules.recomposes leaves, ordered)
+          ];
         };
       }
 
@@ -355,10 +222,12 @@ module _ (rules : Rules) (lawful : HasLawfulHooks rules) (b : Buffer) where
       let first = and_from mode order (mode-full rules.short premises.canonical.decomposes_fully)
       (ap (λ reorder. not (is_some reorder)) premises.equivalence.text.no_reordering) in
       let third = and_from (mode && order) plain first (items-plain rules.unicode b.items (prepared, no_selector)) in
-      let fourth = and_from (mode && order && plain) marked third
-      (mark_past_first_char rules.unicode b.items prepared ∙ premises.canonical.marked) in
-      and_from (mode && order && plain && marked) supported_test fourth
-      (some_where_supported rules.unicode.ccc glyph full_of_text _ tells supported.glyphs supported.fits)
+      and_from (mode && order && plain) supported_test third
+      (front_of_test rules.unicode.ccc glyph full_of_text front_known tells (has_mark_past_first b.items)
+      (not rules.recomposes) supported.glyphs supported.fits (elim premises.canonical.in_order [
+        | inl marked ↦ inl (mark_past_first_char rules.unicode b.items prepared ∙ marked)
+        | inr (leaves, ordered) ↦ inr (ap not leaves, ordered)
+      ]))
 
   pub test_decides : (meets_premises rules b.items ≡ true) ↔ CanonicalFormPremises rules b
   test_decides = (premises_where_met, met_where_premises)

@@ -1,5 +1,5 @@
 -- What is promised of a normalised list, and what canonical form asks, on lists that are worked out by hand.
-use Rattle.std.specs.Prelude.{◌≡◌, ◌++◌, ℕ, Bool, true, false, List, [], ◌∷◌, map, drop, replicate, Some, None, refl}
+use Rattle.std.specs.Prelude.{◌≡◌, ◌++◌, ◌==◌, if◌then◌else◌, ℕ, Bool, true, false, List, [], ◌∷◌, map, drop, replicate, Some, None, refl}
 use Rattle.std.specs.List.{list_any}
 use Rattle.canonical_form.specs.Expanded.{begins_with_mark}
 use Rattle.shape_items.specs.Buffer.{Buffer}
@@ -7,11 +7,12 @@ use Rattle.shape_items.specs.Items.{Item, char_of, is_mark_item}
 use Rattle.shape_items.specs.Prepared.{IsPrepared}
 use Rattle.shape_common.specs.Unicode.{is_mark}
 use Rattle.shape_plan.specs.Rules.{Rules}
-use Rattle.shape_normalize.specs.CanonicalForm.{text_of, HasNoSelector, HasLawfulHooks, IsSupported, TextPremises, EquivalencePremises, CanonicalTextPremises, CanonicalFormPremises, PlainPremises, CutPremises}
+use Rattle.shape_normalize.specs.CanonicalForm.{text_of, HasNoSelector, HasLawfulHooks, IsSupported, EndsInOrder, TextPremises, EquivalencePremises, CanonicalTextPremises, CanonicalFormPremises, PlainPremises, CutPremises}
 use Rattle.shape_normalize.specs.Normalized.{BroughtInHaveGlyphs, content, without_cluster, HasItemGlyph, HasShortRuns, PreservesHidden, OrdersExpanded, Recomposes}
+use Rattle.shape_normalize.specs.PremiseTest.{meets_premises}
 use Rattle.shape_normalize.specs.RoundOne.{round_one}
 use Rattle.shape_normalize.specs.RoundTwo.{has_mark_past_first, OrdersMarks}
-use Rattle.shape_normalize.specs.Worked.Fixture.{face_of, rules_in, item, buffer_of}
+use Rattle.shape_normalize.specs.Worked.Fixture.{fixture, face_of, rules_in, item, buffer_of}
 
 -- ---- glyphs
 
@@ -120,12 +121,36 @@ pub record SelectorsAsked : Type 0 where
   pub none : HasNoSelector (rules_in 4 []) (0x61 ∷ 0x301 ∷ [])
   pub one : HasNoSelector (rules_in 4 []) (0x61 ∷ 0xFE00 ∷ []) → ⊥
 
+-- mode 1 over a character of private use that splits into U+00E1 and a dot below, which goes before the acute
+abbrev pub falling_rules : Rules
+falling_rules = record (rules_in 1 []) {
+  split = λ c. if c == 0xE002 then Some (0xE1, 0x323) else fixture.split c;
+  height = λ c. if c == 0xE002 then 2 else fixture.height c;
+}
+
+-- mode 1 decomposes, mode 3 composes
+pub record OrderAsked : Type 0 where
+  pub composed_alone : EndsInOrder (rules_in 1 []) (0xE1 ∷ [])
+  pub after_a_starter : EndsInOrder (rules_in 1 []) (0xE1 ∷ 0x1EA1 ∷ [])
+  pub marked : EndsInOrder (rules_in 3 []) (0x61 ∷ 0x301 ∷ 0x323 ∷ [])
+  pub composing : EndsInOrder (rules_in 3 []) (0xE1 ∷ []) → ⊥
+  pub falling : EndsInOrder falling_rules (0xE002 ∷ []) → ⊥
+
+-- the test of both spellings of U+00E1 in mode 1, and in mode 3 of the one that is decomposed alone
+pub record SpellingsTested : Type 0 where
+  pub composed : meets_premises (rules_in 1 all_glyphs) (item 0xE1 0 ∷ []) ≡ true
+  pub decomposed : meets_premises (rules_in 1 all_glyphs) acute.items ≡ true
+  pub composing : meets_premises (rules_in 3 all_glyphs) (item 0xE1 0 ∷ []) ≡ false
+  pub composing_decomposed : meets_premises (rules_in 3 all_glyphs) acute.items ≡ true
+  pub falling : meets_premises (record falling_rules { face = face_of all_glyphs }) (item 0xE002 0 ∷ []) ≡ false
+
 -- canonical form asks no more than this
 pub record PremisesAsked (rules : Rules) : Type 0 where
   pub of_a_text : (text : List ℕ) → HasLawfulHooks rules → HasNoSelector rules text → rules.reorder ≡ None → TextPremises rules text
   pub of_a_buffer : (b : Buffer) → TextPremises rules (text_of b) → IsPrepared rules.unicode b.items → EquivalencePremises rules b
   pub of_characters : (text : List ℕ) → ((with_marks : Bool) → rules.short with_marks ≡ false) → IsSupported rules text
-      → list_any (is_mark rules.unicode) (drop 1 text) ≡ true → CanonicalTextPremises rules text
+      → EndsInOrder rules text → CanonicalTextPremises rules text
+  pub of_marks : (text : List ℕ) → list_any (is_mark rules.unicode) (drop 1 text) ≡ true → EndsInOrder rules text
   pub of_both : (b : Buffer) → EquivalencePremises rules b → CanonicalTextPremises rules (text_of b) → CanonicalFormPremises rules b
   pub of_a_plain_text : (b : Buffer) → IsPrepared rules.unicode b.items → HasNoSelector rules (text_of b) → rules.reorder ≡ None
       → PlainPremises rules b
@@ -143,4 +168,6 @@ pub record FormWorked : Type 0 where
   pub short_runs : ShortRuns
   pub marks : MarksOfLists
   pub selectors : SelectorsAsked
+  pub order : OrderAsked
+  pub tested : SpellingsTested
   pub premises : (rules : Rules) → PremisesAsked rules

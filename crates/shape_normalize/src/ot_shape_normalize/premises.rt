@@ -3,7 +3,7 @@
 //! Normalising promises canonical form, and decides equivalence, under premises that a text from outside
 //! may miss: a face lacks a glyph, or marks stand in too long a row. This is the test of them. Full of the
 //! text is walked from its end to its beginning, the order in which a chain gives its parts; so all that
-//! is kept is how many marks stand in a row, and no memory is taken.
+//! is kept is how the walked part begins, and no memory is taken.
 //!
 //! The premises range over all numbers, as Unicode's laws do. A hook is called on characters; past
 //! them "does not split" meets every law.
@@ -11,14 +11,14 @@ ghost use Rattle.std.specs.Prelude.{◌≡◌, ◌↔◌, ◌&&◌, IsTrue, not,
 ghost use Rattle.std.specs.List.{list_all};
 ghost use Rattle.canonical_form.specs.Chain.{full};
 ghost use Rattle.shape_normalize.specs.CanonicalForm.{CanonicalFormPremises, HasLawfulHooks};
-ghost use Rattle.shape_normalize.specs.PremiseTest.{row_with, row_before as row_before_of};
+ghost use Rattle.shape_normalize.specs.PremiseTest.{front_with, front_before, front_of as front_of_text};
 ghost use Rattle.shape_normalize.specs.PremiseTest.{is_plain_item, is_full_mode, is_supported_text};
 ghost use Rattle.shape_normalize.specs.PremiseTest.{meets_premises};
 ghost use Rattle.shape_plan.specs.Rules.{decompositions, has_glyph};
 
 use crate::ot_shape_normalize::decompose::split_of;
 use crate::ot_shape_normalize::has_mark_past_first;
-use crate::ot_shape_normalize::mode::goes_short;
+use crate::ot_shape_normalize::mode::{goes_short, recomposes};
 use crate::ot_shape_normalize::round_two::reorders_marks;
 use shape_buffer::buffer::{hb_buffer_t, hb_glyph_info_t};
 use shape_buffer::interfaces::{hb_font_t, hb_ot_layout_t, hb_unicode_funcs_t};
@@ -26,24 +26,45 @@ use shape_plan::ot_shape_plan::hb_ot_shape_plan_t;
 use shape_plan::ot_shaper::{MAX_COMBINING_MARKS, Runs, hb_ot_shaper_t};
 use shape_plan::shaping_types::{Meaning, PlanOf, ShapingTypes, TypesOf};
 
-/// How many marks a text begins with once `c` came in front of it, if it began with `row` of them.
-/// `None` if these are more than 32, or if the face has no glyph for `c`.
+/// How a list of characters begins, as the walk goes on in front of it.
+#[derive(Clone, Copy)]
+pub(crate) struct Front {
+    /// How many marks it begins with.
+    row: usize,
+    /// The ccc of its first character, 0 if there is none.
+    ccc: u8,
+    /// Whether no mark in it has a lower ccc than the mark before it.
+    ordered: bool,
+}
+
+/// How a list begins once `c` came in front of it. `None` if it begins with more than 32 marks then, or if
+/// the face has no glyph for `c`.
 fn with_char<U: hb_unicode_funcs_t, F: hb_font_t>(
     face: &F,
-    row: Option<usize>,
+    front: Option<Front>,
     c: char,
-) -> Option<usize>
-    ensures { result ≡ row_with U.unicode.ccc (has_glyph (F.face face.now).nominal_glyph) c row }
+) -> Option<Front>
+    ensures { result ≡ front_with U.unicode.ccc (has_glyph (F.face face.now).nominal_glyph) c front }
 {
-    let row = row?;
+    let front = front?;
     if !face.has_glyph(c) {
         return None;
     }
-    if U::modified_combining_class(c) == 0 {
-        return Some(0);
+    let ccc = U::modified_combining_class(c);
+    let ordered = front.ordered && (front.ccc == 0 || ccc <= front.ccc);
+    if ccc == 0 {
+        return Some(Front {
+            row: 0,
+            ccc,
+            ordered,
+        });
     }
-    if row < MAX_COMBINING_MARKS {
-        Some(row + 1)
+    if front.row < MAX_COMBINING_MARKS {
+        Some(Front {
+            row: front.row + 1,
+            ccc,
+            ordered,
+        })
     } else {
         None
     }
@@ -53,25 +74,50 @@ fn with_char<U: hb_unicode_funcs_t, F: hb_font_t>(
 fn with_full<T: ShapingTypes>(
     plan: &PlanOf<'_, T>,
     face: &T::Face,
-    before: Option<usize>,
+    before: Option<Front>,
     c: char,
-) -> Option<usize>
+) -> Option<Front>
     ensures { let rules = ⟦<T as Meaning>⟧.rules plan.now face.now in
-        result ≡ row_before_of T.Unicode.unicode.ccc
+        result ≡ front_before T.Unicode.unicode.ccc
         (has_glyph (T.Face.face face.now).nominal_glyph) (full (decompositions rules) c) before }
 {
-    let mut row = before;
+    let mut front = before;
     let mut point = c;
     'chain: while let Some((a, b)) = split_of::<T>(plan, face, point) {
         if b != '\0' {
-            row = with_char::<T::Unicode, T::Face>(face, row, b);
+            front = with_char::<T::Unicode, T::Face>(face, front, b);
         }
         point = a;
     }
-    with_char::<T::Unicode, T::Face>(face, row, point)
+    with_char::<T::Unicode, T::Face>(face, front, point)
 }
 
-/// Whether each character of Full has a glyph, and no run of marks in it is longer than 32.
+/// How Full of a text begins. `None` if one of its characters has no glyph, or a run of marks in it is longer
+/// than 32.
+fn front_of<T: ShapingTypes>(
+    plan: &PlanOf<'_, T>,
+    face: &T::Face,
+    infos: &[hb_glyph_info_t],
+) -> Option<Front>
+    ensures { let rules = ⟦<T as Meaning>⟧.rules plan.now face.now in
+        result ≡ front_of_text rules infos.now }
+{
+    let mut front = Front {
+        row: 0,
+        ccc: 0,
+        ordered: true,
+    };
+    let mut left = infos;
+    'items: while let Some((info, before)) = left.split_last() {
+        front = with_full::<T>(plan, face, Some(front), info.codepoint)?;
+        left = before;
+    }
+    Some(front)
+}
+
+/// Whether each character of Full has a glyph, no run of marks in it is longer than 32, and the marks end in
+/// order: one stands past the first item, so that they are put in order, or they are in order in Full, and
+/// the mode doesn't compose.
 fn is_supported<T: ShapingTypes>(
     plan: &PlanOf<'_, T>,
     face: &T::Face,
@@ -80,16 +126,10 @@ fn is_supported<T: ShapingTypes>(
     ensures { let rules = ⟦<T as Meaning>⟧.rules plan.now face.now in
         result ≡ is_supported_text rules infos.now }
 {
-    let mut row = 0;
-    let mut left = infos;
-    'items: while let Some((info, before)) = left.split_last() {
-        let Some(next) = with_full::<T>(plan, face, Some(row), info.codepoint) else {
-            return false;
-        };
-        row = next;
-        left = before;
+    match front_of::<T>(plan, face, infos) {
+        Some(front) => has_mark_past_first(infos) || !recomposes::<T>(plan) && front.ordered,
+        None => false,
     }
-    true
 }
 
 /// Whether an item's mark and ccc are those of its character, which is no variation selector.
@@ -122,8 +162,9 @@ fn is_full<T: ShapingTypes>(plan: &PlanOf<'_, T>) -> bool
 /// Whether a text, prepared for normalising, meets the premises of canonical form, except for those that a
 /// shaper's hooks must provide ([`crate::laws::hooks_not_given_are_lawful`] has them of hooks that aren't given):
 /// the mode decomposes fully, no hook reorders marks, items are as they were prepared, there is no
-/// variation selector, a mark stands past the first character, and in the full decomposition each
-/// character has a glyph and no run of marks is longer than 32.
+/// variation selector, in the full decomposition each character has a glyph and no run of marks is longer
+/// than 32, and a mark stands past the first character; in a mode that doesn't compose it is enough that no
+/// mark of the full decomposition has a lower ccc than the mark before it, as in U+00E9 alone.
 ///
 /// So a caller can tell of texts from outside whether they take canonical form, and whether
 /// [`crate::ot_shape_normalize::normalized_equal`] tells of two of them if they are equivalent. Takes no
@@ -152,8 +193,5 @@ fn have_premises<T: ShapingTypes>(
 ) -> bool
     ensures { result ≡ meets_premises (⟦<T as Meaning>⟧.rules plan.now face.now) infos.now }
 {
-    is_full::<T>(plan)
-        && are_plain::<T::Unicode>(infos)
-        && has_mark_past_first(infos)
-        && is_supported::<T>(plan, face, infos)
+    is_full::<T>(plan) && are_plain::<T::Unicode>(infos) && is_supported::<T>(plan, face, infos)
 }

@@ -98,10 +98,10 @@ where
 }
 
 /// Whether two spellings are canonically equivalent. Returns `None` if this can't be decided by their
-/// normalised characters: for one of them a premise of canonical form doesn't hold, as for a text without a
-/// mark past its first character (so most words without accents), with a variation selector, with a
-/// character that the face has no glyph for, or with too many marks in a row. Refuses as `same_word` does,
-/// but spellings that are too long to normalise only if this can be decided.
+/// normalised characters: for one of them a premise of canonical form doesn't hold, as for a text with a
+/// variation selector, with a character that the face has no glyph for, with too many marks in a row, or, in a
+/// mode that composes, without a mark past its first character (so most words without accents). Refuses as
+/// `same_word` does, but spellings that are too long to normalise only if this can be decided.
 pub fn equivalent_spellings<U, F, M, S>(
     alloc: Global,
     face: &F,

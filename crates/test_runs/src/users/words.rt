@@ -128,13 +128,14 @@ pub fn print_decided(
     printed.push_str(answer).expect(rt, "memory");
 }
 
-/// What the face's glyphs and the text leave open isn't answered: no mark past the first character, no glyph for x, a
-/// variation selector.
+/// What the face's glyphs and the text leave open isn't answered: no glyph for x, a variation selector. A mark need not
+/// stand past the first character.
 #[test]
 fn spellings_that_can_be_decided(rt: HostRuntime) {
     let rows = "q\u{301}\u{E9} | q\u{301}e\u{301} -> yes
         q\u{301}\u{E9} | q\u{301}e -> no
-        qe | q\u{301}e -> open
+        \u{E9} | e\u{301} -> yes
+        qe | q\u{301}e -> no
         q\u{301}x | q\u{301}e -> open
         q\u{301}e | q\u{301}e\u{FE00} -> open";
     assert_rows(&rt, rt.alloc(), Asked::Decided, rows);

@@ -1,6 +1,6 @@
 use Rattle.std.proofs.Common.{sym, ◌∙◌}
 use Rattle.shape_plan.specs.Rules.{rules_of, decompositions, has_glyph}
-use Rattle.shape_normalize.proofs.Form.PremiseTestLemmas.{row_before-kept, row_before-dropped, row_before-whole}
+use Rattle.shape_normalize.proofs.Form.PremiseTestLemmas.{front_before-kept, front_before-dropped, front_before-whole}
 use Rattle.shape_normalize.proofs.Hooks.RulesLemmas.{FallsAlong-planned}
 use Rattle.shape_normalize.proofs.ot_shape_normalize.premises.with_full.Goals as goal
 
@@ -11,9 +11,9 @@ chain-preserved-then-b-ne0 g c =
     let falls = FallsAlong-planned g.met.T.Unicode.hb_unicode_funcs_t.lawful shaper.constants.has_decompose shaper.hooks
     g.met.T.Shaper.hb_ot_shaper_t.lawful_hooks c.args.plan.now c.args.face.now in
     c.chain.invariant
-    ∙ row_before-kept (decompositions rules) (has_glyph rules.face.nominal_glyph) falls
+    ∙ front_before-kept (decompositions rules) (has_glyph rules.face.nominal_glyph) falls
     c.chain.point c.in-Some.a c.in-Some.b
-    c.chain.row c.with_char-row.result (sym c.split_of.ensures ∙ c.in-Some.is) c.if-b-ne0.true c.with_char-row.ensures
+    c.chain.front c.with_char-front.result (sym c.split_of.ensures ∙ c.in-Some.is) c.if-b-ne0.true c.with_char-front.ensures
 
 pub chain-preserved : goal.chain-preserved
 chain-preserved g c =
@@ -22,9 +22,9 @@ chain-preserved g c =
     let falls = FallsAlong-planned g.met.T.Unicode.hb_unicode_funcs_t.lawful shaper.constants.has_decompose shaper.hooks
     g.met.T.Shaper.hb_ot_shaper_t.lawful_hooks c.args.plan.now c.args.face.now in
     c.chain.invariant
-    ∙ row_before-dropped (decompositions rules) (has_glyph rules.face.nominal_glyph) falls
+    ∙ front_before-dropped (decompositions rules) (has_glyph rules.face.nominal_glyph) falls
     c.chain.point c.in-Some.a c.in-Some.b
-    c.chain.row (sym c.split_of.ensures ∙ c.in-Some.is) c.if-b-ne0.false
+    c.chain.front (sym c.split_of.ensures ∙ c.in-Some.is) c.if-b-ne0.false
 
 pub returns : goal.returns
 returns g c =
@@ -34,5 +34,5 @@ returns g c =
     g.met.T.Shaper.hb_ot_shaper_t.lawful_hooks c.args.plan.now c.args.face.now in
     c.with_char.ensures
     ∙ sym (c.chain.invariant
-    ∙ row_before-whole (decompositions rules) (has_glyph rules.face.nominal_glyph) falls
-    c.chain.point c.chain.row (sym c.split_of.ensures ∙ c.in_default.is))
+    ∙ front_before-whole (decompositions rules) (has_glyph rules.face.nominal_glyph) falls
+    c.chain.point c.chain.front (sym c.split_of.ensures ∙ c.in_default.is))
