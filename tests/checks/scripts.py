@@ -13,9 +13,8 @@ script, features, texts before and after.
 HarfBuzz is 6.0.0, or with `--hb PROGRAM --ten` 10. Left out is where the two are known to differ:
 U+034F beside 6.0.0, which attaches no mark past it, as 10 does; U+070F beside 6.0.0, where the
 tiles of a sign that stretches take room of their own; flags of glyphs that are unsafe to concat
-beside 6.0.0 (10 has more), in Arabic without GSUB, where `fontshape` sets none if a ligature was
-looked for in vain, and with `kern=0`, where 10 flags all glyphs of a font with the table `kern`.
-Where marks pass one another twice at level 2, `fontshape` may mark more of them as unsafe to break
+beside 6.0.0 (10 has more), and with `kern=0`, where 10 flags all glyphs of a font with the table
+`kern`. Where marks pass one another twice at level 2, `fontshape` may mark more of them as unsafe to break
 (counted as named).
 """
 import collections
@@ -206,12 +205,10 @@ def compare_font(comparison, chance, texts, path, kinds, args):
                 comparison.compare(kind, script, font, options, texts.some(chance, args.texts))
 
 
-def loose_kinds(script, ten):
+def loose_kinds(ten):
     """The kinds of fonts in which flags of glyphs that are unsafe to concat aren't compared: all
-    beside 6.0.0; for Arabic those without GSUB, since forms that are made without it mark nothing
-    where a ligature was looked for in vain."""
-    return tuple(kind for kind, dropped in DROPPED.items()
-                 if not ten or (script == "Arab" and "GSUB" in dropped))
+    beside 6.0.0."""
+    return () if ten else tuple(DROPPED)
 
 
 def left_out_of(script, ten):
@@ -222,7 +219,7 @@ def left_out_of(script, ten):
 def compare_script(comparison, script, args):
     """Some fonts of a script, or all. Returns how many."""
     chance = random.Random(f"{script} {args.seed}")
-    comparison.loose = loose_kinds(script, args.ten)
+    comparison.loose = loose_kinds(args.ten)
     with tempfile.TemporaryDirectory() as folder:
         paths = fonts_of(script, folder)
         if not args.all:
