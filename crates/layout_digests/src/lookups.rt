@@ -3,9 +3,10 @@
 //! Lookups may share subtables, and subtables lists, so that lists are read more often than the table has bytes for.
 //! Once as many entries and subtables were read as the table has bytes, a lookup's digest holds every glyph: so it takes
 //! time in step with the bytes, whatever they are.
-ghost use Rattle.std.specs.Prelude.{◌≡◌, ◌<◌, ◌^◌, ℕ, true, false, IfOk, IsOkUnless};
+ghost use Rattle.std.specs.Prelude.{◌≡◌, ◌<◌, ◌^◌, ℕ, true, false, length, IfOk, IsOkUnless};
 ghost use Rattle.std.specs.Option.{IfSome, option_map_or};
 ghost use Rattle.layout_tables.specs.Coverage.{covers};
+ghost use Rattle.layout_tables.specs.Lookups.{lookup_count_of};
 ghost use Rattle.layout_matching.specs.Found.{first_list, whole_rule};
 ghost use Rattle.layout_digests.specs.Coverages.{HasCovered};
 ghost use Rattle.layout_digests.specs.Digests.{IsWithin};
@@ -179,10 +180,11 @@ fn digest_of(lookups: Lookups<'_>, index: u16, left: usize) -> Reading
     }
 }
 
-/// A digest for each lookup of a table, by its index. Refuses with `Memory` if a growth was refused.
+/// A digest for each lookup of a table, by its index, and no more. Refuses with `Memory` if a growth was refused.
 #[tactic(auto, using(crate::proofs::LookupLemmas::one_digest))]
 pub fn digests(alloc: Global, lookups: Lookups<'_>) -> Result<Vec<Digest>, ShapeError>
     ensures ok { IfOk result (λ digests. AreDigests lookups.entry.table.now lookups.entry.positioning digests.items) }
+    ensures count { IfOk result (λ digests. length digests.items ≡ lookup_count_of lookups.entry.table.now) }
     ensures memory { IsOkUnless result ShapeError.Memory }
 {
     let count = lookup_count(lookups.table);

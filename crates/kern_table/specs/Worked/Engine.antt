@@ -1,9 +1,11 @@
 -- What the engine returns of a face, by the table that the face has.
-use Rattle.std.specs.Prelude.{◌≡◌, pos, negsuc, [], ◌∷◌, None, true, false, refl}
+use Rattle.std.specs.Prelude.{◌≡◌, ℕ, pos, negsuc, List, [], ◌∷◌, None, true, false, refl}
 use Rattle.std.specs.Int.{int_wrap}
 use Rattle.shape_buffer.specs.MapBuilder.{Builder}
 use Rattle.shape_buffer.specs.declared.interfaces.map_request.TableIndex.{TableIndex}
 use Rattle.shape_common.specs.Wrapping.{◌+ʷ◌, ◌-ʷ◌}
+use Rattle.shape_common.specs.declared.text_types.Feature.{Feature}
+use Rattle.shape_items.specs.Buffer.{Buffer}
 use Rattle.shape_common.specs.declared.text_types.Direction.TheVariants.{LeftToRight}
 use Rattle.shape_font.specs.Bytes.{i16_of}
 use Rattle.shape_font.specs.declared.face.FontFace.{FontFace}
@@ -22,6 +24,12 @@ pub record WorkedEngine : Type 0 where
   pub no_script : (f : FontFace) (table : TableIndex) → (kern_layout f).chosen_script None None table ≡ None
   pub no_classes : (f : FontFace) → (kern_layout f).has_glyph_classes ≡ false
   pub no_cross_kerning : (f : FontFace) → (kern_layout f).has_cross_kerning ≡ false
+  -- no other call of the engine changes a buffer
+  pub no_stage : (f : FontFace) (i : ℕ) (b : Buffer) → (kern_lookups f).stage i b ≡ b
+  pub no_start : (f : FontFace) (b : Buffer) → (kern_lookups f).substitute_start b ≡ b
+  pub no_other_table : (f : FontFace) (features : List Feature) (b : Buffer) → (kern_lookups f).aat_substitute features b ≡ b
+  pub no_other_positions : (f : FontFace) (mask : ℕ) (b : Buffer) → (kern_lookups f).aat_position mask b ≡ b
+  pub no_positions : (f : FontFace) (b : Buffer) → (kern_lookups f).position b ≡ b
 
 pub worked_engine : WorkedEngine
 unfolding i16_of ◌+ʷ◌ ◌-ʷ◌ int_wrap
@@ -35,4 +43,9 @@ worked_engine = record {
   no_script = λ f table. refl;
   no_classes = λ f. refl;
   no_cross_kerning = λ f. refl;
+  no_stage = λ f i b. refl;
+  no_start = λ f b. refl;
+  no_other_table = λ f features b. refl;
+  no_other_positions = λ f mask b. refl;
+  no_positions = λ f b. refl;
 }

@@ -121,6 +121,11 @@ pub record WorkedValues : Type 0 where
   -- 65536 more than the right glyph of (2, 3) if the left one is 1
   pub right_past_all_glyphs : value_of (table 1 1) 4 1 65539 ≡ pos 0
   pub overriding_too : is_read (table 1 9) 4 true ≡ true
+  pub format_1 : is_read (0 ∷ 0 ∷ 0 ∷ 1 ∷ 0 ∷ 0 ∷ 0 ∷ 14 ∷ 1 ∷ 1 ∷ []) 4 true ≡ false
+  pub many_subtables : subtable_count_of (0 ∷ 0 ∷ 1 ∷ 0 ∷ []) ≡ 256
+  -- 256 pairs are stated, and the table has room for one
+  pub many_pairs : value_of (0 ∷ 0 ∷ 0 ∷ 1 ∷ 0 ∷ 0 ∷ 0 ∷ 20 ∷ 0 ∷ 1 ∷ 1 ∷ 0 ∷ 0 ∷ 0 ∷ 0 ∷ 0 ∷ 0 ∷ 0
+      ∷ 0 ∷ 2 ∷ 0 ∷ 3 ∷ 0xFF ∷ 0xCE ∷ []) 4 2 3 ≡ negsuc 49
 
 pub worked_values : WorkedValues
 unfolding i16_of
@@ -143,6 +148,9 @@ worked_values = record {
   minimum_too = refl;
   right_past_all_glyphs = refl;
   overriding_too = refl;
+  format_1 = refl;
+  many_subtables = refl;
+  many_pairs = refl;
 }
 
 -- an item with a glyph, for which kerning is on (bit 4) or off
@@ -221,6 +229,8 @@ pub record WorkedLines : Type 0 where
   pub short_subtable : along (table_kerned (0 ∷ 0 ∷ 0 ∷ 1 ∷ subtable 5 1 2) 16 (line LeftToRight (on 2 0 ∷ on 3 1 ∷ [])))
       ≡ still ∷ still ∷ []
   pub no_mask : along (table_kerned (table 1 1) 0 (line LeftToRight (on 2 0 ∷ on 3 1 ∷ []))) ≡ still ∷ still ∷ []
+  pub no_mask_no_flags : masks (table_kerned (table 1 1) 0 (record (line LeftToRight (on 2 0 ∷ on 3 1 ∷ [])) { flags = record { 0 = 64 } }))
+      ≡ 16 ∷ 16 ∷ []
   pub by_classes : along (table_kerned (class_table 30 34) 16 (line LeftToRight (on 2 0 ∷ on 3 1 ∷ on 2 2 ∷ [])))
       ≡ (pos 575, pos 0) ∷ (pos 557, negsuc 24) ∷ (pos 583, negsuc 16) ∷ []
   pub by_pairs_and_by_classes : along (table_kerned (table 2 1 ++ classes 30 34) 16 (line LeftToRight (on 2 0 ∷ on 3 1 ∷ [])))
@@ -258,6 +268,7 @@ worked_lines = record {
   two_subtables = refl;
   short_subtable = refl;
   no_mask = refl;
+  no_mask_no_flags = refl;
   by_classes = refl;
   by_pairs_and_by_classes = refl;
   after_a_short_subtable = refl;

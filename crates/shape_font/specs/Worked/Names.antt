@@ -11,6 +11,10 @@ left_out = 1 ∷ 88 ∷ 2 ∷ 89 ∷ 90 ∷ []
 abbrev pub four_names : List ℕ
 four_names = 0 ∷ 2 ∷ 0 ∷ 0 ∷ replicate 28 0 ++ 0 ∷ 4 ∷ 0 ∷ 0 ∷ 1 ∷ 2 ∷ 1 ∷ 3 ∷ 1 ∷ 4 ∷ 1 ∷ 65 ∷ 2 ∷ 98 ∷ 99 ∷ 0 ∷ []
 
+-- format 2 of one glyph, whose name has the number 256 and so much, and the string A
+abbrev pub one_name : ℕ → List ℕ
+one_name past = 0 ∷ 2 ∷ 0 ∷ 0 ∷ replicate 28 0 ++ 0 ∷ 1 ∷ 1 ∷ past ∷ 1 ∷ 65 ∷ []
+
 pub record WorkedNames : Type 0 where
   pub one_that_is_left_out : glyph_name left_out four_names 0 ≡ Some (88 ∷ [])
   pub first_string : glyph_name left_out four_names 1 ≡ Some (65 ∷ [])
@@ -27,6 +31,9 @@ pub record WorkedNames : Type 0 where
   pub past_the_room : glyph_name left_out (0 ∷ 2 ∷ 0 ∷ 0 ∷ replicate 28 0 ++ 0 ∷ 9 ∷ 0 ∷ 0 ∷ []) 1 ≡ None
   pub version_2_5 : glyph_name left_out (0 ∷ 2 ∷ 0x50 ∷ 0 ∷ replicate 28 0 ++ 0 ∷ 1 ∷ 0 ∷ 0 ∷ []) 0 ≡ None
   pub no_strings_in_format_1 : glyph_name left_out (0 ∷ 1 ∷ 0 ∷ 0 ∷ replicate 30 0 ++ 1 ∷ 65 ∷ []) 258 ≡ None
+  -- number 257 is the last of those that are left out, number 258 the first string
+  pub last_that_is_left_out : glyph_name (replicate 257 0 ++ 1 ∷ 88 ∷ []) (one_name 1) 0 ≡ Some (88 ∷ [])
+  pub after_those_left_out : glyph_name (replicate 257 0 ++ 1 ∷ 88 ∷ []) (one_name 2) 0 ≡ Some (65 ∷ [])
 
 pub worked_names : WorkedNames
 worked_names = record {
@@ -44,4 +51,6 @@ worked_names = record {
   past_the_room = refl;
   version_2_5 = refl;
   no_strings_in_format_1 = refl;
+  last_that_is_left_out = refl;
+  after_those_left_out = refl;
 }

@@ -52,6 +52,7 @@ pub record WorkedDirectory : Type 0 where
   pub other_font : table_of (two_tables 2) 1 0x41412020 ≡ None
   pub there : has_table (two_tables 2) 0 0x41412020 ≡ true
   pub not_there : has_table (two_tables 2) 0 0x43432020 ≡ false
+  pub there_but_longer_than_the_file : has_table (header 1 ++ entry 65 28 3 ++ 11 ∷ 12 ∷ []) 0 0x41412020 ≡ false
   pub as_it_is : bytes_of (two_tables 2) 0 0x41412020 ≡ 11 ∷ 12 ∷ []
   pub empty : bytes_of (two_tables 2) 0 0x43432020 ≡ []
   pub whole : slice_of (11 ∷ 12 ∷ []) 0 2 ≡ Some (11 ∷ 12 ∷ [])
@@ -71,6 +72,7 @@ worked_directory = record {
   other_font = refl;
   there = refl;
   not_there = refl;
+  there_but_longer_than_the_file = refl;
   as_it_is = refl;
   empty = refl;
   whole = refl;

@@ -116,6 +116,7 @@ pub record WorkedRefusals : Type 0 where
   -- after the sign of equality a value must stand
   pub no_value_after_equals : value_of 1 (codes "=yes") ≡ None
   pub three_of_four : feature_of (codes "kern=offf") ≡ None
+  pub minus_in_a_range : feature_of (codes "kern[3-5]") ≡ None
 
 pub worked_refusals : WorkedRefusals
 worked_refusals = record {
@@ -140,4 +141,5 @@ worked_refusals = record {
   off_by_its_end = refl;
   no_value_after_equals = refl;
   three_of_four = refl;
+  minus_in_a_range = refl;
 }

@@ -29,6 +29,13 @@ pub record WorkedLists : Type 0 where
   pub glyph_flags : list_of 18 ≡ codes "[{\"g\":\"A\",\"cl\":0},{\"g\":\"gid30\",\"cl\":1,\"fl\":1}]"
   -- the second glyph stands 600 from the start of the line
   pub no_advances : list_of 33 ≡ codes "[{\"g\":\"A\",\"dx\":0,\"dy\":0},{\"g\":\"gid30\",\"dx\":550,\"dy\":7}]"
+  pub flags_and_boxes : list_of 27
+      ≡ codes "[{\"g\":\"A\",\"xb\":10,\"yb\":700,\"w\":580,\"h\":-700},{\"g\":\"gid30\",\"fl\":1,\"xb\":0,\"yb\":0,\"w\":0,\"h\":0}]"
+  pub tatweel : json_text (form 19) (glyph 2 0 4 ∷ []) (place (pos 0) (pos 0) (pos 0) (pos 0) ∷ []) ≡ codes "[{\"g\":\"A\",\"fl\":4}]"
+  -- the second glyph stands 1000 below the line
+  pub pen_down : json_text (form 33) (glyph 2 0 0 ∷ glyph 2 1 0 ∷ [])
+      (place (pos 0) (negsuc 999) (pos 0) (pos 0) ∷ place (pos 0) (pos 0) (pos 0) (pos 7) ∷ [])
+      ≡ codes "[{\"g\":\"A\",\"dx\":0,\"dy\":0},{\"g\":\"A\",\"dx\":0,\"dy\":-993}]"
   pub escaped : json_text odd_names (glyph 2 0 0 ∷ []) (place (pos 0) (pos 0) (pos 0) (pos 0) ∷ [])
       ≡ codes "[{\"g\":\"\\\"\\\\\\u0001\"}]"
 
@@ -43,5 +50,8 @@ worked_lists = record {
   extents = refl;
   glyph_flags = refl;
   no_advances = refl;
+  flags_and_boxes = refl;
+  tatweel = refl;
+  pen_down = refl;
   escaped = refl;
 }
