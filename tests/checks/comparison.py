@@ -24,6 +24,11 @@ def escaped(text):
     return text.encode("unicode_escape").decode()
 
 
+def print_difference(where, theirs, ours):
+    """What both programs print of something."""
+    print(f"{where}\n  hb-shape  {theirs}\n  fontshape {ours}", flush=True)
+
+
 def without_flag(line, flag):
     """A printed line without a flag of glyphs."""
     def cleared(flags):
@@ -62,8 +67,8 @@ class Comparison:
         if wrong and self.examples > 0:
             self.examples -= 1
             text, a, b = wrong[0]
-            print(f"{kind} {script} {os.path.basename(font)} {options}\n  text {escaped(text)}\n"
-                  f"  hb-shape  {a}\n  fontshape {b}")
+            name = os.path.basename(font)
+            print_difference(f"{kind} {script} {name} {options}\n  text {escaped(text)}", a, b)
 
     def totals(self):
         """How many texts were compared, and how many differ."""

@@ -18,7 +18,7 @@ import subprocess
 import tempfile
 from pathlib import Path
 
-from checks.comparison import add_common_options
+from checks.comparison import add_common_options, print_difference
 from checks.fonts import DEJAVU, LOOKUPS, need_dejavu, save_without
 from checks.programs import need_fonttools, need_harfbuzz, need_fontshape
 
@@ -169,9 +169,9 @@ def compare(args, folder):
         if theirs.stdout != ours.stdout or succeeded[0] != succeeded[1]:
             differ += 1
             if differ <= args.examples:
-                print(f"run {number}: {words} on {given!r}\n"
-                      f"  hb-shape {theirs.returncode} {theirs.stdout!r}\n"
-                      f"  fontshape {ours.returncode} {ours.stdout!r} {ours.stderr!r}")
+                print_difference(f"run {number}: {words} on {given!r}",
+                                 f"{theirs.returncode} {theirs.stdout!r}",
+                                 f"{ours.returncode} {ours.stdout!r} {ours.stderr!r}")
     return differ
 
 

@@ -11,7 +11,7 @@ import sys
 import tempfile
 from pathlib import Path
 
-from checks.comparison import add_common_options
+from checks.comparison import add_common_options, print_difference
 from checks.fonts import new_font
 from checks.programs import need_fonttools, need_harfbuzz, need_fontshape
 
@@ -236,8 +236,8 @@ def compare_font(args, folder, number):
     ours += [""] * (len(texts) - len(ours))
     wrong = [it for it in zip(texts, theirs, ours) if it[1] != it[2]]
     for text, a, b in wrong[:args.examples]:
-        print(f"seed {args.seed}, font {number}, {' '.join(options)}: {ascii(text)}\n"
-              f"  hb-shape   {a}\n  fontshape  {b}", flush=True)
+        where = f"seed {args.seed}, font {number}, {' '.join(options)}: {ascii(text)}"
+        print_difference(where, a, b)
     return len(wrong)
 
 

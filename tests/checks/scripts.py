@@ -23,6 +23,7 @@ import tempfile
 import unicodedata
 from pathlib import Path
 
+from checks.characters import assigned, is_mark
 from checks.comparison import UNSAFE_TO_BREAK, Comparison, add_common_options, without_flag
 from checks.fonts import (AMIRI_FONTS, DEJAVU_FONTS, NOTO_FONTS, SCHEHERAZADE_FONTS, installed,
                           need_dejavu, save_without)
@@ -130,10 +131,9 @@ class Texts:
     """What a script's texts are made of."""
 
     def __init__(self, script, left_out):
-        named = [chr(c) for low, high in SPANS.get(script, []) for c in range(low, high)
-                 if unicodedata.category(chr(c)) not in ("Cn", "Cc", "Cs")]
+        named = [chr(c) for c in assigned(SPANS.get(script, []))]
         self.script, self.letters = script, [c for c in named if c not in left_out]
-        self.marks = [c for c in self.letters if unicodedata.category(c)[0] == "M"]
+        self.marks = [c for c in self.letters if is_mark(ord(c))]
         self.often, self.between = ([c for c in of if c not in left_out]
                                     for of in (OFTEN.get(script, ""), BETWEEN))
         self.lines, self.words = real_lines(script, left_out)

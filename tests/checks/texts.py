@@ -11,9 +11,9 @@ After that whole fonts are compared, with all their tables of lookups (`whole_fo
 """
 import random
 import tempfile
-import unicodedata
 from pathlib import Path
 
+from checks.characters import assigned
 from checks.comparison import Comparison, add_common_options
 from checks.fonts import DEJAVU, LOOKUPS, need_dejavu, save_without
 from checks.programs import need_fonttools, need_harfbuzz, need_fontshape
@@ -68,8 +68,7 @@ LANGUAGES = ["en_US.UTF-8", "fa", "x-hbot", "de-AT"]
 
 def characters(spans, known):
     """The characters of some spans, and those of them that a font has (all, if it has none)."""
-    named = [c for low, high in spans for c in range(low, high)
-             if unicodedata.category(chr(c)) not in ("Cn", "Cc", "Cs")]
+    named = assigned(spans)
     return named, [c for c in named if c in known] or named
 
 

@@ -8,6 +8,7 @@ import collections
 import os
 import unicodedata
 
+from checks.characters import is_mark
 from checks.fonts import DEJAVU_FONTS, NOTO_FONTS, installed
 
 # scripts for which HarfBuzz has a shaper of its own, and what is of no script
@@ -46,8 +47,7 @@ class WholeFont:
 
     def text(self, chance, letters):
         """A random text of some of the font's letters."""
-        marks = [c for c in letters if unicodedata.category(chr(c))[0] == "M"]
-        marks += self.by_script["Zinh"]
+        marks = [c for c in letters if is_mark(c)] + self.by_script["Zinh"]
         text = ""
         for _ in range(chance.randint(1, 10)):
             draw = chance.random()

@@ -32,7 +32,7 @@ enum Takes {
 #[derive(Clone, Copy)]
 struct Choice(&'static str, char, Takes, &'static str);
 
-const INPUT_CHOICES: [Choice; 10] = [
+static INPUT_CHOICES: [Choice; 10] = [
     Choice(
         "face-index",
         'y',
@@ -80,7 +80,7 @@ const INPUT_CHOICES: [Choice; 10] = [
     Choice("eot", ' ', Takes::Nothing, "Each text ends a paragraph"),
 ];
 
-const SHAPING_CHOICES: [Choice; 15] = [
+static SHAPING_CHOICES: [Choice; 15] = [
     Choice(
         "features",
         ' ',
@@ -168,7 +168,7 @@ const SHAPING_CHOICES: [Choice; 15] = [
     ),
 ];
 
-const OUTPUT_CHOICES: [Choice; 14] = [
+static OUTPUT_CHOICES: [Choice; 14] = [
     Choice(
         "output-file",
         'o',
@@ -279,8 +279,8 @@ fn with<'a>(
     Ok(command)
 }
 
-/// The command line of the program.
-pub fn command<'a>(alloc: Global) -> Result<Command<'a>, AllocError> {
+/// The font, the text, and the option that prints the version.
+fn with_words<'a>(alloc: Global, command: Command<'a>) -> Result<Command<'a>, AllocError> {
     let font = Arg::new(alloc, "font")
         .value_name("FONT")
         .required(true)
@@ -292,14 +292,17 @@ pub fn command<'a>(alloc: Global) -> Result<Command<'a>, AllocError> {
         .long("version")
         .help("Print version")
         .action(ArgAction::Version);
+    command.arg(font)?.arg(word)?.arg(version)
+}
+
+/// The command line of the program.
+pub fn command<'a>(alloc: Global) -> Result<Command<'a>, AllocError> {
     let command = Command::new(alloc, "fontshape")
         .version("0.1.0")
         .about("Shapes texts with a font file, and writes or draws the glyphs.")
         .after_help(AFTER_HELP)
-        .disable_version_flag(true)
-        .arg(font)?
-        .arg(word)?
-        .arg(version)?;
+        .disable_version_flag(true);
+    let command = with_words(alloc, command)?;
     let command = with(alloc, command, &INPUT_CHOICES, INPUT)?;
     let command = with(alloc, command, &SHAPING_CHOICES, SHAPING)?;
     with(alloc, command, &OUTPUT_CHOICES, OUTPUT)
