@@ -14,8 +14,7 @@ flags, and by chance a cluster level, a direction, a script, features, texts bef
 
 Left out, since the two are known to differ: U+034F beside 6.0.0, which attaches no mark past it, as 10 does; U+070F beside
 6.0.0, where the tiles of a sign that stretches take room of their own; flags of glyphs that are unsafe to concat beside 6.0.0
-(10 has more), in Arabic without GSUB, where `fontshape` sets none if a ligature was looked for in vain, and with `kern=0`,
-where 10 flags all glyphs of a font with the table `kern`. Where marks pass
+(10 has more), and with `kern=0`, where 10 flags all glyphs of a font with the table `kern`. Where marks pass
 one another twice at level 2, `fontshape` may mark more of them as unsafe to break (counted as named).
 
 It ends with status 77, and says why, where a package is missing, as compare-hb-shape.py does.
@@ -270,10 +269,9 @@ def compare_font(comparison, chance, texts, path, kinds, args):
                 comparison.compare(kind, texts.script, font, options(chance, texts), texts.some(chance, args.texts))
 
 
-def loose_kinds(script, ten):
-    """The kinds of fonts in which flags of glyphs that are unsafe to concat aren't compared: all beside 6.0.0; for Arabic those without
-    GSUB, since forms that are made without it mark nothing where a ligature was looked for in vain."""
-    return tuple(kind for kind, dropped in DROPPED.items() if not ten or (script == "Arab" and "GSUB" in dropped))
+def loose_kinds(ten):
+    """The kinds of fonts in which flags of glyphs that are unsafe to concat aren't compared: all beside 6.0.0."""
+    return () if ten else tuple(DROPPED)
 
 
 def left_out_of(script, ten):
@@ -283,7 +281,7 @@ def left_out_of(script, ten):
 
 def compare_script(comparison, script, args, chance):
     """Some fonts of a script, or all."""
-    comparison.loose = loose_kinds(script, args.ten)
+    comparison.loose = loose_kinds(args.ten)
     with tempfile.TemporaryDirectory() as folder:
         paths = fonts_of(script, folder)
         if not args.all:

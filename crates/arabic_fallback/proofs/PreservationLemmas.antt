@@ -1,14 +1,15 @@
 -- Forms and ligatures preserve clusters and flags: a ligature merges the clusters of its components, and other items change in
 -- place.
-use Rattle.std.proofs.Common.{◌≡◌, ◌≤◌, ◌&&◌, ◌||◌, ◌+◌, ◌-◌, ℕ, zero, suc, Bool, true, false, nat_lt, nat_le, Option, None, Some, List, length, set, refl, ap, sym, inl, ◌∙◌, subst, arith, if◌then◌else◌}
+use Rattle.std.proofs.Common.{◌≡◌, ◌≤◌, ◌&&◌, ◌||◌, ◌==◌, not, ◌+◌, bit_and, ◌-◌, ℕ, zero, suc, Bool, true, false, nat_lt, nat_le, Option, None, Some, List, length, set, refl, ap, sym, inl, ◌∙◌, subst, arith, if◌then◌else◌}
 use Rattle.std.proofs.lemmas.Bool.Decides.{nat_tests}
 use Rattle.std.proofs.Math.Seq.{map-set_same}
 use Rattle.std.specs.Option.{option_map_or}
 use Rattle.shape_common.specs.Face.{FaceMeaning}
 use Rattle.shape_items.specs.Buffer.{Buffer}
-use Rattle.shape_items.specs.BufferClusters.{merge_clusters, merge_at}
+use Rattle.shape_items.specs.BufferClusters.{merge_clusters, merge_at, unsafe_to_concat, with_glyph_flags}
+use Rattle.shape_items.proofs.Merging.KeyLemmas.{keys-map_range}
 use Rattle.shape_items.specs.ClusterOrder.{IsMonotoneLevel, PreservesClusters}
-use Rattle.shape_items.specs.Clusters.{clusters}
+use Rattle.shape_items.specs.Clusters.{clusters, map_range, mark_concat}
 use Rattle.shape_items.specs.Items.{Item, new_item}
 use Rattle.shape_items.specs.PreservesFlags.{PreservesFlags, some_has}
 use Rattle.shape_items.proofs.Deletion.DeletePreserves.{merged_preserves}
@@ -17,12 +18,13 @@ use Rattle.shape_items.proofs.Order.DrawsInOrder.{PreservesClusters-from_draws}
 use Rattle.arabic_fallback.proofs.KeptLemmas.{staying, kept-staying, staying-draws, staying-some}
 use Rattle.shape_items.proofs.Merging.ClusterLemmas.{merge_clusters-monotone}
 use Rattle.shape_buffer.specs.Preservation.{PreservesOrder, IsClusterPreserving, IsFlagPreserving}
-use Rattle.shape_buffer.proofs.Steps.PreservationLemmas.{PreservesClusters-equal, PreservesClusters-same, PreservesOrder-same, PreservesOrder-then, order-items_mapped, flags-items_mapped, flags-same_masks}
-use Rattle.arabic_fallback.specs.Replaced.{with_glyph, classed_by, with_components, as_component, as_ligature, replaced, gone, is_gone, LIGATURE_CLASS}
+use Rattle.shape_buffer.proofs.Steps.PreservationLemmas.{PreservesClusters-equal, PreservesClusters-same, PreservesOrder-same, PreservesOrder-then, order-items_mapped, flags-items_mapped, flags-same_masks, flags-unsafe_to_concat}
+use Rattle.arabic_fallback.specs.Replaced.{with_glyph, classed_by, with_components, as_component, as_ligature, replaced, gone, LIGATURE_CLASS}
 use Rattle.arabic_fallback.specs.Seeking.{nth, is_on}
 use Rattle.arabic_fallback.specs.Forms.{listed, formed, form_rows, formed_by}
 use Rattle.arabic_fallback.specs.Ligatures.{Row, found_in, ligature_rows}
-use Rattle.arabic_fallback.specs.Ligating.{put_at, merged, is_component, component_among, joined_item, joined_at, joined_to, followers, total_of, put_over, ligature_made, is_own, id_given, ligation_of, ligature_put, ligated_at, ligated_to, each_ligated, cleared_away}
+use Rattle.arabic_fallback.specs.Ligating.{put_at, merged, is_component, component_among, joined_item, joined_at, joined_to, followers, total_of, put_over, ligature_made, is_own, id_given, ligation_of, ligature_put, Walked, tried_at, ligated_at, ligated_to, each_ligated, cleared_away}
+use Rattle.arabic_fallback.specs.Vain.{vain_end, concat_marked, vain_marked}
 use Rattle.arabic_fallback.specs.Fallback.{ligated_by, all_formed, all_ligated, fallback_shaped}
 use Rattle.arabic_fallback.specs.declared.classes.GlyphClass.{GlyphClass}
 use Rattle.arabic_fallback.specs.declared.fallback.FallbackMasks.{FallbackMasks}
@@ -182,41 +184,77 @@ put_ligature-flags at found b =
 
 -- ---- all ligatures
 
+-- marks of what was looked at in vain
+order-unsafe_to_concat : (start end : ℕ) (b : Buffer) → start ≤ end → PreservesOrder b (unsafe_to_concat start end b)
+order-unsafe_to_concat start end b ordered =
+    let marked = map_range mark_concat start end b.items in
+    elim (bit_and b.flags.0 64 == 64) as (λ t. PreservesOrder b (if t then record (with_glyph_flags b) { items = marked } else b)) [
+      | true ↦ record {
+        clusters = PreservesClusters-equal _ _ (keys-map_range (λ (x : Item). x.cluster) mark_concat (λ x. refl) start end b.items ordered);
+        direction = refl;
+        flags = refl;
+        level = refl;
+      }
+      | false ↦ PreservesOrder-same b
+    ]
+
+concat-order : (start end : ℕ) (b : Buffer) → PreservesOrder b (concat_marked start end b)
+concat-order start end b =
+    let P : Bool → Type 0 = λ t. (nat_lt start end && nat_le end (length b.items)) ≡ t → PreservesOrder b (if t then unsafe_to_concat start end b else b) in
+    let cases : P (nat_lt start end && nat_le end (length b.items)) = elim (nat_lt start end && nat_le end (length b.items)) as P [
+      | true ↦ λ e. order-unsafe_to_concat start end b (grind (arith, nat_tests, e))
+      | false ↦ λ e. PreservesOrder-same b
+    ] in
+    cases refl
+
+concat-flags : (start end : ℕ) (b : Buffer) → PreservesFlags b (concat_marked start end b)
+concat-flags start end b =
+    elim (nat_lt start end && nat_le end (length b.items)) as (λ t. PreservesFlags b (if t then unsafe_to_concat start end b else b)) [
+      | true ↦ flags-unsafe_to_concat start end b
+      | false ↦ PreservesFlags-same b
+    ]
+
 module _ (rule : Rule) (rows : List LigatureGlyphs) where
-  at-order : (at : ℕ) → IsClusterPreserving (ligated_at rule rows at)
-  at-order at b monotone =
-      elim (is_on rule (nth b.items at)) as (λ t. PreservesOrder b (if t then option_map_or (λ found. ligature_put at found b) (found_in rule rows b.items at) b else b)) [
-        | true ↦ by_found (found_in rule rows b.items at)
-        | false ↦ PreservesOrder-same b
-      ]
-    where
-      by_found : (o : Option Found) → PreservesOrder b (option_map_or (λ found. ligature_put at found b) o b)
-      by_found None = PreservesOrder-same b
-      by_found (Some found) = put_ligature-order at found b monotone
+  found-order : (at : ℕ) (o : Option Found) (b : Buffer) → IsMonotoneLevel b.cluster_level → PreservesOrder b (tried_at at o b).buffer
+  found-order at None b monotone = PreservesOrder-same b
+  found-order at (Some found) b monotone = put_ligature-order at found b monotone
 
-  at-flags : (at : ℕ) → IsFlagPreserving (ligated_at rule rows at)
-  at-flags at b =
-      elim (is_on rule (nth b.items at)) as (λ t. PreservesFlags b (if t then option_map_or (λ found. ligature_put at found b) (found_in rule rows b.items at) b else b)) [
-        | true ↦ by_found (found_in rule rows b.items at)
-        | false ↦ PreservesFlags-same b
-      ]
-    where
-      by_found : (o : Option Found) → PreservesFlags b (option_map_or (λ found. ligature_put at found b) o b)
-      by_found None = PreservesFlags-same b
-      by_found (Some found) = put_ligature-flags at found b
+  found-flags : (at : ℕ) (o : Option Found) (b : Buffer) → PreservesFlags b (tried_at at o b).buffer
+  found-flags at None b = PreservesFlags-same b
+  found-flags at (Some found) b = put_ligature-flags at found b
 
-  to-order : (n : ℕ) → IsClusterPreserving (ligated_to rule rows n)
+  at-order : (at : ℕ) (s : Walked) → IsMonotoneLevel s.buffer.cluster_level → PreservesOrder s.buffer (ligated_at rule rows at s).buffer
+  at-order at s monotone =
+      let found = found_in rule rows s.buffer.items at in
+      let c = vain_marked rule rows at s.buffer in
+      let marked : PreservesOrder s.buffer c = concat-order at (vain_end rule rows s.buffer.items at) s.buffer in
+      elim (not (nat_lt at s.next) && is_on rule (nth s.buffer.items at)) as (λ t. PreservesOrder s.buffer (if t then tried_at at found c else s).buffer) [
+        | true ↦ PreservesOrder-then s.buffer c _ marked (found-order at found c (subst IsMonotoneLevel (sym marked.level) monotone))
+        | false ↦ PreservesOrder-same s.buffer
+      ]
+
+  at-flags : (at : ℕ) (s : Walked) → PreservesFlags s.buffer (ligated_at rule rows at s).buffer
+  at-flags at s =
+      let found = found_in rule rows s.buffer.items at in
+      let c = vain_marked rule rows at s.buffer in
+      let marked : PreservesFlags s.buffer c = concat-flags at (vain_end rule rows s.buffer.items at) s.buffer in
+      elim (not (nat_lt at s.next) && is_on rule (nth s.buffer.items at)) as (λ t. PreservesFlags s.buffer (if t then tried_at at found c else s).buffer) [
+        | true ↦ PreservesFlags-then s.buffer c _ marked (found-flags at found c)
+        | false ↦ PreservesFlags-same s.buffer
+      ]
+
+  to-order : (n : ℕ) → IsClusterPreserving (λ b. (ligated_to rule rows n b).buffer)
   to-order zero b monotone = PreservesOrder-same b
   to-order (suc n) b monotone =
       let before = to-order n b monotone in
-      let c = ligated_to rule rows n b in
-      PreservesOrder-then b c (ligated_at rule rows n c) before (at-order n c (subst IsMonotoneLevel (sym before.level) monotone))
+      let s = ligated_to rule rows n b in
+      PreservesOrder-then b s.buffer (ligated_at rule rows n s).buffer before (at-order n s (subst IsMonotoneLevel (sym before.level) monotone))
 
-  to-flags : (n : ℕ) → IsFlagPreserving (ligated_to rule rows n)
+  to-flags : (n : ℕ) → IsFlagPreserving (λ b. (ligated_to rule rows n b).buffer)
   to-flags zero b = PreservesFlags-same b
   to-flags (suc n) b =
-      let c = ligated_to rule rows n b in
-      PreservesFlags-then b c (ligated_at rule rows n c) (to-flags n b) (at-flags n c)
+      let s = ligated_to rule rows n b in
+      PreservesFlags-then b s.buffer (ligated_at rule rows n s).buffer (to-flags n b) (at-flags n s)
 
 -- ---- components that go
 

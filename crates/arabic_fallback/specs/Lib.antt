@@ -3,6 +3,7 @@ pub mod Replaced
 pub mod Seeking
 pub mod Forms
 pub mod Ligatures
+pub mod Vain
 pub mod Ligating
 pub mod Fallback
 pub mod Worked

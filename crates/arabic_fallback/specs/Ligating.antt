@@ -1,5 +1,5 @@
 -- How a ligature is made: its components become one glyph, and marks between and after them stand on it.
-use Rattle.std.specs.Prelude.{ℕ, zero, suc, Bool, true, false, ◌+◌, ◌-◌, ◌==◌, ◌&&◌, ◌||◌, not, min, nat_lt, nat_le, List, [], ◌∷◌, ◌++◌, fold, replicate, length, drop, set, if◌then◌else◌}
+use Rattle.std.specs.Prelude.{ℕ, zero, suc, Bool, true, false, ◌+◌, ◌-◌, ◌==◌, ◌&&◌, ◌||◌, not, min, nat_lt, nat_le, Option, Some, None, List, [], ◌∷◌, ◌++◌, fold, replicate, length, drop, set, if◌then◌else◌}
 use Rattle.std.specs.List.{prefix_len}
 use Rattle.std.specs.Option.{option_map_or}
 use Rattle.shape_items.specs.Buffer.{Buffer, next_ligature_id}
@@ -9,6 +9,7 @@ use Rattle.shape_items.specs.Items.{Item}
 use Rattle.arabic_fallback.specs.Ligatures.{found_in}
 use Rattle.arabic_fallback.specs.Replaced.{shares, as_component, as_ligature, components_of, gone, is_gone}
 use Rattle.arabic_fallback.specs.Seeking.{nth, is_mark, is_on}
+use Rattle.arabic_fallback.specs.Vain.{vain_marked}
 use Rattle.arabic_fallback.specs.declared.ligating.Counts.{Counts}
 use Rattle.arabic_fallback.specs.declared.ligating.Ligation.{Ligation}
 use Rattle.arabic_fallback.specs.declared.ligatures.Found.{Found}
@@ -110,16 +111,27 @@ ligature_made made b = put_over made
 abbrev pub ligature_put : ℕ → Found → Buffer → Buffer
 ligature_put at found b = ligature_made (ligation_of at found b) (id_given (is_own b.items at found) b)
 
-abbrev pub ligated_at : Rule → List LigatureGlyphs → ℕ → Buffer → Buffer
-ligated_at rule rows at b = if is_on rule (nth b.items at)
-    then option_map_or (λ found. ligature_put at found b) (found_in rule rows b.items at) b else b
+-- a buffer, and the place that the lookup goes on at
+pub record Walked : Type 0 where
+  pub buffer : Buffer
+  pub next : ℕ
 
-abbrev pub ligated_to : Rule → List LigatureGlyphs → ℕ → Buffer → Buffer
-ligated_to rule rows zero b = b
+-- after a ligature it goes on after its last component, else at the next place
+abbrev pub tried_at : ℕ → Option Found → Buffer → Walked
+tried_at at (Some found) b = record { buffer = ligature_put at found b; next = found.last + 1 }
+tried_at at None b = record { buffer = b; next = at + 1 }
+
+-- what is looked at in vain is marked before the ligature is made
+abbrev pub ligated_at : Rule → List LigatureGlyphs → ℕ → Walked → Walked
+ligated_at rule rows at s = if not (nat_lt at s.next) && is_on rule (nth s.buffer.items at)
+    then tried_at at (found_in rule rows s.buffer.items at) (vain_marked rule rows at s.buffer) else s
+
+abbrev pub ligated_to : Rule → List LigatureGlyphs → ℕ → Buffer → Walked
+ligated_to rule rows zero b = record { buffer = b; next = 0 }
 ligated_to rule rows (suc at) b = ligated_at rule rows at (ligated_to rule rows at b)
 
 abbrev pub each_ligated : Rule → List LigatureGlyphs → Buffer → Buffer
-each_ligated rule rows b = ligated_to rule rows (length b.items) b
+each_ligated rule rows b = (ligated_to rule rows (length b.items) b).buffer
 
 abbrev pub with_kept : List Item → Item → List Item
 with_kept items item = if is_gone item then items else items ++ item ∷ []

@@ -3,7 +3,7 @@ use Rattle.std.specs.Prelude.{ℕ, Bool, Option, Some, None, ◌+◌, ◌==◌, 
 use Rattle.std.specs.List.{prefix_len}
 use Rattle.std.specs.Option.{option_map}
 use Rattle.shape_items.specs.Items.{Item, new_item, is_ignorable_item}
-use Rattle.arabic_fallback.specs.Replaced.{shares, is_gone}
+use Rattle.arabic_fallback.specs.Replaced.{shares}
 use Rattle.arabic_fallback.specs.declared.seeking.Rule.{Rule}
 
 -- the item at a place, a new one past the end
@@ -13,9 +13,9 @@ nth items i = slice_index_or items i (new_item 0 0)
 abbrev pub is_mark : Item → Bool
 is_mark item = shares item.properties.glyph_class.0 8
 
--- marks, if the lookup passes over them, and components that are to go
+-- marks, if the lookup passes over them
 abbrev pub is_skipped : Rule → Item → Bool
-is_skipped rule item = is_gone item || (rule.ignores_marks && is_mark item)
+is_skipped rule item = rule.ignores_marks && is_mark item
 
 abbrev pub is_on : Rule → Item → Bool
 is_on rule item = shares item.mask rule.mask && not (is_skipped rule item)
@@ -39,6 +39,12 @@ place_in rule glyph rest =
 -- from a place on
 abbrev pub place_of : Rule → ℕ → List Item → ℕ → Option ℕ
 place_of rule glyph items from = option_map (λ passed. from + passed) (place_in rule glyph (drop from items))
+
+-- where the search ended that didn't find the glyph: after the first that may not stand between, or at the end of the text
+abbrev pub stop_of : Rule → ℕ → List Item → ℕ → ℕ
+stop_of rule glyph items from =
+    let passed = prefix_len (is_between rule glyph) (drop from items) in
+    (if nat_lt passed (length (drop from items)) then from + passed + 1 else length items)
 
 -- marks on a component of a ligature join with marks on the same one; other glyphs with no mark on a component of another
 -- ligature

@@ -1,3 +1,4 @@
 pub mod Forms
 pub mod Ligatures
 pub mod Faces
+pub mod Vain

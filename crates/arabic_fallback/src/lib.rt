@@ -15,6 +15,7 @@ pub mod ligatures;
 pub mod replaced;
 pub mod seeking;
 pub mod tables;
+pub mod vain;
 pub mod worked;
 
 pub use fallback::{FallbackMasks, shape_fallback};

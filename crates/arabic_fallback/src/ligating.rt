@@ -8,12 +8,15 @@ ghost use Rattle.arabic_fallback.specs.Ligating.{all_marks, counts_of, id_of, id
 ghost use Rattle.arabic_fallback.specs.Ligating.{before_of, count_at, component_among, is_component};
 ghost use Rattle.arabic_fallback.specs.Ligating.{joined_item, put_at, merged, follows, followers};
 ghost use Rattle.arabic_fallback.specs.Ligating.{joined_at, joined_to, total_of, put_over, ligature_made};
-ghost use Rattle.arabic_fallback.specs.Ligating.{ligature_put, ligated_at, each_ligated, ligated};
+ghost use Rattle.arabic_fallback.specs.Ligating.{ligature_put, tried_at, ligated_at, each_ligated, ligated};
+ghost use Rattle.arabic_fallback.specs.Ligatures.{found_in};
+ghost use Rattle.arabic_fallback.specs.Vain.{vain_marked};
 ghost use Rattle.arabic_fallback.specs.Ligating.{kept as kept_of, cleared_away};
 
 use crate::ligatures::{Found, LigatureGlyphs, found_in};
 use crate::replaced::{NewGlyph, as_component, as_ligature, components_of, gone, is_gone};
 use crate::seeking::{Rule, is_mark, is_on};
+use crate::vain::mark_vain;
 use shape_buffer::buffer::{ShapeError, hb_buffer_t, hb_glyph_info_t};
 use std::alloc::Global;
 
@@ -288,18 +291,43 @@ fn put_ligature(buffer: &mut hb_buffer_t, at: usize, found: Found)
     ligate(buffer, &made);
 }
 
-/// Makes the first ligature that stands at a place, if the lookup is on there.
-fn ligate_at(buffer: &mut hb_buffer_t, rule: Rule, rows: &[LigatureGlyphs], at: usize)
+/// Marks what ligatures look at in vain, and makes the one that was found, if one was. Returns the place that the lookup goes on at.
+fn try_found(buffer: &mut hb_buffer_t, rule: Rule, rows: &[LigatureGlyphs], at: usize) -> usize
     requires { at < length buffer.old.items }
-    ensures made { buffer.new ≡ ligated_at rule rows.now at buffer.old }
+    ensures made { record { buffer = buffer.new; next = result }
+        ≡ tried_at at (found_in rule rows.now buffer.old.items at) (vain_marked rule rows.now at buffer.old) }
     ensures as_many { length buffer.new.items ≡ length buffer.old.items }
     ensures limit { limit_of buffer.new ≡ limit_of buffer.old }
 {
-    if !is_on(rule, &buffer.infos()[at]) {
-        return;
+    let found = found_in(rule, rows, buffer.infos(), at);
+    mark_vain(buffer, rule, rows, at);
+    match found {
+        Some(found) => {
+            put_ligature(buffer, at, found);
+            found.last + 1
+        }
+        None => at + 1,
     }
-    if let Some(found) = found_in(rule, rows, buffer.infos(), at) {
-        put_ligature(buffer, at, found);
+}
+
+/// Makes the first ligature that stands at a place, if the lookup goes on there and is on. Returns the place that it goes on at.
+fn ligate_at(
+    buffer: &mut hb_buffer_t,
+    rule: Rule,
+    rows: &[LigatureGlyphs],
+    at: usize,
+    next: usize,
+) -> usize
+    requires { at < length buffer.old.items }
+    ensures made { record { buffer = buffer.new; next = result }
+        ≡ ligated_at rule rows.now at (record { buffer = buffer.old; next = next }) }
+    ensures as_many { length buffer.new.items ≡ length buffer.old.items }
+    ensures limit { limit_of buffer.new ≡ limit_of buffer.old }
+{
+    if at >= next && is_on(rule, &buffer.infos()[at]) {
+        try_found(buffer, rule, rows, at)
+    } else {
+        next
     }
 }
 
@@ -307,8 +335,9 @@ fn ligate_at(buffer: &mut hb_buffer_t, rule: Rule, rows: &[LigatureGlyphs], at: 
 fn ligate_each(buffer: &mut hb_buffer_t, rule: Rule, rows: &[LigatureGlyphs])
     ensures { Made (each_ligated rule rows.now) buffer.old buffer.new }
 {
+    let mut next = 0;
     for at in 0..buffer.len() {
-        ligate_at(buffer, rule, rows, at);
+        next = ligate_at(buffer, rule, rows, at, next);
     }
 }
 

@@ -112,7 +112,7 @@ pub fn ligature_rows<F: hb_font_t, M: hb_ot_layout_t<F>>(
 }
 
 /// Where a component stands after a place, if it joins with the first one.
-fn component_at(
+pub fn component_at(
     rule: Rule,
     glyph: u32,
     infos: &[hb_glyph_info_t],
@@ -171,7 +171,12 @@ fn second_found(
 }
 
 /// The components of a ligature from a place on.
-fn found_by(rule: Rule, row: &LigatureGlyphs, infos: &[hb_glyph_info_t], at: usize) -> Option<Found>
+pub fn found_by(
+    rule: Rule,
+    row: &LigatureGlyphs,
+    infos: &[hb_glyph_info_t],
+    at: usize,
+) -> Option<Found>
     requires { at < length infos.now }
     ensures value { result ≡ found_by rule row.now infos.now at }
     ensures inside { IfSome result (λ f. f.last < length infos.now) }

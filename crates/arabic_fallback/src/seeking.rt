@@ -2,10 +2,10 @@
 ghost use Rattle.std.specs.Prelude.{◌≡◌, ◌<◌, ◌≤◌, length};
 ghost use Rattle.std.specs.List.{prefix_len};
 ghost use Rattle.std.specs.Option.{IfSome};
+ghost use Rattle.arabic_fallback.specs.Replaced.{shares};
 ghost use Rattle.arabic_fallback.specs.Seeking.{is_mark as is_mark_of, is_skipped as is_skipped_of, is_on as is_on_of, fits as fits_of};
-ghost use Rattle.arabic_fallback.specs.Seeking.{passes as passes_of, is_between as is_between_of, place_in, place_of, joins as joins_of};
+ghost use Rattle.arabic_fallback.specs.Seeking.{passes as passes_of, is_between as is_between_of, place_in, place_of, stop_of, joins as joins_of};
 
-use crate::replaced::is_gone;
 use shape_buffer::buffer::{hb_glyph_info_t, hb_mask_t};
 
 /// For which glyphs a lookup is on, and whether it passes over marks.
@@ -22,10 +22,11 @@ pub fn is_mark(info: &hb_glyph_info_t) -> bool
     info._hb_glyph_info_get_glyph_class().0 & 8 != 0
 }
 
-fn is_skipped(rule: Rule, info: &hb_glyph_info_t) -> bool
+/// Whether the lookup passes over a glyph.
+pub fn is_skipped(rule: Rule, info: &hb_glyph_info_t) -> bool
     ensures { result ≡ is_skipped_of rule info.now }
 {
-    is_gone(info) || (rule.ignores_marks && is_mark(info))
+    rule.ignores_marks && is_mark(info)
 }
 
 /// Whether the lookup may begin at the glyph.
@@ -35,6 +36,13 @@ pub fn is_on(rule: Rule, info: &hb_glyph_info_t) -> bool
     info.mask & rule.mask != 0 && !is_skipped(rule, info)
 }
 
+/// Whether the lookup is on for a glyph.
+pub fn has_mask(rule: Rule, info: &hb_glyph_info_t) -> bool
+    ensures { result ≡ shares info.now.mask rule.mask }
+{
+    info.mask & rule.mask != 0
+}
+
 fn fits(rule: Rule, glyph: u32, info: &hb_glyph_info_t) -> bool
     ensures { result ≡ fits_of rule glyph info.now }
 {
@@ -42,7 +50,7 @@ fn fits(rule: Rule, glyph: u32, info: &hb_glyph_info_t) -> bool
 }
 
 /// Whether a default ignorable is passed over: all but ZWNJ and those that are hidden.
-fn passes(info: &hb_glyph_info_t) -> bool
+pub fn passes(info: &hb_glyph_info_t) -> bool
     ensures { result ≡ passes_of info.now }
 {
     info._hb_glyph_info_is_default_ignorable()
@@ -90,6 +98,20 @@ pub fn place_from(rule: Rule, glyph: u32, infos: &[hb_glyph_info_t], from: usize
     match place_in(rule, glyph, &infos[from..]) {
         Some(passed) => Some(from + passed),
         None => None,
+    }
+}
+
+/// Where the search from a place of a text on ended that didn't find the glyph.
+pub fn stop_from(rule: Rule, glyph: u32, infos: &[hb_glyph_info_t], from: usize) -> usize
+    requires { from ≤ length infos.now }
+    ensures value { result ≡ stop_of rule glyph infos.now from }
+    ensures inside { result ≤ length infos.now }
+{
+    let passed = count_between(rule, glyph, &infos[from..]);
+    if passed < infos.len() - from {
+        from + passed + 1
+    } else {
+        infos.len()
     }
 }
 

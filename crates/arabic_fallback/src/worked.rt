@@ -2,6 +2,7 @@
 ghost use Rattle.arabic_fallback.specs.Worked.Faces.{WorkedFaces};
 ghost use Rattle.arabic_fallback.specs.Worked.Forms.{WorkedForms};
 ghost use Rattle.arabic_fallback.specs.Worked.Ligatures.{WorkedLigatures};
+ghost use Rattle.arabic_fallback.specs.Worked.Vain.{WorkedVain};
 
 /// The forms of letters by the code charts, and where they are put.
 pub fn forms_meet_worked_cases()
@@ -16,4 +17,9 @@ pub fn ligatures_meet_worked_cases()
 /// Which forms and ligatures a face has glyphs for, and which of two ligatures is made.
 pub fn faces_meet_worked_cases()
     ensures { WorkedFaces }
+{}
+
+/// How far ligatures look in vain, what is marked, and where a lookup goes on.
+pub fn vain_searches_meet_worked_cases()
+    ensures { WorkedVain }
 {}

@@ -6,8 +6,8 @@ pub loop-at-preserved : goal.loop-at-preserved
 loop-at-preserved c =
     let next : c.loop-at.at + 1 ≡ suc c.loop-at.at = omega arith in
     record {
-      made = c.ligate_at.ensures.made ∙ ap (ligated_at c.args.rule c.args.rows.now c.loop-at.at) c.loop-at.invariant.made
+      made = c.ligate_at-next.ensures.made ∙ ap (ligated_at c.args.rule c.args.rows.now c.loop-at.at) c.loop-at.invariant.made
           ∙ ap (λ n. ligated_to c.args.rule c.args.rows.now n c.args.buffer.now) (sym next);
-      as_many = c.ligate_at.ensures.as_many ∙ c.loop-at.invariant.as_many;
-      limit = c.ligate_at.ensures.limit ∙ c.loop-at.invariant.limit;
+      as_many = c.ligate_at-next.ensures.as_many ∙ c.loop-at.invariant.as_many;
+      limit = c.ligate_at-next.ensures.limit ∙ c.loop-at.invariant.limit;
     }

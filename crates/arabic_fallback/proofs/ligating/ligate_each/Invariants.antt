@@ -5,7 +5,7 @@ use Rattle.arabic_fallback.proofs.ligating.ligate_each.Given as goal
 
 abbrev pub invariant-loop-at : goal.invariant-loop-at
 invariant-loop-at l = record {
-  made : l.buffer ≡ ligated_to l.rule l.rows l.at l.fn.buffer;
+  made : record { buffer = l.buffer; next = l.next } ≡ ligated_to l.rule l.rows l.at l.fn.buffer;
   as_many : length l.buffer.items ≡ length l.fn.buffer.items;
   limit : limit_of l.buffer ≡ limit_of l.fn.buffer;
 }
