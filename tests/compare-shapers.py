@@ -5,8 +5,8 @@ Hebrew, Hangul, Thai and Lao; and on real lines of some scripts that have none.
 The fonts are the installed ones that have the script (DejaVu, Noto, Amiri, Scheherazade): some drawn at random, with
 `--all` each of them; for Hangul fonts that are made here, since Debian's has none that is small: with all syllables,
 with half of them, with half of the jamo, with tone marks of no width, with features `ljmo`, `vjmo` and `tjmo`; for Syriac
-also fonts whose sign U+070F stretches over words, by tiles of several widths. Each is compared whole, without GPOS, without
-GSUB, without both, and without GDEF too.
+also fonts whose sign U+070F stretches over words, by tiles of several widths; for Arabic also some with and without required
+contextual alternates. Each is compared whole, without GPOS, without GSUB, without both, and without GDEF too.
 
 The texts are lines of tests/lines (a file to a script, whole, without marks, decomposed, and cut into words) and random
 ones: letters, marks, joiners, digits, spaces, other scripts. Each list of options has one form of lines, mostly with
@@ -35,6 +35,8 @@ CRATE = os.path.join(TESTS, "../crates/fontshape")
 
 INSTALLED = ["/usr/share/fonts/truetype/dejavu/DejaVu*.ttf", "/usr/share/fonts/truetype/noto/Noto*.ttf",
              "/usr/share/fonts/opentype/fonts-hosny-amiri/*.ttf", "/usr/share/fonts/truetype/scheherazade/*.ttf"]
+# a font that has glyphs for the forms of Arabic letters
+FORMED = "/usr/share/fonts/truetype/dejavu/DejaVuSans.ttf"
 SHAPED = ["Arab", "Syrc", "Hebr", "Hang", "Thai", "Laoo"]
 PLAIN = ["Latn", "Grek", "Cyrl", "Armn", "Geor"]
 # letters and marks of a script that random texts are drawn from
@@ -170,6 +172,39 @@ def stretching_fonts(folder):
     return paths
 
 
+def alternates_font(source, path, rules, chance):
+    """A copy of a font whose lookups are ligatures first and contextual alternates second, of Arabic letters in their forms, so that it is
+    seen whether the two come together; and these rules."""
+    from fontTools.feaLib.builder import addOpenTypeFeaturesFromString
+    from fontTools.ttLib import TTFont
+    font = TTFont(source)
+    for tag in ("GSUB", "GPOS", "GDEF"):
+        if tag in font:
+            del font[tag]
+    names = font.getBestCmap()
+    forms = [names[c] for c in range(0xFE8F, 0xFEF5) if c in names]
+    pairs = [(chance.choice(forms), chance.choice(forms)) for _ in range(1500)]
+    ligatures = "".join("sub %s %s by %s; " % (a, b, chance.choice(forms)) for a, b in sorted(set(pairs)))
+    singles = "".join("sub %s by %s; " % (a, chance.choice(forms)) for a in forms)
+    context = "".join("sub %s' lookup SINGLES %s; " % pair for pair in sorted(set(pairs))[::2])
+    lookups = "lookup LIGATURES { %s } LIGATURES; lookup SINGLES { %s } SINGLES; lookup CONTEXT { %s } CONTEXT;" % (ligatures, singles, context)
+    used = "feature liga { script arab; lookup LIGATURES; language URD; } liga; feature calt { script arab; lookup CONTEXT; language URD; } calt;"
+    addOpenTypeFeaturesFromString(font, "languagesystem DFLT dflt; " + lookups + used + rules % {"a": forms[0], "b": forms[1]})
+    font.save(path)
+
+
+def alternates_fonts(folder):
+    """The paths of fonts made in a folder: with required contextual alternates in the script, in GPOS, in a language alone, in another script
+    alone, and without; in the first two other ligatures come together with contextual alternates."""
+    kinds = ["feature rclt { script arab; sub %(a)s by %(b)s; } rclt;", "feature rclt { script arab; pos %(a)s 50; } rclt;",
+             "feature rclt { script arab; language URD; sub %(a)s by %(b)s; } rclt;",
+             "feature rclt { script latn; sub %(a)s by %(b)s; } rclt;", ""]
+    paths = [os.path.join(folder, "alternates_%d.ttf" % i) for i in range(len(kinds))]
+    for i, (path, rules) in enumerate(zip(paths, kinds)):
+        alternates_font(FORMED, path, rules, random.Random(i))
+    return paths
+
+
 def fonts_of(script, folder):
     """The paths of the fonts that have a script's letters."""
     from fontTools.ttLib import TTFont
@@ -179,7 +214,8 @@ def fonts_of(script, folder):
               "Latn": 0x61, "Grek": 0x3B1, "Cyrl": 0x430, "Armn": 0x561, "Geor": 0x10D0}[script]
     paths = sorted(path for pattern in INSTALLED for path in glob.glob(pattern))
     have = [path for path in paths if letter in (TTFont(path, lazy=True).getBestCmap() or {})]
-    return have + stretching_fonts(folder) if script == "Syrc" else have
+    made = {"Syrc": stretching_fonts, "Arab": alternates_fonts}
+    return have + made[script](folder) if script in made else have
 
 
 def copy_of(path, kind, folder):
