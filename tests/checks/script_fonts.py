@@ -1,8 +1,8 @@
-"""Fonts that are made for scripts of which Debian has none that is small.
+"""Fonts that are made for scripts of which Debian has none that is small, or none with a feature.
 
 For Hangul: with all syllables, with half of them, with half of the jamo, with tone marks of no
 width, with features `ljmo`, `vjmo` and `tjmo`. For Syriac: fonts whose sign U+070F stretches over
-words, by tiles of several widths.
+words, by tiles of several widths. For Arabic: with and without required contextual alternates.
 """
 import random
 import unicodedata
@@ -88,4 +88,54 @@ def stretching_fonts(folder):
     paths = [str(Path(folder, f"stretching_{i}.ttf")) for i in range(len(TILES))]
     for i, (path, widths) in enumerate(zip(paths, TILES)):
         stretching_font(path, widths, joined=i % 2 == 0)
+    return paths
+
+
+# required contextual alternates in the script, in GPOS, in a language alone, in another script
+# alone, and none; in the first two other ligatures come together with contextual alternates
+REQUIRED_ALTERNATES = [
+    "feature rclt { script arab; sub %(a)s by %(b)s; } rclt;",
+    "feature rclt { script arab; pos %(a)s 50; } rclt;",
+    "feature rclt { script arab; language URD; sub %(a)s by %(b)s; } rclt;",
+    "feature rclt { script latn; sub %(a)s by %(b)s; } rclt;",
+    "",
+]
+ALTERNATES = """languagesystem DFLT dflt;
+lookup LIGATURES { %(ligatures)s } LIGATURES;
+lookup SINGLES { %(singles)s } SINGLES;
+lookup CONTEXT { %(context)s } CONTEXT;
+feature liga { script arab; lookup LIGATURES; language URD; } liga;
+feature calt { script arab; lookup CONTEXT; language URD; } calt;
+"""
+
+
+def alternates_font(source, path, rules, chance):
+    """A copy of a font whose lookups are ligatures first and contextual alternates second, of
+    Arabic letters in their forms, so that it is seen whether the two come together; and these
+    rules."""
+    from fontTools.feaLib.builder import addOpenTypeFeaturesFromString
+    from fontTools.ttLib import TTFont
+    font = TTFont(source)
+    for tag in ("GSUB", "GPOS", "GDEF"):
+        if tag in font:
+            del font[tag]
+    names = font.getBestCmap()
+    forms = [names[c] for c in range(0xFE8F, 0xFEF5) if c in names]
+    pairs = sorted({(chance.choice(forms), chance.choice(forms)) for _ in range(1500)})
+    lookups = {
+        "ligatures": "".join(f"sub {a} {b} by {chance.choice(forms)}; " for a, b in pairs),
+        "singles": "".join(f"sub {a} by {chance.choice(forms)}; " for a in forms),
+        "context": "".join(f"sub {a}' lookup SINGLES {b}; " for a, b in pairs[::2]),
+    }
+    more = rules % {"a": forms[0], "b": forms[1]}
+    addOpenTypeFeaturesFromString(font, ALTERNATES % lookups + more)
+    font.save(path)
+
+
+def alternates_fonts(folder, source):
+    """The paths of fonts with and without required contextual alternates, made in a folder of a
+    font that has glyphs for the forms of Arabic letters."""
+    paths = [str(Path(folder, f"alternates_{i}.ttf")) for i in range(len(REQUIRED_ALTERNATES))]
+    for i, (path, rules) in enumerate(zip(paths, REQUIRED_ALTERNATES)):
+        alternates_font(source, path, rules, random.Random(i))
     return paths

@@ -2,8 +2,8 @@
 
 The scripts are Arabic, Syriac, Hebrew, Hangul, Thai and Lao. The fonts are the installed ones that
 have the script (DejaVu, Noto, Amiri, Scheherazade): some drawn at random, with `--all` each of
-them; fonts for Hangul are made here, and so are some for Syriac (`script_fonts`). Each is compared
-whole, without GPOS, without GSUB, without both, and without GDEF too.
+them; fonts for Hangul are made here, and some for Syriac and Arabic (`script_fonts`). Each is
+compared whole, without GPOS, without GSUB, without both, and without GDEF too.
 
 The texts are lines of tests/lines (a file to a script, whole, without marks, decomposed, and cut
 into words) and random ones: letters, marks, joiners, digits, spaces, other scripts. Each list of
@@ -28,8 +28,10 @@ from checks.comparison import UNSAFE_TO_BREAK, Comparison, add_common_options, w
 from checks.fonts import (AMIRI_FONTS, DEJAVU_FONTS, NOTO_FONTS, SCHEHERAZADE_FONTS, installed,
                           need_dejavu, save_without)
 from checks.programs import TESTS, need_fonttools, need_harfbuzz, need_fontshape
-from checks.script_fonts import hangul_fonts, stretching_fonts
+from checks.script_fonts import alternates_fonts, hangul_fonts, stretching_fonts
 
+# a font that has glyphs for the forms of Arabic letters
+FORMED = "/usr/share/fonts/truetype/dejavu/DejaVuSans.ttf"
 SHAPED = ["Arab", "Syrc", "Hebr", "Hang", "Thai", "Laoo"]
 PLAIN = ["Latn", "Grek", "Cyrl", "Armn", "Geor"]
 # a letter of each script, which a font of the script has
@@ -112,7 +114,11 @@ def fonts_of(script, folder):
     paths = installed([DEJAVU_FONTS, NOTO_FONTS, AMIRI_FONTS, SCHEHERAZADE_FONTS])
     have = [path for path in paths
             if LETTER[script] in (TTFont(path, lazy=True).getBestCmap() or {})]
-    return have + stretching_fonts(folder) if script == "Syrc" else have
+    if script == "Syrc":
+        return have + stretching_fonts(folder)
+    if script == "Arab":
+        return have + alternates_fonts(folder, FORMED)
+    return have
 
 
 def copy_of(path, kind, folder):

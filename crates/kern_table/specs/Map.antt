@@ -5,7 +5,7 @@ use Rattle.shape_common.specs.FlagNames.{F_GLOBAL, F_HAS_FALLBACK}
 use Rattle.shape_buffer.specs.Layout.{MapMeaning}
 use Rattle.shape_common.specs.declared.text_types.hb_tag_t.{hb_tag_t}
 use Rattle.shape_buffer.specs.declared.interfaces.map_request.MapRequest.{MapRequest}
-use Rattle.shape_buffer.specs.declared.interfaces.map_request.MapRequest.TheVariants.{Feature, Pause}
+use Rattle.shape_buffer.specs.declared.interfaces.map_request.MapRequest.TheVariants.{Feature, Pause, PauseUnless}
 use Rattle.kern_table.specs.declared.map.KernMap.{KernMap}
 use Rattle.kern_table.specs.declared.map.KernRequests.{KernRequests}
 
@@ -26,6 +26,7 @@ requested w flags value = record {
 abbrev pub requested_by : KernRequests → MapRequest → KernRequests
 requested_by w (Feature tag flags value) = if is_kern tag then requested w flags value else w
 requested_by w (Pause number) = w
+requested_by w (PauseUnless tag) = w
 
 abbrev pub no_kern_requests : KernRequests
 no_kern_requests = record { greatest = 0; everywhere = 0; has_fallback = false }

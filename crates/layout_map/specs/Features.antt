@@ -40,8 +40,12 @@ own_indexes gsub gpos tag = record { gsub = index_of gsub tag; gpos = index_of g
 abbrev pub is_found : Indexes → Bool
 is_found i = is_some i.gsub || is_some i.gpos
 
+-- whether a language system lists the feature
+abbrev pub is_listed : Chosen → Chosen → ℕ → Bool
+is_listed gsub gpos tag = is_found (own_indexes gsub gpos tag)
+
 abbrev pub indexes_of : Chosen → Chosen → Setting → Indexes
-indexes_of gsub gpos s = if not (is_found (own_indexes gsub gpos s.tag)) && has_flag s.flags F_GLOBAL_SEARCH
+indexes_of gsub gpos s = if not (is_listed gsub gpos s.tag) && has_flag s.flags F_GLOBAL_SEARCH
     then record { gsub = any_feature_of gsub.bytes s.tag; gpos = any_feature_of gpos.bytes s.tag }
     else own_indexes gsub gpos s.tag
 

@@ -7,7 +7,7 @@ use Rattle.shape_buffer.specs.declared.interfaces.map_request.TableIndex.{TableI
 use Rattle.shape_buffer.specs.declared.interfaces.map_request.TableIndex.TheVariants.{GSUB, GPOS}
 use Rattle.layout_map.specs.Settings.{Collected, collected}
 use Rattle.layout_map.specs.Chosen.{Chosen}
-use Rattle.layout_map.specs.Features.{Allotment, allotted, mask_of, shift_of, one_bit_of}
+use Rattle.layout_map.specs.Features.{Allotment, allotted, is_listed, mask_of, shift_of, one_bit_of}
 use Rattle.layout_map.specs.Lookups.{gpos_lookups}
 use Rattle.layout_map.specs.Stages.{Staged, staged, pause_of}
 use Rattle.layout_map.specs.Tagged.{tagged}
@@ -31,7 +31,7 @@ map_with gsub gpos c a = record {
 
 -- what requests are compiled to
 abbrev pub compiled : Chosen → Chosen → List MapRequest → OtMap
-compiled gsub gpos requests = let c = collected requests in map_with gsub gpos c (allotted gsub gpos c.settings)
+compiled gsub gpos requests = let c = collected (is_listed gsub gpos) requests in map_with gsub gpos c (allotted gsub gpos c.settings)
 
 -- the feature with a tag
 abbrev pub feature_of : OtMap → ℕ → Option FeatureMap

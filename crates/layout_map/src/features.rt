@@ -6,7 +6,7 @@
 ghost use Rattle.std.specs.Prelude.{◌≡◌, ◌<◌, ◌+◌, ◌^◌, [], true, false, nat_eq, if◌then◌else◌, IfOk, IsOkUnless};
 ghost use Rattle.shape_buffer.specs.Layout.{HasNoDefinedFlag};
 ghost use Rattle.layout_map.specs.Chosen.{required_tag_of};
-ghost use Rattle.layout_map.specs.Features.{is_plain as is_plain_of, bit_storage as bit_storage_of, bits_needed as bits_needed_of, has_room as has_room_of, own_indexes as own_indexes_of, is_found as is_found_of, indexes_of, feature_with as feature_with_of, bits_from as bits_from_of, with_feature, with_indexes, with_setting, allotted, mask_of, shift_of, one_bit_of};
+ghost use Rattle.layout_map.specs.Features.{is_plain as is_plain_of, bit_storage as bit_storage_of, bits_needed as bits_needed_of, has_room as has_room_of, own_indexes as own_indexes_of, is_found as is_found_of, is_listed as is_listed_of, indexes_of, feature_with as feature_with_of, bits_from as bits_from_of, with_feature, with_indexes, with_setting, allotted, mask_of, shift_of, one_bit_of};
 
 use crate::chosen::ChosenTable;
 use crate::settings::{Setting, has_flag};
@@ -116,6 +116,13 @@ fn is_found(indexes: Indexes) -> bool
     ensures { result ≡ is_found_of indexes }
 {
     indexes.gsub.is_some() || indexes.gpos.is_some()
+}
+
+/// Whether a language system that is chosen in the tables lists the feature.
+pub fn is_listed(gsub: &ChosenTable<'_>, gpos: &ChosenTable<'_>, tag: u32) -> bool
+    ensures { result ≡ is_listed_of gsub.now gpos.now tag }
+{
+    is_found(own_indexes(gsub, gpos, tag))
 }
 
 /// The indexes of a feature in the tables, searched in all of them if its request says so.

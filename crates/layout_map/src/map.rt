@@ -69,7 +69,7 @@ impl hb_ot_map_t {
         ensures memory { IsOkUnless result ShapeError.Memory }
     {
         let (mut settings, mut pauses) = (Vec::new(alloc), Vec::new(alloc));
-        collect(&mut settings, &mut pauses, requests)?;
+        collect(gsub, gpos, &mut settings, &mut pauses, requests)?;
         let mut features = Vec::new(alloc);
         let room = allot(gsub, gpos, &mut features, settings.as_slice())?;
         let stages = Stages::collect(

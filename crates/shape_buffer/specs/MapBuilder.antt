@@ -3,7 +3,7 @@ use Rattle.std.specs.Prelude.{ℕ, Bool, true, List, [], ◌∷◌, ◌++◌, Op
 use Rattle.std.specs.Int.RustNames.{bit_or}
 use Rattle.shape_common.specs.declared.text_types.hb_tag_t.{hb_tag_t}
 use Rattle.shape_buffer.specs.declared.interfaces.map_request.MapRequest.{MapRequest}
-use Rattle.shape_buffer.specs.declared.interfaces.map_request.MapRequest.TheVariants.{Feature, Pause}
+use Rattle.shape_buffer.specs.declared.interfaces.map_request.MapRequest.TheVariants.{Feature, Pause, PauseUnless}
 use Rattle.shape_buffer.specs.declared.interfaces.map_request.TableIndex.{TableIndex}
 use Rattle.shape_buffer.specs.declared.interfaces.map_request.TableIndex.TheVariants.{GSUB, GPOS}
 use Rattle.shape_common.specs.FlagNames.{F_GLOBAL}
@@ -49,3 +49,7 @@ feature_off tag = feature tag F_GLOBAL 0
 -- a pause of substitution, which may have a number
 abbrev pub pause : Option ℕ → MapRequest
 pause number = Pause number
+
+-- a pause that stands only if the tables lack a feature
+abbrev pub pause_unless : hb_tag_t → MapRequest
+pause_unless tag = PauseUnless tag

@@ -3,11 +3,11 @@ use Rattle.std.specs.Prelude.{◌≡◌, ℕ, None, Some, List, [], ◌∷◌, �
 use Rattle.shape_common.specs.declared.text_types.Script.{Script}
 use Rattle.shape_common.specs.declared.text_types.hb_tag_t.{hb_tag_t}
 use Rattle.shape_buffer.specs.declared.interfaces.map_request.MapRequest.{MapRequest}
-use Rattle.shape_buffer.specs.declared.interfaces.map_request.MapRequest.TheVariants.{Feature, Pause}
+use Rattle.shape_buffer.specs.declared.interfaces.map_request.MapRequest.TheVariants.{Feature, Pause, PauseUnless}
 use Rattle.script_shapers.specs.ArabicRequests.{arabic_requests}
 
 -- a feature with its flags (1 on for the whole text, 2 has a fallback, 8 takes ZWJ as it stands) and its value, or a
--- pause with its number, 0 for none
+-- pause with its number, 0 for none, or a pause that the font does without if it has a feature (9)
 abbrev pub Shown : Type 0
 Shown = ℕ × ℕ × ℕ
 
@@ -15,6 +15,7 @@ abbrev pub shown : MapRequest → Shown
 shown (Feature tag flags value) = (tag.0, flags, value)
 shown (Pause None) = (0, 0, 0)
 shown (Pause (Some number)) = (0, 0, number)
+shown (PauseUnless tag) = (tag.0, 9, 9)
 
 abbrev pub script : ℕ → Script
 script tag = record { 0 = record { 0 = tag } }
@@ -32,9 +33,9 @@ forms flags =
     (0x69736F6C, flags, 1) ∷ stop ∷ (0x66696E61, flags, 1) ∷ stop ∷ (0x66696E32, 8, 1) ∷ stop ∷ (0x66696E33, 8, 1) ∷ stop
     ∷ (0x6D656469, flags, 1) ∷ stop ∷ (0x6D656432, 8, 1) ∷ stop ∷ (0x696E6974, flags, 1) ∷ stop ∷ []
 
--- calt, pause, liga, clig, mset
+-- calt, a pause unless the font has rclt, liga, clig, mset
 abbrev pub last : List Shown
-last = (0x63616C74, 9, 1) ∷ stop ∷ (0x6C696761, 9, 1) ∷ (0x636C6967, 9, 1) ∷ (0x6D736574, 9, 1) ∷ []
+last = (0x63616C74, 9, 1) ∷ (0x72636C74, 9, 9) ∷ (0x6C696761, 9, 1) ∷ (0x636C6967, 9, 1) ∷ (0x6D736574, 9, 1) ∷ []
 
 abbrev pub rlig : Shown
 rlig = (0x726C6967, 11, 1)

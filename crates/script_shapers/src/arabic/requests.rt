@@ -47,6 +47,9 @@ pub const RLIG: hb_tag_t = hb_tag_t(0x726C_6967);
 /// Contextual alternates.
 pub const CALT: hb_tag_t = hb_tag_t(0x6361_6C74);
 
+/// Required contextual alternates.
+pub const RCLT: hb_tag_t = hb_tag_t(0x7263_6C74);
+
 /// Standard ligatures.
 pub const LIGA: hb_tag_t = hb_tag_t(0x6C69_6761);
 
@@ -146,14 +149,15 @@ pub fn ask_other_forms(
 }
 
 /// Asks for what comes after the forms of letters. Arabic has a pause after its required ligatures, where the forms
-/// of fonts without `GSUB` belong; the other scripts apply them together with contextual alternates.
+/// of fonts without `GSUB` belong; the other scripts apply them together with contextual alternates. These come before the other
+/// ligatures, and together with them in a font that has required contextual alternates, too, as HarfBuzz does.
 pub fn ask_last(builder: &mut hb_ot_map_builder_t, script: Option<Script>) -> Result<(), ShapeError>
     ensures ok { OnOk result (builder.new ≡ with_requests builder.old (last_requests script)) }
     ensures memory { IfErr result (λ e. e ≡ ShapeError.Memory) }
 {
     ask_ligatures(builder, script)?;
     builder.enable_feature(CALT, F_MANUAL_ZWJ, 1)?;
-    builder.add_gsub_pause(None)?;
+    builder.add_gsub_pause_unless(RCLT)?;
     builder.enable_feature(LIGA, F_MANUAL_ZWJ, 1)?;
     builder.enable_feature(CLIG, F_MANUAL_ZWJ, 1)?;
     builder.enable_feature(MSET, F_MANUAL_ZWJ, 1)

@@ -44,6 +44,7 @@ impl<'a> hb_ot_map_builder_t<'a> {
       feature_on,
       feature_off,
       pause,
+      pause_unless,
     };
 
     /// A builder without requests, for texts of this script and language. Asks the engine which scripts it
@@ -157,6 +158,18 @@ impl<'a> hb_ot_map_builder_t<'a> {
         ensures memory { IsOkUnless result ShapeError.Memory }
     {
         self.requests.push(MapRequest::Pause(number))?;
+        Ok(())
+    }
+
+    /// Asks for a pause without a number, between the features before and those after, if the font lacks a
+    /// feature: where the language systems that the engine chose list it, there is no pause. Refuses with
+    /// `Memory` if a growth was refused; a refused call changes nothing.
+    pub fn add_gsub_pause_unless(&mut self, tag: hb_tag_t) -> Result<(), ShapeError>
+        ensures ok { OnOk result (self.new ≡ with_request self.old (pause_unless tag)) }
+        ensures same { OnErr result (self.new ≡ self.old) }
+        ensures memory { IsOkUnless result ShapeError.Memory }
+    {
+        self.requests.push(MapRequest::PauseUnless(tag))?;
         Ok(())
     }
 

@@ -48,7 +48,8 @@ pub enum TableIndex {
     GPOS,
 }
 
-/// One request: a feature with its flags and value, or a pause of substitution that may have a number.
+/// One request: a feature with its flags and value, a pause of substitution that may have a number, or a pause that stands only
+/// if the language systems that are chosen in the font's tables lack a feature.
 #[derive(Clone, Copy, PartialEq, Eq, Debug)]
 pub enum MapRequest {
     Feature {
@@ -57,4 +58,5 @@ pub enum MapRequest {
         value: u32,
     },
     Pause(Option<u32>),
+    PauseUnless(hb_tag_t),
 }

@@ -68,6 +68,11 @@ fn print_request(request: MapRequest, found: &mut String) -> Result<(), AllocErr
         }
         MapRequest::Pause(None) => found.push_str(" pause"),
         MapRequest::Pause(Some(number)) => write!(found, " pause={number}"),
+        MapRequest::PauseUnless(tag) => {
+            let [a, b, c, d] = tag.0.to_be_bytes();
+            let (a, b, c, d) = (char::from(a), char::from(b), char::from(c), char::from(d));
+            write!(found, " pause unless {a}{b}{c}{d}")
+        }
     }
 }
 
