@@ -66,6 +66,7 @@ impl Outline {
 impl<'a> Outlines<'a> {
     /// The outlines of the font with this number in a collection, or number 0, the one of a file of one font. None if
     /// it has no table `glyf`, as a font whose outlines stand in `CFF`.
+    #[tactic(auto, unfolding(shape_font::specs::Directory::has_table))]
     pub fn from_slice(bytes: &'a [u8], index: u32) -> Option<Outlines<'a>>
         ensures found { is_some result ≡ has_table bytes.now index GLYF }
         ensures glyf { IfSome result (λ o. o.glyf.now ≡ bytes_of bytes.now index GLYF) }
