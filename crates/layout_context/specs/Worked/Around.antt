@@ -7,7 +7,8 @@ use Rattle.shape_items.specs.Items.{Item, new_properties}
 use Rattle.layout_matching.specs.declared.lookup.Lookup.{Lookup}
 use Rattle.layout_substitution.specs.Replaced.{is_multiplied, as_ligature}
 use Rattle.layout_context.specs.Covered.{subtable_covers}
-use Rattle.layout_context.specs.Stages.{most_nested, stage_made, substituted}
+use Rattle.layout_matching.specs.Work.{most_work}
+use Rattle.layout_context.specs.Stages.{stage_made, substituted}
 use Rattle.layout_context.specs.Worked.Contexts.{HoldsOf, with_second, chained_lists, in_syllable, per_syllable}
 use Rattle.layout_context.specs.Worked.Chains.{chained_glyphs}
 use Rattle.layout_context.specs.Worked.Lookups.{lookup_words, ligatures, single_1, on, glyph, off, mark, zwnj, zwj, glyphs, after}
@@ -169,9 +170,9 @@ pub record WorkedBounds : Type 0 where
   pub backwards_differs : HoldsOf backwards_before [] (λ l. glyphs (after (on l 0 0) (glyph 9 0 ∷ glyph 5 1 ∷ [])) ≡ 9 ∷ 5 ∷ [])
   pub distance_wraps : HoldsOf one_back [] (λ l. glyphs (after (on l 0 0) (glyph 5 0 ∷ [])) ≡ 4 ∷ [])
   -- so many nested lookups for each item, at least so many, and no more than can be counted
-  pub at_least : most_nested 16 ≡ 16384
-  pub for_each_item : most_nested 17 ≡ 17408
-  pub countable : most_nested 18446744073709551615 ≡ 18446744073709551615
+  pub at_least : most_work 64 ≡ 1048576
+  pub for_each_item : most_work 65 ≡ 1064960
+  pub countable : most_work 18446744073709551615 ≡ 18446744073709551615
   -- a lookup of the plan and 64 levels below it
   pub levels : (ls : List Lookup) (b : Buffer) → substituted ls b ≡ stage_made 65 ls b
 

@@ -38,7 +38,7 @@ both_deleted_backwards = words (1 ∷ 0 ∷ 0 ∷ 0 ∷ 10 ∷ 2 ∷ 6 ∷ 46 �
 -- with so many levels
 abbrev pub after_levels : ℕ → Lookup → List Item → Buffer
 after_levels levels l items =
-    (looked_up levels l (record { buffer = list items; spot = record { at = 0; random = 1; left = 9; whole = 0 } })).buffer
+    (looked_up levels l (record { buffer = list items; spot = record { at = 0; random = 1; left = 999; whole = 0 } })).buffer
 
 -- where a rule stands whose first glyph is the third of the list
 abbrev pub span_at_third : Lookup → List Item → Option Span

@@ -90,7 +90,7 @@ glyphs b = map (λ (x : Item). x.glyph_id) b.items
 abbrev pub clusters_of : Buffer → List ℕ
 clusters_of b = map (λ (x : Item). x.cluster) b.items
 
--- after the lookup has gone over the list, with so many nested lookups left
+-- after the lookup has gone over the list, with so much left
 abbrev pub after_with : ℕ → Lookup → List Item → Buffer
 after_with left l items = (looked_up 3 l (record {
   buffer = list items;
@@ -99,7 +99,7 @@ after_with left l items = (looked_up 3 l (record {
 })).buffer
 
 abbrev pub after : Lookup → List Item → Buffer
-after l items = after_with 9 l items
+after l items = after_with 999 l items
 
 abbrev pub Holds : List ℕ → (Lookup → Type 0) → Type 0
 Holds table fact = (l : Lookup) → l.table.now ≡ table → l.gdef.now ≡ [] → fact l

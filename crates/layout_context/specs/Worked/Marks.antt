@@ -15,7 +15,7 @@ abbrev pub asking : List Item → Buffer
 asking items = record (list items) { flags = record { 0 = PRODUCE_UNSAFE_TO_CONCAT } }
 
 abbrev pub after_in : Lookup → Buffer → Buffer
-after_in l b = (looked_up 3 l (record { buffer = b; spot = record { at = 0; random = 1; left = 9; whole = 0 } })).buffer
+after_in l b = (looked_up 3 l (record { buffer = b; spot = record { at = 0; random = 1; left = 999; whole = 0 } })).buffer
 
 abbrev pub Marks : List ℕ → ℕ → List Item → List ℕ → Type 0
 Marks table place items flags = HoldsOf table [] (λ l. flags_of (after_in (on l place 0) (asking items)) ≡ flags)

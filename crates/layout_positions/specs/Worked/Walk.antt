@@ -7,9 +7,10 @@ use Rattle.shape_common.specs.declared.text_types.Direction.TheVariants.{LeftToR
 use Rattle.shape_font.specs.Bytes.{i16_of}
 use Rattle.shape_items.specs.Buffer.{Buffer}
 use Rattle.shape_items.specs.Items.{Item}
+use Rattle.layout_matching.specs.Work.{most_work}
 use Rattle.layout_matching.specs.declared.lookup.Lookup.{Lookup}
 use Rattle.layout_positions.specs.Attachment.{MOST_LINKS}
-use Rattle.layout_positions.specs.Nested.{LEVELS, most_named, nested_placed}
+use Rattle.layout_positions.specs.Nested.{LEVELS, nested_placed}
 use Rattle.layout_positions.specs.Subtables.{Placing}
 use Rattle.layout_positions.specs.Uncovered.{subtable_lists}
 use Rattle.layout_positions.specs.Walk.{none_seen, positioned}
@@ -47,7 +48,7 @@ off glyph cluster = record (base glyph cluster) { mask = 8 }
 abbrev pub still : ℤ × ℤ
 still = (pos 0, pos 0)
 
--- two glyphs that the rule matches, at the first of them, with so many lookups that may still be named
+-- two glyphs that the rule matches, at the first of them, with so much left
 abbrev named : Lookup → ℕ → Placing
 named l left = nested_placed LEVELS l 0 left none_seen (line LeftToRight (base 2 0 ∷ base 3 1 ∷ []))
 
@@ -55,9 +56,9 @@ pub record WorkedBounds : Type 0 where
   -- a lookup of the plan and 64 levels below it
   pub levels : LEVELS ≡ 65
   pub links : MOST_LINKS ≡ 64
-  pub at_least : most_named 16 ≡ 16384
-  pub for_each_glyph : most_named 17 ≡ 17408
-  pub countable : most_named 18446744073709551615 ≡ 18446744073709551615
+  pub at_least : most_work 64 ≡ 1048576
+  pub for_each_glyph : most_work 65 ≡ 1064960
+  pub countable : most_work 18446744073709551615 ≡ 18446744073709551615
 
 pub worked_bounds : WorkedBounds
 worked_bounds = record { levels = refl; links = refl; at_least = refl; for_each_glyph = refl; countable = refl }
@@ -87,10 +88,15 @@ pub record WorkedWalk : Type 0 where
       → masks (over l (base 2 0 ∷ base 7 1 ∷ base 7 2 ∷ base 3 3 ∷ [])) ≡ 16 ∷ 16 ∷ 16 ∷ 16 ∷ []
   pub out_of_context : (l : Lookup) → IsLookup l in_context 0 → l.place ≡ 16
       → offsets (over l (base 2 0 ∷ base 7 1 ∷ base 3 2 ∷ [])) ≡ still ∷ still ∷ still ∷ []
-  pub one_is_named : (l : Lookup) → IsLookup l in_context 0 → l.place ≡ 16 → (named l 5).left ≡ 4
+  pub one_is_named : (l : Lookup) → IsLookup l in_context 0 → l.place ≡ 16 → (named l 50).left ≡ 9
   pub none_may_be_named : (l : Lookup) → IsLookup l in_context 0 → l.place ≡ 16 → offsets (named l 0).buffer ≡ still ∷ still ∷ []
-  pub goes_on_after_the_rule : (l : Lookup) → IsLookup l in_context 0 → l.place ≡ 16 → (named l 5).next ≡ Some 2
-  pub unsafe_in_the_rule : (l : Lookup) → IsLookup l in_context 0 → l.place ≡ 16 → masks (named l 5).buffer ≡ 16 ∷ 19 ∷ []
+  -- 33 for a lookup of one subtable that is named, and 8 for its subtable, which begins with the glyph
+  pub too_little_is_left : (l : Lookup) → IsLookup l in_context 0 → l.place ≡ 16 → offsets (named l 40).buffer ≡ still ∷ still ∷ []
+  pub nothing_is_left_then : (l : Lookup) → IsLookup l in_context 0 → l.place ≡ 16 → (named l 40).left ≡ 0
+  pub just_enough_is_left : (l : Lookup) → IsLookup l in_context 0 → l.place ≡ 16
+      → offsets (named l 41).buffer ≡ still ∷ (pos 10, pos 0) ∷ []
+  pub goes_on_after_the_rule : (l : Lookup) → IsLookup l in_context 0 → l.place ≡ 16 → (named l 50).next ≡ Some 2
+  pub unsafe_in_the_rule : (l : Lookup) → IsLookup l in_context 0 → l.place ≡ 16 → masks (named l 50).buffer ≡ 16 ∷ 19 ∷ []
   -- a subtable has a list of its glyphs, a rule of format 3 one of its first glyph
   pub listed : (l : Lookup) → IsLookup l (one_subtable 1 single_one) 0 → subtable_lists l (record { kind = 1; start = 8 }) 2 ≡ true
   pub not_listed : (l : Lookup) → IsLookup l (one_subtable 1 single_one) 0 → subtable_lists l (record { kind = 1; start = 8 }) 7 ≡ false
@@ -114,6 +120,9 @@ worked_walk = record {
   out_of_context = λ l is p. rw (is.table, is.flags, is.mask, is.positioning, is.syllables, p) refl;
   one_is_named = λ l is p. rw (is.table, is.flags, is.mask, is.positioning, is.syllables, p) refl;
   none_may_be_named = λ l is p. rw (is.table, is.flags, is.mask, is.positioning, is.syllables, p) refl;
+  too_little_is_left = λ l is p. rw (is.table, is.flags, is.mask, is.positioning, is.syllables, p) refl;
+  nothing_is_left_then = λ l is p. rw (is.table, is.flags, is.mask, is.positioning, is.syllables, p) refl;
+  just_enough_is_left = λ l is p. rw (is.table, is.flags, is.mask, is.positioning, is.syllables, p) refl;
   goes_on_after_the_rule = λ l is p. rw (is.table, is.flags, is.mask, is.positioning, is.syllables, p) refl;
   unsafe_in_the_rule = λ l is p. rw (is.table, is.flags, is.mask, is.positioning, is.syllables, p) refl;
   listed = λ l is. rw (is.table, is.positioning) refl;

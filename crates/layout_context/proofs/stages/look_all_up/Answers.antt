@@ -1,7 +1,10 @@
+use Rattle.std.proofs.Common.{◌≡◌, ◌-◌, ap, ◌∙◌}
 use Rattle.shape_buffer.specs.declared.buffer.error.ShapeError.TheVariants.{Length}
 use Rattle.layout_substitution.proofs.KindLemmas.{same_error}
 use Rattle.layout_context.specs.Digested.{lookups_in}
-use Rattle.layout_context.specs.Stages.{Walk, stage_made}
+use Rattle.layout_matching.specs.Work.{walk_work}
+use Rattle.layout_substitution.specs.declared.apply.Spot.{Spot}
+use Rattle.layout_context.specs.Stages.{Walk, walk_charged, stage_made}
 use Rattle.layout_context.proofs.DigestLemmas.{passed_over, past_digested}
 use Rattle.layout_context.proofs.stages.look_all_up.Goals as goal
 
@@ -15,10 +18,15 @@ returns-in-Err-clause-length c =
 pub loop-named-preserved-then-not-may_share : goal.loop-named-preserved-then-not-may_share
 loop-named-preserved-then-not-may_share c =
     let here : Walk = record { buffer = c.loop-named.buffer; spot = c.loop-named.spot } in
+    let next : Walk = record { buffer = c.loop-named.buffer; spot = c.charge_walk.result } in
+    let is : next ≡ walk_charged c.loop-named.named.lookup here =
+    ap (λ (s : Spot). record { buffer = c.loop-named.buffer; spot = s })
+    (c.charge_walk.ensures ∙ ap (λ n. record c.loop-named.spot { left = c.loop-named.spot.left - walk_work c.loop-named.named.lookup n })
+    c.len.ensures.items) in
     record {
-      made = passed_over c.args.levels c.args.lookups.now c.loop-named.named-index _ here c.loop-named.run
+      made = passed_over c.args.levels c.args.lookups.now c.loop-named.named-index _ here next c.loop-named.run
           (stage_made c.args.levels (lookups_in c.args.lookups.now) c.args.buffer.now) c.loop-named-test.true
           (c.requires.said c.loop-named.named-index _ c.loop-named-test.true) c.loop-named.invariant.run
-          (c.may_share.ensures c.if-not-may_share.true) c.loop-named.invariant.made;
+          (c.may_share.ensures c.if-not-may_share.true) is c.loop-named.invariant.made;
       run = c.loop-named.invariant.run;
     }
