@@ -27,7 +27,7 @@ use Rattle.layout_substitution.specs.declared.apply.Spot.{Spot}
 use Rattle.layout_context.specs.Covered.{context_covers, subtable_covers, IsUncovered, CoversNone}
 use Rattle.layout_context.specs.Nested.{rule_applied, origin_of, tried_marked, first_rule_applied, level_applied, nested_applied}
 use Rattle.layout_context.specs.Reverse.{reversal_of, reversal_by, reversal_in, reversal_reach_of, reversal_reach_by, reversal_reach_in, reversal_reach, reversed_by, first_reversed, reversed_at, Backwards, reverse_step, reversed, is_reverse}
-use Rattle.layout_context.specs.Stages.{Walk, passed, gone_on, with_left, tried_within, tried, lookup_step, first_walk, walked, gone_over, walk_charged, looked_up}
+use Rattle.layout_context.specs.Stages.{Walk, passed, gone_on, with_left, tried_within, tried, lookup_step, first_walk, walked, gone_back, gone_over, walk_charged, looked_up}
 
 none_of : {A : Type 0} (o : Option A) → is_some o ≡ false → o ≡ None
 none_of None e = refl
@@ -339,31 +339,39 @@ at-uncovered l at b gsub out =
     ∙ map_or_none (reversed_by l at b) b _ (first_some_none (reversal_in l b.items at) n
     (λ i below. reversal-uncovered l b.items at i gsub out below) n 0 (omega arith))) refl
 
-abbrev back : Buffer → ℕ → Backwards
-back b at = record { buffer = b; at = at }
+abbrev pub back : Buffer → ℕ → ℕ → Backwards
+back b left at = record { buffer = b; at = at; left = left }
 
 -- the place is inside the list all along
-back-uncovered : (l : Lookup) (b : Buffer) → l.positioning ≡ false → CoversNone l b.items → (n m : ℕ) → m < length b.items + 1
-    → times (reverse_step l) n (back b m) ≡ back b (m - n)
-back-uncovered l b gsub none zero m within = ap (back b) (omega arith)
-back-uncovered l b gsub none (suc n) m within =
-    ap (reverse_step l) (back-uncovered l b gsub none n m within) ∙ one (nat_eq (m - n) 0) refl
+back-uncovered : (l : Lookup) (left : ℕ) (b : Buffer) → l.positioning ≡ false → CoversNone l b.items → (n m : ℕ)
+    → m < length b.items + 1 → times (reverse_step l) n (back b left m) ≡ back b left (m - n)
+back-uncovered l left b gsub none zero m within = ap (back b left) (omega arith)
+back-uncovered l left b gsub none (suc n) m within =
+    ap (reverse_step l) (back-uncovered l left b gsub none n m within) ∙ one (nat_eq (m - n) 0) refl
   where
     one : (t : Bool) → nat_eq (m - n) 0 ≡ t
-        → (if t then back b (m - n) else back (reversed_at l (m - n - 1) b) (m - n - 1)) ≡ back b (m - suc n)
+        → (if t then back b left (m - n) else option_map_or (reversed_within l (back b left (m - n)))
+        (lookup_charged l b.items (m - n - 1) left) (back b 0 (m - n - 1))) ≡ back b left (m - suc n)
     one true e =
         let zero_left : m - n ≡ m - suc n = grind (arith, nat_tests, e) in
-        ap (back b) zero_left
+        ap (back b left) zero_left
     one false e =
         let inside : m - n - 1 < length b.items = grind (arith, nat_tests, e, within) in
         let place : m - n - 1 ≡ m - suc n = omega arith in
-        ap (λ (c : Buffer). back c (m - n - 1)) (at-uncovered l (m - n - 1) b gsub (none (m - n - 1) inside)) ∙ ap (back b) place
+        let out : IsUncovered l (nth b.items (m - n - 1)).glyph_id = none (m - n - 1) inside in
+        ap (λ o. option_map_or (reversed_within l (back b left (m - n))) o (back b 0 (m - n - 1)))
+        (charged-uncovered l b.items (m - n - 1) left gsub out)
+        ∙ ap (λ (c : Buffer). back c left (m - n - 1)) (at-uncovered l (m - n - 1) b gsub out) ∙ ap (back b left) place
+
+pub reversed-uncovered : (l : Lookup) (left : ℕ) (b : Buffer) → l.positioning ≡ false → CoversNone l b.items
+    → reversed l left b ≡ back b left (length b.items - length b.items)
+reversed-uncovered l left b gsub none = back-uncovered l left b gsub none (length b.items) (length b.items) (omega arith)
 
 pub over-uncovered : (levels : ℕ) (l : Lookup) (s : Walk) → l.positioning ≡ false → CoversNone l s.buffer.items
     → (gone_over levels l s).buffer ≡ s.buffer
 over-uncovered levels l s gsub none =
-    walk_same (is_reverse l) s.buffer (record s { buffer = reversed l s.buffer }) (walked (nested_applied levels l) l s)
-    (ap (λ (w : Backwards). w.buffer) (back-uncovered l s.buffer gsub none (length s.buffer.items) (length s.buffer.items) (omega arith)))
+    walk_same (is_reverse l) s.buffer (gone_back s (reversed l s.spot.left s.buffer)) (walked (nested_applied levels l) l s)
+    (ap (λ (w : Backwards). w.buffer) (reversed-uncovered l s.spot.left s.buffer gsub none))
     (walk-uncovered levels l (first_walk s) gsub none (length s.buffer.items))
 
 pub looked-uncovered : (levels : ℕ) (l : Lookup) (s : Walk) → l.positioning ≡ false → CoversNone l s.buffer.items

@@ -16,9 +16,9 @@ use Rattle.layout_substitution.specs.Edits.{item_at, is_inside, is_past}
 use Rattle.layout_context.specs.Covered.{IsUncovered, CoversNone}
 use Rattle.layout_context.specs.Digested.{IsOut, IsDigested, IsApart, HoldsFirst, HoldsGlyphs, lookups_in}
 use Rattle.layout_context.specs.Nested.{nested_applied}
-use Rattle.layout_context.specs.Reverse.{is_reverse, reversed, reverse_step}
-use Rattle.layout_context.specs.Stages.{Walk, passed, tried, lookup_step, first_walk, walked, gone_over, walk_charged, looked_up, all_looked_up, stage_made}
-use Rattle.layout_context.proofs.CoveredLemmas.{tried-uncovered-at, over-uncovered}
+use Rattle.layout_context.specs.Reverse.{Backwards, is_reverse, reversed, reverse_step}
+use Rattle.layout_context.specs.Stages.{Walk, passed, tried, lookup_step, first_walk, walked, gone_back, gone_over, walk_charged, looked_up, all_looked_up, stage_made}
+use Rattle.layout_context.proofs.CoveredLemmas.{tried-uncovered-at, reversed-uncovered}
 use Rattle.layout_context.proofs.StageLemmas.{past_all}
 
 same-if : {X : Type 0} (t : Bool) (x y z : X) → x ≡ z → y ≡ z → (if t then x else y) ≡ z
@@ -60,8 +60,8 @@ settled s = record { buffer = s.buffer; spot = record s.spot { at = 0; whole = 0
 over-settled : (levels : ℕ) (l : Lookup) (s : Walk) → settled (gone_over levels l s) ≡ settled (gone_over levels l (settled s))
 over-settled levels l s = by_way (is_reverse l)
   where
-    by_way : (t : Bool) → settled (if t then record s { buffer = reversed l s.buffer } else walked (nested_applied levels l) l s)
-        ≡ settled (if t then record (settled s) { buffer = reversed l (settled s).buffer } else walked (nested_applied levels l) l (settled s))
+    by_way : (t : Bool) → settled (if t then gone_back s (reversed l s.spot.left s.buffer) else walked (nested_applied levels l) l s)
+        ≡ settled (if t then gone_back (settled s) (reversed l s.spot.left s.buffer) else walked (nested_applied levels l) l (settled s))
     by_way true = refl
     by_way false = refl
 
@@ -111,12 +111,8 @@ over-still : (levels : ℕ) (l : Lookup) (s : Walk) → l.positioning ≡ false 
 over-still levels l s gsub none = by_way (is_reverse l) refl
   where
     by_way : (t : Bool) → is_reverse l ≡ t
-        → settled (if t then record s { buffer = reversed l s.buffer } else walked (nested_applied levels l) l s) ≡ settled s
-    by_way true e =
-        let back : gone_over levels l s ≡ record s { buffer = reversed l s.buffer } =
-        ap (λ t. if t then record s { buffer = reversed l s.buffer } else walked (nested_applied levels l) l s) e in
-        let same : reversed l s.buffer ≡ s.buffer = sym (ap (λ (w : Walk). w.buffer) back) ∙ over-uncovered levels l s gsub none in
-        ap (λ (b : Buffer). settled (record s { buffer = b })) same
+        → settled (if t then gone_back s (reversed l s.spot.left s.buffer) else walked (nested_applied levels l) l s) ≡ settled s
+    by_way true e = ap (λ (w : Backwards). settled (gone_back s w)) (reversed-uncovered l s.spot.left s.buffer gsub none)
     by_way false e = walk-still levels l (first_walk s) gsub none (length s.buffer.items)
 
 -- ---- the loop over the lookups
@@ -136,11 +132,11 @@ none-covered d run items said held apart at inside = (said.out (nth items at).gl
 empty-still : (levels : ℕ) (l : Lookup) (s : Walk) → length s.buffer.items ≡ 0 → settled (gone_over levels l s) ≡ settled s
 empty-still levels l s none = by_way (is_reverse l)
   where
-    by_way : (t : Bool) → settled (if t then record s { buffer = reversed l s.buffer } else walked (nested_applied levels l) l s) ≡ settled s
-    by_way true = ap (λ n. settled (record s {
-      buffer = (times (reverse_step l) n
-          (record { buffer = s.buffer; at = length s.buffer.items })).buffer;
-    })) none
+    by_way : (t : Bool) → settled (if t then gone_back s (reversed l s.spot.left s.buffer) else walked (nested_applied levels l) l s)
+        ≡ settled s
+    by_way true =
+        let first : Backwards = record { buffer = s.buffer; at = length s.buffer.items; left = s.spot.left } in
+        ap (λ n. settled (gone_back s (times (reverse_step l) n first))) none
     by_way false = ap (λ n. settled (times (lookup_step (nested_applied levels l) l) n (first_walk s))) none
 
 digest-over : (levels : ℕ) (d : Digested) (here : Walk) (run : Digest) → IsDigested d → HoldsGlyphs run here.buffer.items

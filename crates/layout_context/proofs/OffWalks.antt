@@ -18,8 +18,8 @@ use Rattle.layout_substitution.proofs.AppliedLemmas.{like-replaced}
 use Rattle.layout_substitution.proofs.OffKinds.{lookup-off}
 use Rattle.layout_substitution.proofs.OffLemmas.{same-broken, same-concat_marked, on_at, same-off, same-on, put-off}
 use Rattle.layout_context.specs.Nested.{tried_marked, first_rule_applied, level_applied, nested_applied}
-use Rattle.layout_context.specs.Reverse.{Backwards, reversal_found, reversal_reach, reversed_by, first_reversed, reversed_at, reverse_step, reversed, is_reverse}
-use Rattle.layout_context.specs.Stages.{Walk, passed, with_left, tried_within, tried, lookup_step, first_walk, walked, gone_over, walk_charged, looked_up}
+use Rattle.layout_context.specs.Reverse.{Backwards, reversal_found, reversal_reach, reversed_by, first_reversed, reversed_at, reversed_within, reverse_step, reversed, is_reverse}
+use Rattle.layout_context.specs.Stages.{Walk, passed, with_left, tried_within, tried, lookup_step, first_walk, walked, gone_back, gone_over, walk_charged, looked_up}
 use Rattle.layout_context.specs.declared.reverse.Reversal.{Reversal}
 
 and_left : (a b : Bool) → (a && b) ≡ true → a ≡ true
@@ -100,25 +100,32 @@ at-off l at b pure =
     ] in
     cases refl
 
+within-off : (l : Lookup) (s : Backwards) (o : Option ℕ) → HasNoFlag l
+    → off_glyphs l (option_map_or (reversed_within l s) o (record s { at = s.at - 1; left = 0 })).buffer.items
+    ≡ off_glyphs l s.buffer.items
+within-off l s None pure = refl
+within-off l s (Some left) pure = at-off l (s.at - 1) s.buffer pure
+
 reverse-off : (l : Lookup) (n : ℕ) (s : Backwards) → HasNoFlag l
     → off_glyphs l (times (reverse_step l) n s).buffer.items ≡ off_glyphs l s.buffer.items
 reverse-off l zero s pure = refl
 reverse-off l (suc n) s pure =
     let here = times (reverse_step l) n s in
+    let o = lookup_charged l here.buffer.items (here.at - 1) here.left in
     let step : off_glyphs l (reverse_step l here).buffer.items ≡ off_glyphs l here.buffer.items =
     elim (nat_eq here.at 0) as (λ t.
-    off_glyphs l (if t then here else record { buffer = reversed_at l (here.at - 1) here.buffer; at = here.at - 1 }).buffer.items
+    off_glyphs l (if t then here else option_map_or (reversed_within l here) o (record here { at = here.at - 1; left = 0 })).buffer.items
     ≡ off_glyphs l here.buffer.items) [
       | true ↦ refl
-      | false ↦ at-off l (here.at - 1) here.buffer pure
+      | false ↦ within-off l here o pure
     ] in
     step ∙ reverse-off l n s pure
 
 over-off : (levels : ℕ) (l : Lookup) (s : Walk) → is_context l ≡ false → HasNoFlag l
     → off_glyphs l (gone_over levels l s).buffer.items ≡ off_glyphs l s.buffer.items
 over-off levels l s kind pure =
-    walk-off l s.buffer (is_reverse l) (record s { buffer = reversed l s.buffer }) (walked (nested_applied levels l) l s)
-    (λ t. reverse-off l (length s.buffer.items) (record { buffer = s.buffer; at = length s.buffer.items }) pure)
+    walk-off l s.buffer (is_reverse l) (gone_back s (reversed l s.spot.left s.buffer)) (walked (nested_applied levels l) l s)
+    (λ t. reverse-off l (length s.buffer.items) (record { buffer = s.buffer; at = length s.buffer.items; left = s.spot.left }) pure)
     (walked-off levels l (length s.buffer.items) (first_walk s) kind pure)
 
 pub looked-off : (levels : ℕ) (l : Lookup) (s : Walk) → is_context l ≡ false → HasNoFlag l

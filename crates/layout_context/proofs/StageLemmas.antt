@@ -23,7 +23,7 @@ use Rattle.layout_substitution.proofs.KindLemmas.{limit-preserves}
 use Rattle.layout_substitution.proofs.PreservedLemmas.{Preserves, Preserves-same, Preserves-then, Preserves-times}
 use Rattle.layout_context.specs.Nested.{nested_applied}
 use Rattle.layout_context.specs.Reverse.{is_reverse, reversed}
-use Rattle.layout_context.specs.Stages.{Walk, passed, with_left, tried_within, tried, lookup_step, first_walk, walked, gone_over, walk_charged, looked_up, all_looked_up, stage_made, substituted}
+use Rattle.layout_context.specs.Stages.{Walk, passed, with_left, tried_within, tried, lookup_step, first_walk, walked, gone_back, gone_over, walk_charged, looked_up, all_looked_up, stage_made, substituted}
 use Rattle.layout_context.proofs.NestedLemmas.{nested-preserves}
 use Rattle.layout_context.proofs.ReverseLemmas.{length-reversed, reversed-preserves}
 
@@ -49,15 +49,16 @@ walked-past f l s past =
     times_still (lookup_step f l) (length s.buffer.items) start (past_still f l start past) in
     ap (λ (w : Walk). is_past w.buffer) still ∙ past
 
-reversed-past : (l : Lookup) (b : Buffer) → is_past b ≡ true → is_past (reversed l b) ≡ true
-reversed-past l b past =
-    ap (λ n. nat_lt n (length (reversed l b).items)) (limit-preserves b (reversed l b) (reversed-preserves l b))
-    ∙ ap (λ n. nat_lt (limit_of b) n) (length-reversed l b) ∙ past
+reversed-past : (l : Lookup) (left : ℕ) (b : Buffer) → is_past b ≡ true → is_past (reversed l left b).buffer ≡ true
+reversed-past l left b past =
+    let after = (reversed l left b).buffer in
+    ap (λ n. nat_lt n (length after.items)) (limit-preserves b after (reversed-preserves l left b))
+    ∙ ap (λ n. nat_lt (limit_of b) n) (length-reversed l left b) ∙ past
 
 over-past : (levels : ℕ) (l : Lookup) (s : Walk) → is_past s.buffer ≡ true → is_past (gone_over levels l s).buffer ≡ true
 over-past levels l s past = elim (is_reverse l) as (λ t.
-    is_past (if t then record s { buffer = reversed l s.buffer } else walked (nested_applied levels l) l s).buffer ≡ true) [
-      | true ↦ reversed-past l s.buffer past
+    is_past (if t then gone_back s (reversed l s.spot.left s.buffer) else walked (nested_applied levels l) l s).buffer ≡ true) [
+      | true ↦ reversed-past l s.spot.left s.buffer past
       | false ↦ walked-past (nested_applied levels l) l s past
     ]
 
@@ -104,8 +105,8 @@ step-preserves levels l s =
 
 over-preserves : (levels : ℕ) (l : Lookup) (s : Walk) → Preserves s.buffer (gone_over levels l s).buffer
 over-preserves levels l s =
-    walk-if (is_reverse l) s.buffer (record s { buffer = reversed l s.buffer }) (walked (nested_applied levels l) l s)
-    (reversed-preserves l s.buffer)
+    walk-if (is_reverse l) s.buffer (gone_back s (reversed l s.spot.left s.buffer)) (walked (nested_applied levels l) l s)
+    (reversed-preserves l s.spot.left s.buffer)
     (Preserves-times (λ (w : Walk). w.buffer) (lookup_step (nested_applied levels l) l) (step-preserves levels l)
     (length s.buffer.items) (first_walk s))
 

@@ -10,7 +10,7 @@ use Rattle.layout_substitution.specs.Applied.{Applied}
 use Rattle.layout_substitution.specs.Edits.{item_at, is_inside, is_past}
 use Rattle.layout_substitution.specs.declared.apply.Spot.{Spot}
 use Rattle.layout_context.specs.Nested.{nested_applied}
-use Rattle.layout_context.specs.Reverse.{is_reverse, reversed}
+use Rattle.layout_context.specs.Reverse.{Backwards, is_reverse, reversed}
 
 -- a buffer, and where a lookup stands in it
 pub record Walk : Type 0 where
@@ -53,8 +53,11 @@ first_walk s = record { buffer = s.buffer; spot = record s.spot { at = 0; whole 
 abbrev pub walked : (Spot → Buffer → Applied) → Lookup → Walk → Walk
 walked applied l s = times (lookup_step applied l) (length s.buffer.items) (first_walk s)
 
+abbrev pub gone_back : Walk → Backwards → Walk
+gone_back s end = record { buffer = end.buffer; spot = record s.spot { left = end.left } }
+
 abbrev pub gone_over : ℕ → Lookup → Walk → Walk
-gone_over levels l s = if is_reverse l then record s { buffer = reversed l s.buffer } else walked (nested_applied levels l) l s
+gone_over levels l s = if is_reverse l then gone_back s (reversed l s.spot.left s.buffer) else walked (nested_applied levels l) l s
 
 -- a walk is charged for, whatever it finds; if what is left doesn't suffice, it isn't made, and nothing is left
 abbrev pub walk_charged : Lookup → Walk → Walk

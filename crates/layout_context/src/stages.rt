@@ -139,8 +139,8 @@ fn go_over(
         → is_past (gone_over levels named.now.lookup (record { buffer = buffer.old; spot = spot })).buffer ≡ true }
 {
     if is_reverse(&named.lookup) {
-        reverse(&named.lookup, buffer);
-        return Ok(spot);
+        let left = reverse(&named.lookup, buffer, spot.left);
+        return Ok(with_left(spot, left));
     }
     walk(alloc, levels, named, buffer, spot)
 }

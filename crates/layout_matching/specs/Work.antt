@@ -1,6 +1,6 @@
 -- What a lookup is charged for at a place before it is tried there: one for each glyph that it may have to look at, so that time is
 -- in step with what was charged.
-use Rattle.std.specs.Prelude.{ℕ, List, Bool, Option, Some, None, ◌+◌, ◌-◌, ◌*◌, ◌&&◌, ◌||◌, not, max, min, length, nat_eq, nat_lt, if◌then◌else◌}
+use Rattle.std.specs.Prelude.{ℕ, List, Bool, false, Option, Some, None, ◌+◌, ◌-◌, ◌*◌, ◌&&◌, ◌||◌, not, max, min, length, nat_eq, nat_lt, if◌then◌else◌}
 use Rattle.std.specs.Option.{option_and_then, option_map_or}
 use Rattle.shape_font.specs.Bytes.{u16_of, fitting}
 use Rattle.shape_font.specs.Search.{first_at}
@@ -40,6 +40,10 @@ passed_around l items at = passed_after l items at + passed_before l items at
 abbrev pub rule_work : Rule → ℕ
 rule_work rule = rule.before.count + rule.input.count + rule.after.count + rule.count + 1
 
+-- a rule of kind 8: the glyphs before it, and those after it
+abbrev pub backward_work : List ℕ → ℕ → ℕ
+backward_work t start = let before = u16_of t (start + 4) in before + u16_of t (start + 6 + 2 * before) + 1
+
 -- each rule looks at what is passed over, too
 abbrev pub rule_charged : ℕ → ℕ → ℕ → Option ℕ
 rule_charged passed work left = option_and_then (charged work) (charged passed left)
@@ -69,6 +73,10 @@ SUBTABLE_WORK = 8
 abbrev pub is_ligature : Lookup → LookupSubtable → Bool
 is_ligature l subtable = not l.positioning && nat_eq subtable.kind 4
 
+-- kind 8 of `GSUB`
+abbrev pub is_backward : Lookup → LookupSubtable → Bool
+is_backward l subtable = not l.positioning && nat_eq subtable.kind 8
+
 -- the rules, or the ligatures, for a glyph with this number
 abbrev pub parts_for : Lookup → LookupSubtable → ℕ → ℕ → Option ℕ
 parts_for l subtable glyph number = if is_context_subtable l subtable
@@ -83,7 +91,9 @@ abbrev pub begun_charged : Lookup → List Item → LookupSubtable → ℕ → O
 begun_charged l items subtable left = option_and_then (charged SUBTABLE_WORK) (charged (whole_list l items subtable) left)
 
 abbrev pub parts_charged : Lookup → List Item → ℕ → LookupSubtable → ℕ → ℕ → Option ℕ
-parts_charged l items at subtable number left = option_map_or (set_charged l subtable (passed_around l items at) left)
+parts_charged l items at subtable number left = if is_backward l subtable
+    then rule_charged (passed_around l items at) (backward_work l.table.now subtable.start) left
+    else option_map_or (set_charged l subtable (passed_around l items at) left)
     (parts_for l subtable (nth items at).glyph_id number) (Some left)
 
 abbrev pub numbered_charged : Lookup → List Item → ℕ → LookupSubtable → ℕ → ℕ → Option ℕ

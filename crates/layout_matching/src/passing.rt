@@ -38,9 +38,11 @@ fn passed_after(lookup: &Lookup<'_>, items: &ItemList<'_>, at: usize) -> usize
     ensures value { result ≡ passed_after_of lookup.now items.now at }
     ensures inside { at + result < length items.now }
 {
+    // The list can be counted, so the place after one of its own can.
+    let count = items.len();
     match stop_from(lookup, items, at + 1) {
         Some(j) => j - (at + 1),
-        None => items.len() - (at + 1),
+        None => count - (at + 1),
     }
 }
 
@@ -81,5 +83,7 @@ pub(crate) fn passed_around(lookup: &Lookup<'_>, items: &ItemList<'_>, at: usize
     requires { at < length items.now }
     ensures { result ≡ passed_around_of lookup.now items.now at }
 {
+    // Those after the place and those before it are no more than the list has.
+    let _count = items.len();
     passed_after(lookup, items, at) + passed_before(lookup, items, at)
 }

@@ -5,7 +5,7 @@
 //! A lookup is tried only if what is left of a count suffices for all of them; nothing is read that isn't paid for.
 ghost use Rattle.std.specs.Prelude.{◌≡◌, ◌<◌, ◌^◌, length};
 ghost use Rattle.std.specs.Option.{IfSome};
-ghost use Rattle.layout_matching.specs.Work.{charged as charged_of, rule_work as rule_work_of, rule_charged as rule_charged_of, part_work as part_work_of, part_charged as part_charged_of, set_charged as set_charged_of, is_ligature as is_ligature_of, parts_for as parts_for_of, whole_list as whole_list_of, begun_charged as begun_charged_of, parts_charged as parts_charged_of, numbered_charged as numbered_charged_of, whole_charged as whole_charged_of, is_whole as is_whole_of, subtable_charged as subtable_charged_of, charged_at_subtable as charged_at_subtable_of, lookup_charged as lookup_charged_of, nested_charged as nested_charged_of, walk_work as walk_work_of, most_work as most_work_of};
+ghost use Rattle.layout_matching.specs.Work.{charged as charged_of, rule_work as rule_work_of, backward_work as backward_work_of, is_backward as is_backward_of, rule_charged as rule_charged_of, part_work as part_work_of, part_charged as part_charged_of, set_charged as set_charged_of, is_ligature as is_ligature_of, parts_for as parts_for_of, whole_list as whole_list_of, begun_charged as begun_charged_of, parts_charged as parts_charged_of, numbered_charged as numbered_charged_of, whole_charged as whole_charged_of, is_whole as is_whole_of, subtable_charged as subtable_charged_of, charged_at_subtable as charged_at_subtable_of, lookup_charged as lookup_charged_of, nested_charged as nested_charged_of, walk_work as walk_work_of, most_work as most_work_of};
 
 use crate::found::{
     is_chained, is_context_subtable, is_first, number_in, rule_by, set_for, subtable_at, whole_rule,
@@ -36,15 +36,32 @@ pub fn charged(work: usize, left: usize) -> Option<usize>
     if left < work { None } else { Some(left - work) }
 }
 
+/// A number of 16 bits.
+fn short(count: u16) -> usize
+    ensures value { result ≡ count }
+    ensures near { result < 2 ^ 16 }
+{
+    usize::from(count)
+}
+
 /// What a rule costs: each of its glyphs and of its lookups, and the rule.
 fn rule_work(rule: &Rule) -> usize
     ensures { result ≡ rule_work_of rule.now }
 {
-    usize::from(rule.before.count)
-        + usize::from(rule.input.count)
-        + usize::from(rule.after.count)
-        + usize::from(rule.count)
+    short(rule.before.count)
+        + short(rule.input.count)
+        + short(rule.after.count)
+        + short(rule.count)
         + 1
+}
+
+/// What a rule of kind 8 costs: each of its glyphs, and the rule.
+fn backward_work(table: &[u8], start: usize) -> usize
+    requires { start < 2 ^ 35 }
+    ensures { result ≡ backward_work_of table.now start }
+{
+    let before = short(u16_at(table, start + 4));
+    before + short(u16_at(table, start + 6 + 2 * before)) + 1
 }
 
 fn rule_charged(passed: usize, work: usize, left: usize) -> Option<usize>
@@ -171,6 +188,12 @@ fn begun_charged(
     }
 }
 
+fn is_backward(lookup: &Lookup<'_>, subtable: LookupSubtable) -> bool
+    ensures { result ≡ is_backward_of lookup.now subtable }
+{
+    !lookup.positioning && subtable.kind == 8
+}
+
 /// What is left after the rules, or the ligatures, for the glyph at a place.
 fn parts_charged(
     lookup: &Lookup<'_>,
@@ -184,6 +207,10 @@ fn parts_charged(
     requires inside { at < length items.now }
     ensures { result ≡ parts_charged_of lookup.now items.now at subtable number left }
 {
+    if is_backward(lookup, subtable) {
+        let passed = passed_around(lookup, items, at);
+        return rule_charged(passed, backward_work(lookup.table, subtable.start), left);
+    }
     let glyph = items.item(at).glyph_id;
     match parts_for(lookup, subtable, glyph, number) {
         Some(set) => {
@@ -237,6 +264,7 @@ fn whole_charged(
 
 /// Whether the subtable has one rule, by its format.
 fn is_whole(lookup: &Lookup<'_>, subtable: LookupSubtable) -> bool
+    requires { subtable.start < 2 ^ 35 }
     ensures { result ≡ is_whole_of lookup.now subtable }
 {
     is_context_subtable(lookup, subtable) && u16_at(lookup.table, subtable.start) == 3
