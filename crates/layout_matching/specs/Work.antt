@@ -1,7 +1,7 @@
 -- What a lookup is charged for at a place before it is tried there: one for each glyph that it may have to look at, so that time is
 -- in step with what was charged.
 use Rattle.std.specs.Prelude.{ℕ, List, Bool, false, Option, Some, None, ◌+◌, ◌-◌, ◌*◌, ◌&&◌, ◌||◌, not, max, min, length, nat_eq, nat_lt, if◌then◌else◌}
-use Rattle.std.specs.Option.{option_and_then, option_map_or}
+use Rattle.std.specs.Option.{option_and_then, option_map, option_map_or}
 use Rattle.shape_font.specs.Bytes.{u16_of, fitting}
 use Rattle.shape_font.specs.Search.{first_at}
 use Rattle.shape_items.specs.Buffer.{most_countable}
@@ -10,29 +10,36 @@ use Rattle.layout_tables.specs.Lookups.{subtable_count_of}
 use Rattle.layout_tables.specs.declared.lookups.LookupSubtable.{LookupSubtable}
 use Rattle.layout_matching.specs.Found.{is_chained, is_context_subtable, whole_rule, is_first, set_for, rule_of, number_of, subtable_at}
 use Rattle.layout_matching.specs.Loops.{steps}
-use Rattle.layout_matching.specs.Rules.{rules_at, rule_place}
+use Rattle.layout_matching.specs.Rules.{rules_at, row, rule_place}
 use Rattle.layout_matching.specs.Skipping.{nth, is_skipped, is_transparent}
 use Rattle.layout_matching.specs.declared.lookup.Lookup.{Lookup}
 use Rattle.layout_matching.specs.declared.rules.Rule.{Rule}
+use Rattle.layout_matching.specs.declared.rules.Test.TheVariants.{Glyph, Coverage}
+use Rattle.layout_matching.specs.declared.tally.Tally.{Tally}
 
 -- what is left after so much, if it suffices
 abbrev pub charged : ℕ → ℕ → Option ℕ
 charged work left = if nat_lt left work then None else Some (left - work)
 
--- ---- glyphs that are passed over around a place
+-- ---- glyphs that are passed over beside a place
 
 abbrev pub is_passed : Lookup → Item → Bool
 is_passed l item = is_skipped l item || is_transparent l false item
 
-abbrev pub passed_after : Lookup → List Item → ℕ → ℕ
-passed_after l items at = option_map_or (λ j. j - (at + 1))
-    (first_at (λ j. not (is_passed l (nth items j))) (length items - (at + 1)) (at + 1)) (length items - (at + 1))
+-- the next glyph that isn't, and the one before
+abbrev pub stop_after : Lookup → List Item → ℕ → Option ℕ
+stop_after l items i = first_at (λ j. not (is_passed l (nth items j))) (length items - (i + 1)) (i + 1)
 
-abbrev pub passed_before : Lookup → List Item → ℕ → ℕ
-passed_before l items at = option_map_or (λ d. d) (first_at (λ d. not (is_passed l (nth items (at - 1 - d)))) at 0) at
+abbrev pub stop_before : Lookup → List Item → ℕ → Option ℕ
+stop_before l items i = option_map (λ d. i - 1 - d) (first_at (λ d. not (is_passed l (nth items (i - 1 - d)))) i 0)
 
-abbrev pub passed_around : Lookup → List Item → ℕ → ℕ
-passed_around l items at = passed_after l items at + passed_before l items at
+-- how many are passed over on the way to glyph number `n` that isn't; all up to the end of the list if there are fewer
+abbrev pub passed_after : Lookup → List Item → ℕ → ℕ → ℕ
+passed_after l items at n =
+    option_map_or (λ j. j - at - n) (steps (λ k i. stop_after l items i) n 0 at) (length items - (at + 1))
+
+abbrev pub passed_before : Lookup → List Item → ℕ → ℕ → ℕ
+passed_before l items at n = option_map_or (λ j. at - j - n) (steps (λ k i. stop_before l items i) n 0 at) at
 
 -- ---- rules and ligatures
 
@@ -40,29 +47,55 @@ passed_around l items at = passed_after l items at + passed_before l items at
 abbrev pub rule_work : Rule → ℕ
 rule_work rule = rule.before.count + rule.input.count + rule.after.count + rule.count + 1
 
--- a rule of kind 8: the glyphs before it, and those after it
-abbrev pub backward_work : List ℕ → ℕ → ℕ
-backward_work t start = let before = u16_of t (start + 4) in before + u16_of t (start + 6 + 2 * before) + 1
+-- before the first rule
+abbrev pub tally : ℕ → Tally
+tally left = record { left = left; before = 0; after = 0; tries = 0 }
 
--- each rule looks at what is passed over, too
-abbrev pub rule_charged : ℕ → ℕ → ℕ → Option ℕ
-rule_charged passed work left = option_and_then (charged work) (charged passed left)
+abbrev pub tallied : Rule → Tally → ℕ → Tally
+tallied rule s left = record {
+  left = left;
+  before = max s.before rule.before.count;
+  after = max s.after (rule.input.count - 1 + rule.after.count);
+  tries = min (s.tries + (rule.count + 1)) most_countable;
+}
 
--- a rule at a place, or a ligature, whose components are counted after its glyph
-abbrev pub part_work : Lookup → LookupSubtable → ℕ → ℕ
-part_work l subtable place = if is_context_subtable l subtable
-    then rule_work (rule_of l.table.now (is_chained l subtable) subtable.start place)
-    else u16_of l.table.now (place + 2) + 1
+abbrev pub rule_counted : Rule → Tally → Option Tally
+rule_counted rule s = option_map (tallied rule s) (charged (rule_work rule) s.left)
 
--- number `r` of those at `set`
-abbrev pub part_charged : Lookup → LookupSubtable → ℕ → ℕ → ℕ → ℕ → Option ℕ
-part_charged l subtable passed set r left =
-    option_map_or (λ place. rule_charged passed (part_work l subtable place) left) (rule_place l.table.now set r) (charged 1 left)
+-- each time, what the lookup passes over is looked at too
+abbrev pub passed_charged : Lookup → List Item → ℕ → Tally → Option ℕ
+passed_charged l items at s =
+    charged (min (s.tries * min (passed_after l items at s.after + passed_before l items at s.before) most_countable) most_countable) s.left
+
+abbrev pub rule_charged : Lookup → List Item → ℕ → Rule → ℕ → Option ℕ
+rule_charged l items at rule left = option_and_then (passed_charged l items at) (rule_counted rule (tally left))
+
+-- a ligature as a rule, whose components are counted after its glyph
+abbrev pub ligature_rule : List ℕ → ℕ → Rule
+ligature_rule t place = let none = row Glyph 0 0 0 in
+    record { before = none; input = row Glyph 0 (u16_of t (place + 2)) 0; after = none; lookups = 0; count = 0 }
+
+-- ---- sets
+
+abbrev pub part_rule : Lookup → LookupSubtable → ℕ → Rule
+part_rule l subtable place = if is_context_subtable l subtable then rule_of l.table.now (is_chained l subtable) subtable.start place
+    else ligature_rule l.table.now place
+
+-- number `r` of those at `set`; a NULL offset is read
+abbrev pub null_counted : Tally → Option Tally
+null_counted s = option_map (λ left. record s { left = left }) (charged 1 s.left)
+
+abbrev pub part_counted : Lookup → LookupSubtable → ℕ → ℕ → Tally → Option Tally
+part_counted l subtable set r s =
+    option_map_or (λ place. rule_counted (part_rule l subtable place) s) (rule_place l.table.now set r) (null_counted s)
 
 -- all of a set, whether they are tried or not
-abbrev pub set_charged : Lookup → LookupSubtable → ℕ → ℕ → ℕ → Option ℕ
-set_charged l subtable passed left set =
-    steps (part_charged l subtable passed set) (fitting l.table.now (u16_of l.table.now set) (set + 2) 2) 0 left
+abbrev pub set_counted : Lookup → LookupSubtable → ℕ → ℕ → Option Tally
+set_counted l subtable left set =
+    steps (part_counted l subtable set) (fitting l.table.now (u16_of l.table.now set) (set + 2) 2) 0 (tally left)
+
+abbrev pub set_charged : Lookup → List Item → ℕ → LookupSubtable → ℕ → ℕ → Option ℕ
+set_charged l items at subtable left set = option_and_then (passed_charged l items at) (set_counted l subtable left set)
 
 -- ---- subtables
 
@@ -73,7 +106,16 @@ SUBTABLE_WORK = 8
 abbrev pub is_ligature : Lookup → LookupSubtable → Bool
 is_ligature l subtable = not l.positioning && nat_eq subtable.kind 4
 
--- kind 8 of `GSUB`
+-- kind 8 of `GSUB`: the glyphs before it, and those after it
+abbrev pub backward_rule : List ℕ → ℕ → Rule
+backward_rule t start = let before = u16_of t (start + 4) in record {
+  before = row Coverage 0 before 0;
+  input = row Coverage 0 1 0;
+  after = row Coverage 0 (u16_of t (start + 6 + 2 * before)) 0;
+  lookups = 0;
+  count = 0;
+}
+
 abbrev pub is_backward : Lookup → LookupSubtable → Bool
 is_backward l subtable = not l.positioning && nat_eq subtable.kind 8
 
@@ -92,8 +134,8 @@ begun_charged l items subtable left = option_and_then (charged SUBTABLE_WORK) (c
 
 abbrev pub parts_charged : Lookup → List Item → ℕ → LookupSubtable → ℕ → ℕ → Option ℕ
 parts_charged l items at subtable number left = if is_backward l subtable
-    then rule_charged (passed_around l items at) (backward_work l.table.now subtable.start) left
-    else option_map_or (set_charged l subtable (passed_around l items at) left)
+    then rule_charged l items at (backward_rule l.table.now subtable.start) left
+    else option_map_or (set_charged l items at subtable left)
     (parts_for l subtable (nth items at).glyph_id number) (Some left)
 
 abbrev pub numbered_charged : Lookup → List Item → ℕ → LookupSubtable → ℕ → ℕ → Option ℕ
@@ -104,7 +146,7 @@ numbered_charged l items at subtable left number =
 abbrev pub whole_charged : Lookup → List Item → ℕ → LookupSubtable → ℕ → Option ℕ
 whole_charged l items at subtable left = let rule = whole_rule l.table.now (is_chained l subtable) subtable.start in
     (if is_first l.table.now subtable.start rule (nth items at).glyph_id
-    then option_and_then (rule_charged (passed_around l items at) (rule_work rule)) (begun_charged l items subtable left)
+    then option_and_then (rule_charged l items at rule) (begun_charged l items subtable left)
     else Some left)
 
 abbrev pub is_whole : Lookup → LookupSubtable → Bool

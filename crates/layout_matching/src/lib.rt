@@ -3,7 +3,7 @@
 //! [`skipping`] says which glyphs a lookup sees, [`seeking`] finds the next glyph that is looked for, [`input`] what a rule or
 //! a ligature matches, [`spans`] what stands around that, [`rules`] reads the rules of context, [`found`] has the first rule
 //! that matches, and [`nesting`] the lookups that it names. [`tried`] and [`reaching`] say how far searches in vain looked.
-//! [`work`] says what a lookup is charged for, and [`passing`] which glyphs it passes over beside a place.
+//! [`work`] says what a lookup is charged for, by [`tally`] of its rules and by [`passing`] of glyphs beside a place.
 //! All are functions of the bytes of the font and of the list of items: nothing is changed. Any bytes are taken.
 #![tactic(auto)]
 #![allow(non_camel_case_types)]
@@ -18,6 +18,7 @@ pub mod rules;
 pub mod seeking;
 pub mod skipping;
 pub mod spans;
+pub mod tally;
 pub mod tried;
 pub mod work;
 pub mod worked;

@@ -1,9 +1,10 @@
 //! The glyphs beside a place that a lookup passes over.
-ghost use Rattle.std.specs.Prelude.{◌≡◌, ◌<◌, ◌≤◌, ◌-◌, ◌+◌, length, not};
+ghost use Rattle.std.specs.Prelude.{◌≡◌, ◌<◌, ◌≤◌, ◌-◌, length, not};
 ghost use Rattle.std.specs.Option.{IfSome};
 ghost use Rattle.shape_font.specs.Search.{first_at};
+ghost use Rattle.layout_matching.specs.Loops.{steps};
 ghost use Rattle.layout_matching.specs.Skipping.{nth};
-ghost use Rattle.layout_matching.specs.Work.{is_passed as is_passed_of, passed_after as passed_after_of, passed_before as passed_before_of, passed_around as passed_around_of};
+ghost use Rattle.layout_matching.specs.Work.{is_passed as is_passed_of, stop_after as stop_after_of, stop_before as stop_before_of, passed_after as passed_after_of, passed_before as passed_before_of};
 
 use crate::lookup::Lookup;
 use crate::skipping::{is_skipped, is_transparent};
@@ -32,17 +33,42 @@ fn stop_from(lookup: &Lookup<'_>, items: &ItemList<'_>, from: usize) -> Option<u
     None
 }
 
-/// How many glyphs in a row after a place the lookup passes over.
-fn passed_after(lookup: &Lookup<'_>, items: &ItemList<'_>, at: usize) -> usize
-    requires { at < length items.now }
-    ensures value { result ≡ passed_after_of lookup.now items.now at }
-    ensures inside { at + result < length items.now }
+/// The next glyph after place `i` that isn't passed over.
+fn stop_after(lookup: &Lookup<'_>, items: &ItemList<'_>, i: usize) -> Option<usize>
+    requires { i < length items.now }
+    ensures value { result ≡ stop_after_of lookup.now items.now i }
+    ensures inside { IfSome result (λ j. j < length items.now) }
 {
     // The list can be counted, so the place after one of its own can.
-    let count = items.len();
-    match stop_from(lookup, items, at + 1) {
-        Some(j) => j - (at + 1),
-        None => count - (at + 1),
+    let _count = items.len();
+    stop_from(lookup, items, i + 1)
+}
+
+/// Where the `n` glyphs after a place end that aren't passed over.
+#[tactic(auto, using(crate::proofs::LoopLemmas::steps_next, crate::proofs::LoopLemmas::steps_none, crate::proofs::LoopLemmas::steps_end))]
+fn far_after(lookup: &Lookup<'_>, items: &ItemList<'_>, at: usize, n: usize) -> Option<usize>
+    requires { at < length items.now }
+    ensures { result ≡ steps (λ k i. stop_after_of lookup.now items.now i) n 0 at }
+{
+    let mut last = at;
+    for _k in 0..n {
+        match stop_after(lookup, items, last) {
+            Some(j) => last = j,
+            None => return None,
+        }
+    }
+    Some(last)
+}
+
+/// How many glyphs the lookup passes over on the way from a place to the `n`th glyph after it that it doesn't pass over; all up
+/// to the end of the list if there are fewer.
+pub(crate) fn passed_after(lookup: &Lookup<'_>, items: &ItemList<'_>, at: usize, n: usize) -> usize
+    requires { at < length items.now }
+    ensures { result ≡ passed_after_of lookup.now items.now at n }
+{
+    match far_after(lookup, items, at, n) {
+        Some(j) => j.saturating_sub(at).saturating_sub(n),
+        None => items.len() - at - 1,
     }
 }
 
@@ -67,23 +93,37 @@ fn distance_back(lookup: &Lookup<'_>, items: &ItemList<'_>, at: usize) -> Option
     None
 }
 
-/// How many glyphs in a row before a place the lookup passes over.
-fn passed_before(lookup: &Lookup<'_>, items: &ItemList<'_>, at: usize) -> usize
-    ensures value { result ≡ passed_before_of lookup.now items.now at }
-    ensures inside { result ≤ at }
+/// The glyph before place `i` that isn't passed over.
+fn stop_before(lookup: &Lookup<'_>, items: &ItemList<'_>, i: usize) -> Option<usize>
+    ensures value { result ≡ stop_before_of lookup.now items.now i }
 {
-    match distance_back(lookup, items, at) {
-        Some(d) => d,
-        None => at,
+    match distance_back(lookup, items, i) {
+        Some(d) => Some(i - 1 - d),
+        None => None,
     }
 }
 
-/// How many glyphs beside a place the lookup passes over.
-pub(crate) fn passed_around(lookup: &Lookup<'_>, items: &ItemList<'_>, at: usize) -> usize
-    requires { at < length items.now }
-    ensures { result ≡ passed_around_of lookup.now items.now at }
+/// Where the `n` glyphs before a place end that aren't passed over.
+#[tactic(auto, using(crate::proofs::LoopLemmas::steps_next, crate::proofs::LoopLemmas::steps_none, crate::proofs::LoopLemmas::steps_end))]
+fn far_before(lookup: &Lookup<'_>, items: &ItemList<'_>, at: usize, n: usize) -> Option<usize>
+    ensures { result ≡ steps (λ k i. stop_before_of lookup.now items.now i) n 0 at }
 {
-    // Those after the place and those before it are no more than the list has.
-    let _count = items.len();
-    passed_after(lookup, items, at) + passed_before(lookup, items, at)
+    let mut first = at;
+    for _k in 0..n {
+        match stop_before(lookup, items, first) {
+            Some(j) => first = j,
+            None => return None,
+        }
+    }
+    Some(first)
+}
+
+/// The same on the way to the `n`th glyph before it.
+pub(crate) fn passed_before(lookup: &Lookup<'_>, items: &ItemList<'_>, at: usize, n: usize) -> usize
+    ensures { result ≡ passed_before_of lookup.now items.now at n }
+{
+    match far_before(lookup, items, at, n) {
+        Some(j) => at.saturating_sub(j).saturating_sub(n),
+        None => at,
+    }
 }

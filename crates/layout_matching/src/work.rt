@@ -5,14 +5,15 @@
 //! A lookup is tried only if what is left of a count suffices for all of them; nothing is read that isn't paid for.
 ghost use Rattle.std.specs.Prelude.{◌≡◌, ◌<◌, ◌^◌, length};
 ghost use Rattle.std.specs.Option.{IfSome};
-ghost use Rattle.layout_matching.specs.Work.{charged as charged_of, rule_work as rule_work_of, backward_work as backward_work_of, is_backward as is_backward_of, rule_charged as rule_charged_of, part_work as part_work_of, part_charged as part_charged_of, set_charged as set_charged_of, is_ligature as is_ligature_of, parts_for as parts_for_of, whole_list as whole_list_of, begun_charged as begun_charged_of, parts_charged as parts_charged_of, numbered_charged as numbered_charged_of, whole_charged as whole_charged_of, is_whole as is_whole_of, subtable_charged as subtable_charged_of, charged_at_subtable as charged_at_subtable_of, lookup_charged as lookup_charged_of, nested_charged as nested_charged_of, walk_work as walk_work_of, most_work as most_work_of};
+ghost use Rattle.layout_matching.specs.Work.{charged as charged_of, passed_charged as passed_charged_of, rule_charged as rule_charged_of, part_rule as part_rule_of, part_counted as part_counted_of, set_counted as set_counted_of, set_charged as set_charged_of, is_backward as is_backward_of, is_ligature as is_ligature_of, parts_for as parts_for_of, whole_list as whole_list_of, begun_charged as begun_charged_of, parts_charged as parts_charged_of, numbered_charged as numbered_charged_of, whole_charged as whole_charged_of, is_whole as is_whole_of, subtable_charged as subtable_charged_of, charged_at_subtable as charged_at_subtable_of, lookup_charged as lookup_charged_of, nested_charged as nested_charged_of, walk_work as walk_work_of, most_work as most_work_of};
 
 use crate::found::{
     is_chained, is_context_subtable, is_first, number_in, rule_by, set_for, subtable_at, whole_rule,
 };
 use crate::lookup::Lookup;
-use crate::passing::passed_around;
+use crate::passing::{passed_after, passed_before};
 use crate::rules::{Rule, rule_at, rules};
+use crate::tally::{Tally, backward_rule, ligature_rule, null_counted, rule_counted, tally};
 use layout_buffer::ItemList;
 use layout_tables::lookups::{LookupSubtable, subtable_count};
 use shape_font::bytes::{records, u16_at};
@@ -30,109 +31,122 @@ const WORK_FACTOR: usize = 16384;
 const WORK_MIN: usize = 1_048_576;
 
 /// What is left after so much, if it suffices.
-pub fn charged(work: usize, left: usize) -> Option<usize>
+pub(crate) fn charged(work: usize, left: usize) -> Option<usize>
     ensures { result ≡ charged_of work left }
 {
     if left < work { None } else { Some(left - work) }
 }
 
-/// A number of 16 bits.
-fn short(count: u16) -> usize
-    ensures value { result ≡ count }
-    ensures near { result < 2 ^ 16 }
+/// What is left after what a rule or a set passes over, which is looked at each time.
+fn passed_charged(
+    lookup: &Lookup<'_>,
+    items: &ItemList<'_>,
+    at: usize,
+    count: Tally,
+) -> Option<usize>
+    requires { at < length items.now }
+    ensures { result ≡ passed_charged_of lookup.now items.now at count }
 {
-    usize::from(count)
+    let before = passed_before(lookup, items, at, count.before);
+    let passed = passed_after(lookup, items, at, count.after).saturating_add(before);
+    charged(count.tries.saturating_mul(passed), count.left)
 }
 
-/// What a rule costs: each of its glyphs and of its lookups, and the rule.
-fn rule_work(rule: &Rule) -> usize
-    ensures { result ≡ rule_work_of rule.now }
+/// What is left after one rule.
+fn rule_charged(
+    lookup: &Lookup<'_>,
+    items: &ItemList<'_>,
+    at: usize,
+    rule: &Rule,
+    left: usize,
+) -> Option<usize>
+    requires { at < length items.now }
+    ensures { result ≡ rule_charged_of lookup.now items.now at rule.now left }
 {
-    short(rule.before.count)
-        + short(rule.input.count)
-        + short(rule.after.count)
-        + short(rule.count)
-        + 1
-}
-
-/// What a rule of kind 8 costs: each of its glyphs, and the rule.
-fn backward_work(table: &[u8], start: usize) -> usize
-    requires { start < 2 ^ 35 }
-    ensures { result ≡ backward_work_of table.now start }
-{
-    let before = short(u16_at(table, start + 4));
-    before + short(u16_at(table, start + 6 + 2 * before)) + 1
-}
-
-fn rule_charged(passed: usize, work: usize, left: usize) -> Option<usize>
-    ensures { result ≡ rule_charged_of passed work left }
-{
-    match charged(passed, left) {
-        Some(left) => charged(work, left),
+    match rule_counted(rule, tally(left)) {
+        Some(count) => passed_charged(lookup, items, at, count),
         None => None,
     }
 }
 
-/// What the rule, or the ligature, at a place of the table costs.
-fn part_work(lookup: &Lookup<'_>, subtable: LookupSubtable, place: usize) -> usize
+/// The rule, or the ligature, at a place of the table.
+fn part_rule(lookup: &Lookup<'_>, subtable: LookupSubtable, place: usize) -> Rule
     requires near { subtable.start < 2 ^ 35 }
     requires place { place < 2 ^ 37 }
-    ensures { result ≡ part_work_of lookup.now subtable place }
+    ensures { result ≡ part_rule_of lookup.now subtable place }
 {
     if is_context_subtable(lookup, subtable) {
         let is_chain = is_chained(lookup, subtable);
-        rule_work(&rule_by(lookup.table, is_chain, subtable.start, place))
+        rule_by(lookup.table, is_chain, subtable.start, place)
     } else {
-        usize::from(u16_at(lookup.table, place + 2)) + 1
+        ligature_rule(lookup.table, place)
     }
 }
 
-/// What is left after number `r` of the rules, or ligatures, at `set`.
-fn part_charged(
+/// Number `r` of the rules, or ligatures, at `set`.
+fn part_counted(
     lookup: &Lookup<'_>,
     subtable: LookupSubtable,
-    passed: usize,
     set: usize,
     r: u32,
-    left: usize,
-) -> Option<usize>
+    count: Tally,
+) -> Option<Tally>
     requires near { subtable.start < 2 ^ 35 }
     requires set { set < 2 ^ 36 }
     requires few { r < 2 ^ 16 }
-    ensures { result ≡ part_charged_of lookup.now subtable passed set r left }
+    ensures { result ≡ part_counted_of lookup.now subtable set r count }
 {
     match rule_at(lookup.table, set, r) {
-        Some(place) => rule_charged(passed, part_work(lookup, subtable, place), left),
-        None => charged(1, left),
+        Some(place) => rule_counted(&part_rule(lookup, subtable, place), count),
+        None => null_counted(count),
     }
 }
 
-/// What is left after all rules, or ligatures, at `set`.
+/// All rules, or ligatures, at `set`.
 #[tactic(auto, using(crate::proofs::LoopLemmas::steps_next, crate::proofs::LoopLemmas::steps_none, crate::proofs::LoopLemmas::steps_end))]
-fn set_charged(
+fn set_counted(
     lookup: &Lookup<'_>,
     subtable: LookupSubtable,
-    passed: usize,
     left: usize,
     set: usize,
-) -> Option<usize>
+) -> Option<Tally>
     requires near { subtable.start < 2 ^ 35 }
     requires set { set < 2 ^ 36 }
-    ensures { result ≡ set_charged_of lookup.now subtable passed left set }
+    ensures { result ≡ set_counted_of lookup.now subtable left set }
 {
-    let mut left = left;
+    let mut count = tally(left);
     for r in 0..records(
         lookup.table,
         u32::from(u16_at(lookup.table, set)),
         set + 2,
         2,
     ) {
-        match part_charged(lookup, subtable, passed, set, r, left) {
-            Some(less) => left = less,
+        match part_counted(lookup, subtable, set, r, count) {
+            Some(more) => count = more,
             None => return None,
         }
     }
-    Some(left)
+    Some(count)
+}
+
+/// What is left after all rules, or ligatures, at `set`.
+fn set_charged(
+    lookup: &Lookup<'_>,
+    items: &ItemList<'_>,
+    at: usize,
+    subtable: LookupSubtable,
+    left: usize,
+    set: usize,
+) -> Option<usize>
+    requires near { subtable.start < 2 ^ 35 }
+    requires set { set < 2 ^ 36 }
+    requires inside { at < length items.now }
+    ensures { result ≡ set_charged_of lookup.now items.now at subtable left set }
+{
+    match set_counted(lookup, subtable, left, set) {
+        Some(count) => passed_charged(lookup, items, at, count),
+        None => None,
+    }
 }
 
 fn is_ligature(lookup: &Lookup<'_>, subtable: LookupSubtable) -> bool
@@ -208,15 +222,12 @@ fn parts_charged(
     ensures { result ≡ parts_charged_of lookup.now items.now at subtable number left }
 {
     if is_backward(lookup, subtable) {
-        let passed = passed_around(lookup, items, at);
-        return rule_charged(passed, backward_work(lookup.table, subtable.start), left);
+        let rule = backward_rule(lookup.table, subtable.start);
+        return rule_charged(lookup, items, at, &rule, left);
     }
     let glyph = items.item(at).glyph_id;
     match parts_for(lookup, subtable, glyph, number) {
-        Some(set) => {
-            let passed = passed_around(lookup, items, at);
-            set_charged(lookup, subtable, passed, left, set)
-        }
+        Some(set) => set_charged(lookup, items, at, subtable, left, set),
         None => Some(left),
     }
 }
@@ -257,7 +268,7 @@ fn whole_charged(
         return Some(left);
     }
     match begun_charged(lookup, items, subtable, left) {
-        Some(left) => rule_charged(passed_around(lookup, items, at), rule_work(&rule), left),
+        Some(left) => rule_charged(lookup, items, at, &rule, left),
         None => None,
     }
 }
