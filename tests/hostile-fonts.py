@@ -7,8 +7,7 @@ and ends with status 77.
     tests/hostile-fonts.py --search N --seed S   N mutated fonts, for the night; `--keep FILE` writes which were worst
 
 A bomb is a font made here by hand, that is small and asks for much work: lookups that apply themselves, substitutions that
-grow, parts of tables that are shared, kerning of 65,535 parts. Those that are known to take longer, since time is bounded
-by a product, stand in OPEN: of each docs/SAFE_AND_TOTAL.md says the bound, and it runs here over a shorter text.
+grow, parts of tables that are shared, kerning of 65,535 parts. Many use up what a stage may ask for, and stop there.
 
 A mutated font is one of the small fonts that are cut out of Amiri, Scheherazade, DejaVu Sans, Noto Naskh Arabic and Noto
 Sans Devanagari, whose tables of lookups are rich, with up to 40 numbers changed: mostly counts, offsets, formats and kinds in
@@ -122,6 +121,29 @@ def rules(count, row):
     return words(1, covered, 42, *[head + len(EVERY)] * 42) + words(0) + EVERY + rule_set
 
 
+def row_before(length):
+    """A chained context of which so many glyphs come before: any of them, and one that is never there."""
+    at = 14 + 2 * length
+    return words(3, length, *[at] * (length - 1), at + len(EVERY), 1, at, 0, 0) + words(0) + EVERY + words(1, 1, 42)
+
+
+def row_behind(length):
+    """A reverse chained substitution of which so many glyphs come before: any of them, and one that is never there."""
+    at = 10 + 2 * length + 2 * 42
+    return words(1, at, length, *[at] * (length - 1), at + len(EVERY), 0, 42, *[2] * 42) + EVERY + words(1, 1, 42)
+
+
+def nulls(count, part):
+    """A lookup of context of so many subtables that are NULL, and one that isn't."""
+    return words(5, 0, count + 1, *[0] * count, 8 + 2 * count) + part
+
+
+def alternates():
+    """One alternate for each glyph."""
+    head = 6 + 2 * 42
+    return words(1, head, 42, *[head + len(EVERY)] * 42) + EVERY + words(1, 5)
+
+
 def ligatures(count, length):
     """Ligatures of one set, which share one place, and of which the last component is never there."""
     head = 6 + 2 * 42
@@ -185,6 +207,14 @@ BOMBS = {
     "32,000 ligatures at one place": ({"GSUB": layout([lookup(4, [ligatures(32000, 64)])])}, "a"),
     "skips half of the text": ({"GSUB": layout([lookup(5, [context(2, [], words(1, 1, 1))], 8)]), "GDEF": gdef(0)}, "am"),
     "skips half of the text, 1,000 lookups": ({"GSUB": layout([lookup(5, [context(2, [], words(1, 1, 1))], 8)], shared=1000), "GDEF": gdef(0)}, "am"),
+    "skips half of the text, nested": ({"GSUB": layout([lookup(5, [context(1, [(0, 0), (0, 1), (0, 0)])], 8), lookup(5, [context(3, [])], 8)]), "GDEF": gdef(0)}, "am"),
+    "rows of 10,000 glyphs": ({"GSUB": layout([lookup(6, [(1000, row_before(10000))])])}, "a"),
+    "rows of 10,000 glyphs, backwards": ({"GSUB": layout([lookup(8, [(1000, row_behind(10000))])])}, "a"),
+    "30,000 NULL subtables": ({"GSUB": layout([nulls(30000, vain())])}, "a"),
+    "records that name nothing": ({"GSUB": layout([lookup(5, [context(1, [(9, 0)] * 10000)])], shared=1000)}, "a"),
+    "1,000 lookups at random": ({"GSUB": layout([lookup(3, [alternates()])], b"rand", shared=1000)}, "a"),
+    "pairs, 1,000 lookups": ({"GPOS": layout([lookup(2, [(20, pairs(100))])], b"kern", shared=1000)}, "a"),
+    "positions that call themselves twice": ({"GPOS": layout([lookup(7, [context(1, [(0, 0), (0, 0)])])], b"kern")}, "a"),
     "variations without end": ({"GSUB": variations(0xFFFFFFFF)}, "a"),
     "10,000 features": ({"GSUB": features(10000)}, "a"),
     "extension of itself": ({"GSUB": layout([lookup(7, [words(1, 7, 0, 0)])])}, "a"),
@@ -198,15 +228,6 @@ BOMBS = {
     "kern of 65,535 parts at one place": ({"kern": kern(65535, 0)}, "a"),
     "kern of 65,535 parts past the end": ({"kern": kern(65535, 20)}, "a"),
     "classes of 10,000 ranges": ({"GDEF": gdef(10000), "GPOS": layout([lookup(4, [marks_on(4)])], b"mark")}, "am"),
-}
-# bombs that take more than two seconds over the whole length, or nearly, and the length that each is run with: those that
-# apply nested lookups as often as the limit of operations has it, as HarfBuzz does, those of 1,000 lookups (1.6 and 2.0 s),
-# and those that share parts, which HarfBuzz refuses
-OPEN = {
-    "calls itself twice": 5000, "calls itself at each of 64 places": 3000,
-    "skips half of the text, 1,000 lookups": 5000, "marks without a base, 1,000 lookups": 5000,
-    "one lookup, named 20,000 times": 200, "one subtable, named 30,000 times": 80, "30,000 subtables of 100 lookups": 1,
-    "32,000 rules at one place": 20, "32,000 rules, 100 lookups": 1, "32,000 ligatures at one place": 20,
 }
 
 
@@ -384,8 +405,7 @@ def take_mutated(search, bases, seed, index, length=LENGTH):
 def run_gate(search, bases):
     """The bombs, and the worst fonts of earlier searches."""
     for name, (tables, kind) in BOMBS.items():
-        length = OPEN.get(name, LENGTH)
-        search.take(name, bomb_font(tables), bomb_text(kind, length), ["--direction=ltr", "--script=Latn"])
+        search.take(name, bomb_font(tables), bomb_text(kind, LENGTH), ["--direction=ltr", "--script=Latn"])
     with open(WORST, encoding="utf-8") as file:
         for line in file:
             if not line.startswith("#"):

@@ -48,8 +48,8 @@ abbrev pub rule_work : Rule → ℕ
 rule_work rule = rule.before.count + rule.input.count + rule.after.count + rule.count + 1
 
 -- before the first rule
-abbrev pub tally : ℕ → Tally
-tally left = record { left = left; before = 0; after = 0; tries = 0 }
+abbrev pub uncounted : ℕ → Tally
+uncounted left = record { left = left; before = 0; after = 0; tries = 0 }
 
 abbrev pub tallied : Rule → Tally → ℕ → Tally
 tallied rule s left = record {
@@ -68,7 +68,7 @@ passed_charged l items at s =
     charged (min (s.tries * min (passed_after l items at s.after + passed_before l items at s.before) most_countable) most_countable) s.left
 
 abbrev pub rule_charged : Lookup → List Item → ℕ → Rule → ℕ → Option ℕ
-rule_charged l items at rule left = option_and_then (passed_charged l items at) (rule_counted rule (tally left))
+rule_charged l items at rule left = option_and_then (passed_charged l items at) (rule_counted rule (uncounted left))
 
 -- a ligature as a rule, whose components are counted after its glyph
 abbrev pub ligature_rule : List ℕ → ℕ → Rule
@@ -92,7 +92,7 @@ part_counted l subtable set r s =
 -- all of a set, whether they are tried or not
 abbrev pub set_counted : Lookup → LookupSubtable → ℕ → ℕ → Option Tally
 set_counted l subtable left set =
-    steps (part_counted l subtable set) (fitting l.table.now (u16_of l.table.now set) (set + 2) 2) 0 (tally left)
+    steps (part_counted l subtable set) (fitting l.table.now (u16_of l.table.now set) (set + 2) 2) 0 (uncounted left)
 
 abbrev pub set_charged : Lookup → List Item → ℕ → LookupSubtable → ℕ → ℕ → Option ℕ
 set_charged l items at subtable left set = option_and_then (passed_charged l items at) (set_counted l subtable left set)
@@ -180,7 +180,7 @@ walk_work l count = min (count * subtable_count_of l.table.now l.place) most_cou
 
 -- so much for each item of a list, and so much at least
 abbrev pub WORK_FACTOR : ℕ
-WORK_FACTOR = 16384
+WORK_FACTOR = 65536
 
 abbrev pub WORK_MIN : ℕ
 WORK_MIN = 1048576

@@ -1,6 +1,6 @@
 //! Rules counted: each costs one for each glyph and each lookup that it names.
 ghost use Rattle.std.specs.Prelude.{◌≡◌, ◌<◌, ◌^◌};
-ghost use Rattle.layout_matching.specs.Work.{rule_work as rule_work_of, tally as tally_of, rule_counted as rule_counted_of, null_counted as null_counted_of, ligature_rule as ligature_rule_of, backward_rule as backward_rule_of};
+ghost use Rattle.layout_matching.specs.Work.{rule_work as rule_work_of, uncounted as uncounted_of, rule_counted as rule_counted_of, null_counted as null_counted_of, ligature_rule as ligature_rule_of, backward_rule as backward_rule_of};
 
 use crate::rules::{Row, Rule, Test};
 use crate::work::charged;
@@ -17,8 +17,8 @@ pub struct Tally {
 }
 
 /// Before the first rule.
-pub(crate) fn tally(left: usize) -> Tally
-    ensures { result ≡ tally_of left }
+pub(crate) fn uncounted(left: usize) -> Tally
+    ensures { result ≡ uncounted_of left }
 {
     Tally {
         left,

@@ -13,7 +13,7 @@ use crate::found::{
 use crate::lookup::Lookup;
 use crate::passing::{passed_after, passed_before};
 use crate::rules::{Rule, rule_at, rules};
-use crate::tally::{Tally, backward_rule, ligature_rule, null_counted, rule_counted, tally};
+use crate::tally::{Tally, backward_rule, ligature_rule, null_counted, rule_counted, uncounted};
 use layout_buffer::ItemList;
 use layout_tables::lookups::{LookupSubtable, subtable_count};
 use shape_font::bytes::{records, u16_at};
@@ -25,7 +25,7 @@ const SUBTABLE_WORK: usize = 8;
 const NESTED_WORK: usize = 32;
 
 /// How much may be asked for in a stage for each item that it begins with.
-const WORK_FACTOR: usize = 16384;
+const WORK_FACTOR: usize = 65536;
 
 /// How much may be, however few items there are.
 const WORK_MIN: usize = 1_048_576;
@@ -63,7 +63,7 @@ fn rule_charged(
     requires { at < length items.now }
     ensures { result ≡ rule_charged_of lookup.now items.now at rule.now left }
 {
-    match rule_counted(rule, tally(left)) {
+    match rule_counted(rule, uncounted(left)) {
         Some(count) => passed_charged(lookup, items, at, count),
         None => None,
     }
@@ -114,7 +114,7 @@ fn set_counted(
     requires set { set < 2 ^ 36 }
     ensures { result ≡ set_counted_of lookup.now subtable left set }
 {
-    let mut count = tally(left);
+    let mut count = uncounted(left);
     for r in 0..records(
         lookup.table,
         u32::from(u16_at(lookup.table, set)),

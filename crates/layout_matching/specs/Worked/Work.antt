@@ -68,8 +68,8 @@ pub record WorkedWork : Type 0 where
   -- 2 subtables and 32, and 8 for each that begins with the glyph
   pub nested : (l : Lookup) → l.table.now ≡ two_subtables → nested_charged (over_marks l) (plain 5 ∷ []) 0 100 ≡ Some 50
   pub walk : (l : Lookup) → l.table.now ≡ two_subtables → walk_work (over_marks l) 3 ≡ 6
-  pub at_least : most_work 64 ≡ 1048576
-  pub for_each_item : most_work 65 ≡ 1064960
+  pub at_least : most_work 16 ≡ 1048576
+  pub for_each_item : most_work 17 ≡ 1114112
   pub countable : most_work 18446744073709551615 ≡ 18446744073709551615
 
 pub worked_work : WorkedWork

@@ -56,8 +56,8 @@ pub record WorkedBounds : Type 0 where
   -- a lookup of the plan and 64 levels below it
   pub levels : LEVELS ≡ 65
   pub links : MOST_LINKS ≡ 64
-  pub at_least : most_work 64 ≡ 1048576
-  pub for_each_glyph : most_work 65 ≡ 1064960
+  pub at_least : most_work 16 ≡ 1048576
+  pub for_each_glyph : most_work 17 ≡ 1114112
   pub countable : most_work 18446744073709551615 ≡ 18446744073709551615
 
 pub worked_bounds : WorkedBounds
