@@ -18,11 +18,11 @@ returns-in-Err-clause-length c =
 pub loop-named-preserved-then-not-may_share : goal.loop-named-preserved-then-not-may_share
 loop-named-preserved-then-not-may_share c =
     let here : Walk = record { buffer = c.loop-named.buffer; spot = c.loop-named.spot } in
-    let next : Walk = record { buffer = c.loop-named.buffer; spot = c.charge_walk.result } in
+    let next : Walk = record { buffer = c.loop-named.buffer; spot = c.charge_walk-spot.result } in
     let is : next ≡ walk_charged c.loop-named.named.lookup here =
     ap (λ (s : Spot). record { buffer = c.loop-named.buffer; spot = s })
-    (c.charge_walk.ensures ∙ ap (λ n. record c.loop-named.spot { left = c.loop-named.spot.left - walk_work c.loop-named.named.lookup n })
-    c.len.ensures.items) in
+    (c.charge_walk-spot.ensures ∙ ap (λ n. record c.loop-named.spot { left = c.loop-named.spot.left - walk_work c.loop-named.named.lookup n })
+    c.len-then-not-may_share.ensures.items) in
     record {
       made = passed_over c.args.levels c.args.lookups.now c.loop-named.named-index _ here next c.loop-named.run
           (stage_made c.args.levels (lookups_in c.args.lookups.now) c.args.buffer.now) c.loop-named-test.true
