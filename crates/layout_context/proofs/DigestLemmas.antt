@@ -1,6 +1,6 @@
 -- a lookup whose digest holds no glyph of the list may be passed over, and a place whose glyph it doesn't hold
 use Prim.Native.Nat.{zero}
-use Rattle.std.proofs.Common.{◌≡◌, ℕ, suc, ◌+◌, ◌<◌, Bool, true, false, List, [], ◌∷◌, All, length, nat_eq, nat_lt, refl, sym, ap, ◌∙◌, subst, arith, if◌then◌else◌, drop, slice_index_or}
+use Rattle.std.proofs.Common.{◌≡◌, ℕ, suc, ◌+◌, ◌-◌, ◌<◌, Bool, true, false, List, [], ◌∷◌, All, length, nat_eq, nat_lt, refl, sym, ap, ◌∙◌, subst, arith, if◌then◌else◌, drop, slice_index_or}
 use Rattle.std.proofs.lemmas.Bool.Decides.{nat_tests}
 use Rattle.std.proofs.lemmas.List.{drop_more}
 use Rattle.shape_items.specs.Buffer.{Buffer}
@@ -13,6 +13,7 @@ use Rattle.layout_digests.specs.Digests.{has, IsWithin}
 use Rattle.layout_digests.specs.declared.digest.Digest.{Digest}
 use Rattle.layout_digests.specs.declared.digested.Digested.{Digested}
 use Rattle.layout_substitution.specs.Edits.{item_at, is_inside, is_past}
+use Rattle.layout_substitution.specs.declared.apply.Spot.{Spot}
 use Rattle.layout_context.specs.Covered.{IsUncovered, CoversNone}
 use Rattle.layout_context.specs.Digested.{IsOut, IsDigested, IsApart, HoldsFirst, HoldsGlyphs, lookups_in}
 use Rattle.layout_context.specs.Nested.{nested_applied}
@@ -159,6 +160,13 @@ digest-still levels d here run said held apart =
     elim (nat_lt here.spot.left (walk_work d.lookup (length here.buffer.items))) as
     (λ u. settled (if u then t else gone_over levels d.lookup t) ≡ settled t)
     [ true ↦ refl | false ↦ digest-over levels d t run said held apart ]
+
+pub charged_next : (ds : List Digested) (k : ℕ) (x : Digested) (b : Buffer) (spot next : Spot) (count : ℕ)
+    → next ≡ record spot { left = spot.left - walk_work (slice_index_or ds k x).lookup count } → count ≡ length b.items
+    → record { buffer = b; spot = next } ≡ walk_charged (slice_index_or ds k x).lookup (record { buffer = b; spot = spot })
+charged_next ds k x b spot next count is same =
+    let l = (slice_index_or ds k x).lookup in
+    ap (λ (s : Spot). record { buffer = b; spot = s }) (is ∙ ap (λ n. record spot { left = spot.left - walk_work l n }) same)
 
 pub passed_over : (levels : ℕ) (ds : List Digested) (k : ℕ) (x : Digested) (here next : Walk) (run : Digest) (b : Buffer) → k < length ds
     → IsDigested (slice_index_or ds k x) → HoldsGlyphs run here.buffer.items

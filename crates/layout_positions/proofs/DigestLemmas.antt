@@ -1,6 +1,6 @@
 -- a lookup whose digest holds no glyph of the list may be passed over, and a place whose glyph it doesn't hold
 use Prim.Native.Nat.{zero}
-use Rattle.std.proofs.Common.{◌≡◌, ℕ, ◌+◌, ◌<◌, ◌^◌, Bool, true, false, List, [], ◌∷◌, length, nat_eq, nat_lt, fold, refl, sym, ap, ◌∙◌, subst, arith, if◌then◌else◌, drop, slice_index_or, map}
+use Rattle.std.proofs.Common.{◌≡◌, ℕ, ◌+◌, ◌-◌, ◌<◌, ◌^◌, Bool, true, false, List, [], ◌∷◌, length, nat_eq, nat_lt, fold, refl, sym, ap, ◌∙◌, subst, arith, if◌then◌else◌, drop, slice_index_or, map}
 use Rattle.std.proofs.lemmas.Bool.Decides.{nat_tests}
 use Rattle.std.proofs.lemmas.List.{drop_more}
 use Rattle.shape_items.specs.Buffer.{Buffer}
@@ -57,6 +57,13 @@ digest-idle d here run said held apart = by_length (nat_eq (length here.buffer.i
       positioning = (out_at 0 (grind (arith, nat_tests, e))).positions;
       glyphs = λ i inside. (out_at i inside).unlisted;
     })
+
+pub charged_next : (ds : List Digested) (k : ℕ) (x : Digested) (b : Buffer) (left next count : ℕ)
+    → next ≡ left - walk_work (slice_index_or ds k x).lookup count → count ≡ length b.items
+    → record { buffer = b; left = next } ≡ walk_charged (record { buffer = b; left = left }) (slice_index_or ds k x).lookup
+charged_next ds k x b left next count is same =
+    let l = (slice_index_or ds k x).lookup in
+    ap (λ n. record { buffer = b; left = n }) (is ∙ ap (λ n. left - walk_work l n) same)
 
 pub passed_over : (ds : List Digested) (k : ℕ) (x : Digested) (here next made : Budgeted) (run : Digest) → k < length ds
     → IsDigested (slice_index_or ds k x) → HoldsGlyphs run here.buffer.items

@@ -270,8 +270,8 @@ charged-un l items at left gpos un = lookup_free l items at left free
         ap (λ kind. option_map_or (subtable_charged l items at left) (subtable_of l.table.now kind l.place k) (Some left)) far
         ∙ by_subtable k below (subtable_of l.table.now 9 l.place k) refl
 
-tried-un : (l : Lookup) (s : Walk) → l.positioning ≡ true → IsUnlisted l (nth s.buffer.items s.at).glyph_id → tried l s ≡ passed s
-tried-un l s gpos un =
+try-un : (l : Lookup) (s : Walk) → l.positioning ≡ true → IsUnlisted l (nth s.buffer.items s.at).glyph_id → tried l s ≡ passed s
+try-un l s gpos un =
     ap (λ o. option_map_or (tried_within l s) o (record s { at = s.at + 1; left = 0 }))
     (charged-un l s.buffer.items s.at s.left gpos un)
     ∙ ap (gone_on s.at) (nested-un LEVELS l s.at s.left s.seen s.buffer gpos un)
@@ -281,7 +281,7 @@ pub step-unlisted : (l : Lookup) (s : Walk) → l.positioning ≡ true → IsUnl
     → nat_lt s.at (length s.buffer.items) ≡ true → lookup_step l s ≡ record s { at = s.at + 1 }
 step-unlisted l s gpos un inside =
     ap (λ t. if t then (if is_on l (nth s.buffer.items s.at) then tried l s else passed s) else s) inside
-    ∙ same-if (is_on l (nth s.buffer.items s.at)) (tried l s) (passed s) (passed s) (tried-un l s gpos un) refl
+    ∙ same-if (is_on l (nth s.buffer.items s.at)) (tried l s) (passed s) (passed s) (try-un l s gpos un) refl
 
 -- a walk that has changed nothing
 record IsIdle (b : Buffer) (budget : ℕ) (s : Walk) : Type 0 where

@@ -1,11 +1,8 @@
-use Rattle.std.proofs.Common.{◌≡◌, ◌-◌, ap, ◌∙◌}
 use Rattle.shape_buffer.specs.declared.buffer.error.ShapeError.TheVariants.{Length}
 use Rattle.layout_substitution.proofs.KindLemmas.{same_error}
 use Rattle.layout_context.specs.Digested.{lookups_in}
-use Rattle.layout_matching.specs.Work.{walk_work}
-use Rattle.layout_substitution.specs.declared.apply.Spot.{Spot}
-use Rattle.layout_context.specs.Stages.{Walk, walk_charged, stage_made}
-use Rattle.layout_context.proofs.DigestLemmas.{passed_over, past_digested}
+use Rattle.layout_context.specs.Stages.{Walk, stage_made}
+use Rattle.layout_context.proofs.DigestLemmas.{charged_next, passed_over, past_digested}
 use Rattle.layout_context.proofs.stages.look_all_up.Goals as goal
 
 pub returns-in-Err-clause-length : goal.returns-in-Err-clause-length
@@ -19,10 +16,8 @@ pub loop-named-preserved-then-not-may_share : goal.loop-named-preserved-then-not
 loop-named-preserved-then-not-may_share c =
     let here : Walk = record { buffer = c.loop-named.buffer; spot = c.loop-named.spot } in
     let next : Walk = record { buffer = c.loop-named.buffer; spot = c.charge_walk-spot.result } in
-    let is : next ≡ walk_charged c.loop-named.named.lookup here =
-    ap (λ (s : Spot). record { buffer = c.loop-named.buffer; spot = s })
-    (c.charge_walk-spot.ensures ∙ ap (λ n. record c.loop-named.spot { left = c.loop-named.spot.left - walk_work c.loop-named.named.lookup n })
-    c.len-then-not-may_share.ensures.items) in
+    let is = charged_next c.args.lookups.now c.loop-named.named-index _ c.loop-named.buffer c.loop-named.spot c.charge_walk-spot.result _ c.charge_walk-spot.ensures
+    c.len-then-not-may_share.ensures.items in
     record {
       made = passed_over c.args.levels c.args.lookups.now c.loop-named.named-index _ here next c.loop-named.run
           (stage_made c.args.levels (lookups_in c.args.lookups.now) c.args.buffer.now) c.loop-named-test.true

@@ -1,17 +1,15 @@
-use Rattle.std.proofs.Common.{◌≡◌, ◌-◌, ap, ◌∙◌, fold}
-use Rattle.layout_matching.specs.Work.{walk_work}
+use Rattle.std.proofs.Common.{fold}
 use Rattle.layout_positions.specs.Digested.{lookups_in}
-use Rattle.layout_positions.specs.Walk.{Budgeted, walk_charged, lookup_applied, budgeted}
-use Rattle.layout_positions.proofs.DigestLemmas.{passed_over}
+use Rattle.layout_positions.specs.Walk.{Budgeted, lookup_applied, budgeted}
+use Rattle.layout_positions.proofs.DigestLemmas.{charged_next, passed_over}
 use Rattle.layout_positions.proofs.walk.apply_each.Goals as goal
 
 pub loop-named-preserved-then-not-may_share : goal.loop-named-preserved-then-not-may_share
 loop-named-preserved-then-not-may_share c =
     let here : Budgeted = record { buffer = c.loop-named.buffer; left = c.loop-named.left } in
     let next : Budgeted = record { buffer = c.loop-named.buffer; left = c.charge_walk-left.result } in
-    let is : next ≡ walk_charged here c.loop-named.named.lookup =
-    ap (λ n. record { buffer = c.loop-named.buffer; left = n })
-    (c.charge_walk-left.ensures ∙ ap (λ n. c.loop-named.left - walk_work c.loop-named.named.lookup n) c.len-then-not-may_share.ensures.items) in
+    let is = charged_next c.args.lookups.now c.loop-named.named-index _ c.loop-named.buffer c.loop-named.left c.charge_walk-left.result _ c.charge_walk-left.ensures
+    c.len-then-not-may_share.ensures.items in
     record {
       made = passed_over c.args.lookups.now c.loop-named.named-index _ here next
           (fold lookup_applied (budgeted c.args.buffer.now) (lookups_in c.args.lookups.now)) c.loop-named.run c.loop-named-test.true
