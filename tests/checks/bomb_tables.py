@@ -86,6 +86,33 @@ def rules(count, row):
     return words(1, covered, 42, *[head + len(EVERY)] * 42) + words(0) + EVERY + rule_set
 
 
+def row_before(length):
+    """A chained context of which so many glyphs come before: any of them, and one that is never
+    there."""
+    at = 14 + 2 * length
+    head = words(3, length, *[at] * (length - 1), at + len(EVERY), 1, at, 0, 0)
+    return head + words(0) + EVERY + words(1, 1, 42)
+
+
+def row_behind(length):
+    """A reverse chained substitution of which so many glyphs come before: any of them, and one
+    that is never there."""
+    at = 10 + 2 * length + 2 * 42
+    head = words(1, at, length, *[at] * (length - 1), at + len(EVERY), 0, 42, *[2] * 42)
+    return head + EVERY + words(1, 1, 42)
+
+
+def nulls(count, part):
+    """A lookup of context of so many subtables that are NULL, and one that isn't."""
+    return words(5, 0, count + 1, *[0] * count, 8 + 2 * count) + part
+
+
+def alternates():
+    """One alternate for each glyph."""
+    head = 6 + 2 * 42
+    return words(1, head, 42, *[head + len(EVERY)] * 42) + EVERY + words(1, 5)
+
+
 def ligatures(count, length):
     """Ligatures of one set, which share one place, and whose last component is never there."""
     head = 6 + 2 * 42

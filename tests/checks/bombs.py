@@ -3,14 +3,13 @@
 Each runs with a text of 10,000 characters: no run ends by a signal, takes more than six seconds of
 processor time (the gate's machine may be slow), or more than 200 MB. The bombs are lookups that
 apply themselves, substitutions that grow, parts of tables that are shared, kerning of 65,535
-parts. Those that are known to take longer, since time is bounded by a product, stand in OPEN: of
-each docs/SAFE_AND_TOTAL.md says the bound, and it runs here over a shorter text.
+parts. Many use up what a stage may ask for, and stop there.
 
 The worst fonts of earlier searches are named in tests/hostile/worst.txt (`search`).
 """
-from checks.bomb_tables import (EVERY, LOOP, ROW, context, cursive, features, gdef, grows, kern,
-                                layout, ligatures, lookup, marks_on, pairs, rules, vain,
-                                variations, words)
+from checks.bomb_tables import (EVERY, LOOP, ROW, alternates, context, cursive, features, gdef,
+                                grows, kern, layout, ligatures, lookup, marks_on, nulls, pairs,
+                                row_before, row_behind, rules, vain, variations, words)
 from checks.fonts import add_table, bytes_of, new_font
 from checks.hostile_runs import LENGTH, SECONDS, Runs, add_run_options, need_all
 from checks.mutated import load_bases, mutated_font
@@ -26,6 +25,8 @@ AT_ONCE = [lookup(1, [words(1, 6, 0) + EVERY])]
 IN_VAIN = [lookup(5, [(30000, vain())])]
 RULES = [lookup(5, [rules(32000, ROW)])]
 SKIPPING = [lookup(5, [context(2, [], words(1, 1, 1))], 8)]
+NESTED_SKIPPING = [lookup(5, [context(1, [(0, 0), (0, 1), (0, 0)])], 8),
+                   lookup(5, [context(3, [])], 8)]
 TO_BASES = [lookup(4, [marks_on(4)])]
 
 
@@ -58,6 +59,20 @@ BOMBS = {
     "skips half of the text": ({"GSUB": layout(SKIPPING), "GDEF": gdef(0)}, "am"),
     "skips half of the text, 1,000 lookups": (
         {"GSUB": layout(SKIPPING, shared=1000), "GDEF": gdef(0)}, "am"),
+    "skips half of the text, nested": (
+        {"GSUB": layout(NESTED_SKIPPING), "GDEF": gdef(0)}, "am"),
+    "rows of 10,000 glyphs": ({"GSUB": layout([lookup(6, [(1000, row_before(10000))])])}, "a"),
+    "rows of 10,000 glyphs, backwards": (
+        {"GSUB": layout([lookup(8, [(1000, row_behind(10000))])])}, "a"),
+    "30,000 NULL subtables": ({"GSUB": layout([nulls(30000, vain())])}, "a"),
+    "records that name nothing": (
+        {"GSUB": layout([lookup(5, [context(1, [(9, 0)] * 10000)])], shared=1000)}, "a"),
+    "1,000 lookups at random": (
+        {"GSUB": layout([lookup(3, [alternates()])], b"rand", shared=1000)}, "a"),
+    "pairs, 1,000 lookups": (
+        {"GPOS": layout([lookup(2, [(20, pairs(100))])], b"kern", shared=1000)}, "a"),
+    "positions that call themselves twice": (
+        {"GPOS": layout([lookup(7, [context(1, [(0, 0), (0, 0)])])], b"kern")}, "a"),
     "variations without end": ({"GSUB": variations(0xFFFFFFFF)}, "a"),
     "10,000 features": ({"GSUB": features(10000)}, "a"),
     "extension of itself": ({"GSUB": layout([lookup(7, [words(1, 7, 0, 0)])])}, "a"),
@@ -75,22 +90,6 @@ BOMBS = {
     "kern of 65,535 parts past the end": ({"kern": kern(65535, 20)}, "a"),
     "classes of 10,000 ranges": (
         {"GDEF": gdef(10000), "GPOS": layout(TO_BASES, b"mark")}, "am"),
-}
-# Bombs that take more than two seconds over the whole length, or nearly, and the length that each
-# is run with: those that apply nested lookups as often as the limit of operations has it, as
-# HarfBuzz does, those of 1,000 lookups (1.6 and 2.0 s), and those that share parts, which HarfBuzz
-# refuses.
-OPEN = {
-    "calls itself twice": 5000,
-    "calls itself at each of 64 places": 3000,
-    "skips half of the text, 1,000 lookups": 5000,
-    "marks without a base, 1,000 lookups": 5000,
-    "one lookup, named 20,000 times": 200,
-    "one subtable, named 30,000 times": 80,
-    "30,000 subtables of 100 lookups": 1,
-    "32,000 rules at one place": 20,
-    "32,000 rules, 100 lookups": 1,
-    "32,000 ligatures at one place": 20,
 }
 
 
@@ -146,7 +145,7 @@ def run(args):
             take_bomb(runs, args.bomb, LENGTH)
         else:
             for name in BOMBS:
-                take_bomb(runs, name, OPEN.get(name, LENGTH))
+                take_bomb(runs, name, LENGTH)
             take_worst(runs)
         runs.print_counts()
         if args.keep:

@@ -1,6 +1,6 @@
 -- A lookup that covers no glyph of a list changes nothing.
 use Prim.Native.Nat.{zero}
-use Rattle.std.proofs.Common.{◌≡◌, ℕ, suc, ◌+◌, ◌-◌, ◌≤◌, ◌<◌, Bool, true, false, List, Option, Some, None, is_some, length, nat_eq, refl, sym, ap, ◌∙◌, subst, arith, if◌then◌else◌, ◌&&◌, ◌||◌}
+use Rattle.std.proofs.Common.{◌≡◌, ℕ, suc, ◌+◌, ◌-◌, ◌≤◌, ◌<◌, Bool, true, false, List, Option, Some, None, is_some, length, nat_eq, nat_lt, refl, sym, ap, ◌∙◌, subst, arith, if◌then◌else◌, ◌&&◌, ◌||◌}
 use Rattle.std.proofs.lemmas.Bool.Decides.{nat_tests}
 use Rattle.std.specs.Option.{option_and_then, option_map_or}
 use Rattle.shape_items.specs.Buffer.{Buffer}
@@ -12,6 +12,8 @@ use Rattle.layout_matching.specs.Found.{extension_kind, is_context, is_context_s
 use Rattle.layout_matching.specs.Loops.{times, first_some}
 use Rattle.layout_matching.specs.Skipping.{nth, is_on}
 use Rattle.layout_matching.specs.Tried.{untried, whole_reach, number_reach, sets_reach, subtable_reach, reach_at_subtable}
+use Rattle.layout_matching.specs.Work.{subtable_charged, charged_at_subtable, lookup_charged, walk_work}
+use Rattle.layout_matching.proofs.WorkLemmas.{subtable_free, lookup_free}
 use Rattle.layout_digests.proofs.TriedLemmas.{until_untried_below}
 use Rattle.layout_matching.specs.declared.lookup.Lookup.{Lookup}
 use Rattle.layout_matching.specs.declared.spans.Origin.{Origin}
@@ -24,8 +26,8 @@ use Rattle.layout_substitution.specs.Substitutes.{single_by, set_number, set_of,
 use Rattle.layout_substitution.specs.declared.apply.Spot.{Spot}
 use Rattle.layout_context.specs.Covered.{context_covers, subtable_covers, IsUncovered, CoversNone}
 use Rattle.layout_context.specs.Nested.{rule_applied, origin_of, tried_marked, first_rule_applied, level_applied, nested_applied}
-use Rattle.layout_context.specs.Reverse.{reversal_of, reversal_by, reversal_in, reversal_reach_of, reversal_reach_by, reversal_reach_in, reversal_reach, reversed_by, first_reversed, reversed_at, Backwards, reverse_step, reversed, is_reverse}
-use Rattle.layout_context.specs.Stages.{Walk, passed, gone_on, lookup_step, first_walk, walked, looked_up}
+use Rattle.layout_context.specs.Reverse.{reversal_of, reversal_by, reversal_in, reversal_reach_of, reversal_reach_by, reversal_reach_in, reversal_reach, reversed_by, first_reversed, reversed_at, Backwards, reversed_within, reverse_step, reversed, is_reverse}
+use Rattle.layout_context.specs.Stages.{Walk, passed, gone_on, with_left, tried_within, tried, lookup_step, first_walk, walked, gone_back, gone_over, walk_charged, looked_up}
 
 none_of : {A : Type 0} (o : Option A) → is_some o ≡ false → o ≡ None
 none_of None e = refl
@@ -240,19 +242,42 @@ walk_same : (t : Bool) (b : Buffer) (x y : Walk) → x.buffer ≡ b → y.buffer
 walk_same true b x y k m = k
 walk_same false b x y k m = m
 
+-- a lookup that doesn't cover the glyph is charged for nothing
+pub charged-uncovered : (l : Lookup) (items : List Item) (at left : ℕ) → l.positioning ≡ false → IsUncovered l (nth items at).glyph_id
+    → lookup_charged l items at left ≡ Some left
+charged-uncovered l items at left gsub out = lookup_free l items at left free
+  where
+    by_subtable : (i : ℕ) → i < subtable_count_of l.table.now l.place → (o : Option LookupSubtable)
+        → subtable_of l.table.now 7 l.place i ≡ o → option_map_or (subtable_charged l items at left) o (Some left) ≡ Some left
+    by_subtable i below None e = refl
+    by_subtable i below (Some subtable) e = subtable_free l items at left subtable (out i subtable below e)
+
+    free : (i : ℕ) → i < subtable_count_of l.table.now l.place → charged_at_subtable l items at i left ≡ Some left
+    free i below =
+        let e : extension_kind l ≡ 7 = ap (λ t. if t then 9 else 7) gsub in
+        ap (λ k. option_map_or (subtable_charged l items at left) (subtable_of l.table.now k l.place i) (Some left)) e
+        ∙ by_subtable i below (subtable_of l.table.now 7 l.place i) refl
+
+-- where it is tried, it goes on to the next item, and nothing is spent
+pub tried-uncovered-at : (levels : ℕ) (l : Lookup) (s : Walk) → l.positioning ≡ false → IsUncovered l (item_at s.buffer s.spot.at).glyph_id
+    → tried (nested_applied levels l) l s ≡ passed s
+tried-uncovered-at levels l s gsub out =
+    ap (λ o. option_map_or (tried_within (nested_applied levels l) s) o (passed (with_left 0 s)))
+    (charged-uncovered l s.buffer.items s.spot.at s.spot.left gsub out)
+    ∙ ap (gone_on s) (nested-uncovered levels l s.spot s.buffer gsub out)
+
 step-uncovered : (levels : ℕ) (l : Lookup) (s : Walk) → l.positioning ≡ false → CoversNone l s.buffer.items
     → (lookup_step (nested_applied levels l) l s).buffer ≡ s.buffer
 step-uncovered levels l s gsub none =
     walk_same (is_past s.buffer) s.buffer s _ refl (inside (is_inside s.spot.at s.buffer) refl)
   where
     inside : (t : Bool) → is_inside s.spot.at s.buffer ≡ t
-        → (if t then (if is_on l (item_at s.buffer s.spot.at) then gone_on s (nested_applied levels l s.spot s.buffer)
-        else passed s) else s).buffer ≡ s.buffer
+        → (if t then (if is_on l (item_at s.buffer s.spot.at) then tried (nested_applied levels l) l s else passed s) else s).buffer
+        ≡ s.buffer
     inside false e = refl
     inside true e =
-        walk_same (is_on l (item_at s.buffer s.spot.at)) s.buffer (gone_on s (nested_applied levels l s.spot s.buffer)) (passed s)
-        (ap (λ (a : Applied). a.buffer) (nested-uncovered levels l s.spot s.buffer gsub
-        (none s.spot.at (grind (arith, nat_tests, e))))) refl
+        walk_same (is_on l (item_at s.buffer s.spot.at)) s.buffer (tried (nested_applied levels l) l s) (passed s)
+        (ap (λ (w : Walk). w.buffer) (tried-uncovered-at levels l s gsub (none s.spot.at (grind (arith, nat_tests, e))))) refl
 
 walk-uncovered : (levels : ℕ) (l : Lookup) (s : Walk) → l.positioning ≡ false → CoversNone l s.buffer.items
     → (n : ℕ) → (times (lookup_step (nested_applied levels l) l) n s).buffer ≡ s.buffer
@@ -314,29 +339,43 @@ at-uncovered l at b gsub out =
     ∙ map_or_none (reversed_by l at b) b _ (first_some_none (reversal_in l b.items at) n
     (λ i below. reversal-uncovered l b.items at i gsub out below) n 0 (omega arith))) refl
 
-abbrev back : Buffer → ℕ → Backwards
-back b at = record { buffer = b; at = at }
+abbrev pub back : Buffer → ℕ → ℕ → Backwards
+back b left at = record { buffer = b; at = at; left = left }
 
 -- the place is inside the list all along
-back-uncovered : (l : Lookup) (b : Buffer) → l.positioning ≡ false → CoversNone l b.items → (n m : ℕ) → m < length b.items + 1
-    → times (reverse_step l) n (back b m) ≡ back b (m - n)
-back-uncovered l b gsub none zero m within = ap (back b) (omega arith)
-back-uncovered l b gsub none (suc n) m within =
-    ap (reverse_step l) (back-uncovered l b gsub none n m within) ∙ one (nat_eq (m - n) 0) refl
+back-uncovered : (l : Lookup) (left : ℕ) (b : Buffer) → l.positioning ≡ false → CoversNone l b.items → (n m : ℕ)
+    → m < length b.items + 1 → times (reverse_step l) n (back b left m) ≡ back b left (m - n)
+back-uncovered l left b gsub none zero m within = ap (back b left) (omega arith)
+back-uncovered l left b gsub none (suc n) m within =
+    ap (reverse_step l) (back-uncovered l left b gsub none n m within) ∙ one (nat_eq (m - n) 0) refl
   where
     one : (t : Bool) → nat_eq (m - n) 0 ≡ t
-        → (if t then back b (m - n) else back (reversed_at l (m - n - 1) b) (m - n - 1)) ≡ back b (m - suc n)
+        → (if t then back b left (m - n) else option_map_or (reversed_within l (back b left (m - n)))
+        (lookup_charged l b.items (m - n - 1) left) (back b 0 (m - n - 1))) ≡ back b left (m - suc n)
     one true e =
         let zero_left : m - n ≡ m - suc n = grind (arith, nat_tests, e) in
-        ap (back b) zero_left
+        ap (back b left) zero_left
     one false e =
         let inside : m - n - 1 < length b.items = grind (arith, nat_tests, e, within) in
         let place : m - n - 1 ≡ m - suc n = omega arith in
-        ap (λ (c : Buffer). back c (m - n - 1)) (at-uncovered l (m - n - 1) b gsub (none (m - n - 1) inside)) ∙ ap (back b) place
+        let out : IsUncovered l (nth b.items (m - n - 1)).glyph_id = none (m - n - 1) inside in
+        ap (λ o. option_map_or (reversed_within l (back b left (m - n))) o (back b 0 (m - n - 1)))
+        (charged-uncovered l b.items (m - n - 1) left gsub out)
+        ∙ ap (λ (c : Buffer). back c left (m - n - 1)) (at-uncovered l (m - n - 1) b gsub out) ∙ ap (back b left) place
+
+pub reversed-uncovered : (l : Lookup) (left : ℕ) (b : Buffer) → l.positioning ≡ false → CoversNone l b.items
+    → reversed l left b ≡ back b left (length b.items - length b.items)
+reversed-uncovered l left b gsub none = back-uncovered l left b gsub none (length b.items) (length b.items) (omega arith)
+
+pub over-uncovered : (levels : ℕ) (l : Lookup) (s : Walk) → l.positioning ≡ false → CoversNone l s.buffer.items
+    → (gone_over levels l s).buffer ≡ s.buffer
+over-uncovered levels l s gsub none =
+    walk_same (is_reverse l) s.buffer (gone_back s (reversed l s.spot.left s.buffer)) (walked (nested_applied levels l) l s)
+    (ap (λ (w : Backwards). w.buffer) (reversed-uncovered l s.spot.left s.buffer gsub none))
+    (walk-uncovered levels l (first_walk s) gsub none (length s.buffer.items))
 
 pub looked-uncovered : (levels : ℕ) (l : Lookup) (s : Walk) → l.positioning ≡ false → CoversNone l s.buffer.items
     → (looked_up levels l s).buffer ≡ s.buffer
 looked-uncovered levels l s gsub none =
-    walk_same (is_reverse l) s.buffer (record s { buffer = reversed l s.buffer }) (walked (nested_applied levels l) l s)
-    (ap (λ (w : Backwards). w.buffer) (back-uncovered l s.buffer gsub none (length s.buffer.items) (length s.buffer.items) (omega arith)))
-    (walk-uncovered levels l (first_walk s) gsub none (length s.buffer.items))
+    walk_same (nat_lt s.spot.left (walk_work l (length s.buffer.items))) s.buffer (walk_charged l s) (gone_over levels l (walk_charged l s))
+    refl (over-uncovered levels l (walk_charged l s) gsub none)

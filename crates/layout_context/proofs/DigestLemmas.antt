@@ -1,23 +1,25 @@
 -- a lookup whose digest holds no glyph of the list may be passed over, and a place whose glyph it doesn't hold
 use Prim.Native.Nat.{zero}
-use Rattle.std.proofs.Common.{◌≡◌, ℕ, suc, ◌+◌, ◌<◌, Bool, true, false, List, [], ◌∷◌, All, length, nat_eq, refl, sym, ap, ◌∙◌, subst, arith, if◌then◌else◌, drop, slice_index_or}
+use Rattle.std.proofs.Common.{◌≡◌, ℕ, suc, ◌+◌, ◌-◌, ◌<◌, Bool, true, false, List, [], ◌∷◌, All, length, nat_eq, nat_lt, refl, sym, ap, ◌∙◌, subst, arith, if◌then◌else◌, drop, slice_index_or}
 use Rattle.std.proofs.lemmas.Bool.Decides.{nat_tests}
 use Rattle.std.proofs.lemmas.List.{drop_more}
 use Rattle.shape_items.specs.Buffer.{Buffer}
 use Rattle.shape_items.specs.Items.{Item}
 use Rattle.layout_matching.specs.Loops.{times}
 use Rattle.layout_matching.specs.Skipping.{nth, is_on}
+use Rattle.layout_matching.specs.Work.{walk_work, most_work}
 use Rattle.layout_matching.specs.declared.lookup.Lookup.{Lookup}
 use Rattle.layout_digests.specs.Digests.{has, IsWithin}
 use Rattle.layout_digests.specs.declared.digest.Digest.{Digest}
 use Rattle.layout_digests.specs.declared.digested.Digested.{Digested}
 use Rattle.layout_substitution.specs.Edits.{item_at, is_inside, is_past}
+use Rattle.layout_substitution.specs.declared.apply.Spot.{Spot}
 use Rattle.layout_context.specs.Covered.{IsUncovered, CoversNone}
 use Rattle.layout_context.specs.Digested.{IsOut, IsDigested, IsApart, HoldsFirst, HoldsGlyphs, lookups_in}
 use Rattle.layout_context.specs.Nested.{nested_applied}
-use Rattle.layout_context.specs.Reverse.{is_reverse, reversed, reverse_step}
-use Rattle.layout_context.specs.Stages.{Walk, passed, gone_on, lookup_step, first_walk, walked, looked_up, all_looked_up, most_nested, stage_made}
-use Rattle.layout_context.proofs.CoveredLemmas.{nested-uncovered, looked-uncovered}
+use Rattle.layout_context.specs.Reverse.{Backwards, is_reverse, reversed, reverse_step}
+use Rattle.layout_context.specs.Stages.{Walk, passed, tried, lookup_step, first_walk, walked, gone_back, gone_over, walk_charged, looked_up, all_looked_up, stage_made}
+use Rattle.layout_context.proofs.CoveredLemmas.{tried-uncovered-at, reversed-uncovered}
 use Rattle.layout_context.proofs.StageLemmas.{past_all}
 
 same-if : {X : Type 0} (t : Bool) (x y z : X) → x ≡ z → y ≡ z → (if t then x else y) ≡ z
@@ -27,17 +29,17 @@ same-if false x y z a b = b
 -- ---- at a place
 
 step-inside : (levels : ℕ) (l : Lookup) (s : Walk) → l.positioning ≡ false → IsUncovered l (item_at s.buffer s.spot.at).glyph_id
-    → (if is_on l (item_at s.buffer s.spot.at) then gone_on s (nested_applied levels l s.spot s.buffer) else passed s) ≡ passed s
+    → (if is_on l (item_at s.buffer s.spot.at) then tried (nested_applied levels l) l s else passed s) ≡ passed s
 step-inside levels l s gsub out =
-    same-if (is_on l (item_at s.buffer s.spot.at)) (gone_on s (nested_applied levels l s.spot s.buffer)) (passed s) (passed s)
-    (ap (gone_on s) (nested-uncovered levels l s.spot s.buffer gsub out)) refl
+    same-if (is_on l (item_at s.buffer s.spot.at)) (tried (nested_applied levels l) l s) (passed s) (passed s)
+    (tried-uncovered-at levels l s gsub out) refl
 
 pub step_out : (levels : ℕ) (l : Lookup) (s : Walk) → IsOut l (item_at s.buffer s.spot.at).glyph_id → is_past s.buffer ≡ false
     → is_inside s.spot.at s.buffer ≡ true → lookup_step (nested_applied levels l) l s ≡ passed s
 step_out levels l s out within inside =
     ap (λ t. if t then s else (if is_inside s.spot.at s.buffer then
-    (if is_on l (item_at s.buffer s.spot.at) then gone_on s (nested_applied levels l s.spot s.buffer) else passed s) else s)) within
-    ∙ ap (λ t. if t then (if is_on l (item_at s.buffer s.spot.at) then gone_on s (nested_applied levels l s.spot s.buffer) else passed s)
+    (if is_on l (item_at s.buffer s.spot.at) then tried (nested_applied levels l) l s else passed s) else s)) within
+    ∙ ap (λ t. if t then (if is_on l (item_at s.buffer s.spot.at) then tried (nested_applied levels l) l s else passed s)
     else s) inside
     ∙ step-inside levels l s out.substitutes out.uncovered
 
@@ -51,18 +53,26 @@ one_held items d e i before kept new j below = by_last (nat_eq j i) refl
     by_last true is = let same : i ≡ j = grind (arith, nat_tests, is) in subst (λ k. has e (nth items k).glyph_id ≡ true) same new
     by_last false is = kept (nth items j).glyph_id (before j (grind (arith, nat_tests, is, below)))
 
--- ---- what later lookups see of a walk: the buffer, the random state, and how many lookups may be named
+-- ---- what later lookups see of a walk: the buffer, the random state, and what is left
 
 abbrev settled : Walk → Walk
 settled s = record { buffer = s.buffer; spot = record s.spot { at = 0; whole = 0 } }
 
-looked-settled : (levels : ℕ) (l : Lookup) (s : Walk) → settled (looked_up levels l s) ≡ settled (looked_up levels l (settled s))
-looked-settled levels l s = by_way (is_reverse l)
+over-settled : (levels : ℕ) (l : Lookup) (s : Walk) → settled (gone_over levels l s) ≡ settled (gone_over levels l (settled s))
+over-settled levels l s = by_way (is_reverse l)
   where
-    by_way : (t : Bool) → settled (if t then record s { buffer = reversed l s.buffer } else walked (nested_applied levels l) l s)
-        ≡ settled (if t then record (settled s) { buffer = reversed l (settled s).buffer } else walked (nested_applied levels l) l (settled s))
+    by_way : (t : Bool) → settled (if t then gone_back s (reversed l s.spot.left s.buffer) else walked (nested_applied levels l) l s)
+        ≡ settled (if t then gone_back (settled s) (reversed l s.spot.left s.buffer) else walked (nested_applied levels l) l (settled s))
     by_way true = refl
     by_way false = refl
+
+looked-settled : (levels : ℕ) (l : Lookup) (s : Walk) → settled (looked_up levels l s) ≡ settled (looked_up levels l (settled s))
+looked-settled levels l s = by_charge (nat_lt s.spot.left (walk_work l (length s.buffer.items)))
+  where
+    by_charge : (t : Bool) → settled (if t then walk_charged l s else gone_over levels l (walk_charged l s))
+        ≡ settled (if t then walk_charged l (settled s) else gone_over levels l (walk_charged l (settled s)))
+    by_charge true = refl
+    by_charge false = over-settled levels l (walk_charged l s) ∙ sym (over-settled levels l (walk_charged l (settled s)))
 
 all-settled : (levels : ℕ) (ls : List Lookup) (s t : Walk) → settled s ≡ settled t
     → (all_looked_up levels ls s).buffer ≡ (all_looked_up levels ls t).buffer
@@ -83,8 +93,8 @@ step-still levels l s gsub none =
     settled-if (is_past s.buffer) s _ s refl (inside (is_inside s.spot.at s.buffer) refl)
   where
     inside : (t : Bool) → is_inside s.spot.at s.buffer ≡ t
-        → settled (if t then (if is_on l (item_at s.buffer s.spot.at) then gone_on s (nested_applied levels l s.spot s.buffer)
-        else passed s) else s) ≡ settled s
+        → settled (if t then (if is_on l (item_at s.buffer s.spot.at) then tried (nested_applied levels l) l s else passed s) else s)
+        ≡ settled s
     inside false e = refl
     inside true e = ap settled (step-inside levels l s gsub (none s.spot.at (grind (arith, nat_tests, e))))
 
@@ -97,17 +107,13 @@ walk-still levels l s gsub none (suc n) =
     let buffer : here.buffer ≡ s.buffer = ap (λ (w : Walk). w.buffer) same in
     step-still levels l here gsub (subst (λ (b : Buffer). CoversNone l b.items) (sym buffer) none) ∙ same
 
-looked-still : (levels : ℕ) (l : Lookup) (s : Walk) → l.positioning ≡ false → CoversNone l s.buffer.items
-    → settled (looked_up levels l s) ≡ settled s
-looked-still levels l s gsub none = by_way (is_reverse l) refl
+over-still : (levels : ℕ) (l : Lookup) (s : Walk) → l.positioning ≡ false → CoversNone l s.buffer.items
+    → settled (gone_over levels l s) ≡ settled s
+over-still levels l s gsub none = by_way (is_reverse l) refl
   where
     by_way : (t : Bool) → is_reverse l ≡ t
-        → settled (if t then record s { buffer = reversed l s.buffer } else walked (nested_applied levels l) l s) ≡ settled s
-    by_way true e =
-        let back : looked_up levels l s ≡ record s { buffer = reversed l s.buffer } =
-        ap (λ t. if t then record s { buffer = reversed l s.buffer } else walked (nested_applied levels l) l s) e in
-        let same : reversed l s.buffer ≡ s.buffer = sym (ap (λ (w : Walk). w.buffer) back) ∙ looked-uncovered levels l s gsub none in
-        ap (λ (b : Buffer). settled (record s { buffer = b })) same
+        → settled (if t then gone_back s (reversed l s.spot.left s.buffer) else walked (nested_applied levels l) l s) ≡ settled s
+    by_way true e = ap (λ (w : Backwards). settled (gone_back s w)) (reversed-uncovered l s.spot.left s.buffer gsub none)
     by_way false e = walk-still levels l (first_walk s) gsub none (length s.buffer.items)
 
 -- ---- the loop over the lookups
@@ -124,37 +130,54 @@ none-covered : (d : Digested) (run : Digest) (items : List Item) → IsDigested 
 none-covered d run items said held apart at inside = (said.out (nth items at).glyph_id (apart (nth items at).glyph_id (held at inside))).uncovered
 
 -- in an empty list nothing is done, whatever the lookup is
-empty-still : (levels : ℕ) (l : Lookup) (s : Walk) → length s.buffer.items ≡ 0 → settled (looked_up levels l s) ≡ settled s
+empty-still : (levels : ℕ) (l : Lookup) (s : Walk) → length s.buffer.items ≡ 0 → settled (gone_over levels l s) ≡ settled s
 empty-still levels l s none = by_way (is_reverse l)
   where
-    by_way : (t : Bool) → settled (if t then record s { buffer = reversed l s.buffer } else walked (nested_applied levels l) l s) ≡ settled s
-    by_way true = ap (λ n. settled (record s {
-      buffer = (times (reverse_step l) n
-          (record { buffer = s.buffer; at = length s.buffer.items })).buffer;
-    })) none
+    by_way : (t : Bool) → settled (if t then gone_back s (reversed l s.spot.left s.buffer) else walked (nested_applied levels l) l s)
+        ≡ settled s
+    by_way true =
+        let first : Backwards = record { buffer = s.buffer; at = length s.buffer.items; left = s.spot.left } in
+        ap (λ n. settled (gone_back s (times (reverse_step l) n first))) none
     by_way false = ap (λ n. settled (times (lookup_step (nested_applied levels l) l) n (first_walk s))) none
 
-digest-still : (levels : ℕ) (d : Digested) (here : Walk) (run : Digest) → IsDigested d → HoldsGlyphs run here.buffer.items
-    → IsApart run d → settled (looked_up levels d.lookup here) ≡ settled here
-digest-still levels d here run said held apart = by_length (nat_eq (length here.buffer.items) 0) refl
+digest-over : (levels : ℕ) (d : Digested) (here : Walk) (run : Digest) → IsDigested d → HoldsGlyphs run here.buffer.items
+    → IsApart run d → settled (gone_over levels d.lookup here) ≡ settled here
+digest-over levels d here run said held apart = by_length (nat_eq (length here.buffer.items) 0) refl
   where
-    by_length : (t : Bool) → nat_eq (length here.buffer.items) 0 ≡ t → settled (looked_up levels d.lookup here) ≡ settled here
+    by_length : (t : Bool) → nat_eq (length here.buffer.items) 0 ≡ t → settled (gone_over levels d.lookup here) ≡ settled here
     by_length true e = empty-still levels d.lookup here (grind (arith, nat_tests, e))
     by_length false e =
         let some : 0 < length here.buffer.items = grind (arith, nat_tests, e) in
         let glyph = (nth here.buffer.items 0).glyph_id in
-        looked-still levels d.lookup here (said.out glyph (apart glyph (held 0 some))).substitutes
+        over-still levels d.lookup here (said.out glyph (apart glyph (held 0 some))).substitutes
         (none-covered d run here.buffer.items said held apart)
 
-pub passed_over : (levels : ℕ) (ds : List Digested) (k : ℕ) (x : Digested) (here : Walk) (run : Digest) (b : Buffer) → k < length ds
+-- its walk is charged for all the same
+digest-still : (levels : ℕ) (d : Digested) (here : Walk) (run : Digest) → IsDigested d → HoldsGlyphs run here.buffer.items
+    → IsApart run d → settled (looked_up levels d.lookup here) ≡ settled (walk_charged d.lookup here)
+digest-still levels d here run said held apart =
+    let t = walk_charged d.lookup here in
+    elim (nat_lt here.spot.left (walk_work d.lookup (length here.buffer.items))) as
+    (λ u. settled (if u then t else gone_over levels d.lookup t) ≡ settled t)
+    [ true ↦ refl | false ↦ digest-over levels d t run said held apart ]
+
+pub charged_next : (ds : List Digested) (k : ℕ) (x : Digested) (b : Buffer) (spot next : Spot) (count : ℕ)
+    → next ≡ record spot { left = spot.left - walk_work (slice_index_or ds k x).lookup count } → count ≡ length b.items
+    → record { buffer = b; spot = next } ≡ walk_charged (slice_index_or ds k x).lookup (record { buffer = b; spot = spot })
+charged_next ds k x b spot next count is same =
+    let l = (slice_index_or ds k x).lookup in
+    ap (λ (s : Spot). record { buffer = b; spot = s }) (is ∙ ap (λ n. record spot { left = spot.left - walk_work l n }) same)
+
+pub passed_over : (levels : ℕ) (ds : List Digested) (k : ℕ) (x : Digested) (here next : Walk) (run : Digest) (b : Buffer) → k < length ds
     → IsDigested (slice_index_or ds k x) → HoldsGlyphs run here.buffer.items
-    → IsApart run (slice_index_or ds k x)
+    → IsApart run (slice_index_or ds k x) → next ≡ walk_charged (slice_index_or ds k x).lookup here
     → (all_looked_up levels (lookups_in (drop k ds)) here).buffer ≡ b
-    → (all_looked_up levels (lookups_in (drop (k + 1) ds)) here).buffer ≡ b
-passed_over levels ds k x here run b more said held apart before =
+    → (all_looked_up levels (lookups_in (drop (k + 1) ds)) next).buffer ≡ b
+passed_over levels ds k x here next run b more said held apart is before =
     let d = slice_index_or ds k x in
-    let still = digest-still levels d here run said held apart in
-    sym (all-settled levels (lookups_in (drop (k + 1) ds)) (looked_up levels d.lookup here) here still)
+    let still : settled (looked_up levels d.lookup here) ≡ settled next =
+    digest-still levels d here run said held apart ∙ sym (ap settled is) in
+    sym (all-settled levels (lookups_in (drop (k + 1) ds)) (looked_up levels d.lookup here) next still)
     ∙ sym (ap (λ (rest : List Digested). (all_looked_up levels (lookups_in rest) here).buffer) (drop_more ds k x more)) ∙ before
 
 pub past_digested : (levels : ℕ) (ds : List Digested) (k : ℕ) (x : Digested) (here : Walk) (b : Buffer) → k < length ds
@@ -172,12 +195,12 @@ all-idle : (levels : ℕ) (ds : List Digested) (run : Digest) (s : Walk) → All
 all-idle levels [] run s said apart held = refl
 all-idle levels (d ∷ ds) run s said apart held =
     let still = digest-still levels d s run (said 0 d (omega arith)) held (apart 0 d (omega arith)) in
-    all-settled levels (lookups_in ds) (looked_up levels d.lookup s) s still
-    ∙ all-idle levels ds run s (λ k e inside. said (suc k) e (omega (arith, inside)))
+    all-settled levels (lookups_in ds) (looked_up levels d.lookup s) (walk_charged d.lookup s) still
+    ∙ all-idle levels ds run (walk_charged d.lookup s) (λ k e inside. said (suc k) e (omega (arith, inside)))
     (λ k e inside. apart (suc k) e (omega (arith, inside))) held
 
 pub stage_idle : (levels : ℕ) (ds : List Digested) (run : Digest) (b : Buffer) → All IsDigested ds → All (IsApart run) ds
     → HoldsGlyphs run b.items → b ≡ stage_made levels (lookups_in ds) b
 stage_idle levels ds run b said apart held =
-    sym (all-idle levels ds run (record { buffer = b; spot = record { at = 0; random = 1; left = most_nested (length b.items); whole = 0 } })
+    sym (all-idle levels ds run (record { buffer = b; spot = record { at = 0; random = 1; left = most_work (length b.items); whole = 0 } })
     said apart held)

@@ -1,11 +1,13 @@
 -- Nested lookups preserve what single ones preserve; levels and records, one by one.
 use Prim.Native.Nat.{zero}
 use Rattle.std.proofs.Common.{◌≡◌, ℕ, suc, ◌+◌, ◌-◌, ◌<◌, not, Bool, true, false, Option, Some, None, nat_eq, refl, sym, ap, ◌∙◌, arith, if◌then◌else◌}
+use Rattle.std.specs.Option.{option_map_or}
 use Rattle.shape_items.specs.Buffer.{Buffer}
 use Rattle.layout_matching.specs.Found.{is_context, found_of}
 use Rattle.layout_matching.specs.Loops.{times}
 use Rattle.layout_matching.specs.Nesting.{target_of}
 use Rattle.layout_matching.specs.Tried.{reach_of}
+use Rattle.layout_matching.specs.Work.{nested_charged}
 use Rattle.layout_matching.specs.declared.found.Found.{Found}
 use Rattle.layout_matching.specs.declared.lookup.Lookup.{Lookup}
 use Rattle.layout_matching.specs.declared.nesting.Target.{Target}
@@ -16,7 +18,7 @@ use Rattle.layout_substitution.specs.declared.apply.Spot.{Spot}
 use Rattle.layout_substitution.proofs.AppliedLemmas.{or_unapplied, applied-if}
 use Rattle.layout_substitution.proofs.KindLemmas.{lookup-preserves}
 use Rattle.layout_substitution.proofs.PreservedLemmas.{Preserves, Preserves-same, Preserves-then, Preserves-times, Preserves-broken, Preserves-concat_marked}
-use Rattle.layout_context.specs.Nested.{Nest, nested_spot, passed_record, stopped_record, nest_after, target_applied, target_done, record_step, first_nest, records_made, rule_applied, origin_of, tried_marked, first_rule_applied, level_applied, nested_applied}
+use Rattle.layout_context.specs.Nested.{Nest, nested_spot, passed_record, stopped_record, nest_after, target_within, target_applied, target_done, record_step, first_nest, records_made, rule_applied, origin_of, tried_marked, first_rule_applied, level_applied, nested_applied}
 use Rattle.layout_context.specs.declared.nested.LookupRule.{LookupRule}
 
 -- ---- what is applied next preserves
@@ -31,10 +33,13 @@ nest-if false a x y k m = m
 target-preserves : (next : Lookup → Spot → Buffer → Applied) → PreservesNext next → (s : Nest) (t : Target)
     → Preserves s.buffer (target_applied next s t).buffer
 target-preserves next each s t =
-    let spot = nested_spot s.progress.spot t.place in
     nest-if (not (is_inside t.place s.buffer)) s.buffer (record s { progress = passed_record s.progress }) _ (Preserves-same s.buffer)
-    (nest-if (nat_eq s.progress.spot.left 0) s.buffer (record s { progress = stopped_record s.progress })
-    (nest_after s t spot (next t.lookup spot s.buffer)) (Preserves-same s.buffer) (each t.lookup spot s.buffer))
+    (by_charge (nested_charged t.lookup s.buffer.items t.place s.progress.spot.left))
+  where
+    by_charge : (o : Option ℕ)
+        → Preserves s.buffer (option_map_or (target_within next s t) o (record s { progress = stopped_record s.progress })).buffer
+    by_charge None = Preserves-same s.buffer
+    by_charge (Some left) = each t.lookup (nested_spot s.progress.spot t.place left) s.buffer
 
 done-preserves : (next : Lookup → Spot → Buffer → Applied) → PreservesNext next → (s : Nest) (t : Option Target)
     → Preserves s.buffer (target_done next s t).buffer
@@ -107,14 +112,18 @@ step-past level named s past =
     past-if s.progress.stopped (record s { progress = passed_record s.progress }) _ past
     (by_target (target_of named.lookup named.rule s.places s.progress.r))
   where
+    by_charge : (t : Target) (o : Option ℕ) → is_past
+        (option_map_or (target_within (nested_applied level) s t) o (record s { progress = stopped_record s.progress })).buffer ≡ true
+    by_charge t None = past
+    by_charge t (Some left) =
+        ap (λ (a : Applied). is_past a.buffer) (nested_past level t.lookup (nested_spot s.progress.spot t.place left) s.buffer past)
+        ∙ past
+
     by_target : (t : Option Target) → is_past (target_done (nested_applied level) s t).buffer ≡ true
     by_target None = past
     by_target (Some t) =
-        let spot = nested_spot s.progress.spot t.place in
         past-if (not (is_inside t.place s.buffer)) (record s { progress = passed_record s.progress }) _ past
-        (past-if (nat_eq s.progress.spot.left 0) (record s { progress = stopped_record s.progress })
-        (nest_after s t spot (nested_applied level t.lookup spot s.buffer)) past
-        (ap (λ (a : Applied). is_past a.buffer) (nested_past level t.lookup spot s.buffer past) ∙ past))
+        (by_charge t (nested_charged t.lookup s.buffer.items t.place s.progress.spot.left))
 
 times-past : (level : ℕ) (named : LookupRule) (n : ℕ) (s : Nest) → is_past s.buffer ≡ true
     → is_past (times (record_step (nested_applied level) named) n s).buffer ≡ true

@@ -1,10 +1,11 @@
 -- Lookups that go backwards: as many items as before, and what they preserve.
 use Prim.Native.Nat.{zero}
-use Rattle.std.proofs.Common.{◌≡◌, ℕ, suc, ◌-◌, true, false, Option, Some, None, length, nat_eq, refl, ap, ◌∙◌, if◌then◌else◌}
+use Rattle.std.proofs.Common.{◌≡◌, ℕ, suc, ◌-◌, true, false, Option, Some, None, length, nat_eq, refl, ◌∙◌, if◌then◌else◌}
 use Rattle.std.specs.Option.{option_map_or}
 use Rattle.shape_items.specs.Buffer.{Buffer}
 use Rattle.layout_matching.specs.Loops.{times}
 use Rattle.layout_matching.specs.Skipping.{is_on}
+use Rattle.layout_matching.specs.Work.{lookup_charged}
 use Rattle.layout_matching.specs.declared.lookup.Lookup.{Lookup}
 use Rattle.layout_substitution.specs.Edits.{item_at, broken, concat_marked}
 use Rattle.layout_substitution.specs.Replaced.{replaced}
@@ -12,11 +13,8 @@ use Rattle.layout_substitution.proofs.AppliedLemmas.{like-replaced}
 use Rattle.layout_substitution.proofs.CopyLemmas.{length-put_at}
 use Rattle.layout_substitution.proofs.EditLemmas.{length-if, length_broken, length_concat_marked}
 use Rattle.layout_substitution.proofs.PreservedLemmas.{Preserves, Preserves-same, Preserves-then, Preserves-times, Preserves-if, Preserves-put, Preserves-broken, Preserves-concat_marked}
-use Rattle.layout_context.specs.Reverse.{Backwards, reversal_reach, reversal_found, reversed_by, first_reversed, reversed_at, reverse_step, reversed}
+use Rattle.layout_context.specs.Reverse.{Backwards, reversal_reach, reversal_found, reversed_by, first_reversed, reversed_at, reversed_within, reverse_step, reversed}
 use Rattle.layout_context.specs.declared.reverse.Reversal.{Reversal}
-
-pub buffer_of : (b : Buffer) (at : ℕ) (s : Backwards) → record { buffer = b; at = at } ≡ s → b ≡ s.buffer
-buffer_of b at s e = ap (λ (w : Backwards). w.buffer) e
 
 pub length_reversed_by : (l : Lookup) (at : ℕ) (b : Buffer) (r : Reversal) → length (reversed_by l at b r).items ≡ length b.items
 length_reversed_by l at b r = let c = broken r.start r.end b in
@@ -35,19 +33,29 @@ length_reversed_at l at b =
     length-if (is_on l (item_at b at)) (length b.items) (first_reversed l at c) b
     (length_first l at c ∙ length_concat_marked (reversal_reach l b.items at) b) refl
 
+length-within : (l : Lookup) (s : Backwards) (o : Option ℕ)
+    → length (option_map_or (reversed_within l s) o (record s { at = s.at - 1; left = 0 })).buffer.items ≡ length s.buffer.items
+length-within l s None = refl
+length-within l s (Some left) = length_reversed_at l (s.at - 1) s.buffer
+
 length-step : (l : Lookup) (s : Backwards) → length (reverse_step l s).buffer.items ≡ length s.buffer.items
-length-step l s = elim (nat_eq s.at 0) as (λ t.
-    length (if t then s else record { buffer = reversed_at l (s.at - 1) s.buffer; at = s.at - 1 }).buffer.items ≡ length s.buffer.items) [
+length-step l s =
+    let o = lookup_charged l s.buffer.items (s.at - 1) s.left in
+    elim (nat_eq s.at 0) as (λ t. length
+    (if t then s else option_map_or (reversed_within l s) o (record s { at = s.at - 1; left = 0 })).buffer.items ≡ length s.buffer.items) [
       | true ↦ refl
-      | false ↦ length_reversed_at l (s.at - 1) s.buffer
+      | false ↦ length-within l s o
     ]
 
-pub length-reversed : (l : Lookup) (b : Buffer) → length (reversed l b).items ≡ length b.items
-length-reversed l b = walk (length b.items)
+pub length-reversed : (l : Lookup) (left : ℕ) (b : Buffer) → length (reversed l left b).buffer.items ≡ length b.items
+length-reversed l left b = walk (length b.items)
   where
-    walk : (n : ℕ) → length (times (reverse_step l) n (record { buffer = b; at = length b.items })).buffer.items ≡ length b.items
+    first : Backwards
+    first = record { buffer = b; at = length b.items; left = left }
+
+    walk : (n : ℕ) → length (times (reverse_step l) n first).buffer.items ≡ length b.items
     walk zero = refl
-    walk (suc n) = length-step l (times (reverse_step l) n (record { buffer = b; at = length b.items })) ∙ walk n
+    walk (suc n) = length-step l (times (reverse_step l) n first) ∙ walk n
 
 at-preserves : (l : Lookup) (at : ℕ) (b : Buffer) → Preserves b (reversed_at l at b)
 at-preserves l at b =
@@ -62,13 +70,20 @@ at-preserves l at b =
         Preserves-then b c (reversed_by l at b r) (Preserves-broken r.start r.end b)
         (Preserves-put at (replaced l 0 r.glyph (item_at c at)) c (like-replaced l 0 r.glyph (item_at c at)))
 
+within-preserves : (l : Lookup) (s : Backwards) (o : Option ℕ)
+    → Preserves s.buffer (option_map_or (reversed_within l s) o (record s { at = s.at - 1; left = 0 })).buffer
+within-preserves l s None = Preserves-same s.buffer
+within-preserves l s (Some left) = at-preserves l (s.at - 1) s.buffer
+
 step-preserves : (l : Lookup) (s : Backwards) → Preserves s.buffer (reverse_step l s).buffer
-step-preserves l s = elim (nat_eq s.at 0) as (λ t.
-    Preserves s.buffer (if t then s else record { buffer = reversed_at l (s.at - 1) s.buffer; at = s.at - 1 }).buffer) [
+step-preserves l s =
+    let o = lookup_charged l s.buffer.items (s.at - 1) s.left in
+    elim (nat_eq s.at 0) as (λ t. Preserves s.buffer
+    (if t then s else option_map_or (reversed_within l s) o (record s { at = s.at - 1; left = 0 })).buffer) [
       | true ↦ Preserves-same s.buffer
-      | false ↦ at-preserves l (s.at - 1) s.buffer
+      | false ↦ within-preserves l s o
     ]
 
-pub reversed-preserves : (l : Lookup) (b : Buffer) → Preserves b (reversed l b)
-reversed-preserves l b = Preserves-times (λ (s : Backwards). s.buffer) (reverse_step l) (step-preserves l) (length b.items)
-    (record { buffer = b; at = length b.items })
+pub reversed-preserves : (l : Lookup) (left : ℕ) (b : Buffer) → Preserves b (reversed l left b).buffer
+reversed-preserves l left b = Preserves-times (λ (s : Backwards). s.buffer) (reverse_step l) (step-preserves l) (length b.items)
+    (record { buffer = b; at = length b.items; left = left })

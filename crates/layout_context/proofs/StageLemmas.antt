@@ -1,7 +1,8 @@
 -- Lookups over a buffer and stages, step by step.
-use Rattle.std.proofs.Common.{◌≡◌, ℕ, suc, ◌+◌, ◌<◌, ◌≤◌, Bool, true, false, List, [], ◌∷◌, length, nat_lt, refl, sym, ap, ◌∙◌, subst, inl, arith, if◌then◌else◌, Result, Ok, Err, drop, slice_index_or}
+use Rattle.std.proofs.Common.{◌≡◌, ℕ, suc, ◌+◌, ◌<◌, ◌≤◌, Bool, true, false, List, [], ◌∷◌, Option, Some, None, length, nat_lt, refl, sym, ap, ◌∙◌, subst, inl, arith, if◌then◌else◌, Result, Ok, Err, drop, slice_index_or}
 use Rattle.std.proofs.lemmas.Bool.Decides.{nat_tests}
 use Rattle.std.proofs.lemmas.List.{drop_more}
+use Rattle.std.specs.Option.{option_map_or}
 use Rattle.std.specs.Prelude.{IsErrOf, OnOk}
 use Rattle.shape_items.specs.Buffer.{Buffer, limit_of}
 use Rattle.shape_items.specs.Clusters.{clusters}
@@ -12,6 +13,7 @@ use Rattle.shape_buffer.specs.declared.buffer.error.ShapeError.{ShapeError}
 use Rattle.shape_buffer.specs.declared.buffer.error.ShapeError.TheVariants.{Memory, Length}
 use Rattle.layout_matching.specs.Loops.{times}
 use Rattle.layout_matching.specs.Skipping.{is_on}
+use Rattle.layout_matching.specs.Work.{lookup_charged, walk_work, most_work}
 use Rattle.layout_matching.specs.declared.lookup.Lookup.{Lookup}
 use Rattle.layout_matching.proofs.LoopLemmas.{times_still, times_stays}
 use Rattle.layout_substitution.specs.Applied.{Applied}
@@ -21,7 +23,7 @@ use Rattle.layout_substitution.proofs.KindLemmas.{limit-preserves}
 use Rattle.layout_substitution.proofs.PreservedLemmas.{Preserves, Preserves-same, Preserves-then, Preserves-times}
 use Rattle.layout_context.specs.Nested.{nested_applied}
 use Rattle.layout_context.specs.Reverse.{is_reverse, reversed}
-use Rattle.layout_context.specs.Stages.{Walk, passed, gone_on, lookup_step, first_walk, walked, looked_up, all_looked_up, most_nested, stage_made, substituted}
+use Rattle.layout_context.specs.Stages.{Walk, passed, with_left, tried_within, tried, lookup_step, first_walk, walked, gone_back, gone_over, walk_charged, looked_up, all_looked_up, stage_made, substituted}
 use Rattle.layout_context.proofs.NestedLemmas.{nested-preserves}
 use Rattle.layout_context.proofs.ReverseLemmas.{length-reversed, reversed-preserves}
 
@@ -47,17 +49,24 @@ walked-past f l s past =
     times_still (lookup_step f l) (length s.buffer.items) start (past_still f l start past) in
     ap (λ (w : Walk). is_past w.buffer) still ∙ past
 
-reversed-past : (l : Lookup) (b : Buffer) → is_past b ≡ true → is_past (reversed l b) ≡ true
-reversed-past l b past =
-    ap (λ n. nat_lt n (length (reversed l b).items)) (limit-preserves b (reversed l b) (reversed-preserves l b))
-    ∙ ap (λ n. nat_lt (limit_of b) n) (length-reversed l b) ∙ past
+reversed-past : (l : Lookup) (left : ℕ) (b : Buffer) → is_past b ≡ true → is_past (reversed l left b).buffer ≡ true
+reversed-past l left b past =
+    let after = (reversed l left b).buffer in
+    ap (λ n. nat_lt n (length after.items)) (limit-preserves b after (reversed-preserves l left b))
+    ∙ ap (λ n. nat_lt (limit_of b) n) (length-reversed l left b) ∙ past
 
-looked-past : (levels : ℕ) (l : Lookup) (s : Walk) → is_past s.buffer ≡ true → is_past (looked_up levels l s).buffer ≡ true
-looked-past levels l s past = elim (is_reverse l) as (λ t.
-    is_past (if t then record s { buffer = reversed l s.buffer } else walked (nested_applied levels l) l s).buffer ≡ true) [
-      | true ↦ reversed-past l s.buffer past
+over-past : (levels : ℕ) (l : Lookup) (s : Walk) → is_past s.buffer ≡ true → is_past (gone_over levels l s).buffer ≡ true
+over-past levels l s past = elim (is_reverse l) as (λ t.
+    is_past (if t then gone_back s (reversed l s.spot.left s.buffer) else walked (nested_applied levels l) l s).buffer ≡ true) [
+      | true ↦ reversed-past l s.spot.left s.buffer past
       | false ↦ walked-past (nested_applied levels l) l s past
     ]
+
+looked-past : (levels : ℕ) (l : Lookup) (s : Walk) → is_past s.buffer ≡ true → is_past (looked_up levels l s).buffer ≡ true
+looked-past levels l s past =
+    let t = walk_charged l s in
+    elim (nat_lt s.spot.left (walk_work l (length s.buffer.items))) as (λ u. is_past (if u then t else gone_over levels l t).buffer ≡ true)
+    [ true ↦ past | false ↦ over-past levels l t past ]
 
 pub past_all : (levels : ℕ) (ls : List Lookup) (s : Walk) → is_past s.buffer ≡ true → is_past (all_looked_up levels ls s).buffer ≡ true
 past_all levels [] s past = past
@@ -78,20 +87,33 @@ walk-if : (t : Bool) (a : Buffer) (x y : Walk) → Preserves a x.buffer → Pres
 walk-if true a x y k m = k
 walk-if false a x y k m = m
 
+tried-preserves : (levels : ℕ) (l : Lookup) (s : Walk) → Preserves s.buffer (tried (nested_applied levels l) l s).buffer
+tried-preserves levels l s = by_charge (lookup_charged l s.buffer.items s.spot.at s.spot.left)
+  where
+    by_charge : (o : Option ℕ)
+        → Preserves s.buffer (option_map_or (tried_within (nested_applied levels l) s) o (passed (with_left 0 s))).buffer
+    by_charge None = Preserves-same s.buffer
+    by_charge (Some left) = nested-preserves levels l (with_left left s).spot s.buffer
+
 step-preserves : (levels : ℕ) (l : Lookup) (s : Walk) → Preserves s.buffer (lookup_step (nested_applied levels l) l s).buffer
 step-preserves levels l s =
     walk-if (is_past s.buffer) s.buffer s _ (Preserves-same s.buffer)
     (walk-if (is_inside s.spot.at s.buffer) s.buffer _ s
-    (walk-if (is_on l (item_at s.buffer s.spot.at)) s.buffer (gone_on s (nested_applied levels l s.spot s.buffer)) (passed s)
-    (nested-preserves levels l s.spot s.buffer) (Preserves-same s.buffer))
+    (walk-if (is_on l (item_at s.buffer s.spot.at)) s.buffer (tried (nested_applied levels l) l s) (passed s)
+    (tried-preserves levels l s) (Preserves-same s.buffer))
     (Preserves-same s.buffer))
+
+over-preserves : (levels : ℕ) (l : Lookup) (s : Walk) → Preserves s.buffer (gone_over levels l s).buffer
+over-preserves levels l s =
+    walk-if (is_reverse l) s.buffer (gone_back s (reversed l s.spot.left s.buffer)) (walked (nested_applied levels l) l s)
+    (reversed-preserves l s.spot.left s.buffer)
+    (Preserves-times (λ (w : Walk). w.buffer) (lookup_step (nested_applied levels l) l) (step-preserves levels l)
+    (length s.buffer.items) (first_walk s))
 
 looked-preserves : (levels : ℕ) (l : Lookup) (s : Walk) → Preserves s.buffer (looked_up levels l s).buffer
 looked-preserves levels l s =
-    walk-if (is_reverse l) s.buffer (record s { buffer = reversed l s.buffer }) (walked (nested_applied levels l) l s)
-    (reversed-preserves l s.buffer)
-    (Preserves-times (λ (w : Walk). w.buffer) (lookup_step (nested_applied levels l) l) (step-preserves levels l)
-    (length s.buffer.items) (first_walk s))
+    walk-if (nat_lt s.spot.left (walk_work l (length s.buffer.items))) s.buffer (walk_charged l s) (gone_over levels l (walk_charged l s))
+    (Preserves-same s.buffer) (over-preserves levels l (walk_charged l s))
 
 all-preserves : (levels : ℕ) (ls : List Lookup) (s : Walk) → Preserves s.buffer (all_looked_up levels ls s).buffer
 all-preserves levels [] s = Preserves-same s.buffer
@@ -102,7 +124,7 @@ all-preserves levels (l ∷ ls) s =
 
 pub stage-preserves : (levels : ℕ) (ls : List Lookup) (b : Buffer) → Preserves b (stage_made levels ls b)
 stage-preserves levels ls b =
-    all-preserves levels ls (record { buffer = b; spot = record { at = 0; random = 1; left = most_nested (length b.items); whole = 0 } })
+    all-preserves levels ls (record { buffer = b; spot = record { at = 0; random = 1; left = most_work (length b.items); whole = 0 } })
 
 -- ---- outcomes
 

@@ -7,6 +7,7 @@ use Rattle.layout_matching.specs.Found.{is_context, found_of}
 use Rattle.layout_matching.specs.Loops.{times}
 use Rattle.layout_matching.specs.Nesting.{target_of, places_of}
 use Rattle.layout_matching.specs.Tried.{reach_of}
+use Rattle.layout_matching.specs.Work.{nested_charged}
 use Rattle.layout_matching.specs.declared.found.Found.{Found}
 use Rattle.layout_matching.specs.declared.lookup.Lookup.{Lookup}
 use Rattle.layout_matching.specs.declared.nesting.Target.{Target}
@@ -29,8 +30,9 @@ pub record Nest : Type 0 where
 abbrev pub passed_record : Progress → Progress
 passed_record p = record p { r = p.r + 1 }
 
+-- once what is left doesn't suffice, nothing is left
 abbrev pub stopped_record : Progress → Progress
-stopped_record p = record p { stopped = true; r = p.r + 1 }
+stopped_record p = record p { spot = record p.spot { left = 0 }; stopped = true; r = p.r + 1 }
 
 -- after a lookup that was applied at a glyph, or wasn't
 abbrev pub settled : Target → ℕ → ℕ → List ℕ → Spot → Progress → Progress
@@ -48,15 +50,17 @@ nest_after s t spot made = let before = length s.buffer.items in let after = len
   progress = settled t before after s.places (unwrap_or made.next spot) s.progress;
 }
 
--- a nested lookup counts, whether it is applied or not
-abbrev pub nested_spot : Spot → ℕ → Spot
-nested_spot spot place = record spot { at = place; left = spot.left - 1 }
+abbrev pub nested_spot : Spot → ℕ → ℕ → Spot
+nested_spot spot place left = record spot { at = place; left = left }
 
+abbrev pub target_within : (Lookup → Spot → Buffer → Applied) → Nest → Target → ℕ → Nest
+target_within next s t left = let spot = nested_spot s.progress.spot t.place left in nest_after s t spot (next t.lookup spot s.buffer)
+
+-- a nested lookup is charged for, whether it applies or not
 abbrev pub target_applied : (Lookup → Spot → Buffer → Applied) → Nest → Target → Nest
-target_applied next s t = let spot = nested_spot s.progress.spot t.place in
-    if not (is_inside t.place s.buffer) then record s { progress = passed_record s.progress }
-    else (if nat_eq s.progress.spot.left 0 then record s { progress = stopped_record s.progress }
-    else nest_after s t spot (next t.lookup spot s.buffer))
+target_applied next s t = if not (is_inside t.place s.buffer) then record s { progress = passed_record s.progress }
+    else option_map_or (target_within next s t) (nested_charged t.lookup s.buffer.items t.place s.progress.spot.left)
+    (record s { progress = stopped_record s.progress })
 
 abbrev pub target_done : (Lookup → Spot → Buffer → Applied) → Nest → Option Target → Nest
 target_done next s None = record s { progress = passed_record s.progress }

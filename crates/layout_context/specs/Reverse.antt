@@ -13,6 +13,7 @@ use Rattle.layout_matching.specs.Skipping.{nth, is_on}
 use Rattle.layout_matching.specs.Seeking.{last_after, last_before}
 use Rattle.layout_matching.specs.Spans.{seek_around, span_of}
 use Rattle.layout_matching.specs.Tried.{untried, match_at, vain, until_matched, after_end}
+use Rattle.layout_matching.specs.Work.{lookup_charged}
 use Rattle.layout_matching.specs.declared.lookup.Lookup.{Lookup}
 use Rattle.layout_matching.specs.declared.rules.Rule.{Rule}
 use Rattle.layout_matching.specs.declared.rules.Test.TheVariants.{Coverage}
@@ -84,16 +85,22 @@ first_reversed l at b = option_map_or (reversed_by l at b) (reversal_found l b.i
 abbrev pub reversed_at : Lookup → ℕ → Buffer → Buffer
 reversed_at l at b = if is_on l (item_at b at) then first_reversed l at (concat_marked (reversal_reach l b.items at) b) else b
 
--- the item before the place, and then the place is there
+-- the item before the place, and then the place is there; what is left for the lookups to come
 pub record Backwards : Type 0 where
   pub buffer : Buffer
   pub at : ℕ
+  pub left : ℕ
 
+abbrev pub reversed_within : Lookup → Backwards → ℕ → Backwards
+reversed_within l s left = record { buffer = reversed_at l (s.at - 1) s.buffer; at = s.at - 1; left = left }
+
+-- where what is left suffices for what the lookup may try there, it is tried; else nothing is left
 abbrev pub reverse_step : Lookup → Backwards → Backwards
-reverse_step l s = if nat_eq s.at 0 then s else record { buffer = reversed_at l (s.at - 1) s.buffer; at = s.at - 1 }
+reverse_step l s = if nat_eq s.at 0 then s
+    else option_map_or (reversed_within l s) (lookup_charged l s.buffer.items (s.at - 1) s.left) (record s { at = s.at - 1; left = 0 })
 
-abbrev pub reversed : Lookup → Buffer → Buffer
-reversed l b = (times (reverse_step l) (length b.items) (record { buffer = b; at = length b.items })).buffer
+abbrev pub reversed : Lookup → ℕ → Buffer → Backwards
+reversed l left b = times (reverse_step l) (length b.items) (record { buffer = b; at = length b.items; left = left })
 
 -- a lookup that goes backwards, by its type
 abbrev pub is_reverse : Lookup → Bool

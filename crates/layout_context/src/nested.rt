@@ -1,8 +1,8 @@
 //! Lookups that apply others where a rule matches (kinds 5 and 6).
 //!
 //! Each nested lookup may change how many items there are: then the places of the glyphs that the rule matched, and where it goes
-//! on, move along. A rule goes no further when it would hold more than 64 glyphs, when no more nested lookups may be
-//! applied, or when the list passes the limit of the run.
+//! on, move along. A rule goes no further when it would hold more than 64 glyphs, when what is left doesn't suffice for a nested
+//! lookup, or when the list passes the limit of the run.
 ghost use Rattle.std.specs.Prelude.{◌≡◌, ◌<◌, ◌≤◌, ◌-◌, ◌^◌, ◌+◌, length, true, false, map, OnOk, IfOk, IsErrOf, IsOkUnless};
 ghost use Rattle.std.specs.Option.{unwrap_or};
 ghost use Rattle.shape_items.specs.Buffer.{limit_of};
@@ -21,6 +21,7 @@ use layout_matching::nesting::{Target, places, target_at};
 use layout_matching::reaching::reach_at;
 use layout_matching::rules::Rule;
 use layout_matching::spans::Origin;
+use layout_matching::work::nested_charged;
 use layout_substitution::apply::Spot;
 use layout_substitution::edits::{asks_for_concat, break_span, concat_span, next_place};
 use layout_substitution::kinds::apply_lookup;
@@ -58,17 +59,18 @@ fn stopped_record(progress: Progress) -> Progress
     ensures { result ≡ stopped_record_of progress }
 {
     let mut next = progress;
+    next.spot.left = 0;
     next.stopped = true;
     next.r += 1;
     next
 }
 
-fn nested_spot(spot: Spot, place: usize) -> Spot
-    ensures { result ≡ nested_spot_of spot place }
+fn nested_spot(spot: Spot, place: usize, left: usize) -> Spot
+    ensures { result ≡ nested_spot_of spot place left }
 {
     let mut next = spot;
     next.at = place;
-    next.left = spot.left.saturating_sub(1);
+    next.left = left;
     next
 }
 
@@ -100,7 +102,7 @@ fn settle(
     Ok(next)
 }
 
-/// Applies the lookup that a record names.
+/// Applies the lookup that a record names, if what is left suffices for what it may try.
 #[cycle(nesting)]
 fn apply_target(
     alloc: Global,
@@ -124,10 +126,11 @@ fn apply_target(
     if before <= there.place {
         return Ok(passed_record(progress));
     }
-    if progress.spot.left == 0 {
+    let has = progress.spot.left;
+    let Some(left) = nested_charged(&there.lookup, &buffer.items(), there.place, has) else {
         return Ok(stopped_record(progress));
-    }
-    let spot = nested_spot(progress.spot, there.place);
+    };
+    let spot = nested_spot(progress.spot, there.place, left);
     match apply_nested(alloc, level, &there.lookup, buffer, spot) {
         Err(error) => Err(error),
         Ok(next) => {

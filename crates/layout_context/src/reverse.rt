@@ -12,6 +12,7 @@ use layout_matching::lookup::Lookup;
 use layout_matching::rules::{Row, Rule, Test};
 use layout_matching::skipping::is_on;
 use layout_matching::spans::{Origin, Span, span_at};
+use layout_matching::work::lookup_charged;
 use layout_substitution::apply::put_glyph;
 use layout_substitution::edits::{break_span, item};
 use layout_substitution::substitutes::{count, listed};
@@ -24,6 +25,13 @@ pub struct Reversal {
     pub glyph: u32,
     pub start: usize,
     pub end: usize,
+}
+
+/// Where a walk backwards stands, after the next item, and what is left for the lookups to come.
+#[derive(Clone, Copy, PartialEq, Eq, Debug)]
+pub struct Backward {
+    pub at: usize,
+    pub left: usize,
 }
 
 fn lists(start: usize, count: u16, values: usize) -> Row
@@ -166,31 +174,42 @@ fn reverse_at(lookup: &Lookup<'_>, buffer: &mut GapBuffer, at: usize)
     }
 }
 
-/// Goes over a buffer from its last item to its first.
-#[tactic(auto, using(layout_matching::proofs::LoopLemmas::times_step, crate::proofs::ReverseLemmas::buffer_of))]
-pub fn reverse(lookup: &Lookup<'_>, buffer: &mut GapBuffer)
+/// Goes over a buffer from its last item to its first. Returns what is left.
+#[tactic(auto, using(layout_matching::proofs::LoopLemmas::times_step))]
+pub fn reverse(lookup: &Lookup<'_>, buffer: &mut GapBuffer, left: usize) -> usize
     requires near { lookup.now.place < 2 ^ 17 }
-    ensures { buffer.new ≡ reversed lookup.now buffer.old }
+    ensures made { buffer.new ≡ (reversed lookup.now left buffer.old).buffer }
+    ensures left { result ≡ (reversed lookup.now left buffer.old).left }
 {
-    let mut at = buffer.len();
+    let mut back = Backward {
+        at: buffer.len(),
+        left,
+    };
     for _i in 0..buffer.len() {
-        at = reverse_one(lookup, buffer, at);
+        back = reverse_one(lookup, buffer, back);
     }
+    back.left
 }
 
-/// Replaces the glyph before `at`, if there is one. Returns its place.
-fn reverse_one(lookup: &Lookup<'_>, buffer: &mut GapBuffer, at: usize) -> usize
+/// Replaces the glyph before a place, if there is one, and what is left suffices for what the lookup may try there.
+fn reverse_one(lookup: &Lookup<'_>, buffer: &mut GapBuffer, back: Backward) -> Backward
     requires near { lookup.now.place < 2 ^ 17 }
-    requires inside { at ≤ length buffer.old.items }
-    ensures step { record { buffer = buffer.new; at = result }
-        ≡ reverse_step lookup.now (record { buffer = buffer.old; at = at }) }
-    ensures inside { result ≤ length buffer.new.items }
+    requires inside { back.at ≤ length buffer.old.items }
+    ensures step { record { buffer = buffer.new; at = result.at; left = result.left }
+        ≡ reverse_step lookup.now (record { buffer = buffer.old; at = back.at; left = back.left }) }
+    ensures inside { result.at ≤ length buffer.new.items }
 {
-    if at == 0 {
-        return 0;
+    if back.at == 0 {
+        return back;
     }
-    reverse_at(lookup, buffer, at - 1);
-    at - 1
+    let at = back.at - 1;
+    match lookup_charged(lookup, &buffer.items(), at, back.left) {
+        Some(left) => {
+            reverse_at(lookup, buffer, at);
+            Backward { at, left }
+        }
+        None => Backward { at, left: 0 },
+    }
 }
 
 /// Whether the lookup goes backwards, by its type.

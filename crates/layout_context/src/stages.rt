@@ -1,27 +1,25 @@
 //! Lookups over a buffer, nested ones included, and stages of lookups.
-ghost use Rattle.std.specs.Prelude.{◌≡◌, ◌<◌, ◌^◌, length, true, false, IfOk, IsErrOf, IsOkUnless, OnOk, All};
+ghost use Rattle.std.specs.Prelude.{◌≡◌, ◌<◌, ◌-◌, ◌^◌, length, true, false, IfOk, IsErrOf, IsOkUnless, OnOk, All};
 ghost use Rattle.shape_buffer.specs.Outcome.{IsWithinLimit, Outcome, step};
 ghost use Rattle.shape_buffer.specs.declared.buffer.error.ShapeError.TheVariants.{Length};
+ghost use Rattle.layout_matching.specs.Work.{walk_work as walk_work_of};
 ghost use Rattle.layout_substitution.specs.Edits.{is_past};
 ghost use Rattle.layout_context.specs.Nested.{nested_applied};
-ghost use Rattle.layout_context.specs.Stages.{next_spot as next_spot_of, lookup_step, walked, looked_up, most_nested as most_nested_of, stage_made, substituted, most_levels};
+ghost use Rattle.layout_context.specs.Stages.{next_spot as next_spot_of, tried, lookup_step, walked, gone_over, looked_up, stage_made, substituted, most_levels};
 ghost use Rattle.layout_context.specs.Digested.{IsDigested, IsApart, HoldsGlyphs, lookups_in};
 
 use crate::nested::apply_nested;
 use crate::reverse::{is_reverse, reverse};
 use layout_buffer::{GapBuffer, ItemList};
 use layout_digests::{Digest, Digested};
+use layout_matching::lookup::Lookup;
 use layout_matching::skipping::is_on;
+use layout_matching::work::{lookup_charged, most_work, walk_work};
 use layout_substitution::apply::Spot;
 use layout_substitution::edits::item;
 use shape_buffer::{ShapeError, hb_buffer_t};
 use std::alloc::Global;
 
-/// How many nested lookups may be applied in a stage for each item that it begins with.
-const MAX_OPS_FACTOR: usize = 1024;
-
-/// How many may be, however few items there are.
-const MAX_OPS_MIN: usize = 16384;
 
 fn next_spot(spot: Spot, count: usize) -> Spot
     requires { spot.at < count }
@@ -30,6 +28,40 @@ fn next_spot(spot: Spot, count: usize) -> Spot
     let mut next = spot;
     next.at += 1;
     next
+}
+
+fn with_left(spot: Spot, left: usize) -> Spot
+    ensures { result ≡ record spot { left = left } }
+{
+    let mut next = spot;
+    next.left = left;
+    next
+}
+
+/// Applies the lookup at one place, if what is left suffices for what it may try there. Else nothing is left.
+fn try_at(
+    alloc: Global,
+    levels: u32,
+    lookup: &Lookup<'_>,
+    buffer: &mut GapBuffer,
+    spot: Spot,
+) -> Result<Spot, ShapeError>
+    requires near { lookup.now.place < 2 ^ 17 }
+    requires inside { spot.at < length buffer.old.items }
+    ensures ok { IfOk result (λ next. record { buffer = buffer.new; spot = next }
+        ≡ tried (nested_applied levels lookup.now) lookup.now (record { buffer = buffer.old; spot = spot })) }
+    ensures length { IsErrOf result Length → is_past (tried (nested_applied levels lookup.now) lookup.now
+        (record { buffer = buffer.old; spot = spot })).buffer ≡ true }
+{
+    let next = next_spot(spot, buffer.len());
+    let Some(left) = lookup_charged(lookup, &buffer.items(), spot.at, spot.left) else {
+        return Ok(with_left(next, 0));
+    };
+    match apply_nested(alloc, levels, lookup, buffer, with_left(spot, left)) {
+        Err(error) => Err(error),
+        Ok(Some(there)) => Ok(there),
+        Ok(None) => Ok(with_left(next, left)),
+    }
 }
 
 /// Applies the lookup at one place, or goes on to the next item. Where its digest doesn't hold the glyph, no table is read.
@@ -57,11 +89,7 @@ fn step_on(
     if !is_on(&named.lookup, &item) {
         return Ok(next);
     }
-    match apply_nested(alloc, levels, &named.lookup, buffer, spot) {
-        Err(error) => Err(error),
-        Ok(Some(there)) => Ok(there),
-        Ok(None) => Ok(next),
-    }
+    try_at(alloc, levels, &named.lookup, buffer, spot)
 }
 
 /// Goes over a buffer from its first item on.
@@ -95,6 +123,35 @@ fn walk(
 }
 
 /// Goes over a buffer, forwards or backwards.
+fn go_over(
+    alloc: Global,
+    levels: u32,
+    named: &Digested<'_>,
+    buffer: &mut GapBuffer,
+    spot: Spot,
+) -> Result<Spot, ShapeError>
+    requires said { IsDigested named.now }
+    ensures ok { IfOk result (λ next. record { buffer = buffer.new; spot = next }
+        ≡ gone_over levels named.now.lookup (record { buffer = buffer.old; spot = spot })) }
+    ensures length { IsErrOf result Length
+        → is_past (gone_over levels named.now.lookup (record { buffer = buffer.old; spot = spot })).buffer ≡ true }
+{
+    if is_reverse(&named.lookup) {
+        let left = reverse(&named.lookup, buffer, spot.left);
+        return Ok(with_left(spot, left));
+    }
+    walk(alloc, levels, named, buffer, spot)
+}
+
+/// What is left after a walk over so many items was charged for.
+fn charge_walk(lookup: &Lookup<'_>, count: usize, spot: Spot) -> Spot
+    requires { lookup.now.place < 2 ^ 17 }
+    ensures { result ≡ record spot { left = spot.left - walk_work_of lookup.now count } }
+{
+    with_left(spot, spot.left.saturating_sub(walk_work(lookup, count)))
+}
+
+/// Goes over a buffer, if what is left suffices for a walk. Else nothing is left.
 fn look_up(
     alloc: Global,
     levels: u32,
@@ -108,18 +165,11 @@ fn look_up(
     ensures length { IsErrOf result Length
         → is_past (looked_up levels named.now.lookup (record { buffer = buffer.old; spot = spot })).buffer ≡ true }
 {
-    if is_reverse(&named.lookup) {
-        reverse(&named.lookup, buffer);
-        return Ok(spot);
+    let after = charge_walk(&named.lookup, buffer.len(), spot);
+    if spot.left < walk_work(&named.lookup, buffer.len()) {
+        return Ok(after);
     }
-    walk(alloc, levels, named, buffer, spot)
-}
-
-/// How many nested lookups may be applied in a stage that begins with `n` items.
-fn most_nested(n: usize) -> usize
-    ensures { result ≡ most_nested_of n }
-{
-    n.saturating_mul(MAX_OPS_FACTOR).max(MAX_OPS_MIN)
+    go_over(alloc, levels, named, buffer, after)
 }
 
 /// A digest that holds the glyphs of a list.
@@ -158,12 +208,13 @@ fn look_all_up(
     let mut spot = Spot {
         at: 0,
         random: 1,
-        left: most_nested(buffer.len()),
+        left: most_work(buffer.len()),
         whole: 0,
     };
     let mut run = run;
     for named in lookups {
         if !run.may_share(&named.digest) {
+            spot = charge_walk(&named.lookup, buffer.len(), spot);
             continue;
         }
         match look_up(alloc, levels, named, buffer, spot) {

@@ -1,3 +1,4 @@
 pub mod LoopLemmas
 pub mod PlaceLemmas
 pub mod ReachLemmas
+pub mod WorkLemmas

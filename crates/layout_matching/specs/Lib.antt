@@ -7,4 +7,5 @@ pub mod Spans
 pub mod Found
 pub mod Nesting
 pub mod Tried
+pub mod Work
 pub mod Worked

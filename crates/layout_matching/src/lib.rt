@@ -3,6 +3,7 @@
 //! [`skipping`] says which glyphs a lookup sees, [`seeking`] finds the next glyph that is looked for, [`input`] what a rule or
 //! a ligature matches, [`spans`] what stands around that, [`rules`] reads the rules of context, [`found`] has the first rule
 //! that matches, and [`nesting`] the lookups that it names. [`tried`] and [`reaching`] say how far searches in vain looked.
+//! [`work`] says what a lookup is charged for, by [`tally`] of its rules and by [`passing`] of glyphs beside a place.
 //! All are functions of the bytes of the font and of the list of items: nothing is changed. Any bytes are taken.
 #![tactic(auto)]
 #![allow(non_camel_case_types)]
@@ -11,10 +12,13 @@ pub mod found;
 pub mod input;
 pub mod lookup;
 pub mod nesting;
+pub mod passing;
 pub mod reaching;
 pub mod rules;
 pub mod seeking;
 pub mod skipping;
 pub mod spans;
+pub mod tally;
 pub mod tried;
+pub mod work;
 pub mod worked;

@@ -1,5 +1,6 @@
 //! The definitions, computed by hand.
 ghost use Rattle.layout_matching.specs.Worked.{WorkedNullClasses, WorkedEnds, WorkedTypes};
+ghost use Rattle.layout_matching.specs.Worked.Work.{WorkedWork};
 
 /// Rules of context: a NULL ClassDef has all glyphs in class 0, and a rule that leads past the end of the table matches nothing.
 pub fn rules_meet_worked_cases()
@@ -10,4 +11,9 @@ pub fn rules_meet_worked_cases()
 /// Lookups of context, by the type of a lookup whose first subtable is NULL.
 pub fn types_meet_worked_cases()
     ensures { WorkedTypes }
+{}
+
+/// What lookups are charged for at a place, by rule, ligature and subtable, and what is passed over beside it.
+pub fn work_meets_worked_cases()
+    ensures { WorkedWork }
 {}

@@ -1,19 +1,20 @@
 -- a lookup whose digest holds no glyph of the list may be passed over, and a place whose glyph it doesn't hold
 use Prim.Native.Nat.{zero}
-use Rattle.std.proofs.Common.{◌≡◌, ℕ, ◌+◌, ◌<◌, ◌^◌, Bool, true, false, List, [], ◌∷◌, length, nat_eq, nat_lt, fold, refl, sym, ap, ◌∙◌, subst, arith, drop, slice_index_or, map}
+use Rattle.std.proofs.Common.{◌≡◌, ℕ, ◌+◌, ◌-◌, ◌<◌, ◌^◌, Bool, true, false, List, [], ◌∷◌, length, nat_eq, nat_lt, fold, refl, sym, ap, ◌∙◌, subst, arith, if◌then◌else◌, drop, slice_index_or, map}
 use Rattle.std.proofs.lemmas.Bool.Decides.{nat_tests}
 use Rattle.std.proofs.lemmas.List.{drop_more}
 use Rattle.shape_items.specs.Buffer.{Buffer}
 use Rattle.shape_items.specs.Items.{Item}
 use Rattle.layout_matching.specs.Loops.{times}
 use Rattle.layout_matching.specs.Skipping.{nth}
+use Rattle.layout_matching.specs.Work.{walk_work}
 use Rattle.layout_matching.specs.declared.lookup.Lookup.{Lookup}
 use Rattle.layout_digests.specs.Digests.{has, IsWithin}
 use Rattle.layout_digests.specs.declared.digest.Digest.{Digest}
 use Rattle.layout_digests.specs.declared.digested.Digested.{Digested}
 use Rattle.layout_positions.specs.Digested.{IsOut, IsDigested, HoldsFirst, HoldsGlyphs, lookups_in}
 use Rattle.layout_positions.specs.Uncovered.{IsUncovered}
-use Rattle.layout_positions.specs.Walk.{Walk, lookup_step, Budgeted, first_walk, lookup_applied}
+use Rattle.layout_positions.specs.Walk.{Walk, lookup_step, Budgeted, first_walk, gone_over, walk_charged, lookup_applied}
 use Rattle.layout_positions.proofs.UncoveredLemmas.{step-unlisted, lookup-uncovered}
 
 pub step_out : (l : Lookup) (s : Walk) → IsOut l (nth s.buffer.items s.at).glyph_id → nat_lt s.at (length s.buffer.items) ≡ true
@@ -37,29 +38,41 @@ applied_on ds k x here next made more before is =
 
 -- in an empty list nothing is done, whatever the lookup is
 digest-idle : (d : Digested) (here : Budgeted) (run : Digest) → IsDigested d → HoldsGlyphs run here.buffer.items
-    → ((g : ℕ) → has run g ≡ true → has d.digest g ≡ false) → lookup_applied here d.lookup ≡ here
+    → ((g : ℕ) → has run g ≡ true → has d.digest g ≡ false) → lookup_applied here d.lookup ≡ walk_charged here d.lookup
 digest-idle d here run said held apart = by_length (nat_eq (length here.buffer.items) 0) refl
   where
     out_at : (i : ℕ) → i < length here.buffer.items → IsOut d.lookup (nth here.buffer.items i).glyph_id
     out_at i inside = said.out (nth here.buffer.items i).glyph_id (apart (nth here.buffer.items i).glyph_id (held i inside))
 
     end : ℕ → Budgeted
-    end n = let w = times (lookup_step d.lookup) n (first_walk here) in record { buffer = w.buffer; left = w.left }
+    end n = let w = times (lookup_step d.lookup) n (first_walk (walk_charged here d.lookup)) in record { buffer = w.buffer; left = w.left }
 
-    by_length : (t : Bool) → nat_eq (length here.buffer.items) 0 ≡ t → lookup_applied here d.lookup ≡ here
-    by_length true e = let none : length here.buffer.items ≡ 0 = grind (arith, nat_tests, e) in ap end none
-    by_length false e = lookup-uncovered d.lookup here.buffer here.left (record {
+    by_length : (t : Bool) → nat_eq (length here.buffer.items) 0 ≡ t → lookup_applied here d.lookup ≡ walk_charged here d.lookup
+    by_length true e =
+        let none : length here.buffer.items ≡ 0 = grind (arith, nat_tests, e) in
+        let after = walk_charged here d.lookup in
+        elim (nat_lt here.left (walk_work d.lookup (length here.buffer.items))) as
+        (λ t. (if t then after else gone_over after d.lookup) ≡ after) [ true ↦ refl | false ↦ ap end none ]
+    by_length false e = lookup-uncovered d.lookup here (record {
       positioning = (out_at 0 (grind (arith, nat_tests, e))).positions;
       glyphs = λ i inside. (out_at i inside).unlisted;
     })
 
-pub passed_over : (ds : List Digested) (k : ℕ) (x : Digested) (here made : Budgeted) (run : Digest) → k < length ds
+pub charged_next : (ds : List Digested) (k : ℕ) (x : Digested) (b : Buffer) (left next count : ℕ)
+    → next ≡ left - walk_work (slice_index_or ds k x).lookup count → count ≡ length b.items
+    → record { buffer = b; left = next } ≡ walk_charged (record { buffer = b; left = left }) (slice_index_or ds k x).lookup
+charged_next ds k x b left next count is same =
+    let l = (slice_index_or ds k x).lookup in
+    ap (λ n. record { buffer = b; left = n }) (is ∙ ap (λ n. left - walk_work l n) same)
+
+pub passed_over : (ds : List Digested) (k : ℕ) (x : Digested) (here next made : Budgeted) (run : Digest) → k < length ds
     → IsDigested (slice_index_or ds k x) → HoldsGlyphs run here.buffer.items
     → ((g : ℕ) → has run g ≡ true → has (slice_index_or ds k x).digest g ≡ false)
+    → next ≡ walk_charged here (slice_index_or ds k x).lookup
     → fold lookup_applied here (lookups_in (drop k ds)) ≡ made
-    → fold lookup_applied here (lookups_in (drop (k + 1) ds)) ≡ made
-passed_over ds k x here made run more said held apart before =
-    applied_on ds k x here here made more before (sym (digest-idle (slice_index_or ds k x) here run said held apart))
+    → fold lookup_applied next (lookups_in (drop (k + 1) ds)) ≡ made
+passed_over ds k x here next made run more said held apart is before =
+    applied_on ds k x here next made more before (is ∙ sym (digest-idle (slice_index_or ds k x) here run said held apart))
 
 -- the set of all glyphs serves any lookup
 pub every_said : (d : Digested) → d.lookup.place < 2 ^ 17 → ((glyph : ℕ) → has d.digest glyph ≡ true) → IsDigested d

@@ -7,13 +7,14 @@ use Rattle.layout_matching.specs.Found.{found_of, is_context}
 use Rattle.layout_matching.specs.Loops.{times}
 use Rattle.layout_matching.specs.Skipping.{nth, is_on}
 use Rattle.layout_matching.specs.Tried.{reach_of}
+use Rattle.layout_matching.specs.Work.{lookup_charged, nested_charged, walk_work}
 use Rattle.layout_matching.specs.declared.found.Found.{Found}
 use Rattle.layout_matching.specs.declared.lookup.Lookup.{Lookup}
 use Rattle.layout_matching.specs.declared.rules.Rule.{Rule}
 use Rattle.layout_positions.specs.Edits.{broken, concat_marked}
-use Rattle.layout_positions.specs.Nested.{named_place, named_lookup, Nest, skipped, record_at_place, record_for, record_step, rule_placed, origin_at, tried_concat_marked, first_rule_placed, level_placed, LEVELS, nested_placed}
+use Rattle.layout_positions.specs.Nested.{named_place, named_lookup, Nest, skipped, spent, record_within, record_at_place, record_for, record_step, rule_placed, origin_at, tried_concat_marked, first_rule_placed, level_placed, LEVELS, nested_placed}
 use Rattle.layout_positions.specs.Subtables.{Placing, unplaced, lookup_placed}
-use Rattle.layout_positions.specs.Walk.{Walk, lookup_step, Budgeted, first_walk, lookup_applied, budgeted, positioned}
+use Rattle.layout_positions.specs.Walk.{Walk, tried_within, lookup_step, Budgeted, first_walk, gone_over, walk_charged, lookup_applied, budgeted, positioned}
 use Rattle.layout_positions.specs.declared.bases.BaseSeen.{BaseSeen}
 
 module _ (P : Buffer → Buffer → Type 0) (same : (b : Buffer) → P b b) (after : (a b c : Buffer) → P a b → P b c → P a c)
@@ -44,7 +45,11 @@ module _ (P : Buffer → Buffer → Type 0) (same : (b : Buffer) → P b b) (aft
 
   step-place : (next : Lookup → ℕ → ℕ → BaseSeen → Buffer → Placing) → Preserves next → (s : Nest) (other : Lookup) (place : ℕ)
       → P s.buffer (record_at_place next s other place).buffer
-  step-place next preserves s other place = preserves other place (s.left - 1) s.seen s.buffer
+  step-place next preserves s other place = by_charge (nested_charged other s.buffer.items place s.left)
+    where
+      by_charge : (o : Option ℕ) → P s.buffer (option_map_or (record_within next s other place) o (spent s)).buffer
+      by_charge None = same s.buffer
+      by_charge (Some left) = preserves other place left s.seen s.buffer
 
   step-for : (next : Lookup → ℕ → ℕ → BaseSeen → Buffer → Placing) → Preserves next → (s : Nest) (other : Lookup) (o : Option ℕ)
       → P s.buffer (option_map_or (record_at_place next s other) o (skipped s)).buffer
@@ -101,15 +106,26 @@ module _ (P : Buffer → Buffer → Type 0) (same : (b : Buffer) → P b b) (aft
       placing-if (nat_lt i (length b.items)) b (level_placed (nested_placed level) l i left seen b) (unplaced left seen b)
       (step-level (nested_placed level) (step-nested level) l i left seen b) (same b)
 
+  step-try : (l : Lookup) (s : Walk) (o : Option ℕ)
+      → P s.buffer (option_map_or (tried_within l s) o (record s { at = s.at + 1; left = 0 })).buffer
+  step-try l s None = same s.buffer
+  step-try l s (Some left) = step-nested LEVELS l s.at left s.seen s.buffer
+
   step-walk : (l : Lookup) (s : Walk) → P s.buffer (lookup_step l s).buffer
   step-walk l s =
       walk-if (nat_lt s.at (length s.buffer.items)) s.buffer _ s
       (walk-if (is_on l (nth s.buffer.items s.at)) s.buffer _ (record s { at = s.at + 1 })
-      (step-nested LEVELS l s.at s.left s.seen s.buffer) (same s.buffer))
+      (step-try l s (lookup_charged l s.buffer.items s.at s.left)) (same s.buffer))
       (same s.buffer)
 
+  step-over : (l : Lookup) (s : Budgeted) → P s.buffer (gone_over s l).buffer
+  step-over l s = times-step (λ (w : Walk). w.buffer) (lookup_step l) (step-walk l) (length s.buffer.items) (first_walk s)
+
   step-lookup : (l : Lookup) (s : Budgeted) → P s.buffer (lookup_applied s l).buffer
-  step-lookup l s = times-step (λ (w : Walk). w.buffer) (lookup_step l) (step-walk l) (length s.buffer.items) (first_walk s)
+  step-lookup l s =
+      let t = walk_charged s l in
+      elim (nat_lt s.left (walk_work l (length s.buffer.items))) as (λ u. P s.buffer (if u then t else gone_over t l).buffer)
+      [ true ↦ same s.buffer | false ↦ step-over l t ]
 
   step-lookups : (lookups : List Lookup) (s : Budgeted) → P s.buffer (fold lookup_applied s lookups).buffer
   step-lookups [] s = same s.buffer

@@ -13,6 +13,8 @@ use Rattle.layout_matching.specs.Loops.{times, first_some}
 use Rattle.layout_matching.specs.Skipping.{nth, is_on}
 use Rattle.layout_matching.specs.Tried.{untried, whole_reach, number_reach, sets_reach, subtable_reach, reach_at_subtable, reach_of}
 use Rattle.layout_digests.proofs.TriedLemmas.{until_untried_below}
+use Rattle.layout_matching.specs.Work.{subtable_charged, charged_at_subtable, lookup_charged, walk_work}
+use Rattle.layout_matching.proofs.WorkLemmas.{subtable_free, lookup_free}
 use Rattle.layout_matching.specs.declared.lookup.Lookup.{Lookup}
 use Rattle.layout_matching.specs.declared.spans.Origin.{Origin}
 use Rattle.layout_matching.specs.declared.tried.Reach.{Reach}
@@ -25,7 +27,7 @@ use Rattle.layout_positions.specs.Nested.{rule_placed, origin_at, tried_concat_m
 use Rattle.layout_positions.specs.Pairs.{single_value, single_put, single_applied, pair_at_number, has_pairs, pair_applied}
 use Rattle.layout_positions.specs.Subtables.{if_first_format, kind_applied, looks_for_base, seen_at, Trial, subtable_tried, next_tried, trial_of, trial_step, lookup_tried, Placing, unplaced, placed_by, lookup_placed}
 use Rattle.layout_positions.specs.Uncovered.{is_listed_at, rule_lists, subtable_lists, IsUnlisted, IsUncovered}
-use Rattle.layout_positions.specs.Walk.{Walk, gone_on, lookup_step, Budgeted, first_walk, lookup_applied, budgeted, positioned}
+use Rattle.layout_positions.specs.Walk.{Walk, gone_on, tried_within, tried, lookup_step, Budgeted, first_walk, gone_over, walk_charged, lookup_applied, budgeted, positioned}
 use Rattle.layout_positions.specs.declared.bases.BaseSeen.{BaseSeen}
 
 same-if : {X : Type 0} (t : Bool) (x y z : X) → x ≡ z → y ≡ z → (if t then x else y) ≡ z
@@ -252,14 +254,34 @@ nested-un (suc level) l i left seen b gpos un =
 abbrev passed : Walk → Walk
 passed s = record s { at = s.at + 1 }
 
+-- a lookup that doesn't list the glyph is charged for nothing
+charged-un : (l : Lookup) (items : List Item) (at left : ℕ) → l.positioning ≡ true → IsUnlisted l (nth items at).glyph_id
+    → lookup_charged l items at left ≡ Some left
+charged-un l items at left gpos un = lookup_free l items at left free
+  where
+    by_subtable : (k : ℕ) → k < subtable_count_of l.table.now l.place → (o : Option LookupSubtable)
+        → subtable_of l.table.now 9 l.place k ≡ o → option_map_or (subtable_charged l items at left) o (Some left) ≡ Some left
+    by_subtable k below None e = refl
+    by_subtable k below (Some subtable) e = subtable_free l items at left subtable (un k subtable below e)
+
+    free : (k : ℕ) → k < subtable_count_of l.table.now l.place → charged_at_subtable l items at k left ≡ Some left
+    free k below =
+        let far : extension_kind l ≡ 9 = ap (λ t. if t then 9 else 7) gpos in
+        ap (λ kind. option_map_or (subtable_charged l items at left) (subtable_of l.table.now kind l.place k) (Some left)) far
+        ∙ by_subtable k below (subtable_of l.table.now 9 l.place k) refl
+
+try-un : (l : Lookup) (s : Walk) → l.positioning ≡ true → IsUnlisted l (nth s.buffer.items s.at).glyph_id → tried l s ≡ passed s
+try-un l s gpos un =
+    ap (λ o. option_map_or (tried_within l s) o (record s { at = s.at + 1; left = 0 }))
+    (charged-un l s.buffer.items s.at s.left gpos un)
+    ∙ ap (gone_on s.at) (nested-un LEVELS l s.at s.left s.seen s.buffer gpos un)
+
 -- at a glyph that no subtable lists
 pub step-unlisted : (l : Lookup) (s : Walk) → l.positioning ≡ true → IsUnlisted l (nth s.buffer.items s.at).glyph_id
     → nat_lt s.at (length s.buffer.items) ≡ true → lookup_step l s ≡ record s { at = s.at + 1 }
 step-unlisted l s gpos un inside =
-    ap (λ t. if t then (if is_on l (nth s.buffer.items s.at) then gone_on s.at (nested_placed LEVELS l s.at s.left s.seen s.buffer)
-    else passed s) else s) inside
-    ∙ same-if (is_on l (nth s.buffer.items s.at)) (gone_on s.at (nested_placed LEVELS l s.at s.left s.seen s.buffer)) (passed s) (passed s)
-    (ap (gone_on s.at) (nested-un LEVELS l s.at s.left s.seen s.buffer gpos un)) refl
+    ap (λ t. if t then (if is_on l (nth s.buffer.items s.at) then tried l s else passed s) else s) inside
+    ∙ same-if (is_on l (nth s.buffer.items s.at)) (tried l s) (passed s) (passed s) (try-un l s gpos un) refl
 
 -- a walk that has changed nothing
 record IsIdle (b : Buffer) (budget : ℕ) (s : Walk) : Type 0 where
@@ -277,8 +299,7 @@ step-un l b left un s idle = by_place (nat_lt s.at (length s.buffer.items)) refl
         let is : lookup_step l s ≡ passed s = step-unlisted l s un.positioning listed e in
         subst (IsIdle b left) (sym is) (record { buffer = idle.buffer; left = idle.left })
     by_place false e =
-        let is : lookup_step l s ≡ s = ap (λ t. if t then (if is_on l (nth s.buffer.items s.at)
-        then gone_on s.at (nested_placed LEVELS l s.at s.left s.seen s.buffer) else passed s) else s) e in
+        let is : lookup_step l s ≡ s = ap (λ t. if t then (if is_on l (nth s.buffer.items s.at) then tried l s else passed s) else s) e in
         subst (IsIdle b left) (sym is) idle
 
 walk-un : (l : Lookup) (b : Buffer) (left : ℕ) → IsUncovered b l → (n : ℕ) (s : Walk) → IsIdle b left s → IsIdle b left (times (lookup_step l) n s)
@@ -286,21 +307,27 @@ walk-un l b left un zero s idle = idle
 walk-un l b left un (suc n) s idle = step-un l b left un (times (lookup_step l) n s) (walk-un l b left un n s idle)
 
 -- a lookup that covers none leaves all as it is
-pub lookup-uncovered : (l : Lookup) (b : Buffer) (left : ℕ) → IsUncovered b l
-    → lookup_applied (record { buffer = b; left = left }) l ≡ record { buffer = b; left = left }
-lookup-uncovered l b left un =
+over-uncovered : (l : Lookup) (b : Buffer) (left : ℕ) → IsUncovered b l
+    → gone_over (record { buffer = b; left = left }) l ≡ record { buffer = b; left = left }
+over-uncovered l b left un =
     let s : Budgeted = record { buffer = b; left = left } in
     let end = walk-un l b left un (length b.items) (first_walk s) (record { buffer = refl; left = refl }) in
     ap (λ (c : Buffer). record { buffer = c; left = (times (lookup_step l) (length b.items) (first_walk s)).left }) end.buffer
     ∙ ap (λ n. record { buffer = b; left = n }) end.left
 
-lookups-un : (lookups : List Lookup) (b : Buffer) (left : ℕ) → All (IsUncovered b) lookups
-    → fold lookup_applied (record { buffer = b; left = left }) lookups ≡ record { buffer = b; left = left }
-lookups-un [] b left all = refl
-lookups-un (l ∷ lookups) b left all =
-    let first : IsUncovered b l = all 0 l (omega arith) in
-    ap (λ s. fold lookup_applied s lookups) (lookup-uncovered l b left first)
-    ∙ lookups-un lookups b left (λ k d inside. all (suc k) d (omega (arith, inside)))
+-- its walk is charged for all the same
+pub lookup-uncovered : (l : Lookup) (s : Budgeted) → IsUncovered s.buffer l → lookup_applied s l ≡ walk_charged s l
+lookup-uncovered l s un =
+    let t = walk_charged s l in
+    same-if (nat_lt s.left (walk_work l (length s.buffer.items))) t (gone_over t l) t refl (over-uncovered l s.buffer t.left un)
+
+lookups-un : (lookups : List Lookup) (s : Budgeted) → All (IsUncovered s.buffer) lookups
+    → (fold lookup_applied s lookups).buffer ≡ s.buffer
+lookups-un [] s all = refl
+lookups-un (l ∷ lookups) s all =
+    let first : IsUncovered s.buffer l = all 0 l (omega arith) in
+    ap (λ t. (fold lookup_applied t lookups).buffer) (lookup-uncovered l s first)
+    ∙ lookups-un lookups (walk_charged s l) (λ k d inside. all (suc k) d (omega (arith, inside)))
 
 pub positioned-uncovered : (lookups : List Lookup) (b : Buffer) → All (IsUncovered b) lookups → positioned lookups b ≡ b
-positioned-uncovered lookups b all = ap (λ (s : Budgeted). s.buffer) (lookups-un lookups b (budgeted b).left all)
+positioned-uncovered lookups b all = lookups-un lookups (budgeted b) all

@@ -1,9 +1,9 @@
 -- Lookups of context, which apply others where a rule matches (OpenType, `GPOS`, lookup types 7 and 8).
 use Prim.Native.Nat.{zero}
-use Rattle.std.specs.Prelude.{ℕ, suc, true, List, Option, Some, None, ◌+◌, ◌-◌, ◌*◌, max, min, length, nat_eq, nat_lt, if◌then◌else◌}
+use Rattle.std.specs.Prelude.{ℕ, suc, true, List, Option, Some, None, ◌+◌, length, nat_eq, nat_lt, if◌then◌else◌}
 use Rattle.std.specs.Option.{option_map, option_map_or}
 use Rattle.shape_font.specs.Bytes.{u16_of}
-use Rattle.shape_items.specs.Buffer.{Buffer, most_countable}
+use Rattle.shape_items.specs.Buffer.{Buffer}
 use Rattle.shape_items.specs.Items.{Item}
 use Rattle.layout_tables.specs.Lookups.{lookup_of}
 use Rattle.layout_matching.specs.Found.{found_of, is_context}
@@ -13,6 +13,7 @@ use Rattle.layout_matching.specs.Nesting.{lookup_with, record_at}
 use Rattle.layout_matching.specs.Seeking.{last_after}
 use Rattle.layout_matching.specs.Skipping.{nth}
 use Rattle.layout_matching.specs.Tried.{reach_of}
+use Rattle.layout_matching.specs.Work.{nested_charged}
 use Rattle.layout_matching.specs.declared.found.Found.{Found}
 use Rattle.layout_matching.specs.declared.lookup.Lookup.{Lookup}
 use Rattle.layout_matching.specs.declared.rules.Rule.{Rule}
@@ -36,7 +37,7 @@ named_lookup l rule r = option_map (lookup_with l) (lookup_of l.table.now (u16_o
 
 -- ---- the records of a rule, one after the other
 
--- a buffer, the base that was seen last, and how many lookups may still be named
+-- a buffer, the base that was seen last, and what is left for lookups that are named
 pub record Nest : Type 0 where
   pub buffer : Buffer
   pub seen : BaseSeen
@@ -49,13 +50,22 @@ skipped s = record s { r = s.r + 1 }
 abbrev pub nest_of : Nest → Placing → Nest
 nest_of s made = record { buffer = made.buffer; seen = made.seen; left = made.left; r = s.r + 1 }
 
+-- once what is left doesn't suffice, nothing is left
+abbrev pub spent : Nest → Nest
+spent s = record s { left = 0; r = s.r + 1 }
+
+abbrev pub record_within : (Lookup → ℕ → ℕ → BaseSeen → Buffer → Placing) → Nest → Lookup → ℕ → ℕ → Nest
+record_within next s other place left = nest_of s (next other place left s.seen s.buffer)
+
+-- a lookup is charged for, whether it applies or not
 abbrev pub record_at_place : (Lookup → ℕ → ℕ → BaseSeen → Buffer → Placing) → Nest → Lookup → ℕ → Nest
-record_at_place next s other place = nest_of s (next other place (s.left - 1) s.seen s.buffer)
+record_at_place next s other place =
+    option_map_or (record_within next s other place) (nested_charged other s.buffer.items place s.left) (spent s)
 
 abbrev pub record_for : (Lookup → ℕ → ℕ → BaseSeen → Buffer → Placing) → Lookup → ℕ → Rule → Nest → Lookup → Nest
 record_for next l at rule s other = option_map_or (record_at_place next s other) (named_place l s.buffer.items at rule s.r) (skipped s)
 
--- nothing is done once no lookup may be named
+-- nothing is done once nothing is left
 abbrev pub record_step : (Lookup → ℕ → ℕ → BaseSeen → Buffer → Placing) → Lookup → ℕ → Rule → Nest → Nest
 record_step next l at rule s = if nat_eq s.left 0 then skipped s
     else option_map_or (record_for next l at rule s) (named_lookup l rule s.r) (skipped s)
@@ -92,7 +102,3 @@ nested_placed (suc level) l i left seen b =
 -- 64 levels below a lookup of the plan
 abbrev pub LEVELS : ℕ
 LEVELS = 65
-
--- so many lookups may be named for each glyph, and so many at least
-abbrev pub most_named : ℕ → ℕ
-most_named count = max (min (count * 1024) most_countable) 16384

@@ -60,7 +60,7 @@ abbrev pub lookup_tried : Lookup → ℕ → BaseSeen → Buffer → Trial
 lookup_tried l i seen b = times (trial_step l i) (subtable_count_of l.table.now l.place)
     (record { buffer = b; next = None; seen = seen; subtable = 0 })
 
--- what a lookup leaves: where it goes on, the base that was seen last, and how many lookups rules may still name
+-- what a lookup leaves: where it goes on, the base that was seen last, and what is left for the lookups to come
 pub record Placing : Type 0 where
   pub buffer : Buffer
   pub next : Option ℕ

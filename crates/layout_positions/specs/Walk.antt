@@ -1,13 +1,14 @@
 -- Lookups over a buffer, one after the other.
-use Rattle.std.specs.Prelude.{ℕ, pos, List, None, ◌+◌, ◌<◌, ◌^◌, length, nat_lt, fold, if◌then◌else◌}
+use Rattle.std.specs.Prelude.{ℕ, pos, List, None, ◌+◌, ◌-◌, ◌<◌, ◌^◌, length, nat_lt, fold, if◌then◌else◌}
 use Rattle.std.specs.Option.{option_map_or}
 use Rattle.shape_common.specs.declared.positions.GlyphPosition.{GlyphPosition}
 use Rattle.shape_items.specs.Buffer.{Buffer}
 use Rattle.shape_buffer.specs.PositionWalks.{positions_mapped}
 use Rattle.layout_matching.specs.Loops.{times}
 use Rattle.layout_matching.specs.Skipping.{nth, is_on}
+use Rattle.layout_matching.specs.Work.{lookup_charged, walk_work, most_work}
 use Rattle.layout_matching.specs.declared.lookup.Lookup.{Lookup}
-use Rattle.layout_positions.specs.Nested.{LEVELS, most_named, nested_placed}
+use Rattle.layout_positions.specs.Nested.{LEVELS, nested_placed}
 use Rattle.layout_positions.specs.Subtables.{Placing}
 use Rattle.layout_positions.specs.declared.bases.BaseSeen.{BaseSeen}
 
@@ -21,7 +22,7 @@ started = positions_mapped (λ _ p. unattached p)
 
 -- ---- lookups
 
--- a buffer, and how many lookups rules may still name
+-- a buffer, and what is left for the lookups to come
 pub record Budgeted : Type 0 where
   pub buffer : Buffer
   pub left : ℕ
@@ -35,12 +36,18 @@ pub record Walk : Type 0 where
 abbrev pub gone_on : ℕ → Placing → Walk
 gone_on at made = record { buffer = made.buffer; at = option_map_or (λ next. next) made.next (at + 1); seen = made.seen; left = made.left }
 
+-- where what is left suffices for what the lookup may try there, it is tried; else nothing is left
+abbrev pub tried_within : Lookup → Walk → ℕ → Walk
+tried_within l s left = gone_on s.at (nested_placed LEVELS l s.at left s.seen s.buffer)
+
+abbrev pub tried : Lookup → Walk → Walk
+tried l s = option_map_or (tried_within l s) (lookup_charged l s.buffer.items s.at s.left) (record s { at = s.at + 1; left = 0 })
+
 -- at each place where the lookup is on it applies, or goes on to the next glyph
 abbrev pub lookup_step : Lookup → Walk → Walk
 lookup_step l s =
     if nat_lt s.at (length s.buffer.items)
-    then (if is_on l (nth s.buffer.items s.at) then gone_on s.at (nested_placed LEVELS l s.at s.left s.seen s.buffer)
-    else record s { at = s.at + 1 })
+    then (if is_on l (nth s.buffer.items s.at) then tried l s else record s { at = s.at + 1 })
     else s
 
 abbrev pub none_seen : BaseSeen
@@ -49,13 +56,20 @@ none_seen = record { until = 0; place = None }
 abbrev pub first_walk : Budgeted → Walk
 first_walk s = record { buffer = s.buffer; at = 0; seen = none_seen; left = s.left }
 
-abbrev pub lookup_applied : Budgeted → Lookup → Budgeted
-lookup_applied s l = let end = times (lookup_step l) (length s.buffer.items) (first_walk s) in
+abbrev pub gone_over : Budgeted → Lookup → Budgeted
+gone_over s l = let end = times (lookup_step l) (length s.buffer.items) (first_walk s) in
     record { buffer = end.buffer; left = end.left }
 
--- lookups one after the other; the rules of all of them share one bound
+-- a walk is charged for, whatever it finds; if what is left doesn't suffice, it isn't made, and nothing is left
+abbrev pub walk_charged : Budgeted → Lookup → Budgeted
+walk_charged s l = record s { left = s.left - walk_work l (length s.buffer.items) }
+
+abbrev pub lookup_applied : Budgeted → Lookup → Budgeted
+lookup_applied s l = if nat_lt s.left (walk_work l (length s.buffer.items)) then walk_charged s l else gone_over (walk_charged s l) l
+
+-- lookups one after the other; all of them share one bound
 abbrev pub budgeted : Buffer → Budgeted
-budgeted b = record { buffer = b; left = most_named (length b.items) }
+budgeted b = record { buffer = b; left = most_work (length b.items) }
 
 abbrev pub positioned : List Lookup → Buffer → Buffer
 positioned lookups b = (fold lookup_applied (budgeted b) lookups).buffer

@@ -5,7 +5,7 @@
 //! again where a record names it, and no list of places is kept.
 ghost use Rattle.std.specs.Prelude.{◌≡◌, ◌<◌, ◌+◌, ◌^◌, length};
 ghost use Rattle.std.specs.Option.{IfSome};
-ghost use Rattle.layout_positions.specs.Nested.{matched_place as matched_place_of, named_place as named_place_of, named_lookup as named_lookup_of, record_step, rule_placed, origin_at as origin_at_of, tried_concat_marked, first_rule_placed, level_placed, nested_placed, most_named as most_named_of};
+ghost use Rattle.layout_positions.specs.Nested.{matched_place as matched_place_of, named_place as named_place_of, named_lookup as named_lookup_of, record_step, rule_placed, origin_at as origin_at_of, tried_concat_marked, first_rule_placed, level_placed, nested_placed};
 ghost use Rattle.layout_matching.specs.Loops.{times};
 
 use crate::edits::{asks_for_concat, break_between, concat_between};
@@ -21,6 +21,7 @@ use layout_matching::rules::Rule;
 use layout_matching::seeking::last_after;
 use layout_matching::skipping::item_at;
 use layout_matching::spans::Origin;
+use layout_matching::work::nested_charged;
 use layout_tables::lookups::lookup;
 use shape_buffer::{hb_buffer_t, hb_glyph_info_t};
 use shape_font::bytes::u16_at;
@@ -31,14 +32,6 @@ pub struct Site<'a> {
     pub lookup: Lookup<'a>,
     pub rule: Rule,
     pub at: usize,
-}
-
-/// How many lookups the rules of all lookups may name in a list of so many glyphs: a bound on the
-/// time that a font can take.
-pub fn most_named(count: usize) -> usize
-    ensures { result ≡ most_named_of count }
-{
-    count.saturating_mul(1024).max(16384)
 }
 
 /// Where glyph number `index` of those that the rule matches stands.
@@ -78,7 +71,7 @@ fn named_lookup<'a>(site: &Site<'a>, r: u32) -> Option<Lookup<'a>>
     }
 }
 
-/// Applies what record `r` of a rule names, at the glyph that it names.
+/// Applies what record `r` of a rule names, at the glyph that it names, if what is left suffices for what it may try.
 #[cycle(nesting)]
 fn apply_record(
     level: u32,
@@ -101,11 +94,15 @@ fn apply_record(
     };
     match named_place(site, buffer.infos(), r) {
         Some(place) => {
-            let fewer = Carried {
-                seen: carried.seen,
-                left: carried.left - 1,
-            };
-            apply_nested(level, &other, buffer, place, fewer).carried
+            let seen = carried.seen;
+            let items = ItemList::of_slice(buffer.infos());
+            match nested_charged(&other, &items, place, carried.left) {
+                Some(left) => {
+                    let fewer = Carried { seen, left };
+                    apply_nested(level, &other, buffer, place, fewer).carried
+                }
+                None => Carried { seen, left: 0 },
+            }
         }
         None => carried,
     }

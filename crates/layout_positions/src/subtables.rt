@@ -18,7 +18,7 @@ pub struct Placed {
     pub seen: BaseSeen,
 }
 
-/// The base that was seen last, and how many lookups may still be named by rules.
+/// The base that was seen last, and what is left for the lookups to come.
 #[derive(Clone, Copy)]
 pub struct Carried {
     pub seen: BaseSeen,

@@ -1,14 +1,19 @@
 //! Positioning: no glyph is attached at first; then lookups go over the buffer, one after the other.
-ghost use Rattle.std.specs.Prelude.{◌≡◌, ◌<◌, ◌^◌, fold, length, All};
+ghost use Rattle.std.specs.Prelude.{◌≡◌, ◌<◌, ◌-◌, ◌^◌, fold, length, All};
 ghost use Rattle.shape_buffer.specs.Outcome.{Made};
-ghost use Rattle.layout_positions.specs.Walk.{unattached as unattached_of, started, lookup_step, lookup_applied, budgeted, positioned};
+ghost use Rattle.layout_matching.specs.Work.{walk_work as walk_work_of};
+ghost use Rattle.layout_positions.specs.Walk.{unattached as unattached_of, started, tried, lookup_step, gone_over, lookup_applied, budgeted, positioned};
 ghost use Rattle.layout_positions.specs.Digested.{IsDigested, HoldsGlyphs, lookups_in};
 
 use crate::bases::BaseSeen;
-use crate::nested::{apply_nested, most_named};
+use crate::nested::apply_nested;
+use crate::places::after;
 use crate::subtables::Carried;
+use layout_buffer::ItemList;
 use layout_digests::{Digest, Digested};
+use layout_matching::lookup::Lookup;
 use layout_matching::skipping::{is_on, item_at};
+use layout_matching::work::{lookup_charged, most_work, walk_work};
 use shape_buffer::position_walks::update_positions;
 use shape_buffer::{GlyphPosition, hb_buffer_t, hb_glyph_info_t};
 
@@ -40,6 +45,41 @@ pub fn position_start(buffer: &mut hb_buffer_t)
     update_positions(buffer, |_info, position| unattached(position));
 }
 
+/// Applies a lookup at a place of the walk, if what is left suffices for what it may try there. Else nothing is left.
+fn try_at(lookup: &Lookup<'_>, buffer: &mut hb_buffer_t, spot: Spot) -> Spot
+    requires near { lookup.now.place < 2 ^ 17 }
+    requires inside { spot.at < length buffer.old.items }
+    ensures { record {
+      buffer = buffer.new;
+      at = result.at;
+      seen = result.carried.seen;
+      left = result.carried.left;
+    } ≡ tried lookup.now (record {
+      buffer = buffer.old;
+      at = spot.at;
+      seen = spot.carried.seen;
+      left = spot.carried.left;
+    }) }
+{
+    let next = after(buffer.len(), spot.at);
+    let seen = spot.carried.seen;
+    let items = ItemList::of_slice(buffer.infos());
+    let Some(left) = lookup_charged(lookup, &items, spot.at, spot.carried.left) else {
+        return Spot {
+            at: next,
+            carried: Carried { seen, left: 0 },
+        };
+    };
+    let outcome = apply_nested(LEVELS, lookup, buffer, spot.at, Carried { seen, left });
+    Spot {
+        at: match outcome.next {
+            Some(there) => there,
+            None => next,
+        },
+        carried: outcome.carried,
+    }
+}
+
 /// Applies a lookup at a place of the walk, or goes on to the next glyph. Where its digest doesn't hold the glyph, no table
 /// is read.
 fn step_on(named: &Digested<'_>, buffer: &mut hb_buffer_t, spot: Spot) -> Spot
@@ -59,9 +99,8 @@ fn step_on(named: &Digested<'_>, buffer: &mut hb_buffer_t, spot: Spot) -> Spot
     if buffer.len() <= spot.at {
         return spot;
     }
-    let next = spot.at + 1;
     let passed = Spot {
-        at: next,
+        at: spot.at + 1,
         carried: spot.carried,
     };
     let item = item_at(buffer.infos(), spot.at);
@@ -71,23 +110,15 @@ fn step_on(named: &Digested<'_>, buffer: &mut hb_buffer_t, spot: Spot) -> Spot
     if !is_on(&named.lookup, &item) {
         return passed;
     }
-    let outcome = apply_nested(LEVELS, &named.lookup, buffer, spot.at, spot.carried);
-    Spot {
-        at: match outcome.next {
-            Some(there) => there,
-            None => next,
-        },
-        carried: outcome.carried,
-    }
+    try_at(&named.lookup, buffer, spot)
 }
 
-/// Goes over a buffer with a lookup, from its first glyph on, whose rules may name so many others.
-/// Returns how many may still be named.
+/// Goes over a buffer with a lookup, from its first glyph on. Returns what is left.
 #[tactic(auto, using(layout_matching::proofs::LoopLemmas::times_step))]
-pub fn apply_over(named: &Digested<'_>, buffer: &mut hb_buffer_t, left: usize) -> usize
+fn go_over(named: &Digested<'_>, buffer: &mut hb_buffer_t, left: usize) -> usize
     requires { IsDigested named.now }
     ensures { record { buffer = buffer.new; left = result }
-        ≡ lookup_applied (record { buffer = buffer.old; left = left }) named.now.lookup }
+        ≡ gone_over (record { buffer = buffer.old; left = left }) named.now.lookup }
 {
     let seen = BaseSeen {
         until: 0,
@@ -103,6 +134,27 @@ pub fn apply_over(named: &Digested<'_>, buffer: &mut hb_buffer_t, left: usize) -
     spot.carried.left
 }
 
+/// What is left after a walk over so many items was charged for.
+fn charge_walk(lookup: &Lookup<'_>, count: usize, left: usize) -> usize
+    requires { lookup.now.place < 2 ^ 17 }
+    ensures { result ≡ left - walk_work_of lookup.now count }
+{
+    left.saturating_sub(walk_work(lookup, count))
+}
+
+/// Goes over a buffer with a lookup, if what is left suffices for a walk. Else nothing is left. Returns what is left.
+pub fn apply_over(named: &Digested<'_>, buffer: &mut hb_buffer_t, left: usize) -> usize
+    requires { IsDigested named.now }
+    ensures { record { buffer = buffer.new; left = result }
+        ≡ lookup_applied (record { buffer = buffer.old; left = left }) named.now.lookup }
+{
+    let after = charge_walk(&named.lookup, buffer.len(), left);
+    if left < walk_work(&named.lookup, buffer.len()) {
+        return after;
+    }
+    go_over(named, buffer, after)
+}
+
 /// A digest that holds the glyphs of a list.
 #[tactic(auto, using(crate::proofs::DigestLemmas::one_held))]
 fn run_digest(items: &[hb_glyph_info_t]) -> Digest
@@ -115,7 +167,7 @@ fn run_digest(items: &[hb_glyph_info_t]) -> Digest
     all
 }
 
-/// Goes over a buffer with each lookup; the rules of all of them share one bound. A lookup whose digest shares no glyph with
+/// Goes over a buffer with each lookup; all of them share one bound. A lookup whose digest shares no glyph with
 /// the buffer is passed over.
 #[tactic(auto, using(crate::proofs::DigestLemmas::applied_on, crate::proofs::DigestLemmas::passed_over))]
 fn apply_each(lookups: &[Digested<'_>], buffer: &mut hb_buffer_t) -> usize
@@ -123,10 +175,11 @@ fn apply_each(lookups: &[Digested<'_>], buffer: &mut hb_buffer_t) -> usize
     ensures { record { buffer = buffer.new; left = result }
         ≡ fold lookup_applied (budgeted buffer.old) (lookups_in lookups.now) }
 {
-    let mut left = most_named(buffer.len());
+    let mut left = most_work(buffer.len());
     let mut run = run_digest(buffer.infos());
     for named in lookups {
         if !run.may_share(&named.digest) {
+            left = charge_walk(&named.lookup, buffer.len(), left);
             continue;
         }
         left = apply_over(named, buffer, left);

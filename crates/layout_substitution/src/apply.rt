@@ -24,7 +24,7 @@ pub struct Spot {
     pub at: usize,
     /// The random state, by which alternates are picked.
     pub random: u32,
-    /// How many more nested lookups may be applied.
+    /// How much may still be asked for in the stage: what is charged for is taken off.
     pub left: usize,
     /// How many items there were when the lookup began.
     pub whole: usize,

@@ -7,7 +7,8 @@ use Rattle.shape_items.specs.Items.{Item, new_properties}
 use Rattle.layout_matching.specs.declared.lookup.Lookup.{Lookup}
 use Rattle.layout_substitution.specs.Replaced.{is_multiplied, as_ligature}
 use Rattle.layout_context.specs.Covered.{subtable_covers}
-use Rattle.layout_context.specs.Stages.{most_nested, stage_made, substituted}
+use Rattle.layout_matching.specs.Work.{most_work}
+use Rattle.layout_context.specs.Stages.{stage_made, substituted}
 use Rattle.layout_context.specs.Worked.Contexts.{HoldsOf, with_second, chained_lists, in_syllable, per_syllable}
 use Rattle.layout_context.specs.Worked.Chains.{chained_glyphs}
 use Rattle.layout_context.specs.Worked.Lookups.{lookup_words, ligatures, single_1, on, glyph, off, mark, zwnj, zwj, glyphs, after}
@@ -43,12 +44,12 @@ pub record WorkedJoiners : Type 0 where
 pub worked_joiners : WorkedJoiners
 unfolding merge is_multiplied as_ligature
 worked_joiners = record {
-  over_an_ignorable = λ l t g. rw (t, g) (refl {a = 51 ∷ 3 ∷ []});
-  stopped_by_a_hidden_one = λ l t g. rw t refl;
-  manual_zwj = λ l t g. rw t refl;
-  zwnj_before_what_follows = λ l t g. rw (t, g) (refl {a = 9 ∷ 30 ∷ 31 ∷ 32 ∷ 3 ∷ 6 ∷ []});
-  manual_zwnj = λ l t g. rw t refl;
-  zwj_before_what_follows = λ l t g. rw (t, g) (refl {a = 9 ∷ 3 ∷ 30 ∷ 31 ∷ 32 ∷ 3 ∷ 6 ∷ []});
+  over_an_ignorable = λ l. refl {a = 51 ∷ 3 ∷ []};
+  stopped_by_a_hidden_one = λ l. refl;
+  manual_zwj = λ l. refl;
+  zwnj_before_what_follows = λ l. refl {a = 9 ∷ 30 ∷ 31 ∷ 32 ∷ 3 ∷ 6 ∷ []};
+  manual_zwnj = λ l. refl;
+  zwj_before_what_follows = λ l. refl {a = 9 ∷ 3 ∷ 30 ∷ 31 ∷ 32 ∷ 3 ∷ 6 ∷ []};
 }
 
 -- a glyph for which other features are on than the lookup's
@@ -66,9 +67,9 @@ pub record WorkedMasks : Type 0 where
 pub worked_masks : WorkedMasks
 unfolding merge is_multiplied as_ligature
 worked_masks = record {
-  component_off = λ l t g. rw t refl;
-  around_it = λ l t g. rw (t, g) refl;
-  all_off_after_it = λ l t g. rw t refl;
+  component_off = λ l. refl;
+  around_it = λ l. refl;
+  all_off_after_it = λ l. refl;
 }
 
 pub record WorkedSyllablesAround : Type 0 where
@@ -86,10 +87,10 @@ pub record WorkedSyllablesAround : Type 0 where
 pub worked_syllables_around : WorkedSyllablesAround
 unfolding merge is_multiplied
 worked_syllables_around = record {
-  after_it = λ l t g. rw t refl;
-  before_it = λ l t g. rw t refl;
-  in_one = λ l t g. rw (t, g) (refl {a = 9 ∷ 30 ∷ 31 ∷ 32 ∷ 6 ∷ []});
-  after_two = λ l t g. rw (t, g) (refl {a = 9 ∷ 8 ∷ 5 ∷ 30 ∷ 31 ∷ 32 ∷ 7 ∷ []});
+  after_it = λ l. refl;
+  before_it = λ l. refl;
+  in_one = λ l. refl {a = 9 ∷ 30 ∷ 31 ∷ 32 ∷ 6 ∷ []};
+  after_two = λ l. refl {a = 9 ∷ 8 ∷ 5 ∷ 30 ∷ 31 ∷ 32 ∷ 7 ∷ []};
 }
 
 -- a mark on a component of a ligature, and the ligature
@@ -118,13 +119,13 @@ pub record WorkedComponentsMatched : Type 0 where
 pub worked_components_matched : WorkedComponentsMatched
 unfolding merge as_ligature
 worked_components_matched = record {
-  on_one_component = λ l t g. rw (t, g) refl;
-  on_two_components = λ l t g. rw t refl;
-  on_a_skipped_ligature = λ l t g. rw (t, g) refl;
-  without_the_ligature = λ l t g. rw t refl;
-  on_another_ligature = λ l t g. rw t refl;
-  on_a_component_alone = λ l t g. rw t refl;
-  on_the_first_glyph = λ l t g. rw (t, g) refl;
+  on_one_component = λ l. refl;
+  on_two_components = λ l. refl;
+  on_a_skipped_ligature = λ l. refl;
+  without_the_ligature = λ l. refl;
+  on_another_ligature = λ l. refl;
+  on_a_component_alone = λ l. refl;
+  on_the_first_glyph = λ l. refl;
 }
 
 -- chained, format 2, by classes of three lists: 9 is of class 3 before, 5 and 6 of classes 1 and 2 in the match, 7 of class 4 after
@@ -150,10 +151,10 @@ pub record WorkedClassesOfThreeLists : Type 0 where
 pub worked_classes_of_three_lists : WorkedClassesOfThreeLists
 unfolding merge is_multiplied
 worked_classes_of_three_lists = record {
-  all_match = λ l t g. rw (t, g) (refl {a = 9 ∷ 30 ∷ 31 ∷ 32 ∷ 6 ∷ 7 ∷ []});
-  another_before = λ l t g. rw t refl;
-  another_second = λ l t g. rw t refl;
-  another_after = λ l t g. rw t refl;
+  all_match = λ l. refl {a = 9 ∷ 30 ∷ 31 ∷ 32 ∷ 6 ∷ 7 ∷ []};
+  another_before = λ l. refl;
+  another_second = λ l. refl;
+  another_after = λ l. refl;
 }
 
 -- from the end of the list, 5 before 9 becomes 60
@@ -169,18 +170,18 @@ pub record WorkedBounds : Type 0 where
   pub backwards_differs : HoldsOf backwards_before [] (λ l. glyphs (after (on l 0 0) (glyph 9 0 ∷ glyph 5 1 ∷ [])) ≡ 9 ∷ 5 ∷ [])
   pub distance_wraps : HoldsOf one_back [] (λ l. glyphs (after (on l 0 0) (glyph 5 0 ∷ [])) ≡ 4 ∷ [])
   -- so many nested lookups for each item, at least so many, and no more than can be counted
-  pub at_least : most_nested 16 ≡ 16384
-  pub for_each_item : most_nested 17 ≡ 17408
-  pub countable : most_nested 18446744073709551615 ≡ 18446744073709551615
+  pub at_least : most_work 16 ≡ 1048576
+  pub for_each_item : most_work 17 ≡ 1114112
+  pub countable : most_work 18446744073709551615 ≡ 18446744073709551615
   -- a lookup of the plan and 64 levels below it
   pub levels : (ls : List Lookup) (b : Buffer) → substituted ls b ≡ stage_made 65 ls b
 
 pub worked_bounds : WorkedBounds
 unfolding merge substituted
 worked_bounds = record {
-  backwards_matches = λ l t g. rw (t, g) refl;
-  backwards_differs = λ l t g. rw t refl;
-  distance_wraps = λ l t g. rw (t, g) refl;
+  backwards_matches = λ l. refl;
+  backwards_differs = λ l. refl;
+  distance_wraps = λ l. refl;
   at_least = refl;
   for_each_item = refl;
   countable = refl;
@@ -196,8 +197,8 @@ pub record WorkedCovers : Type 0 where
 
 pub worked_covers : WorkedCovers
 worked_covers = record {
-  covered = λ l t g. rw t refl;
-  not_covered = λ l t g. rw t refl;
-  first_of_a_rule = λ l t g. rw t refl;
-  before_a_rule = λ l t g. rw t refl;
+  covered = λ l. refl;
+  not_covered = λ l. refl;
+  first_of_a_rule = λ l. refl;
+  before_a_rule = λ l. refl;
 }

@@ -38,7 +38,7 @@ both_deleted_backwards = words (1 ∷ 0 ∷ 0 ∷ 0 ∷ 10 ∷ 2 ∷ 6 ∷ 46 �
 -- with so many levels
 abbrev pub after_levels : ℕ → Lookup → List Item → Buffer
 after_levels levels l items =
-    (looked_up levels l (record { buffer = list items; spot = record { at = 0; random = 1; left = 9; whole = 0 } })).buffer
+    (looked_up levels l (record { buffer = list items; spot = record { at = 0; random = 1; left = 999; whole = 0 } })).buffer
 
 -- where a rule stands whose first glyph is the third of the list
 abbrev pub span_at_third : Lookup → List Item → Option Span
@@ -55,9 +55,9 @@ pub record WorkedChainedGlyphs : Type 0 where
 
 pub worked_chained_glyphs : WorkedChainedGlyphs
 worked_chained_glyphs = record {
-  nearest_first = λ l t g. rw t refl;
-  in_text_order = λ l t g. rw t refl;
-  after_the_last = λ l t g. rw t refl;
+  nearest_first = λ l. refl;
+  in_text_order = λ l. refl;
+  after_the_last = λ l. refl;
 }
 
 pub record WorkedNested : Type 0 where
@@ -71,10 +71,10 @@ pub record WorkedNested : Type 0 where
 pub worked_nested : WorkedNested
 unfolding merge is_multiplied
 worked_nested = record {
-  after_a_skipped_mark = λ l t g. rw (t, g) refl;
-  through_an_extension = λ l t g. rw (t, g) refl;
-  no_level_left = λ l t g. rw t refl;
-  one_level_left = λ l t g. rw (t, g) refl;
+  after_a_skipped_mark = λ l. refl;
+  through_an_extension = λ l. refl;
+  no_level_left = λ l. refl;
+  one_level_left = λ l. refl;
 }
 
 -- 5 5, over a mark: the first 5 is deleted, and then the third lookup, 12 for 9, is applied where the first 5 was
@@ -94,7 +94,7 @@ pub record WorkedDeletions : Type 0 where
 pub worked_deletions : WorkedDeletions
 unfolding merge
 worked_deletions = record {
-  off_glyph_is_reached = λ l t g. rw (t, g) refl;
-  second_is_missing = λ l t g. rw t refl;
-  last_first = λ l t g. rw t refl;
+  off_glyph_is_reached = λ l. refl;
+  second_is_missing = λ l. refl;
+  last_first = λ l. refl;
 }

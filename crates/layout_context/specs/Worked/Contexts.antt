@@ -6,7 +6,7 @@ use Rattle.shape_items.specs.Clusters.{merge}
 use Rattle.shape_items.specs.Items.{Item, new_properties}
 use Rattle.layout_matching.specs.declared.lookup.Lookup.{Lookup}
 use Rattle.layout_substitution.specs.Replaced.{is_multiplied, as_ligature}
-use Rattle.layout_context.specs.Worked.Lookups.{words, three_for_one, ligatures, on, glyph, mark, glyphs, after}
+use Rattle.layout_context.specs.Worked.Lookups.{over_tables, words, three_for_one, ligatures, on, glyph, mark, glyphs, after}
 
 -- a table with a header and two lookups; the first stands at place 16, and the second, which makes 30 31 32 of 5, so many bytes
 -- after the list of lookups
@@ -51,7 +51,7 @@ abbrev pub components_of : Buffer → List ℕ
 components_of b = map (λ (x : Item). x.properties.ligature_component) b.items
 
 abbrev pub HoldsOf : List ℕ → List ℕ → (Lookup → Type 0) → Type 0
-HoldsOf table gdef fact = (l : Lookup) → l.table.now ≡ table → l.gdef.now ≡ gdef → fact l
+HoldsOf table gdef fact = (l : Lookup) → fact (over_tables table gdef l)
 
 pub record WorkedRules : Type 0 where
   pub glyphs_match : HoldsOf by_glyphs [] (λ l. glyphs (after (on l 16 0) (glyph 5 0 ∷ glyph 6 1 ∷ [])) ≡ 30 ∷ 31 ∷ 32 ∷ 6 ∷ [])
@@ -60,8 +60,8 @@ pub record WorkedRules : Type 0 where
 pub worked_rules : WorkedRules
 unfolding merge is_multiplied
 worked_rules = record {
-  glyphs_match = λ l t g. rw (t, g) refl;
-  glyphs_differ = λ l t g. rw t refl;
+  glyphs_match = λ l. refl;
+  glyphs_differ = λ l. refl;
 }
 
 pub record WorkedClasses : Type 0 where
@@ -71,8 +71,8 @@ pub record WorkedClasses : Type 0 where
 pub worked_classes : WorkedClasses
 unfolding merge is_multiplied
 worked_classes = record {
-  classes_match = λ l t g. rw (t, g) refl;
-  classes_differ = λ l t g. rw t refl;
+  classes_match = λ l. refl;
+  classes_differ = λ l. refl;
 }
 
 pub record WorkedChains : Type 0 where
@@ -84,8 +84,8 @@ pub record WorkedChains : Type 0 where
 pub worked_chains : WorkedChains
 unfolding merge is_multiplied
 worked_chains = record {
-  chain_matches = λ l t g. rw (t, g) refl;
-  chain_is_unsafe = λ l t g. rw (t, g) refl;
+  chain_matches = λ l. refl;
+  chain_is_unsafe = λ l. refl;
 }
 
 pub record WorkedChainsElsewhere : Type 0 where
@@ -97,8 +97,8 @@ pub record WorkedChainsElsewhere : Type 0 where
 pub worked_chains_elsewhere : WorkedChainsElsewhere
 unfolding merge
 worked_chains_elsewhere = record {
-  another_before = λ l t g. rw t refl;
-  another_after = λ l t g. rw t refl;
+  another_before = λ l. refl;
+  another_after = λ l. refl;
 }
 
 pub record WorkedMarkSets : Type 0 where
@@ -109,8 +109,8 @@ pub record WorkedMarkSets : Type 0 where
 pub worked_mark_sets : WorkedMarkSets
 unfolding merge as_ligature
 worked_mark_sets = record {
-  mark_of_the_set = λ l t g. rw (t, g) refl;
-  mark_out_of_the_set = λ l t g. rw (t, g) refl;
+  mark_of_the_set = λ l. refl;
+  mark_out_of_the_set = λ l. refl;
 }
 
 pub record WorkedMarkClasses : Type 0 where
@@ -124,9 +124,9 @@ pub record WorkedMarkClasses : Type 0 where
 pub worked_mark_classes : WorkedMarkClasses
 unfolding merge as_ligature
 worked_mark_classes = record {
-  mark_of_the_class = λ l t g. rw t refl;
-  mark_of_another_class = λ l t g. rw (t, g) refl;
-  mark_of_no_class = λ l t g. rw (t, g) refl;
+  mark_of_the_class = λ l. refl;
+  mark_of_another_class = λ l. refl;
+  mark_of_no_class = λ l. refl;
 }
 
 pub record WorkedSyllables : Type 0 where
@@ -138,8 +138,8 @@ pub record WorkedSyllables : Type 0 where
 pub worked_syllables : WorkedSyllables
 unfolding merge as_ligature
 worked_syllables = record {
-  in_one_syllable = λ l t g. rw (t, g) refl;
-  in_two_syllables = λ l t g. rw t refl;
+  in_one_syllable = λ l. refl;
+  in_two_syllables = λ l. refl;
 }
 
 pub record WorkedComponents : Type 0 where
@@ -150,6 +150,6 @@ pub record WorkedComponents : Type 0 where
 pub worked_components : WorkedComponents
 unfolding merge as_ligature
 worked_components = record {
-  mark_of_a_ligature = λ l t g. rw (t, g) refl;
-  mark_on_the_first_component = λ l t g. rw (t, g) refl;
+  mark_of_a_ligature = λ l. refl;
+  mark_on_the_first_component = λ l. refl;
 }

@@ -39,10 +39,10 @@ pub record WorkedChainedClasses : Type 0 where
 
 pub worked_chained_classes : WorkedChainedClasses
 worked_chained_classes = record {
-  all_match = λ l t g. rw t refl;
-  before_differs = λ l t g. rw t refl;
-  input_differs = λ l t g. rw t refl;
-  after_differs = λ l t g. rw t refl;
+  all_match = λ l. refl;
+  before_differs = λ l. refl;
+  input_differs = λ l. refl;
+  after_differs = λ l. refl;
 }
 
 -- 5 after 9 and before 7 becomes 60, from the end of the list
@@ -57,9 +57,9 @@ pub record WorkedBackwards : Type 0 where
 pub worked_backwards : WorkedBackwards
 unfolding merge
 worked_backwards = record {
-  both_match = λ l t g. rw (t, g) refl;
-  another_after = λ l t g. rw t refl;
-  another_before = λ l t g. rw t refl;
+  both_match = λ l. refl;
+  another_after = λ l. refl;
+  another_before = λ l. refl;
 }
 
 -- a base and a ligature by their classes of GDEF
@@ -92,13 +92,13 @@ pub record WorkedFlags : Type 0 where
 pub worked_flags : WorkedFlags
 unfolding merge as_ligature
 worked_flags = record {
-  base_ignored = λ l t g. rw (t, g) refl;
-  base_of_another_flag = λ l t g. rw t refl;
-  ligature_ignored = λ l t g. rw (t, g) refl;
-  ligature_of_another_flag = λ l t g. rw t refl;
-  right_to_left = λ l t g. rw (t, g) refl;
-  ligature_beside_a_class = λ l t g. rw (t, g) refl;
-  mark_of_class_16 = λ l t g. rw t refl;
-  mark_of_class_1 = λ l t g. rw (t, g) refl;
-  base_beside_a_class = λ l t g. rw t refl;
+  base_ignored = λ l. refl;
+  base_of_another_flag = λ l. refl;
+  ligature_ignored = λ l. refl;
+  ligature_of_another_flag = λ l. refl;
+  right_to_left = λ l. refl;
+  ligature_beside_a_class = λ l. refl;
+  mark_of_class_16 = λ l. refl;
+  mark_of_class_1 = λ l. refl;
+  base_beside_a_class = λ l. refl;
 }

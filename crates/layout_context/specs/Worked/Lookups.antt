@@ -90,7 +90,7 @@ glyphs b = map (λ (x : Item). x.glyph_id) b.items
 abbrev pub clusters_of : Buffer → List ℕ
 clusters_of b = map (λ (x : Item). x.cluster) b.items
 
--- after the lookup has gone over the list, with so many nested lookups left
+-- after the lookup has gone over the list, with so much left
 abbrev pub after_with : ℕ → Lookup → List Item → Buffer
 after_with left l items = (looked_up 3 l (record {
   buffer = list items;
@@ -99,10 +99,14 @@ after_with left l items = (looked_up 3 l (record {
 })).buffer
 
 abbrev pub after : Lookup → List Item → Buffer
-after l items = after_with 9 l items
+after l items = after_with 999 l items
+
+-- a lookup over these bytes of `GSUB` and of `GDEF`
+abbrev pub over_tables : List ℕ → List ℕ → Lookup → Lookup
+over_tables table gdef l = record l { table = record l.table { now = table }; gdef = record l.gdef { now = gdef } }
 
 abbrev pub Holds : List ℕ → (Lookup → Type 0) → Type 0
-Holds table fact = (l : Lookup) → l.table.now ≡ table → l.gdef.now ≡ [] → fact l
+Holds table fact = (l : Lookup) → fact (over_tables table [] l)
 
 pub record WorkedLookups : Type 0 where
   pub distance : Holds single_1 (λ l. glyphs (after (on l 0 0) (glyph 5 0 ∷ glyph 6 1 ∷ glyph 5 2 ∷ [])) ≡ 8 ∷ 6 ∷ 8 ∷ [])
@@ -132,24 +136,24 @@ pub record WorkedLookups : Type 0 where
 pub worked_lookups : WorkedLookups
 unfolding merge is_multiplied as_ligature
 worked_lookups = record {
-  distance = λ l t g. rw (t, g) refl;
-  one_for_one = λ l t g. rw (t, g) refl;
-  off_for_a_glyph = λ l t g. rw (t, g) refl;
-  several = λ l t g. rw (t, g) refl;
-  several_in_one_cluster = λ l t g. rw (t, g) refl;
-  deleted = λ l t g. rw t refl;
-  first_deleted = λ l t g. rw t refl;
-  least_cluster_deleted = λ l t g. rw t refl;
-  second_alternate = λ l t g. rw (t, g) refl;
-  no_third_alternate = λ l t g. rw t refl;
-  first_ligature = λ l t g. rw (t, g) refl;
-  second_ligature = λ l t g. rw (t, g) refl;
-  over_a_mark = λ l t g. rw (t, g) refl;
-  over_a_mark_in_one_cluster = λ l t g. rw (t, g) refl;
-  stopped_by_a_mark = λ l t g. rw t refl;
-  stopped_by_zwnj = λ l t g. rw t refl;
-  over_zwj = λ l t g. rw (t, g) refl;
-  nested = λ l t g. rw (t, g) refl;
-  no_nested_left = λ l t g. rw t refl;
-  from_the_end = λ l t g. rw (t, g) refl;
+  distance = λ l. refl;
+  one_for_one = λ l. refl;
+  off_for_a_glyph = λ l. refl;
+  several = λ l. refl;
+  several_in_one_cluster = λ l. refl;
+  deleted = λ l. refl;
+  first_deleted = λ l. refl;
+  least_cluster_deleted = λ l. refl;
+  second_alternate = λ l. refl;
+  no_third_alternate = λ l. refl;
+  first_ligature = λ l. refl;
+  second_ligature = λ l. refl;
+  over_a_mark = λ l. refl;
+  over_a_mark_in_one_cluster = λ l. refl;
+  stopped_by_a_mark = λ l. refl;
+  stopped_by_zwnj = λ l. refl;
+  over_zwj = λ l. refl;
+  nested = λ l. refl;
+  no_nested_left = λ l. refl;
+  from_the_end = λ l. refl;
 }

@@ -15,7 +15,7 @@ abbrev pub asking : List Item → Buffer
 asking items = record (list items) { flags = record { 0 = PRODUCE_UNSAFE_TO_CONCAT } }
 
 abbrev pub after_in : Lookup → Buffer → Buffer
-after_in l b = (looked_up 3 l (record { buffer = b; spot = record { at = 0; random = 1; left = 9; whole = 0 } })).buffer
+after_in l b = (looked_up 3 l (record { buffer = b; spot = record { at = 0; random = 1; left = 999; whole = 0 } })).buffer
 
 abbrev pub Marks : List ℕ → ℕ → List Item → List ℕ → Type 0
 Marks table place items flags = HoldsOf table [] (λ l. flags_of (after_in (on l place 0) (asking items)) ≡ flags)
@@ -31,10 +31,10 @@ pub record WorkedVainLigatures : Type 0 where
 pub worked_vain_ligatures : WorkedVainLigatures
 unfolding merge as_ligature
 worked_vain_ligatures = record {
-  another_glyph = λ l t g. rw t refl;
-  end_of_list = λ l t g. rw t refl;
-  shorter_one = λ l t g. rw (t, g) refl;
-  not_asked = λ l t g. rw t refl;
+  another_glyph = λ l. refl;
+  end_of_list = λ l. refl;
+  shorter_one = λ l. refl;
+  not_asked = λ l. refl;
 }
 
 pub record WorkedVainRules : Type 0 where
@@ -49,10 +49,10 @@ pub record WorkedVainRules : Type 0 where
 pub worked_vain_rules : WorkedVainRules
 unfolding merge
 worked_vain_rules = record {
-  context = λ l t g. rw t refl;
-  glyph_after = λ l t g. rw t refl;
-  glyph_before = λ l t g. rw t refl;
-  backwards_before = λ l t g. rw t refl;
+  context = λ l. refl;
+  glyph_after = λ l. refl;
+  glyph_before = λ l. refl;
+  backwards_before = λ l. refl;
 }
 
 -- a lookup that picks at random where the value is 255, and a glyph with that value
@@ -77,10 +77,10 @@ pub record WorkedRandom : Type 0 where
 pub worked_random : WorkedRandom
 worked_random = record {
   products_are_cut = refl;
-  second_then_first = λ l t g. rw (t, g) refl;
-  nothing_is_safe_to_break = λ l t g. rw (t, g) refl;
-  by_value = λ l t g. rw (t, g) refl;
-  no_alternate = λ l t g. rw t refl;
+  second_then_first = λ l. refl;
+  nothing_is_safe_to_break = λ l. refl;
+  by_value = λ l. refl;
+  no_alternate = λ l. refl;
 }
 
 abbrev pub with_serial : ℕ → List Item → Buffer
@@ -99,8 +99,8 @@ pub record WorkedIds : Type 0 where
 pub worked_ids : WorkedIds
 unfolding merge as_ligature
 worked_ids = record {
-  one_after_the_other = λ l t g. rw (t, g) refl;
-  counted_on = λ l t g. rw (t, g) refl;
-  after_the_seventh = λ l t g. rw (t, g) refl;
-  count_is_left = λ l t g. rw t refl;
+  one_after_the_other = λ l. refl;
+  counted_on = λ l. refl;
+  after_the_seventh = λ l. refl;
+  count_is_left = λ l. refl;
 }

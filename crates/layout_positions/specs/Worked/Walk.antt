@@ -7,9 +7,10 @@ use Rattle.shape_common.specs.declared.text_types.Direction.TheVariants.{LeftToR
 use Rattle.shape_font.specs.Bytes.{i16_of}
 use Rattle.shape_items.specs.Buffer.{Buffer}
 use Rattle.shape_items.specs.Items.{Item}
+use Rattle.layout_matching.specs.Work.{most_work}
 use Rattle.layout_matching.specs.declared.lookup.Lookup.{Lookup}
 use Rattle.layout_positions.specs.Attachment.{MOST_LINKS}
-use Rattle.layout_positions.specs.Nested.{LEVELS, most_named, nested_placed}
+use Rattle.layout_positions.specs.Nested.{LEVELS, nested_placed}
 use Rattle.layout_positions.specs.Subtables.{Placing}
 use Rattle.layout_positions.specs.Uncovered.{subtable_lists}
 use Rattle.layout_positions.specs.Walk.{none_seen, positioned}
@@ -47,7 +48,7 @@ off glyph cluster = record (base glyph cluster) { mask = 8 }
 abbrev pub still : ℤ × ℤ
 still = (pos 0, pos 0)
 
--- two glyphs that the rule matches, at the first of them, with so many lookups that may still be named
+-- two glyphs that the rule matches, at the first of them, with so much left
 abbrev named : Lookup → ℕ → Placing
 named l left = nested_placed LEVELS l 0 left none_seen (line LeftToRight (base 2 0 ∷ base 3 1 ∷ []))
 
@@ -55,42 +56,60 @@ pub record WorkedBounds : Type 0 where
   -- a lookup of the plan and 64 levels below it
   pub levels : LEVELS ≡ 65
   pub links : MOST_LINKS ≡ 64
-  pub at_least : most_named 16 ≡ 16384
-  pub for_each_glyph : most_named 17 ≡ 17408
-  pub countable : most_named 18446744073709551615 ≡ 18446744073709551615
+  pub at_least : most_work 16 ≡ 1048576
+  pub for_each_glyph : most_work 17 ≡ 1114112
+  pub countable : most_work 18446744073709551615 ≡ 18446744073709551615
 
 pub worked_bounds : WorkedBounds
 worked_bounds = record { levels = refl; links = refl; at_least = refl; for_each_glyph = refl; countable = refl }
 
+-- a lookup with these flags over these bytes of `GPOS`, at a place
+abbrev over_table : List ℕ → ℕ → ℕ → Lookup → Lookup
+over_table table flags place l = record l {
+  table = record l.table { now = table };
+  place = place;
+  flags = flags;
+  mask = 16;
+  auto_zwj = true;
+  per_syllable = false;
+  positioning = true;
+}
+
+abbrev pub Over : List ℕ → ℕ → ℕ → (Lookup → Type 0) → Type 0
+Over table flags place fact = (l : Lookup) → fact (over_table table flags place l)
+
 pub record WorkedWalk : Type 0 where
-  pub each_glyph : (l : Lookup) → IsLookup l (one_subtable 1 single_one) 0 → l.place ≡ 0
-      → offsets (over l (base 2 0 ∷ base 7 1 ∷ base 3 2 ∷ [])) ≡ (pos 10, pos 0) ∷ still ∷ (pos 10, pos 0) ∷ []
-  pub where_it_is_on : (l : Lookup) → IsLookup l (one_subtable 1 single_one) 0 → l.place ≡ 0
-      → offsets (over l (base 2 0 ∷ off 3 1 ∷ [])) ≡ (pos 10, pos 0) ∷ still ∷ []
-  pub first_subtable_alone : (l : Lookup) → IsLookup l two_subtables 0 → l.place ≡ 0
-      → offsets (over l (base 2 0 ∷ [])) ≡ (pos 10, pos 0) ∷ []
-  pub far_away : (l : Lookup) → IsLookup l far 0 → l.place ≡ 0 → offsets (over l (base 2 0 ∷ [])) ≡ (pos 10, pos 0) ∷ []
-  pub pair_after_pair : (l : Lookup) → IsLookup l (one_subtable 2 pairs_one) 0 → l.place ≡ 0
-      → advances (over l (base 2 0 ∷ base 3 1 ∷ base 3 2 ∷ [])) ≡ (pos 550, pos 0) ∷ (pos 530, pos 0) ∷ (pos 600, pos 0) ∷ []
-  pub marks_on_one_base : (l : Lookup) → IsLookup l (one_subtable 4 on_bases) 0 → l.place ≡ 0
-      → chains (over l (base 2 0 ∷ mark 8 0 ∷ mark 8 0 ∷ mark 8 0 ∷ [])) ≡ pos 0 ∷ negsuc 0 ∷ negsuc 1 ∷ negsuc 2 ∷ []
-  pub mark_on_the_first_component : (l : Lookup) → IsLookup l (one_subtable 4 on_bases) 0 → l.place ≡ 0
-      → chains (over l (component_of 0 (base 2 0) ∷ component_of 1 (base 3 0) ∷ mark 8 0 ∷ [])) ≡ pos 0 ∷ pos 0 ∷ negsuc 1 ∷ []
-  pub mark_on_the_listed_component : (l : Lookup) → IsLookup l (one_subtable 4 on_bases) 0 → l.place ≡ 0
-      → chains (over l (component_of 0 (base 3 0) ∷ component_of 1 (base 2 0) ∷ mark 8 0 ∷ [])) ≡ pos 0 ∷ pos 0 ∷ negsuc 0 ∷ []
-  pub named_glyph_alone : (l : Lookup) → IsLookup l in_context 0 → l.place ≡ 16
-      → offsets (over l (base 2 0 ∷ base 3 1 ∷ base 7 2 ∷ [])) ≡ still ∷ (pos 10, pos 0) ∷ still ∷ []
+  pub each_glyph : Over (one_subtable 1 single_one) 0 0
+      (λ l. offsets (over l (base 2 0 ∷ base 7 1 ∷ base 3 2 ∷ [])) ≡ (pos 10, pos 0) ∷ still ∷ (pos 10, pos 0) ∷ [])
+  pub where_it_is_on : Over (one_subtable 1 single_one) 0 0
+      (λ l. offsets (over l (base 2 0 ∷ off 3 1 ∷ [])) ≡ (pos 10, pos 0) ∷ still ∷ [])
+  pub first_subtable_alone : Over two_subtables 0 0 (λ l. offsets (over l (base 2 0 ∷ [])) ≡ (pos 10, pos 0) ∷ [])
+  pub far_away : Over far 0 0 (λ l. offsets (over l (base 2 0 ∷ [])) ≡ (pos 10, pos 0) ∷ [])
+  pub pair_after_pair : Over (one_subtable 2 pairs_one) 0 0
+      (λ l. advances (over l (base 2 0 ∷ base 3 1 ∷ base 3 2 ∷ [])) ≡ (pos 550, pos 0) ∷ (pos 530, pos 0) ∷ (pos 600, pos 0) ∷ [])
+  pub marks_on_one_base : Over (one_subtable 4 on_bases) 0 0
+      (λ l. chains (over l (base 2 0 ∷ mark 8 0 ∷ mark 8 0 ∷ mark 8 0 ∷ [])) ≡ pos 0 ∷ negsuc 0 ∷ negsuc 1 ∷ negsuc 2 ∷ [])
+  pub mark_on_the_first_component : Over (one_subtable 4 on_bases) 0 0
+      (λ l. chains (over l (component_of 0 (base 2 0) ∷ component_of 1 (base 3 0) ∷ mark 8 0 ∷ [])) ≡ pos 0 ∷ pos 0 ∷ negsuc 1 ∷ [])
+  pub mark_on_the_listed_component : Over (one_subtable 4 on_bases) 0 0
+      (λ l. chains (over l (component_of 0 (base 3 0) ∷ component_of 1 (base 2 0) ∷ mark 8 0 ∷ [])) ≡ pos 0 ∷ pos 0 ∷ negsuc 0 ∷ [])
+  pub named_glyph_alone : Over in_context 0 16
+      (λ l. offsets (over l (base 2 0 ∷ base 3 1 ∷ base 7 2 ∷ [])) ≡ still ∷ (pos 10, pos 0) ∷ still ∷ [])
   -- at 0 glyph 7 is looked at in vain, at 2 the end of the list
-  pub in_vain : (l : Lookup) → IsLookup l in_context 0 → l.place ≡ 16
-      → masks (positioned (l ∷ []) (asking (base 2 0 ∷ base 7 1 ∷ base 7 2 ∷ base 3 3 ∷ []))) ≡ 18 ∷ 18 ∷ 16 ∷ 18 ∷ []
-  pub in_vain_unasked : (l : Lookup) → IsLookup l in_context 0 → l.place ≡ 16
-      → masks (over l (base 2 0 ∷ base 7 1 ∷ base 7 2 ∷ base 3 3 ∷ [])) ≡ 16 ∷ 16 ∷ 16 ∷ 16 ∷ []
-  pub out_of_context : (l : Lookup) → IsLookup l in_context 0 → l.place ≡ 16
-      → offsets (over l (base 2 0 ∷ base 7 1 ∷ base 3 2 ∷ [])) ≡ still ∷ still ∷ still ∷ []
-  pub one_is_named : (l : Lookup) → IsLookup l in_context 0 → l.place ≡ 16 → (named l 5).left ≡ 4
-  pub none_may_be_named : (l : Lookup) → IsLookup l in_context 0 → l.place ≡ 16 → offsets (named l 0).buffer ≡ still ∷ still ∷ []
-  pub goes_on_after_the_rule : (l : Lookup) → IsLookup l in_context 0 → l.place ≡ 16 → (named l 5).next ≡ Some 2
-  pub unsafe_in_the_rule : (l : Lookup) → IsLookup l in_context 0 → l.place ≡ 16 → masks (named l 5).buffer ≡ 16 ∷ 19 ∷ []
+  pub in_vain : Over in_context 0 16
+      (λ l. masks (positioned (l ∷ []) (asking (base 2 0 ∷ base 7 1 ∷ base 7 2 ∷ base 3 3 ∷ []))) ≡ 18 ∷ 18 ∷ 16 ∷ 18 ∷ [])
+  pub in_vain_unasked : Over in_context 0 16
+      (λ l. masks (over l (base 2 0 ∷ base 7 1 ∷ base 7 2 ∷ base 3 3 ∷ [])) ≡ 16 ∷ 16 ∷ 16 ∷ 16 ∷ [])
+  pub out_of_context : Over in_context 0 16
+      (λ l. offsets (over l (base 2 0 ∷ base 7 1 ∷ base 3 2 ∷ [])) ≡ still ∷ still ∷ still ∷ [])
+  pub one_is_named : Over in_context 0 16 (λ l. (named l 50).left ≡ 9)
+  pub none_may_be_named : Over in_context 0 16 (λ l. offsets (named l 0).buffer ≡ still ∷ still ∷ [])
+  -- 33 for a lookup of one subtable that is named, and 8 for its subtable, which begins with the glyph
+  pub too_little_is_left : Over in_context 0 16 (λ l. offsets (named l 40).buffer ≡ still ∷ still ∷ [])
+  pub nothing_is_left_then : Over in_context 0 16 (λ l. (named l 40).left ≡ 0)
+  pub just_enough_is_left : Over in_context 0 16 (λ l. offsets (named l 41).buffer ≡ still ∷ (pos 10, pos 0) ∷ [])
+  pub goes_on_after_the_rule : Over in_context 0 16 (λ l. (named l 50).next ≡ Some 2)
+  pub unsafe_in_the_rule : Over in_context 0 16 (λ l. masks (named l 50).buffer ≡ 16 ∷ 19 ∷ [])
   -- a subtable has a list of its glyphs, a rule of format 3 one of its first glyph
   pub listed : (l : Lookup) → IsLookup l (one_subtable 1 single_one) 0 → subtable_lists l (record { kind = 1; start = 8 }) 2 ≡ true
   pub not_listed : (l : Lookup) → IsLookup l (one_subtable 1 single_one) 0 → subtable_lists l (record { kind = 1; start = 8 }) 7 ≡ false
@@ -100,22 +119,25 @@ pub record WorkedWalk : Type 0 where
 pub worked_walk : WorkedWalk
 unfolding i16_of ◌+ʷ◌ ◌-ʷ◌ int_wrap ones
 worked_walk = record {
-  each_glyph = λ l is p. rw (is.table, is.flags, is.mask, is.positioning, p) refl;
-  where_it_is_on = λ l is p. rw (is.table, is.flags, is.mask, is.positioning, p) refl;
-  first_subtable_alone = λ l is p. rw (is.table, is.flags, is.mask, is.positioning, p) refl;
-  far_away = λ l is p. rw (is.table, is.flags, is.mask, is.positioning, p) refl;
-  pair_after_pair = λ l is p. rw (is.table, is.flags, is.mask, is.positioning, p) refl;
-  marks_on_one_base = λ l is p. rw (is.table, is.flags, is.mask, is.positioning, p) refl;
-  mark_on_the_first_component = λ l is p. rw (is.table, is.flags, is.mask, is.positioning, p) refl;
-  mark_on_the_listed_component = λ l is p. rw (is.table, is.flags, is.mask, is.positioning, p) refl;
-  named_glyph_alone = λ l is p. rw (is.table, is.flags, is.mask, is.positioning, is.syllables, p) refl;
-  in_vain = λ l is p. rw (is.table, is.flags, is.mask, is.positioning, is.syllables, p) refl;
-  in_vain_unasked = λ l is p. rw (is.table, is.flags, is.mask, is.positioning, is.syllables, p) refl;
-  out_of_context = λ l is p. rw (is.table, is.flags, is.mask, is.positioning, is.syllables, p) refl;
-  one_is_named = λ l is p. rw (is.table, is.flags, is.mask, is.positioning, is.syllables, p) refl;
-  none_may_be_named = λ l is p. rw (is.table, is.flags, is.mask, is.positioning, is.syllables, p) refl;
-  goes_on_after_the_rule = λ l is p. rw (is.table, is.flags, is.mask, is.positioning, is.syllables, p) refl;
-  unsafe_in_the_rule = λ l is p. rw (is.table, is.flags, is.mask, is.positioning, is.syllables, p) refl;
+  each_glyph = λ l. refl;
+  where_it_is_on = λ l. refl;
+  first_subtable_alone = λ l. refl;
+  far_away = λ l. refl;
+  pair_after_pair = λ l. refl;
+  marks_on_one_base = λ l. refl;
+  mark_on_the_first_component = λ l. refl;
+  mark_on_the_listed_component = λ l. refl;
+  named_glyph_alone = λ l. refl;
+  in_vain = λ l. refl;
+  in_vain_unasked = λ l. refl;
+  out_of_context = λ l. refl;
+  one_is_named = λ l. refl;
+  none_may_be_named = λ l. refl;
+  too_little_is_left = λ l. refl;
+  nothing_is_left_then = λ l. refl;
+  just_enough_is_left = λ l. refl;
+  goes_on_after_the_rule = λ l. refl;
+  unsafe_in_the_rule = λ l. refl;
   listed = λ l is. rw (is.table, is.positioning) refl;
   not_listed = λ l is. rw (is.table, is.positioning) refl;
   first_of_a_rule = λ l is. rw (is.table, is.positioning) refl;

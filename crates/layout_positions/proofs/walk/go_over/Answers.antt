@@ -2,7 +2,7 @@ use Rattle.std.proofs.Common.{◌≡◌, ap, ◌∙◌, arith}
 use Rattle.layout_matching.specs.Loops.{times}
 use Rattle.layout_matching.proofs.LoopLemmas.{times_step}
 use Rattle.layout_positions.specs.Walk.{Walk, Budgeted, lookup_step, first_walk}
-use Rattle.layout_positions.proofs.walk.apply_over.Goals as goal
+use Rattle.layout_positions.proofs.walk.go_over.Goals as goal
 
 pub loop-i-preserved : goal.loop-i-preserved
 loop-i-preserved c =

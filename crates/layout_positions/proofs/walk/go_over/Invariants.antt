@@ -1,7 +1,7 @@
 use Rattle.std.proofs.Common.{◌≡◌}
 use Rattle.layout_matching.specs.Loops.{times}
 use Rattle.layout_positions.specs.Walk.{Walk, lookup_step, first_walk}
-use Rattle.layout_positions.proofs.walk.apply_over.Given as goal
+use Rattle.layout_positions.proofs.walk.go_over.Given as goal
 
 abbrev pub invariant-loop-i : goal.invariant-loop-i
 invariant-loop-i l =

@@ -1,0 +1,189 @@
+-- What a lookup is charged for at a place before it is tried there: one for each glyph that it may have to look at, so that time is
+-- in step with what was charged.
+use Rattle.std.specs.Prelude.{ℕ, List, Bool, false, Option, Some, None, ◌+◌, ◌-◌, ◌*◌, ◌&&◌, ◌||◌, not, max, min, length, nat_eq, nat_lt, if◌then◌else◌}
+use Rattle.std.specs.Option.{option_and_then, option_map, option_map_or}
+use Rattle.shape_font.specs.Bytes.{u16_of, fitting}
+use Rattle.shape_font.specs.Search.{first_at}
+use Rattle.shape_items.specs.Buffer.{most_countable}
+use Rattle.shape_items.specs.Items.{Item}
+use Rattle.layout_tables.specs.Lookups.{subtable_count_of}
+use Rattle.layout_tables.specs.declared.lookups.LookupSubtable.{LookupSubtable}
+use Rattle.layout_matching.specs.Found.{is_chained, is_context_subtable, whole_rule, is_first, set_for, rule_of, number_of, subtable_at}
+use Rattle.layout_matching.specs.Loops.{steps}
+use Rattle.layout_matching.specs.Rules.{rules_at, row, rule_place}
+use Rattle.layout_matching.specs.Skipping.{nth, is_skipped, is_transparent}
+use Rattle.layout_matching.specs.declared.lookup.Lookup.{Lookup}
+use Rattle.layout_matching.specs.declared.rules.Rule.{Rule}
+use Rattle.layout_matching.specs.declared.rules.Test.TheVariants.{Glyph, Coverage}
+use Rattle.layout_matching.specs.declared.tally.Tally.{Tally}
+
+-- what is left after so much, if it suffices
+abbrev pub charged : ℕ → ℕ → Option ℕ
+charged work left = if nat_lt left work then None else Some (left - work)
+
+-- ---- glyphs that are passed over beside a place
+
+abbrev pub is_passed : Lookup → Item → Bool
+is_passed l item = is_skipped l item || is_transparent l false item
+
+-- the next glyph that isn't, and the one before
+abbrev pub stop_after : Lookup → List Item → ℕ → Option ℕ
+stop_after l items i = first_at (λ j. not (is_passed l (nth items j))) (length items - (i + 1)) (i + 1)
+
+abbrev pub stop_before : Lookup → List Item → ℕ → Option ℕ
+stop_before l items i = option_map (λ d. i - 1 - d) (first_at (λ d. not (is_passed l (nth items (i - 1 - d)))) i 0)
+
+-- how many are passed over on the way to glyph number `n` that isn't; all up to the end of the list if there are fewer
+abbrev pub passed_after : Lookup → List Item → ℕ → ℕ → ℕ
+passed_after l items at n =
+    option_map_or (λ j. j - at - n) (steps (λ k i. stop_after l items i) n 0 at) (length items - (at + 1))
+
+abbrev pub passed_before : Lookup → List Item → ℕ → ℕ → ℕ
+passed_before l items at n = option_map_or (λ j. at - j - n) (steps (λ k i. stop_before l items i) n 0 at) at
+
+-- ---- rules and ligatures
+
+-- each glyph of a rule, each lookup that it names, and the rule
+abbrev pub rule_work : Rule → ℕ
+rule_work rule = rule.before.count + rule.input.count + rule.after.count + rule.count + 1
+
+-- before the first rule
+abbrev pub uncounted : ℕ → Tally
+uncounted left = record { left = left; before = 0; after = 0; tries = 0 }
+
+abbrev pub tallied : Rule → Tally → ℕ → Tally
+tallied rule s left = record {
+  left = left;
+  before = max s.before rule.before.count;
+  after = max s.after (rule.input.count - 1 + rule.after.count);
+  tries = min (s.tries + (rule.count + 1)) most_countable;
+}
+
+abbrev pub rule_counted : Rule → Tally → Option Tally
+rule_counted rule s = option_map (tallied rule s) (charged (rule_work rule) s.left)
+
+-- each time, what the lookup passes over is looked at too
+abbrev pub passed_charged : Lookup → List Item → ℕ → Tally → Option ℕ
+passed_charged l items at s =
+    charged (min (s.tries * min (passed_after l items at s.after + passed_before l items at s.before) most_countable) most_countable) s.left
+
+abbrev pub rule_charged : Lookup → List Item → ℕ → Rule → ℕ → Option ℕ
+rule_charged l items at rule left = option_and_then (passed_charged l items at) (rule_counted rule (uncounted left))
+
+-- a ligature as a rule, whose components are counted after its glyph
+abbrev pub ligature_rule : List ℕ → ℕ → Rule
+ligature_rule t place = let none = row Glyph 0 0 0 in
+    record { before = none; input = row Glyph 0 (u16_of t (place + 2)) 0; after = none; lookups = 0; count = 0 }
+
+-- ---- sets
+
+abbrev pub part_rule : Lookup → LookupSubtable → ℕ → Rule
+part_rule l subtable place = if is_context_subtable l subtable then rule_of l.table.now (is_chained l subtable) subtable.start place
+    else ligature_rule l.table.now place
+
+-- number `r` of those at `set`; a NULL offset is read
+abbrev pub null_counted : Tally → Option Tally
+null_counted s = option_map (λ left. record s { left = left }) (charged 1 s.left)
+
+abbrev pub part_counted : Lookup → LookupSubtable → ℕ → ℕ → Tally → Option Tally
+part_counted l subtable set r s =
+    option_map_or (λ place. rule_counted (part_rule l subtable place) s) (rule_place l.table.now set r) (null_counted s)
+
+-- all of a set, whether they are tried or not
+abbrev pub set_counted : Lookup → LookupSubtable → ℕ → ℕ → Option Tally
+set_counted l subtable left set =
+    steps (part_counted l subtable set) (fitting l.table.now (u16_of l.table.now set) (set + 2) 2) 0 (uncounted left)
+
+abbrev pub set_charged : Lookup → List Item → ℕ → LookupSubtable → ℕ → ℕ → Option ℕ
+set_charged l items at subtable left set = option_and_then (passed_charged l items at) (set_counted l subtable left set)
+
+-- ---- subtables
+
+abbrev pub SUBTABLE_WORK : ℕ
+SUBTABLE_WORK = 8
+
+-- kind 4 of `GSUB`
+abbrev pub is_ligature : Lookup → LookupSubtable → Bool
+is_ligature l subtable = not l.positioning && nat_eq subtable.kind 4
+
+-- kind 8 of `GSUB`: the glyphs before it, and those after it
+abbrev pub backward_rule : List ℕ → ℕ → Rule
+backward_rule t start = let before = u16_of t (start + 4) in record {
+  before = row Coverage 0 before 0;
+  input = row Coverage 0 1 0;
+  after = row Coverage 0 (u16_of t (start + 6 + 2 * before)) 0;
+  lookups = 0;
+  count = 0;
+}
+
+abbrev pub is_backward : Lookup → LookupSubtable → Bool
+is_backward l subtable = not l.positioning && nat_eq subtable.kind 8
+
+-- the rules, or the ligatures, for a glyph with this number
+abbrev pub parts_for : Lookup → LookupSubtable → ℕ → ℕ → Option ℕ
+parts_for l subtable glyph number = if is_context_subtable l subtable
+    then set_for l.table.now (is_chained l subtable) subtable.start glyph number
+    else (if is_ligature l subtable then rules_at l.table.now subtable.start 4 number else None)
+
+-- an alternate at random marks the whole list
+abbrev pub whole_list : Lookup → List Item → LookupSubtable → ℕ
+whole_list l items subtable = if not l.positioning && nat_eq subtable.kind 3 && l.random then length items else 0
+
+abbrev pub begun_charged : Lookup → List Item → LookupSubtable → ℕ → Option ℕ
+begun_charged l items subtable left = option_and_then (charged SUBTABLE_WORK) (charged (whole_list l items subtable) left)
+
+abbrev pub parts_charged : Lookup → List Item → ℕ → LookupSubtable → ℕ → ℕ → Option ℕ
+parts_charged l items at subtable number left = if is_backward l subtable
+    then rule_charged l items at (backward_rule l.table.now subtable.start) left
+    else option_map_or (set_charged l items at subtable left)
+    (parts_for l subtable (nth items at).glyph_id number) (Some left)
+
+abbrev pub numbered_charged : Lookup → List Item → ℕ → LookupSubtable → ℕ → ℕ → Option ℕ
+numbered_charged l items at subtable left number =
+    option_and_then (parts_charged l items at subtable number) (begun_charged l items subtable left)
+
+-- format 3 of context
+abbrev pub whole_charged : Lookup → List Item → ℕ → LookupSubtable → ℕ → Option ℕ
+whole_charged l items at subtable left = let rule = whole_rule l.table.now (is_chained l subtable) subtable.start in
+    (if is_first l.table.now subtable.start rule (nth items at).glyph_id
+    then option_and_then (rule_charged l items at rule) (begun_charged l items subtable left)
+    else Some left)
+
+abbrev pub is_whole : Lookup → LookupSubtable → Bool
+is_whole l subtable = is_context_subtable l subtable && nat_eq (u16_of l.table.now subtable.start) 3
+
+-- a subtable that doesn't begin with the glyph is free
+abbrev pub subtable_charged : Lookup → List Item → ℕ → ℕ → LookupSubtable → Option ℕ
+subtable_charged l items at left subtable = if is_whole l subtable then whole_charged l items at subtable left
+    else option_map_or (numbered_charged l items at subtable left) (number_of l.table.now subtable.start (nth items at).glyph_id) (Some left)
+
+abbrev pub charged_at_subtable : Lookup → List Item → ℕ → ℕ → ℕ → Option ℕ
+charged_at_subtable l items at i left = option_map_or (subtable_charged l items at left) (subtable_at l i) (Some left)
+
+-- ---- lookups
+
+-- the subtables that begin with the glyph at a place; none if what is left doesn't suffice for all of them
+abbrev pub lookup_charged : Lookup → List Item → ℕ → ℕ → Option ℕ
+lookup_charged l items at left = steps (charged_at_subtable l items at) (subtable_count_of l.table.now l.place) 0 left
+
+abbrev pub NESTED_WORK : ℕ
+NESTED_WORK = 32
+
+-- a lookup that a rule names is charged for all of its subtables
+abbrev pub nested_charged : Lookup → List Item → ℕ → ℕ → Option ℕ
+nested_charged l items at left =
+    option_and_then (lookup_charged l items at) (charged (subtable_count_of l.table.now l.place + NESTED_WORK) left)
+
+-- one that goes over a list, for each of its subtables at each item
+abbrev pub walk_work : Lookup → ℕ → ℕ
+walk_work l count = min (count * subtable_count_of l.table.now l.place) most_countable
+
+-- so much for each item of a list, and so much at least
+abbrev pub WORK_FACTOR : ℕ
+WORK_FACTOR = 65536
+
+abbrev pub WORK_MIN : ℕ
+WORK_MIN = 1048576
+
+abbrev pub most_work : ℕ → ℕ
+most_work count = max (min (count * WORK_FACTOR) most_countable) WORK_MIN

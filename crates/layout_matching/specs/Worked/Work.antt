@@ -1,0 +1,99 @@
+-- What lookups are charged for, computed by hand on tables of 16-bit words.
+use Rattle.std.specs.Prelude.{◌≡◌, ℕ, List, [], ◌∷◌, Some, None, true, false, refl}
+use Rattle.shape_font.specs.Worked.Glyphs.{words}
+use Rattle.shape_items.specs.Items.{Item, new_item, new_properties}
+use Rattle.layout_matching.specs.Work.{lookup_charged, nested_charged, walk_work, most_work}
+use Rattle.layout_matching.specs.declared.lookup.Lookup.{Lookup}
+
+-- three ligatures of two components that share one place, the last of them NULL
+abbrev pub shared_ligatures : List ℕ
+shared_ligatures = words (4 ∷ 8 ∷ 1 ∷ 8 ∷ 1 ∷ 8 ∷ 1 ∷ 14 ∷ 1 ∷ 1 ∷ 5 ∷ 3 ∷ 8 ∷ 8 ∷ 0 ∷ 50 ∷ 2 ∷ 6 ∷ [])
+
+-- two rules of two glyphs and one lookup, which share one place
+abbrev pub shared_rules : List ℕ
+shared_rules = words (5 ∷ 8 ∷ 1 ∷ 8 ∷ 1 ∷ 8 ∷ 1 ∷ 14 ∷ 1 ∷ 1 ∷ 5 ∷ 2 ∷ 6 ∷ 6 ∷ 2 ∷ 1 ∷ 6 ∷ 0 ∷ 0 ∷ [])
+
+-- one rule of two lists and one lookup, in format 3
+abbrev pub one_rule : List ℕ
+one_rule = words (5 ∷ 8 ∷ 1 ∷ 8 ∷ 3 ∷ 2 ∷ 1 ∷ 14 ∷ 14 ∷ 0 ∷ 0 ∷ 1 ∷ 1 ∷ 5 ∷ [])
+
+-- kind 8, with two glyphs before and one after
+abbrev pub backward_table : List ℕ
+backward_table = words (8 ∷ 8 ∷ 1 ∷ 8 ∷ 1 ∷ 18 ∷ 2 ∷ 18 ∷ 18 ∷ 1 ∷ 18 ∷ 1 ∷ 60 ∷ 1 ∷ 1 ∷ 5 ∷ [])
+
+abbrev pub one_alternate : List ℕ
+one_alternate = words (3 ∷ 8 ∷ 1 ∷ 8 ∷ 1 ∷ 8 ∷ 1 ∷ 14 ∷ 1 ∷ 1 ∷ 5 ∷ 1 ∷ 40 ∷ [])
+
+-- the same subtable twice
+abbrev pub two_subtables : List ℕ
+two_subtables = words (1 ∷ 8 ∷ 2 ∷ 10 ∷ 10 ∷ 1 ∷ 6 ∷ 3 ∷ 1 ∷ 1 ∷ 5 ∷ [])
+
+-- a lookup of `GSUB` that ignores marks
+abbrev pub over_marks : Lookup → Lookup
+over_marks l = record l { place = 0; flags = 8; positioning = false; random = false }
+
+abbrev pub plain : ℕ → Item
+plain glyph = record (new_item 0 0) { glyph_id = glyph }
+
+abbrev pub a_mark : Item
+a_mark = record (plain 9) { properties = record new_properties { glyph_class = record { 0 = 8 } } }
+
+-- what is left of 100 at a place
+abbrev pub Leaves : List ℕ → List Item → ℕ → ℕ → Type 0
+Leaves table items at left = (l : Lookup) → l.table.now ≡ table → lookup_charged (over_marks l) items at 100 ≡ Some left
+
+pub record WorkedWork : Type 0 where
+  -- 8 for the subtable, 3 for each ligature and 1 for a NULL offset
+  pub ligatures : Leaves shared_ligatures (plain 5 ∷ []) 0 85
+  pub just_enough : (l : Lookup) → l.table.now ≡ shared_ligatures → lookup_charged (over_marks l) (plain 5 ∷ []) 0 15 ≡ Some 0
+  pub too_little : (l : Lookup) → l.table.now ≡ shared_ligatures → lookup_charged (over_marks l) (plain 5 ∷ []) 0 14 ≡ None
+  pub another_glyph : Leaves shared_ligatures (plain 6 ∷ []) 0 100
+  -- each of the two ligatures looks over the two marks, up to the second glyph or to the end; none looks back
+  pub over_two_marks : Leaves shared_ligatures (plain 5 ∷ a_mark ∷ a_mark ∷ plain 6 ∷ []) 0 81
+  pub to_the_end : Leaves shared_ligatures (plain 5 ∷ a_mark ∷ a_mark ∷ []) 0 81
+  pub after_two_marks : Leaves shared_ligatures (plain 5 ∷ a_mark ∷ a_mark ∷ plain 5 ∷ []) 3 85
+  pub marks_behind_the_second : Leaves shared_ligatures (plain 5 ∷ plain 6 ∷ a_mark ∷ a_mark ∷ []) 0 85
+  -- 4 for each rule: two glyphs, a lookup and the rule
+  pub rules : Leaves shared_rules (plain 5 ∷ []) 0 84
+  -- each of them looks over the mark for itself and for its lookup
+  pub rules_over_a_mark : Leaves shared_rules (plain 5 ∷ a_mark ∷ plain 6 ∷ []) 0 80
+  pub whole_rule : Leaves one_rule (plain 5 ∷ []) 0 88
+  pub not_its_first_glyph : Leaves one_rule (plain 6 ∷ []) 0 100
+  pub backwards : Leaves backward_table (plain 5 ∷ []) 0 87
+  pub back_over_a_mark : Leaves backward_table (a_mark ∷ plain 5 ∷ []) 1 86
+  pub alternate : Leaves one_alternate (plain 5 ∷ plain 6 ∷ plain 7 ∷ []) 0 92
+  pub at_random : (l : Lookup) → l.table.now ≡ one_alternate
+      → lookup_charged (record (over_marks l) { random = true }) (plain 5 ∷ plain 6 ∷ plain 7 ∷ []) 0 100 ≡ Some 89
+  pub each_subtable : Leaves two_subtables (plain 5 ∷ []) 0 84
+  -- 2 subtables and 32, and 8 for each that begins with the glyph
+  pub nested : (l : Lookup) → l.table.now ≡ two_subtables → nested_charged (over_marks l) (plain 5 ∷ []) 0 100 ≡ Some 50
+  pub walk : (l : Lookup) → l.table.now ≡ two_subtables → walk_work (over_marks l) 3 ≡ 6
+  pub at_least : most_work 16 ≡ 1048576
+  pub for_each_item : most_work 17 ≡ 1114112
+  pub countable : most_work 18446744073709551615 ≡ 18446744073709551615
+
+pub worked_work : WorkedWork
+worked_work = record {
+  ligatures = λ l t. rw t refl;
+  just_enough = λ l t. rw t refl;
+  too_little = λ l t. rw t refl;
+  another_glyph = λ l t. rw t refl;
+  over_two_marks = λ l t. rw t refl;
+  to_the_end = λ l t. rw t refl;
+  after_two_marks = λ l t. rw t refl;
+  marks_behind_the_second = λ l t. rw t refl;
+  rules = λ l t. rw t refl;
+  rules_over_a_mark = λ l t. rw t refl;
+  whole_rule = λ l t. rw t refl;
+  not_its_first_glyph = λ l t. rw t refl;
+  backwards = λ l t. rw t refl;
+  back_over_a_mark = λ l t. rw t refl;
+  alternate = λ l t. rw t refl;
+  at_random = λ l t. rw t refl;
+  each_subtable = λ l t. rw t refl;
+  nested = λ l t. rw t refl;
+  walk = λ l t. rw t refl;
+  at_least = refl;
+  for_each_item = refl;
+  countable = refl;
+}

@@ -1,0 +1,378 @@
+//! What a lookup is charged for at a place before it is tried there, so that a font can't make shaping long.
+//!
+//! Parts of a table may be shared, so that a small font names very many. Each subtable that begins with the glyph is charged for,
+//! with the rules or ligatures of its set: one for each glyph that they name, and for each that is passed over beside the place.
+//! A lookup is tried only if what is left of a count suffices for all of them; nothing is read that isn't paid for.
+ghost use Rattle.std.specs.Prelude.{◌≡◌, ◌<◌, ◌^◌, length};
+ghost use Rattle.std.specs.Option.{IfSome};
+ghost use Rattle.layout_matching.specs.Work.{charged as charged_of, passed_charged as passed_charged_of, rule_charged as rule_charged_of, part_rule as part_rule_of, part_counted as part_counted_of, set_counted as set_counted_of, set_charged as set_charged_of, is_backward as is_backward_of, is_ligature as is_ligature_of, parts_for as parts_for_of, whole_list as whole_list_of, begun_charged as begun_charged_of, parts_charged as parts_charged_of, numbered_charged as numbered_charged_of, whole_charged as whole_charged_of, is_whole as is_whole_of, subtable_charged as subtable_charged_of, charged_at_subtable as charged_at_subtable_of, lookup_charged as lookup_charged_of, nested_charged as nested_charged_of, walk_work as walk_work_of, most_work as most_work_of};
+
+use crate::found::{
+    is_chained, is_context_subtable, is_first, number_in, rule_by, set_for, subtable_at, whole_rule,
+};
+use crate::lookup::Lookup;
+use crate::passing::{passed_after, passed_before};
+use crate::rules::{Rule, rule_at, rules};
+use crate::tally::{Tally, backward_rule, ligature_rule, null_counted, rule_counted, uncounted};
+use layout_buffer::ItemList;
+use layout_tables::lookups::{LookupSubtable, subtable_count};
+use shape_font::bytes::{records, u16_at};
+
+/// What a subtable costs that begins with the glyph at the place.
+const SUBTABLE_WORK: usize = 8;
+
+/// What a lookup costs that a rule names.
+const NESTED_WORK: usize = 32;
+
+/// How much may be asked for in a stage for each item that it begins with.
+const WORK_FACTOR: usize = 65536;
+
+/// How much may be, however few items there are.
+const WORK_MIN: usize = 1_048_576;
+
+/// What is left after so much, if it suffices.
+pub(crate) fn charged(work: usize, left: usize) -> Option<usize>
+    ensures { result ≡ charged_of work left }
+{
+    if left < work { None } else { Some(left - work) }
+}
+
+/// What is left after what a rule or a set passes over, which is looked at each time.
+fn passed_charged(
+    lookup: &Lookup<'_>,
+    items: &ItemList<'_>,
+    at: usize,
+    count: Tally,
+) -> Option<usize>
+    requires { at < length items.now }
+    ensures { result ≡ passed_charged_of lookup.now items.now at count }
+{
+    let before = passed_before(lookup, items, at, count.before);
+    let passed = passed_after(lookup, items, at, count.after).saturating_add(before);
+    charged(count.tries.saturating_mul(passed), count.left)
+}
+
+/// What is left after one rule.
+fn rule_charged(
+    lookup: &Lookup<'_>,
+    items: &ItemList<'_>,
+    at: usize,
+    rule: &Rule,
+    left: usize,
+) -> Option<usize>
+    requires { at < length items.now }
+    ensures { result ≡ rule_charged_of lookup.now items.now at rule.now left }
+{
+    match rule_counted(rule, uncounted(left)) {
+        Some(count) => passed_charged(lookup, items, at, count),
+        None => None,
+    }
+}
+
+/// The rule, or the ligature, at a place of the table.
+fn part_rule(lookup: &Lookup<'_>, subtable: LookupSubtable, place: usize) -> Rule
+    requires near { subtable.start < 2 ^ 35 }
+    requires place { place < 2 ^ 37 }
+    ensures { result ≡ part_rule_of lookup.now subtable place }
+{
+    if is_context_subtable(lookup, subtable) {
+        let is_chain = is_chained(lookup, subtable);
+        rule_by(lookup.table, is_chain, subtable.start, place)
+    } else {
+        ligature_rule(lookup.table, place)
+    }
+}
+
+/// Number `r` of the rules, or ligatures, at `set`.
+fn part_counted(
+    lookup: &Lookup<'_>,
+    subtable: LookupSubtable,
+    set: usize,
+    r: u32,
+    count: Tally,
+) -> Option<Tally>
+    requires near { subtable.start < 2 ^ 35 }
+    requires set { set < 2 ^ 36 }
+    requires few { r < 2 ^ 16 }
+    ensures { result ≡ part_counted_of lookup.now subtable set r count }
+{
+    match rule_at(lookup.table, set, r) {
+        Some(place) => rule_counted(&part_rule(lookup, subtable, place), count),
+        None => null_counted(count),
+    }
+}
+
+/// All rules, or ligatures, at `set`.
+#[tactic(auto, using(crate::proofs::LoopLemmas::steps_next, crate::proofs::LoopLemmas::steps_none, crate::proofs::LoopLemmas::steps_end))]
+fn set_counted(
+    lookup: &Lookup<'_>,
+    subtable: LookupSubtable,
+    left: usize,
+    set: usize,
+) -> Option<Tally>
+    requires near { subtable.start < 2 ^ 35 }
+    requires set { set < 2 ^ 36 }
+    ensures { result ≡ set_counted_of lookup.now subtable left set }
+{
+    let mut count = uncounted(left);
+    for r in 0..records(
+        lookup.table,
+        u32::from(u16_at(lookup.table, set)),
+        set + 2,
+        2,
+    ) {
+        match part_counted(lookup, subtable, set, r, count) {
+            Some(more) => count = more,
+            None => return None,
+        }
+    }
+    Some(count)
+}
+
+/// What is left after all rules, or ligatures, at `set`.
+fn set_charged(
+    lookup: &Lookup<'_>,
+    items: &ItemList<'_>,
+    at: usize,
+    subtable: LookupSubtable,
+    left: usize,
+    set: usize,
+) -> Option<usize>
+    requires near { subtable.start < 2 ^ 35 }
+    requires set { set < 2 ^ 36 }
+    requires inside { at < length items.now }
+    ensures { result ≡ set_charged_of lookup.now items.now at subtable left set }
+{
+    match set_counted(lookup, subtable, left, set) {
+        Some(count) => passed_charged(lookup, items, at, count),
+        None => None,
+    }
+}
+
+fn is_ligature(lookup: &Lookup<'_>, subtable: LookupSubtable) -> bool
+    ensures { result ≡ is_ligature_of lookup.now subtable }
+{
+    !lookup.positioning && subtable.kind == 4
+}
+
+/// Where the rules, or the ligatures, for a glyph with this number stand.
+fn parts_for(
+    lookup: &Lookup<'_>,
+    subtable: LookupSubtable,
+    glyph: u32,
+    number: u32,
+) -> Option<usize>
+    requires near { subtable.start < 2 ^ 35 }
+    ensures value { result ≡ parts_for_of lookup.now subtable glyph number }
+    ensures near { IfSome result (λ s. s < 2 ^ 36) }
+{
+    if is_context_subtable(lookup, subtable) {
+        let is_chain = is_chained(lookup, subtable);
+        set_for(lookup.table, is_chain, subtable.start, glyph, number)
+    } else if is_ligature(lookup, subtable) {
+        rules(lookup.table, subtable.start, 4, number)
+    } else {
+        None
+    }
+}
+
+/// An alternate at random marks the whole list.
+fn whole_list(lookup: &Lookup<'_>, items: &ItemList<'_>, subtable: LookupSubtable) -> usize
+    ensures { result ≡ whole_list_of lookup.now items.now subtable }
+{
+    if !lookup.positioning && subtable.kind == 3 && lookup.random {
+        items.len()
+    } else {
+        0
+    }
+}
+
+/// What is left after a subtable without its rules or ligatures.
+fn begun_charged(
+    lookup: &Lookup<'_>,
+    items: &ItemList<'_>,
+    subtable: LookupSubtable,
+    left: usize,
+) -> Option<usize>
+    ensures { result ≡ begun_charged_of lookup.now items.now subtable left }
+{
+    match charged(whole_list(lookup, items, subtable), left) {
+        Some(left) => charged(SUBTABLE_WORK, left),
+        None => None,
+    }
+}
+
+fn is_backward(lookup: &Lookup<'_>, subtable: LookupSubtable) -> bool
+    ensures { result ≡ is_backward_of lookup.now subtable }
+{
+    !lookup.positioning && subtable.kind == 8
+}
+
+/// What is left after the rules, or the ligatures, for the glyph at a place.
+fn parts_charged(
+    lookup: &Lookup<'_>,
+    items: &ItemList<'_>,
+    at: usize,
+    subtable: LookupSubtable,
+    number: u32,
+    left: usize,
+) -> Option<usize>
+    requires near { subtable.start < 2 ^ 35 }
+    requires inside { at < length items.now }
+    ensures { result ≡ parts_charged_of lookup.now items.now at subtable number left }
+{
+    if is_backward(lookup, subtable) {
+        let rule = backward_rule(lookup.table, subtable.start);
+        return rule_charged(lookup, items, at, &rule, left);
+    }
+    let glyph = items.item(at).glyph_id;
+    match parts_for(lookup, subtable, glyph, number) {
+        Some(set) => set_charged(lookup, items, at, subtable, left, set),
+        None => Some(left),
+    }
+}
+
+fn numbered_charged(
+    lookup: &Lookup<'_>,
+    items: &ItemList<'_>,
+    at: usize,
+    subtable: LookupSubtable,
+    left: usize,
+    number: u32,
+) -> Option<usize>
+    requires near { subtable.start < 2 ^ 35 }
+    requires inside { at < length items.now }
+    ensures { result ≡ numbered_charged_of lookup.now items.now at subtable left number }
+{
+    match begun_charged(lookup, items, subtable, left) {
+        Some(left) => parts_charged(lookup, items, at, subtable, number, left),
+        None => None,
+    }
+}
+
+/// What is left after the one rule of a subtable of format 3, if it begins with the glyph at a place.
+fn whole_charged(
+    lookup: &Lookup<'_>,
+    items: &ItemList<'_>,
+    at: usize,
+    subtable: LookupSubtable,
+    left: usize,
+) -> Option<usize>
+    requires near { subtable.start < 2 ^ 35 }
+    requires inside { at < length items.now }
+    ensures { result ≡ whole_charged_of lookup.now items.now at subtable left }
+{
+    let rule = whole_rule(lookup.table, is_chained(lookup, subtable), subtable.start);
+    let glyph = items.item(at).glyph_id;
+    if !is_first(lookup.table, subtable.start, &rule, glyph) {
+        return Some(left);
+    }
+    match begun_charged(lookup, items, subtable, left) {
+        Some(left) => rule_charged(lookup, items, at, &rule, left),
+        None => None,
+    }
+}
+
+/// Whether the subtable has one rule, by its format.
+fn is_whole(lookup: &Lookup<'_>, subtable: LookupSubtable) -> bool
+    requires { subtable.start < 2 ^ 35 }
+    ensures { result ≡ is_whole_of lookup.now subtable }
+{
+    is_context_subtable(lookup, subtable) && u16_at(lookup.table, subtable.start) == 3
+}
+
+/// What is left after a subtable; one that doesn't begin with the glyph at the place is free.
+fn subtable_charged(
+    lookup: &Lookup<'_>,
+    items: &ItemList<'_>,
+    at: usize,
+    left: usize,
+    subtable: LookupSubtable,
+) -> Option<usize>
+    requires near { subtable.start < 2 ^ 35 }
+    requires inside { at < length items.now }
+    ensures { result ≡ subtable_charged_of lookup.now items.now at left subtable }
+{
+    if is_whole(lookup, subtable) {
+        return whole_charged(lookup, items, at, subtable, left);
+    }
+    let glyph = items.item(at).glyph_id;
+    match number_in(lookup.table, subtable.start, glyph) {
+        Some(number) => numbered_charged(lookup, items, at, subtable, left, number),
+        None => Some(left),
+    }
+}
+
+/// What is left after subtable `i`.
+fn charged_at_subtable(
+    lookup: &Lookup<'_>,
+    items: &ItemList<'_>,
+    at: usize,
+    i: u32,
+    left: usize,
+) -> Option<usize>
+    requires near { lookup.now.place < 2 ^ 17 }
+    requires few { i < 2 ^ 16 }
+    requires inside { at < length items.now }
+    ensures { result ≡ charged_at_subtable_of lookup.now items.now at i left }
+{
+    match subtable_at(lookup, i) {
+        Some(subtable) => subtable_charged(lookup, items, at, left, subtable),
+        None => Some(left),
+    }
+}
+
+/// What is left after the lookup was charged for the subtables that begin with the glyph at a place; none if it doesn't suffice.
+#[tactic(auto, using(crate::proofs::LoopLemmas::steps_next, crate::proofs::LoopLemmas::steps_none, crate::proofs::LoopLemmas::steps_end))]
+pub fn lookup_charged(
+    lookup: &Lookup<'_>,
+    items: &ItemList<'_>,
+    at: usize,
+    left: usize,
+) -> Option<usize>
+    requires near { lookup.now.place < 2 ^ 17 }
+    requires inside { at < length items.now }
+    ensures { result ≡ lookup_charged_of lookup.now items.now at left }
+{
+    let mut left = left;
+    for i in 0..subtable_count(lookup.table, lookup.place) {
+        match charged_at_subtable(lookup, items, at, i, left) {
+            Some(less) => left = less,
+            None => return None,
+        }
+    }
+    Some(left)
+}
+
+/// What is left after a lookup that a rule names was charged for all of its subtables, and for those that begin with the glyph.
+pub fn nested_charged(
+    lookup: &Lookup<'_>,
+    items: &ItemList<'_>,
+    at: usize,
+    left: usize,
+) -> Option<usize>
+    requires near { lookup.now.place < 2 ^ 17 }
+    requires inside { at < length items.now }
+    ensures { result ≡ nested_charged_of lookup.now items.now at left }
+{
+    let count = subtable_count(lookup.table, lookup.place) as usize;
+    match charged(count + NESTED_WORK, left) {
+        Some(left) => lookup_charged(lookup, items, at, left),
+        None => None,
+    }
+}
+
+/// What a lookup costs that goes over so many items, for each of its subtables.
+pub fn walk_work(lookup: &Lookup<'_>, count: usize) -> usize
+    requires { lookup.now.place < 2 ^ 17 }
+    ensures { result ≡ walk_work_of lookup.now count }
+{
+    count.saturating_mul(subtable_count(lookup.table, lookup.place) as usize)
+}
+
+/// How much the lookups of a stage may ask for that begins with so many items: a bound on its time.
+pub fn most_work(count: usize) -> usize
+    ensures { result ≡ most_work_of count }
+{
+    count.saturating_mul(WORK_FACTOR).max(WORK_MIN)
+}
