@@ -1,4 +1,5 @@
 -- The order of clusters.
 pub mod DrawsInOrder
+pub mod BesideLemmas
 pub mod PreservesClusterLemmas
 pub mod GraphemeOrderLemmas

@@ -128,6 +128,7 @@ module _ (unicode : UnicodeMeaning) (a b : Plan ℕ ℕ ℕ) (text : Buffer) whe
 
 pub worked_found : WorkedFound
 worked_found = record {
+  spellings = λ run a b. record { alike = λ same. same; apart = λ differ alike. differ alike };
   words = words_found;
   too_long = too_long;
   not_too_long = not_too_long;

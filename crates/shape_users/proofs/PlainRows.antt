@@ -250,6 +250,10 @@ texts_of_strings = record {
   with_level = λ is. let e = ap (λ (b : Buffer). b.cluster_level) is.rest in absurd cc;
   with_flags = λ is. let e : 64 ≡ 0 = ap (λ (b : Buffer). b.flags.0) is.rest in omega (arith, e);
   with_limit = λ is. let e : true ≡ false = ap (λ (b : Buffer). is_some b.length_limit) is.rest in absurd cc;
+  with_script = λ is. let e : true ≡ false = ap (λ (b : Buffer). is_some b.script) is.rest in absurd cc;
+  with_language = λ is. let e : true ≡ false = ap (λ (b : Buffer). is_some b.language) is.rest in absurd cc;
+  with_text_before = λ is. let e : 1 ≡ 0 = ap (λ (b : Buffer). length b.pre_context) is.rest in omega (arith, e);
+  with_text_after = λ is. let e : 1 ≡ 0 = ap (λ (b : Buffer). length b.post_context) is.rest in omega (arith, e);
 }
 
 runs_of_strings : (run : Run) → RunsOfStrings run

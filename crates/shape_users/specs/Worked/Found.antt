@@ -1,12 +1,13 @@
 -- Which word and which plan are found, and when a spelling is too long for that, on lists that were worked by hand.
-use Rattle.std.specs.Prelude.{◌⊎◌, ◌<◌, ◌≤◌, ◌^◌, ℕ, List, [], ◌∷◌, length}
+use Rattle.std.specs.Prelude.{◌≡◌, ◌≢◌, ◌⊎◌, ◌<◌, ◌≤◌, ◌^◌, ℕ, List, [], ◌∷◌, length}
 use Rattle.shape_items.specs.Buffer.{Buffer, limit_of}
 use Rattle.shape_buffer.specs.Guess.{guessed}
 use Rattle.shape_common.specs.Unicode.{UnicodeMeaning}
+use Rattle.shape_normalize.specs.CanonicalForm.{text_of}
 use Rattle.shape_normalize.specs.RoundOne.{round_one}
 use Rattle.shape_plan.specs.Plan.{Plan, Fits}
 use Rattle.shape_plan.specs.Run.{Run}
-use Rattle.shape_pipeline.specs.Headline.{target_of, prepared_text}
+use Rattle.shape_pipeline.specs.Headline.{target_of, prepared_text, normalised_list}
 use Rattle.shape_pipeline.specs.Shaped.{HasItems, PreparingPasses, ShapingPasses}
 use Rattle.shape_users.specs.Words.{spelled, AreSpelledAlike, IsTooLongToPrepare, IsTooLong, IsTooLongToShape, IsPlaceOf, IsNowhere, FindsTooLong, KeepsTooLong, FitsAt, NoneFits}
 use Rattle.shape_users.specs.Worked.Words.{bytes_of}
@@ -15,6 +16,11 @@ use Rattle.shape_users.specs.declared.words.Word.{Word}
 -- the spelling is a word's
 abbrev pub IsLike : Run → Word → List ℕ → Type 0
 IsLike run word spelling = AreSpelledAlike run (bytes_of word) spelling
+
+-- spellings are compared by their characters once they are normalised
+pub record SpellingsCompared (run : Run) (a b : List ℕ) : Type 0 where
+  pub alike : text_of (normalised_list run (spelled a)) ≡ text_of (normalised_list run (spelled b)) → AreSpelledAlike run a b
+  pub apart : text_of (normalised_list run (spelled a)) ≢ text_of (normalised_list run (spelled b)) → AreSpelledAlike run a b → ⊥
 
 pub record WordsFound (run : Run) (a b : Word) (spelling : List ℕ) : Type 0 where
   pub second : IsLike run b spelling → IsPlaceOf run (a ∷ b ∷ []) 1 spelling
@@ -83,6 +89,7 @@ pub record PlansFound (unicode : UnicodeMeaning) (a b : Plan ℕ ℕ ℕ) (text 
   pub first_alone : (Fits unicode a text → ⊥) → NoneFits unicode (a ∷ b ∷ []) 1 text
 
 pub record WorkedFound : Type 0 where
+  pub spellings : (run : Run) (a b : List ℕ) → SpellingsCompared run a b
   pub words : (run : Run) (a b : Word) (spelling : List ℕ) → WordsFound run a b spelling
   pub too_long : (run : Run) (spelling : List ℕ) → TooLong run spelling
   pub not_too_long : (run : Run) → NotTooLong run

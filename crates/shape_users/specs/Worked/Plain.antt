@@ -160,6 +160,10 @@ pub record TextsOfStrings : Type 0 where
   pub with_level : IsTextOf euro_string (record euro_text { cluster_level = Characters }) → ⊥
   pub with_flags : IsTextOf euro_string (record euro_text { flags = record { 0 = 64 } }) → ⊥
   pub with_limit : IsTextOf euro_string (record euro_text { length_limit = Some 5 }) → ⊥
+  pub with_script : IsTextOf euro_string (record euro_text { script = Some (record { 0 = record { 0 = 0x48656272 } }) }) → ⊥
+  pub with_language : IsTextOf euro_string (record euro_text { language = Some (0x68 ∷ 0x65 ∷ []) }) → ⊥
+  pub with_text_before : IsTextOf euro_string (record euro_text { pre_context = 0x61 ∷ [] }) → ⊥
+  pub with_text_after : IsTextOf euro_string (record euro_text { post_context = 0x61 ∷ [] }) → ⊥
 
 -- what a run makes of a string: of its text with what is guessed for it
 pub record RunsOfStrings (run : Run) : Type 0 where
