@@ -2,6 +2,8 @@
 use Rattle.std.proofs.Common.{◌≡◌, ℕ, ◌≤◌, ◌==◌, length, map, refl, ap, sym, ◌∙◌, arith, inl, inr, bit_and, bit_or, ◌⊎◌}
 use Rattle.std.proofs.lemmas.Bool.{cases_Bool}
 use Rattle.std.proofs.lemmas.List.{length-map}
+use Rattle.std.proofs.lemmas.Nat.{and_or_self}
+use Rattle.std.specs.Int.Bits.{or_add_and}
 use Rattle.shape_common.specs.FlagNames.{HAS_GLYPH_FLAGS}
 use Rattle.shape_items.specs.Buffer.{Buffer, limit_of}
 use Rattle.shape_items.specs.BufferClusters.{unsafe_to_break, unsafe_to_concat}
@@ -69,6 +71,28 @@ changing_masks b c alone scratch = record { items = alone.items; scratch = scrat
 
 pub masks_changed : (b c : Buffer) → ChangesMasksAlone b c → MasksAlone b c
 masks_changed b c alone = record { items = alone.items; rest = alone.rest }
+
+pub ChangesMasksAlone-same : (b : Buffer) → ChangesMasksAlone b b
+ChangesMasksAlone-same b = record { items = refl; scratch = inl refl; rest = refl }
+
+or_twice : (s : ℕ) → bit_or (bit_or s HAS_GLYPH_FLAGS) HAS_GLYPH_FLAGS ≡ bit_or s HAS_GLYPH_FLAGS
+or_twice s =
+    let sum = or_add_and (bit_or s 32) 32 in
+    let has = and_or_self 32 s in
+    omega (arith, sum, has)
+
+-- the scratch flag that is set twice is set
+set_again : (a b c : ℕ) → (b ≡ a) ⊎ (b ≡ bit_or a HAS_GLYPH_FLAGS) → (c ≡ b) ⊎ (c ≡ bit_or b HAS_GLYPH_FLAGS)
+    → (c ≡ a) ⊎ (c ≡ bit_or a HAS_GLYPH_FLAGS)
+set_again a b c (inl same) (inl again) = inl (again ∙ same)
+set_again a b c (inl same) (inr now) = inr (now ∙ ap (λ (n : ℕ). bit_or n HAS_GLYPH_FLAGS) same)
+set_again a b c (inr set) (inl again) = inr (again ∙ set)
+set_again a b c (inr set) (inr now) =
+    inr (now ∙ ap (λ (n : ℕ). bit_or n HAS_GLYPH_FLAGS) set ∙ or_twice a)
+
+pub ChangesMasksAlone-then : (a b c : Buffer) → ChangesMasksAlone a b → ChangesMasksAlone b c → ChangesMasksAlone a c
+ChangesMasksAlone-then a b c first later = changing_masks a c (MasksAlone-then (masks_changed a b first) (masks_changed b c later))
+    (set_again a.scratch_flags.0 b.scratch_flags.0 c.scratch_flags.0 first.scratch later.scratch)
 
 -- ---- clusters: masks don't matter
 
