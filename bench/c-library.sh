@@ -1,0 +1,56 @@
+#!/bin/sh
+# Measures the library for C beside the program hb-shape over the same font and text, whole programs both:
+#
+#   bench/c-library.sh [HB_SHAPE [FONT]]
+#
+# Time for 100,000 lines of 40 characters, each in one run of its program; instructions a line by callgrind, as the
+# difference of 2,000 and 1,000 lines; time of a start with one character; sizes of the archive and of the example. It wants
+# gcc, make, python3, valgrind and hb-shape, and is run by hand.
+set -eu
+here=$(cd "$(dirname "$0")" && pwd)
+hb=${1:-hb-shape}
+font=${2:-/usr/share/fonts/truetype/dejavu/DejaVuSans.ttf}
+bindings=$here/../bindings/c
+work=$(mktemp -d)
+trap 'rm -rf "$work"' EXIT
+
+make -s -C "$bindings" >&2
+python3 - "$work" <<'P'
+import random
+import sys
+
+rng = random.Random(1)
+kinds = {"latin": "abcdefghijklmnopqrstuvwxyz     AVTWfi.,", "hebrew": "אבגדהוזחטיכלמנסעפצקרשת     ", "arabic": "ابتثجحخدذرزسشصضطظعغفقكلمنهوي     "}
+for name, letters in kinds.items():
+    lines = ["".join(rng.choice(letters) for _ in range(40)) for _ in range(100000)]
+    for count in (1, 1000, 2000, 100000):
+        with open("%s/%s.%d" % (sys.argv[1], name, count), "w") as file:
+            file.write("\n".join(lines[:count]) + "\n")
+P
+
+# Seconds of processor time of one run.
+seconds() {
+    program=$1 text=$2
+    bash -c "TIMEFORMAT=%U; time $program > /dev/null" < "$text" 2>&1 | tail -n 1
+}
+
+# Instructions of one run.
+instructions() {
+    valgrind --tool=callgrind --callgrind-out-file=/dev/null $1 < "$2" 2>&1 > /dev/null | sed -n 's/.*Collected : //p' | tail -n 1
+}
+
+for kind in latin hebrew arabic; do
+    text=$work/$kind
+    for name in here hb-shape; do
+        case $name in
+            here) run() { echo "$bindings/shape $font"; } ;;
+            *) run() { echo "$hb --no-glyph-names $font"; } ;;
+        esac
+        one=$(instructions "$(run)" "$text.1000")
+        two=$(instructions "$(run)" "$text.2000")
+        echo "$kind $name: $(seconds "$(run)" "$text.100000") s for 100,000 lines, $(((two - one) / 1000)) instructions a line," \
+            "$(seconds "$(run)" "$text.1") s and $(instructions "$(run)" "$text.1") instructions for one line"
+    done
+done
+size=$(stat -c %s "$here/../crates/luthgarn_c/out/libluthgarn_c.a")
+echo "archive $size bytes, library $(stat -c %s "$bindings/libluthgarn.so"), example $(stat -c %s "$bindings/shape")"

@@ -1,0 +1,5 @@
+pub mod ListLemmas
+pub mod OutcomeLemmas
+pub mod PlanLemmas
+pub mod RefusalLemmas
+pub mod RunLemmas

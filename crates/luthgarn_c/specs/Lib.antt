@@ -1,0 +1,7 @@
+pub mod Fonts
+pub mod Glyphs
+pub mod Numbers
+pub mod Outcomes
+pub mod Plans
+pub mod Refusals
+pub mod Texts

@@ -1,0 +1,154 @@
+//! The library for C: texts shaped with a font file, into arrays that the caller owns. `bindings/c/luthgarn.h` declares
+//! what is exported here.
+//!
+//! No pointer of this library reaches C, and none of C's is kept: a call reads slices, writes into slices, and returns.
+//! So there is nothing to free, no handle to misuse, and nothing global. [`plain`] has the structs that cross, [`texts`]
+//! makes a text of a run, [`shaper`] shapes it by one of the [`plans`] that the runs of a call share, [`written`] writes its
+//! glyphs, [`runs`] goes over the runs, [`fonts`] opens a font, and [`refusal`] has the reasons that come back as numbers.
+#![tactic(auto)]
+#![allow(non_camel_case_types)]
+
+mod fonts;
+mod plain;
+mod plans;
+mod refusal;
+mod runs;
+mod shaper;
+mod texts;
+mod written;
+
+ghost use Rattle.std.specs.Prelude.{◌≡◌, ◌↔◌, ◌≤◌, Some, None, length, map, IfOk, IfErr};
+ghost use Rattle.std.specs.Str.{IsUtf8};
+ghost use Rattle.luthgarn_c.specs.Fonts.{IsFaceOf, units_of};
+ghost use Rattle.luthgarn_c.specs.Numbers.{direction_number, feature_of_c, script_number};
+ghost use Rattle.luthgarn_c.specs.Outcomes.{IsUntouched, ServesBy};
+ghost use Rattle.shape_text_forms.specs.Feature.{feature_of};
+ghost use Rattle.shape_text_forms.specs.Names.{direction_of_text, script_of_text};
+
+use crate::fonts::{face_of, font_of};
+use crate::plain::{features_of, luthgarn_feature, luthgarn_glyph, luthgarn_outcome, luthgarn_run};
+use crate::refusal::{DONE, Refusal};
+use crate::runs::shape_runs;
+use crate::shaper::FontShaper;
+use opentype_layout::{OpenTypeFace, OpenTypeLayout, OpenedOpenTypeFace};
+use script_shapers::choice::{ScriptRuns, by_script};
+use shape_buffer::interfaces::hb_font_t;
+use shape_text_forms::{direction_from_string, feature_from_string, script_from_string};
+use shape_unicode::UnicodeDatabase;
+use std::alloc::Global;
+
+/// How many units the em square has of the font with this number; 0 exactly if the bytes have no such font.
+#[unsafe(no_mangle)]
+pub extern "C" fn luthgarn_units_per_em(font: &[u8], index: u32) -> u32
+    ensures { result ≡ units_of font.now index }
+{
+    match font_of(font, index) {
+        Some(face) => u32::from(face.units_per_em()),
+        None => 0,
+    }
+}
+
+/// Parses a feature, as `kern=0` or `aalt[3:5]=2`. A text that is none leaves `feature` as it was.
+#[unsafe(no_mangle)]
+pub extern "C" fn luthgarn_parse_feature(text: &[u8], feature: &mut luthgarn_feature) -> u32
+    ensures parsed { result ≡ 0 → feature_of text.now ≡ Some (feature_of_c feature.new) }
+    ensures none { (result ≡ 0 → ⊥) → (result ≡ 4) × (feature.new ≡ feature.old) }
+    ensures each { IsUtf8 text.now → (feature_of text.now ≡ None → ⊥) → result ≡ 0 }
+{
+    match str::from_utf8(text) {
+        Ok(text) => match feature_from_string(text) {
+            Some(parsed) => {
+                *feature = luthgarn_feature::of(parsed);
+                DONE
+            }
+            None => Refusal::Text.code(),
+        },
+        Err(_) => Refusal::Text.code(),
+    }
+}
+
+/// The number of a direction: 4 for a text that begins with `l`, 5 with `r`, 6 with `t`, 7 with `b`, else 0, which asks
+/// for a guess.
+#[unsafe(no_mangle)]
+pub extern "C" fn luthgarn_parse_direction(text: &[u8]) -> u32
+    ensures direction { IsUtf8 text.now → result ≡ direction_number (direction_of_text text.now) }
+    ensures none { (IsUtf8 text.now → ⊥) → result ≡ 0 }
+{
+    match str::from_utf8(text) {
+        Ok(text) => plain::direction_code(direction_from_string(text)),
+        Err(_) => 0,
+    }
+}
+
+/// The tag of a script; 0 for an empty text, and one that isn't UTF-8, which asks for a guess.
+#[unsafe(no_mangle)]
+pub extern "C" fn luthgarn_parse_script(text: &[u8]) -> u32
+    ensures script { IsUtf8 text.now → result ≡ script_number (script_of_text text.now) }
+    ensures none { (IsUtf8 text.now → ⊥) → result ≡ 0 }
+{
+    match str::from_utf8(text) {
+        Ok(text) => match script_from_string(text) {
+            Some(script) => script.0.0,
+            None => 0,
+        },
+        Err(_) => 0,
+    }
+}
+
+/// Shapes runs of a text with a face that is opened for them. Refuses with `Memory` alone.
+fn shape_opened(
+    alloc: Global,
+    face: OpenTypeFace<'_>,
+    features: &[luthgarn_feature],
+    text: &[u8],
+    runs: &mut [luthgarn_run],
+    glyphs: &mut [luthgarn_glyph],
+) -> Result<luthgarn_outcome, Refusal>
+    ensures ok { IfOk result (λ outcome. ServesBy
+        ⟦<by_script as ScriptRuns<UnicodeDatabase, OpenedOpenTypeFace<'static>, OpenTypeLayout>>⟧.text_run
+        (λ f. f ≡ face.entry) (map feature_of_c features.now)
+        text.now runs.old runs.new glyphs.old glyphs.new outcome) }
+    ensures memory { IfErr result (λ e. e ≡ Refusal.Memory) }
+    ensures same { IfErr result (λ _. (runs.new ≡ runs.old) × (glyphs.new ≡ glyphs.old)) }
+{
+    let opened = OpenedOpenTypeFace::new(alloc, face)?;
+    let features = features_of(alloc, features)?;
+    let mut shaper = FontShaper {
+        face: &opened,
+        features: features.as_slice(),
+        plans: Vec::new(alloc),
+    };
+    Ok(shape_runs(alloc, &mut shaper, text, runs, glyphs))
+}
+
+/// Shapes the runs of a text, one after the other, and writes their glyphs one after the other: of each run those that
+/// `shape_by_script` makes of its text. One plan serves all runs of one direction, script and language. Stops at the
+/// first run that is refused; those before it are done, and nothing is written past their glyphs.
+#[unsafe(no_mangle)]
+pub extern "C" fn luthgarn_shape(
+    alloc: Global,
+    font: &[u8],
+    index: u32,
+    features: &[luthgarn_feature],
+    text: &[u8],
+    runs: &mut [luthgarn_run],
+    glyphs: &mut [luthgarn_glyph],
+) -> luthgarn_outcome
+    ensures font { (result.code ≡ 3) ↔ (units_of font.now index ≡ 0) }
+    ensures untouched { units_of font.now index ≡ 0
+        → IsUntouched runs.old runs.new glyphs.old glyphs.new result }
+    ensures serves { (units_of font.now index ≡ 0 → ⊥) → ServesBy
+        ⟦<by_script as ScriptRuns<UnicodeDatabase, OpenedOpenTypeFace<'static>, OpenTypeLayout>>⟧.text_run
+        (IsFaceOf font.now index) (map feature_of_c features.now)
+        text.now runs.old runs.new glyphs.old glyphs.new result }
+    ensures within { (result.runs ≤ length runs.old) × (result.glyphs ≤ length glyphs.old) }
+    ensures done { result.code ≡ 0 → result.runs ≡ length runs.old }
+{
+    let Some(face) = face_of(font, index) else {
+        return luthgarn_outcome::refused(Refusal::Font);
+    };
+    match shape_opened(alloc, face, features, text, runs, glyphs) {
+        Ok(outcome) => outcome,
+        Err(refusal) => luthgarn_outcome::refused(refusal),
+    }
+}

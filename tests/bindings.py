@@ -1,0 +1,154 @@
+#!/usr/bin/env python3
+"""Compares bindings/ with the program `fontshape`: the example in C, the one in Python, and the one in Rust if there is a
+rustc, on a hundred lines over the DejaVu and Noto fonts that are installed, Latin, Greek, Hebrew, Arabic, Thai and Hangul,
+with features, directions, scripts and languages. The example in C runs under valgrind, if that is installed.
+
+Then `calls.c` calls each function of luthgarn.h with right and wrong inputs, with each block of memory refused in turn, and
+`--calls N` (10000) times at random, with a stack of 1 MiB; and 200 times under valgrind.
+
+Ends with status 77, and says why, if gcc, make, DejaVu Sans or the programs are missing and can't be built.
+"""
+import argparse
+import os
+import random
+import resource
+import shutil
+import subprocess
+import sys
+import tempfile
+
+HERE = os.path.dirname(os.path.abspath(__file__))
+BINDINGS = os.path.join(HERE, "..", "bindings")
+C = os.path.join(BINDINGS, "c")
+FONTSHAPE = os.path.join(HERE, "..", "crates", "fontshape", "out", "fontshape")
+ARCHIVE = os.path.join(HERE, "..", "crates", "luthgarn_c", "out", "libluthgarn_c.a")
+DEJAVU = "/usr/share/fonts/truetype/dejavu/DejaVuSans.ttf"
+NOTO = "/usr/share/fonts/truetype/noto/Noto%s-Regular.ttf"
+STACK = 1 << 20  # what luthgarn.h asks for
+VALGRIND = ["valgrind", "-q", "--error-exitcode=9", "--leak-check=full"]
+WORDS = {
+    "Latin": ["AVATAR", "office", "fjord", "Čau", "příliš", "1/2", "x̂é", "ﬀi", "Tö", "q\u0301\u0323", "a\u200db", "i̇", "—", "St."],
+    "Greek": ["Ἀχιλλεύς", "ΑΥΤ", "μῆνις", "ά", "ͅα"],
+    "Hebrew": ["שָׁלוֹם", "עִבְרִית", "בּ", "אֱ", "יִ"],
+    "Arabic": ["السَّلام", "عليكم", "لا", "كتاب", "ۓ", "ب\u200dب", "١٢٣"],
+    "Thai": ["น้ำ", "กำ", "ที่", "ภาษา"],
+    "Hangul": ["한국어", "각", "각", "〮가"],
+}
+# a font, the words of its lines, options as the examples take them
+KINDS = [
+    (DEJAVU, "Latin", []),
+    (DEJAVU, "Latin", ["-f", "-kern", "-f", "liga=0", "-f", "salt[1:4]"]),
+    (DEJAVU, "Latin", ["-l", "sr", "-s", "Cyrl"]),
+    (DEJAVU, "Greek", ["-f", "ccmp=0"]),
+    (DEJAVU, "Hebrew", []),
+    (DEJAVU, "Arabic", []),
+    (DEJAVU, "Arabic", ["-d", "rtl", "-s", "arab", "-l", "fa", "-f", "init=0"]),
+    (DEJAVU, "Hebrew", ["-d", "ltr"]),
+    (NOTO % "Sans", "Latin", ["-f", "smcp", "-f", "frac"]),
+    (NOTO % "SansHebrew", "Hebrew", []),
+    (NOTO % "NaskhArabic", "Arabic", ["-l", "ur"]),
+    (NOTO % "SansArabic", "Arabic", ["-f", "-rlig"]),
+    (NOTO % "SansThai", "Thai", []),
+    (DEJAVU, "Latin", ["-d", "ttb"]),
+]
+
+
+def skip(why):
+    print("bindings: skipped: " + why)
+    sys.exit(77)
+
+
+def run(words, text=b"", status=0, before=None):
+    """What a program writes."""
+    done = subprocess.run(words, input=text, stdout=subprocess.PIPE, stderr=subprocess.PIPE, timeout=600, preexec_fn=before)
+    if done.returncode != status:
+        sys.exit("bindings: status %d of %s\n%s" % (done.returncode, " ".join(words), done.stderr.decode(errors="replace")))
+    return done.stdout
+
+
+def build(work):
+    """The words of each program but `fontshape`."""
+    for path, crate, command in ((FONTSHAPE, "fontshape", "run"), (ARCHIVE, "luthgarn_c", "lib")):
+        if not os.path.exists(path):
+            if not shutil.which("rt"):
+                skip("%s isn't built, and there is no rt" % crate)
+            words = ["rt", command] + (["--", "--version"] if command == "run" else [])
+            subprocess.run(words, cwd=os.path.dirname(os.path.dirname(path)), stdout=subprocess.DEVNULL)
+            if not os.path.exists(path):
+                sys.exit("bindings: %s can't be built" % crate)
+    run(["make", "-C", C])
+    gcc = ["gcc", "-std=gnu99", "-O1", "-Wall", "-Wextra", "-Werror", "-Wl,--wrap=malloc,--wrap=realloc,--wrap=free"]
+    run(gcc + ["-o", os.path.join(work, "calls"), os.path.join(HERE, "calls.c"), os.path.join(C, "libluthgarn.a")])
+    valgrind = VALGRIND if shutil.which("valgrind") else []
+    programs = {"C": valgrind + [os.path.join(C, "shape")], "Python": [sys.executable, os.path.join(BINDINGS, "python", "luthgarn.py")]}
+    if shutil.which("rustc"):
+        program = os.path.join(work, "shape_rs")
+        run(["rustc", "-O", "--edition", "2021", "-L", C, "-l", "static=luthgarn", "-o", program, os.path.join(BINDINGS, "rust", "shape.rs")])
+        programs["Rust"] = [program]
+    else:
+        print("bindings: the program in Rust is left out: there is no rustc")
+    if not valgrind:
+        print("bindings: the program in C runs without valgrind, which isn't installed")
+    return programs
+
+
+def lines_of(rng, script, count):
+    words = WORDS[script]
+    return ["  ".join(rng.choice(words + WORDS["Latin"][:3]) for _ in range(rng.randint(1, 6))).replace("  ", " ") for _ in range(count)]
+
+
+def compare(programs, rng):
+    count = 0
+    options = {"-f": "--features=", "-d": "--direction=", "-s": "--script=", "-l": "--language="}
+    for font, script, asked in KINDS:
+        if not os.path.exists(font):
+            continue
+        lines = lines_of(rng, script, 10)
+        text = ("\n".join(lines) + "\n").encode()
+        features = [word for option, word in zip(asked[::2], asked[1::2]) if option == "-f"]
+        words = [options[option] + word for option, word in zip(asked[::2], asked[1::2]) if option != "-f"]
+        words += ["--features=" + ",".join(features)] if features else []
+        right = run([FONTSHAPE, "--no-glyph-names", "--utf8-clusters"] + words + [font], text).decode().splitlines()
+        for name, program in programs.items():
+            found = run(program + [font] + asked, text).decode().splitlines()
+            for line, a, b in zip(lines, right, found):
+                if a != b:
+                    sys.exit("bindings: %s of %s, %s %s\n%s\nfontshape %s\n%s %s" % (line, os.path.basename(font), script, asked, name, a, name, b))
+            if len(found) != len(right):
+                sys.exit("bindings: %s writes %d lines for %d" % (name, len(found), len(right)))
+        count += len(lines)
+    print("bindings: %d lines, the same from fontshape and %s" % (count, ", ".join(programs)))
+
+
+def refusals(programs):
+    """Wrong words: each program says why it stops, and writes no glyphs."""
+    for name, program in programs.items():
+        for words, text in (([DEJAVU, "-f", "===="], b"a\n"), ([os.path.join(HERE, "bindings.py")], b"a\n")):
+            done = subprocess.run(program + words, input=text, stdout=subprocess.PIPE, stderr=subprocess.PIPE)
+            if done.returncode in (0, 9) or done.returncode < 0 or done.stdout or not done.stderr:
+                sys.exit("bindings: %s on %s: status %d" % (name, words, done.returncode))
+
+
+def main():
+    parser = argparse.ArgumentParser(description=__doc__, formatter_class=argparse.RawDescriptionHelpFormatter)
+    parser.add_argument("--calls", type=int, default=10000)
+    parser.add_argument("--seed", type=int, default=1)
+    given = parser.parse_args()
+    for program in ("gcc", "make"):
+        if not shutil.which(program):
+            skip("there is no " + program)
+    if not os.path.exists(DEJAVU):
+        skip("there is no DejaVu Sans")
+    with tempfile.TemporaryDirectory() as work:
+        programs = build(work)
+        compare(programs, random.Random(given.seed))
+        refusals(programs)
+        calls = os.path.join(work, "calls")
+        little = lambda: resource.setrlimit(resource.RLIMIT_STACK, (STACK, STACK))
+        sys.stdout.write(run([calls, DEJAVU, str(given.calls), str(given.seed)], before=little).decode())
+        if shutil.which("valgrind"):
+            sys.stdout.write("under valgrind " + run(VALGRIND + [calls, DEJAVU, "200", str(given.seed + 1)]).decode().splitlines()[-1] + "\n")
+
+
+if __name__ == "__main__":
+    main()
