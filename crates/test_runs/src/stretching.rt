@@ -78,6 +78,7 @@ impl Fixture for Signs {
         };
         let mut buffer = glyphs_of(rt, case.text, direction);
         record_tiles(&mut buffer);
+        assert!(rt; buffer.len() <= buffer.length_limit());
         stretch_tiles(rt.alloc(), &face, &mut buffer).expect(rt, "error");
         printed(rt, &buffer)
     }

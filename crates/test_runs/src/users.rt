@@ -1,11 +1,12 @@
 //! Tests of the users of the layer, through their public calls: texts in Hebrew, in Arabic and by script, ligatures,
-//! lines and their pieces, spans, plain glyphs and words.
+//! lines and their pieces, spans, plain glyphs, words, carets.
 
 mod arabic;
 mod breaking;
 mod broken_rows;
 mod by_script;
 mod capitals;
+mod carets;
 mod cuts;
 mod every_form;
 mod hebrew;
