@@ -8,8 +8,9 @@ use Rattle.shape_common.specs.declared.text_types.BufferClusterLevel.{BufferClus
 use Rattle.shape_common.specs.declared.text_types.BufferClusterLevel.TheVariants.{MonotoneGraphemes, MonotoneCharacters, Characters}
 use Rattle.shape_items.specs.Buffer.{Buffer, new_buffer}
 use Rattle.shape_items.specs.Clusters.{merge}
-use Rattle.shape_items.specs.Items.{Item}
-use Rattle.script_shapers.specs.Hangul.{composed_text}
+use Rattle.shape_items.specs.Items.{Item, new_item, new_properties}
+use Rattle.shape_common.specs.declared.text_types.hb_tag_t.{hb_tag_t}
+use Rattle.script_shapers.specs.Hangul.{composed_text, jamo_masks, jamo_masked}
 use Rattle.script_shapers.specs.Worked.JoinedText.{items_from, masks_of}
 
 -- kiyeok and a make ga, and that with kiyeok gag
@@ -57,7 +58,15 @@ jamo = 0x1100 ∷ 0x1161 ∷ 0x11A8 ∷ 0x11FF ∷ []
 abbrev pub tones : List ℕ
 tones = 0x302E ∷ 0x302F ∷ 0x41 ∷ 0xAC00 ∷ []
 
+-- an item of a kind of jamo, with a mask of its own
+abbrev pub of_kind : ℕ → Item
+of_kind kind = record (new_item 0x1100 0) { mask = 1; properties = record new_properties { shaper_auxiliary = kind } }
+
 pub record WorkedHangul : Type 0 where
+  -- `ljmo`, `vjmo` and `tjmo`, and what each kind of jamo gets of them
+  pub features : jamo_masks (λ (tag : hb_tag_t). tag.0) ≡ record { ljmo = 0x6C6A6D6F; vjmo = 0x766A6D6F; tjmo = 0x746A6D6F }
+  pub feature_of_a_jamo : map (λ (kind : ℕ). (jamo_masked (record { ljmo = 16; vjmo = 32; tjmo = 64 }) (of_kind kind)).mask)
+      (0 ∷ 1 ∷ 2 ∷ 3 ∷ []) ≡ 1 ∷ 17 ∷ 33 ∷ 65 ∷ []
   -- jamo that make a syllable which the face has, of two and of three
   pub two : composed (0xAC00 ∷ jamo) (0x1100 ∷ 0x1161 ∷ []) ≡ (0xAC00, 0, 0) ∷ []
   pub three : composed (0xAC00 ∷ 0xAC01 ∷ jamo) (0x1100 ∷ 0x1161 ∷ 0x11A8 ∷ []) ≡ (0xAC01, 0, 0) ∷ []
@@ -97,6 +106,8 @@ pub record WorkedHangul : Type 0 where
 pub worked_hangul : WorkedHangul
 unfolding merge
 worked_hangul = record {
+  features = refl;
+  feature_of_a_jamo = refl;
   two = refl;
   three = refl;
   lacking = refl;
