@@ -1,5 +1,5 @@
 #!/bin/sh
-# Measures the library for C beside the program hb-shape over the same font and text, whole programs both:
+# Measures the library for C and the program fontshape beside hb-shape over the same font and text, whole programs all:
 #
 #   bench/c-library.sh [HB_SHAPE [FONT]]
 #
@@ -8,9 +8,10 @@
 # gcc, make, python3, valgrind and hb-shape, and is run by hand.
 set -eu
 here=$(cd "$(dirname "$0")" && pwd)
-hb=${1:-hb-shape}
+hb=${1:-hb-shape-10}
 font=${2:-/usr/share/fonts/truetype/dejavu/DejaVuSans.ttf}
 bindings=$here/../bindings/c
+fontshape=$here/../crates/fontshape/out/fontshape
 work=$(mktemp -d)
 trap 'rm -rf "$work"' EXIT
 
@@ -41,9 +42,10 @@ instructions() {
 
 for kind in latin hebrew arabic; do
     text=$work/$kind
-    for name in here hb-shape; do
+    for name in library fontshape hb-shape; do
         case $name in
-            here) run() { echo "$bindings/shape $font"; } ;;
+            library) run() { echo "$bindings/shape $font"; } ;;
+            fontshape) run() { echo "$fontshape --no-glyph-names $font"; } ;;
             *) run() { echo "$hb --no-glyph-names $font"; } ;;
         esac
         one=$(instructions "$(run)" "$text.1000")
@@ -53,4 +55,5 @@ for kind in latin hebrew arabic; do
     done
 done
 size=$(stat -c %s "$here/../crates/luthgarn_c/out/libluthgarn_c.a")
-echo "archive $size bytes, library $(stat -c %s "$bindings/libluthgarn.so"), example $(stat -c %s "$bindings/shape")"
+echo "archive $size bytes, library $(stat -c %s "$bindings/libluthgarn.so"), example $(stat -c %s "$bindings/shape")," \
+    "fontshape $(stat -c %s "$fontshape")"

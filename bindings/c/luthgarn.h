@@ -32,7 +32,7 @@ enum {
   LUTHGARN_LENGTH = 2, /* a list would have passed the run's limit: 64 glyphs a character, or 16384 */
   LUTHGARN_FONT = 3,   /* the bytes have no font with this number */
   LUTHGARN_TEXT = 4,   /* the text of a run, or what stands beside it, isn't UTF-8; or a text is no feature */
-  LUTHGARN_RUN = 5,    /* the places of a run aren't in order or not in the text, or its direction or level is no such number */
+  LUTHGARN_RUN = 5,    /* a run's places aren't in order or not in the text, or it has no such direction or level */
   LUTHGARN_ROOM = 6    /* the array of glyphs is too short */
 };
 

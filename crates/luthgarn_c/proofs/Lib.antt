@@ -3,3 +3,4 @@ pub mod OutcomeLemmas
 pub mod PlanLemmas
 pub mod RefusalLemmas
 pub mod RunLemmas
+pub mod WorkedRows

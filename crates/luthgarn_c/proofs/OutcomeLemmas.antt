@@ -4,8 +4,7 @@ use Rattle.shape_items.specs.Buffer.{Buffer}
 use Rattle.shape_plan.specs.Run.{Run}
 use Rattle.luthgarn_c.specs.Glyphs.{glyphs_of_run}
 use Rattle.luthgarn_c.specs.Numbers.{code_of}
-use Rattle.luthgarn_c.specs.Outcomes.{IsDone, IsStopped, Serves, Stops}
-use Rattle.luthgarn_c.specs.Texts.{IsPlaced, IsText}
+use Rattle.luthgarn_c.specs.Outcomes.{IsStopped, Serves, Stops}
 use Rattle.luthgarn_c.proofs.RunLemmas.{done-none}
 use Rattle.luthgarn_c.specs.declared.plain.luthgarn_glyph.{luthgarn_glyph}
 use Rattle.luthgarn_c.specs.declared.plain.luthgarn_outcome.{luthgarn_outcome}

@@ -1,9 +1,9 @@
 -- Plans by the shaper of a script: which texts they fit, and what they run.
-use Rattle.std.proofs.Common.{◌≡◌, ◌∙◌, ℕ, ◌+◌, ◌<◌, Option, List, [], ◌∷◌, ◌++◌, Result, Ok, Err, length, get_or, refl, ap, sym, subst, arith, length-append}
+use Rattle.std.proofs.Common.{◌≡◌, ◌∙◌, ℕ, Option, List, [], ◌∷◌, ◌++◌, Result, Ok, Err, length, get_or, refl, ap, sym, subst, arith, length-append}
 use Rattle.std.proofs.Math.Seq.{get_or-append_seam}
 use Rattle.std.proofs.lemmas.List.Elements.{All-push}
 use Rattle.std.specs.Option.{option_map}
-use Rattle.std.specs.Prelude.{All, IfOk, OnErr, string_bytes}
+use Rattle.std.specs.Prelude.{IfOk, OnErr, string_bytes}
 use Rattle.plan_cache.specs.Keys.{IsFor, IsKeptAt, IsKeptLast}
 use Rattle.plan_cache.specs.declared.keys.KeptPlan.{KeptPlan}
 use Rattle.script_shapers.specs.Choice.{run_of_category}

@@ -1,5 +1,5 @@
 -- The glyphs of runs, one run after the other.
-use Rattle.std.proofs.Common.{◌≡◌, ◌∙◌, ℕ, suc, ◌+◌, ◌<◌, ◌≤◌, List, [], ◌∷◌, ◌++◌, length, take, drop, set, get_or, refl, ap, sym, arith, append_assoc, drop-cons, length-append}
+use Rattle.std.proofs.Common.{◌≡◌, ◌∙◌, ℕ, suc, ◌+◌, ◌<◌, List, [], ◌∷◌, ◌++◌, length, take, drop, set, get_or, refl, ap, sym, arith, append_assoc, drop-cons, length-append}
 use Rattle.std.proofs.Math.Seq.{set-append_seam, take-append_seam, drop-append-add, get_or-append_seam}
 use Rattle.std.proofs.lemmas.List.{take_more, length-take-le, drop-drop, append-nil}
 use Rattle.luthgarn_c.specs.Glyphs.{joined, counted}

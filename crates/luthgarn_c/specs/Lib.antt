@@ -5,3 +5,4 @@ pub mod Outcomes
 pub mod Plans
 pub mod Refusals
 pub mod Texts
+pub mod Worked

@@ -6,7 +6,7 @@ use Rattle.shape_items.specs.Buffer.{Buffer}
 use Rattle.shape_plan.specs.Run.{Run}
 use Rattle.luthgarn_c.specs.Glyphs.{glyphs_of_run, joined, counted}
 use Rattle.luthgarn_c.specs.Numbers.{code_of}
-use Rattle.luthgarn_c.specs.Refusals.{IsRefused, TextPasses}
+use Rattle.luthgarn_c.specs.Refusals.{TextPasses}
 use Rattle.luthgarn_c.specs.Texts.{IsPlaced, IsText, text_of_run}
 use Rattle.luthgarn_c.specs.declared.plain.luthgarn_glyph.{luthgarn_glyph}
 use Rattle.luthgarn_c.specs.declared.plain.luthgarn_outcome.{luthgarn_outcome}

@@ -22,6 +22,7 @@ ghost use Rattle.std.specs.Str.{IsUtf8};
 ghost use Rattle.luthgarn_c.specs.Fonts.{IsFaceOf, units_of};
 ghost use Rattle.luthgarn_c.specs.Numbers.{direction_number, feature_of_c, script_number};
 ghost use Rattle.luthgarn_c.specs.Outcomes.{IsUntouched, ServesBy};
+ghost use Rattle.luthgarn_c.specs.Worked.Runs.{WorkedRuns};
 ghost use Rattle.shape_text_forms.specs.Feature.{feature_of};
 ghost use Rattle.shape_text_forms.specs.Names.{direction_of_text, script_of_text};
 
@@ -152,3 +153,8 @@ pub extern "C" fn luthgarn_shape(
         Err(refusal) => luthgarn_outcome::refused(refusal),
     }
 }
+
+/// Runs of a text, and their glyphs, by hand. Does nothing.
+pub fn runs_meet_worked_cases()
+    ensures { WorkedRuns }
+{}

@@ -1,5 +1,4 @@
 use Rattle.std.proofs.Common.{◌∙◌, ap, subst}
-use Rattle.script_shapers.specs.Promises.{IsShapedBy}
 use Rattle.shape_buffer.specs.Guess.{guessed}
 use Rattle.shape_pipeline.specs.Headline.{target_of}
 use Rattle.shape_pipeline.specs.Shaped.{shaped, ShapingPasses}

@@ -10,7 +10,7 @@ use Rattle.luthgarn_c.specs.Texts.{IsPlaced, IsText}
 use Rattle.luthgarn_c.specs.declared.plain.luthgarn_glyph.{luthgarn_glyph}
 use Rattle.luthgarn_c.specs.declared.plain.luthgarn_run.{luthgarn_run}
 use Rattle.luthgarn_c.proofs.RefusalLemmas.{stopped-same}
-use Rattle.luthgarn_c.proofs.RunLemmas.{done-none, done-more, next-run}
+use Rattle.luthgarn_c.proofs.RunLemmas.{done-more, next-run}
 use Rattle.luthgarn_c.proofs.runs.shape_runs.Goals as goal
 
 -- what a run is read as past the end
