@@ -28,6 +28,14 @@ fn is_read(table: &[u8]) -> bool
     u16_at(table, 0) == 1
 }
 
+/// The font with this number in a collection, or number 0, the one of a file of one font.
+fn font_of(bytes: &[u8], index: u32) -> Option<FontFace<'_>>
+    ensures found { is_some result ≡ nat_lt 0 (units_of bytes.now index) }
+    ensures font { IfSome result (λ font. IsFontOf bytes.now index font) }
+{
+    FontFace::from_slice(bytes, index)
+}
+
 impl<'a> OpenTypeFace<'a> {
     /// The face over a font.
     pub fn new(font: FontFace<'a>) -> Self
@@ -47,9 +55,10 @@ impl<'a> OpenTypeFace<'a> {
     /// The font with this number in a collection, or number 0, the one of a file of one font. None if the file has no
     /// such font, or its em square is empty.
     pub fn from_slice(bytes: &'a [u8], index: u32) -> Option<Self>
-        ensures { is_some result ≡ nat_lt 0 (u16_of (bytes_of bytes.now index HEAD) 18) }
+        ensures found { is_some result ≡ nat_lt 0 (units_of bytes.now index) }
+        ensures face { IfSome result (λ face. IsFaceOf bytes.now index face) }
     {
-        match FontFace::from_slice(bytes, index) {
+        match font_of(bytes, index) {
             Some(font) => Some(OpenTypeFace::new(font)),
             None => None,
         }
