@@ -1,5 +1,5 @@
 -- What the bytes of a font file are as a face.
-use Rattle.std.specs.Prelude.{◌≡◌, ◌<◌, ℕ, List, nat_lt}
+use Rattle.std.specs.Prelude.{◌≡◌, ℕ, List, nat_lt}
 use Rattle.opentype_layout.specs.declared.face.OpenTypeFace.{OpenTypeFace}
 use Rattle.shape_font.specs.Bytes.{u16_of}
 use Rattle.shape_font.specs.Directory.{bytes_of, has_table}

@@ -1,14 +1,11 @@
 //! The face that the engine is over.
-ghost use Rattle.std.specs.Prelude.{◌≡◌, is_some, nat_lt};
-ghost use Rattle.shape_font.specs.Bytes.{u16_of};
-ghost use Rattle.shape_font.specs.Directory.{bytes_of};
+ghost use Rattle.std.specs.Prelude.{◌≡◌, is_some, nat_lt, IfSome};
+ghost use Rattle.opentype_layout.specs.Fonts.{IsFaceOf, IsFontOf, units_of};
 ghost use Rattle.opentype_layout.specs.Face.{is_read as is_read_of, tables_of, opentype_face};
 
 use shape_buffer::{GlyphId, hb_font_t, hb_glyph_extents_t, hb_tables_t};
 use shape_font::FontFace;
 use shape_font::bytes::u16_at;
-
-const HEAD: u32 = 0x6865_6164;
 
 /// A font file as OpenType layout sees it: a [`FontFace`] without tables that this engine doesn't read. So no plan
 /// leaves kerning or marks to a table (`morx`, `kerx`, `trak`, or tables of lookups of a version to come) that nobody
