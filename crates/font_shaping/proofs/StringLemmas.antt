@@ -1,5 +1,5 @@
 -- From the clauses of a run to what is known of the glyphs of a string.
-use Rattle.std.proofs.Common.{◌≡◌, ◌∙◌, ℕ, suc, false, ◌+◌, ◌<◌, ◌≤◌, ◌*◌, Option, None, List, [], ◌∷◌, ◌++◌, length, Result, Ok, Err, refl, sym, subst, ap, arith}
+use Rattle.std.proofs.Common.{◌≡◌, ◌∙◌, ℕ, suc, false, ◌+◌, ◌<◌, ◌≤◌, ◌*◌, Option, None, List, [], ◌∷◌, ◌++◌, length, ◌⊎◌, inl, inr, Result, Ok, Err, refl, sym, subst, ap, arith}
 use Rattle.std.specs.Prelude.{IfOk, IfErr, ◌==◌, All}
 use Rattle.std.specs.Char.{len_utf8}
 use Rattle.std.specs.Int.RustNames.{bit_and}
@@ -36,6 +36,10 @@ if_ok-both (Err e) then first second = tt
 pub if_err-then : {T E : Type 0} {P Q : E → Type 0} (result : Result T E) → ((e : E) → P e → Q e) → IfErr result P → IfErr result Q
 if_err-then (Ok x) then holds = tt
 if_err-then (Err e) then holds = then e holds
+
+pub or-then : {A B C : Type 0} → A ⊎ B → (B → C) → A ⊎ C
+or-then (inl a) then = inl a
+or-then (inr b) then = inr (then b)
 
 -- clusters come in the order of a direction by its other name
 pub come-for : {run : Run} {target direction : Direction} {text glyphs : Buffer} → target ≡ direction

@@ -8,6 +8,8 @@ use Rattle.shape_common.specs.Positions.{zero_position}
 use Rattle.shape_common.specs.Unicode.{UnicodeMeaning}
 use Rattle.shape_buffer.specs.Guess.{guessed}
 use Rattle.shape_buffer.specs.Text.{text_items}
+use Rattle.opentype_layout.specs.Fonts.{IsFaceOf}
+use Rattle.opentype_layout.specs.declared.face.OpenTypeFace.{OpenTypeFace}
 use Rattle.shape_plan.specs.Run.{Run}
 use Rattle.shape_pipeline.specs.Headline.{target_of}
 use Rattle.shape_pipeline.specs.Shaped.{Shapes, ShapingPasses}
@@ -32,6 +34,10 @@ string_text bytes = record new_buffer { items = text_items bytes; positions = re
 -- so much holds of the text of a string
 abbrev pub WithTextOf : List ℕ → (Buffer → Type 0) → Type 0
 WithTextOf bytes Holds = (text : Buffer) × (text ≡ string_text bytes) × Holds text
+
+-- so much holds of the face of these bytes
+abbrev pub WithFaceOf : List ℕ → ℕ → (OpenTypeFace → Type 0) → Type 0
+WithFaceOf bytes index Holds = (face : OpenTypeFace) × IsFaceOf bytes index face × Holds face
 
 -- a text was shaped: exactly what a run makes of it, and no step made a list past the run's limit
 abbrev pub AreGlyphsOf : UnicodeMeaning → Run → Buffer → Buffer → Type 0

@@ -10,9 +10,8 @@ ghost use Rattle.shape_common.specs.Direction.{is_backward};
 ghost use Rattle.shape_common.specs.FlagNames.{UNSAFE_TO_CONCAT};
 ghost use Rattle.shape_buffer.specs.Guess.{first_script, script_or_ltr};
 ghost use Rattle.shape_buffer.specs.Text.{text_items};
-ghost use Rattle.shape_font.specs.Bytes.{u16_of};
-ghost use Rattle.shape_font.specs.Directory.{bytes_of};
-ghost use Rattle.font_shaping.specs.Strings.{AreGlyphsOf, IsPlaceIn, IsTextOf, TextPasses, WithTextOf, string_text};
+ghost use Rattle.opentype_layout.specs.Fonts.{units_of};
+ghost use Rattle.font_shaping.specs.Strings.{AreGlyphsOf, IsPlaceIn, IsTextOf, TextPasses, WithFaceOf, WithTextOf, string_text};
 
 use crate::shaping::shape_with_font;
 use opentype_layout::{OpenTypeFace, OpenTypeLayout};
@@ -122,8 +121,9 @@ pub fn shape_str<'a, U: hb_unicode_funcs_t>(
     }
 }
 
-/// The glyphs of a string with the bytes of a font file, of the font with this number in a collection: see
-/// [`shape_str`]. For any bytes and any string the call returns, and what it returns is so.
+/// The glyphs of a string with the bytes of a font file, of the font with this number in a collection: those that
+/// [`shape_str`] returns over the face of these bytes. For any bytes and any string the call returns, and what it returns is
+/// so; `Length` comes when it would come there, and `NoFont` exactly if the bytes have no such font.
 pub fn shape_with_bytes<U: hb_unicode_funcs_t>(
     alloc: Global,
     bytes: &[u8],
@@ -132,7 +132,14 @@ pub fn shape_with_bytes<U: hb_unicode_funcs_t>(
     string: &str,
 ) -> Result<GlyphBuffer, FontError>
     ensures font { (result ≡ Err FontError.NoFont)
-        ↔ (u16_of (bytes_of bytes.now index 0x68656164) 18 ≡ 0) }
+        ↔ (units_of bytes.now index ≡ 0) }
+    ensures glyphs { IfOk result (λ glyphs. WithFaceOf bytes.now index (λ face. WithTextOf string.now (λ text.
+        let run = ⟦<by_script as ScriptRuns<U, OpenTypeFace<'static>, OpenTypeLayout>>⟧.text_run
+        face features.now text in AreGlyphsOf U.unicode run text glyphs))) }
+    ensures length { IfErr result (λ error. error ≡ FontError.Length
+        → (2 ^ 32 ≤ length string.now) ⊎ WithFaceOf bytes.now index (λ face. WithTextOf string.now (λ text.
+        let run = ⟦<by_script as ScriptRuns<U, OpenTypeFace<'static>, OpenTypeLayout>>⟧.text_run
+        face features.now text in TextPasses U.unicode run text))) }
     ensures direction { IfOk result (λ glyphs. glyphs.direction
         ≡ script_or_ltr U.unicode (first_script U.unicode (text_items string.now))) }
     ensures places { IfOk result (λ glyphs. (k : ℕ) → Contains (clusters glyphs.items) k

@@ -1,4 +1,3 @@
-pub mod Fonts
 pub mod Glyphs
 pub mod Numbers
 pub mod Outcomes

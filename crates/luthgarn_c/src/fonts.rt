@@ -1,6 +1,6 @@
 //! A font file as a face.
 ghost use Rattle.std.specs.Prelude.{◌≡◌, is_some, nat_lt, IfSome};
-ghost use Rattle.luthgarn_c.specs.Fonts.{IsFaceOf, IsFontOf, units_of};
+ghost use Rattle.opentype_layout.specs.Fonts.{IsFaceOf, IsFontOf, units_of};
 
 use opentype_layout::OpenTypeFace;
 use shape_font::FontFace;

@@ -19,7 +19,7 @@ mod written;
 
 ghost use Rattle.std.specs.Prelude.{◌≡◌, ◌↔◌, ◌≤◌, Some, None, length, map, IfOk, IfErr};
 ghost use Rattle.std.specs.Str.{IsUtf8};
-ghost use Rattle.luthgarn_c.specs.Fonts.{IsFaceOf, units_of};
+ghost use Rattle.opentype_layout.specs.Fonts.{IsFaceOf, units_of};
 ghost use Rattle.luthgarn_c.specs.Numbers.{direction_number, feature_of_c, script_number};
 ghost use Rattle.luthgarn_c.specs.Outcomes.{IsUntouched, ServesBy};
 ghost use Rattle.luthgarn_c.specs.Worked.Runs.{WorkedRuns};

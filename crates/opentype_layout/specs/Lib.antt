@@ -6,3 +6,4 @@ pub mod Digested
 pub mod Engine
 pub mod EngineLaws
 pub mod Worked
+pub mod Fonts

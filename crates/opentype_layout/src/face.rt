@@ -1,14 +1,11 @@
 //! The face that the engine is over.
-ghost use Rattle.std.specs.Prelude.{◌≡◌, is_some, nat_lt};
-ghost use Rattle.shape_font.specs.Bytes.{u16_of};
-ghost use Rattle.shape_font.specs.Directory.{bytes_of};
+ghost use Rattle.std.specs.Prelude.{◌≡◌, is_some, nat_lt, IfSome};
+ghost use Rattle.opentype_layout.specs.Fonts.{IsFaceOf, IsFontOf, units_of};
 ghost use Rattle.opentype_layout.specs.Face.{is_read as is_read_of, tables_of, opentype_face};
 
 use shape_buffer::{GlyphId, hb_font_t, hb_glyph_extents_t, hb_tables_t};
 use shape_font::FontFace;
 use shape_font::bytes::u16_at;
-
-const HEAD: u32 = 0x6865_6164;
 
 /// A font file as OpenType layout sees it: a [`FontFace`] without tables that this engine doesn't read. So no plan
 /// leaves kerning or marks to a table (`morx`, `kerx`, `trak`, or tables of lookups of a version to come) that nobody
@@ -26,6 +23,14 @@ fn is_read(table: &[u8]) -> bool
     ensures { result ≡ is_read_of table.now }
 {
     u16_at(table, 0) == 1
+}
+
+/// The font with this number in a collection, or number 0, the one of a file of one font.
+fn font_of(bytes: &[u8], index: u32) -> Option<FontFace<'_>>
+    ensures found { is_some result ≡ nat_lt 0 (units_of bytes.now index) }
+    ensures font { IfSome result (λ font. IsFontOf bytes.now index font) }
+{
+    FontFace::from_slice(bytes, index)
 }
 
 impl<'a> OpenTypeFace<'a> {
@@ -47,9 +52,10 @@ impl<'a> OpenTypeFace<'a> {
     /// The font with this number in a collection, or number 0, the one of a file of one font. None if the file has no
     /// such font, or its em square is empty.
     pub fn from_slice(bytes: &'a [u8], index: u32) -> Option<Self>
-        ensures { is_some result ≡ nat_lt 0 (u16_of (bytes_of bytes.now index HEAD) 18) }
+        ensures found { is_some result ≡ nat_lt 0 (units_of bytes.now index) }
+        ensures face { IfSome result (λ face. IsFaceOf bytes.now index face) }
     {
-        match FontFace::from_slice(bytes, index) {
+        match font_of(bytes, index) {
             Some(font) => Some(OpenTypeFace::new(font)),
             None => None,
         }
