@@ -20,7 +20,6 @@ use layout_substitution::edits::item;
 use shape_buffer::{ShapeError, hb_buffer_t};
 use std::alloc::Global;
 
-
 fn next_spot(spot: Spot, count: usize) -> Spot
     requires { spot.at < count }
     ensures { result ≡ next_spot_of spot }
