@@ -1,6 +1,6 @@
 #!/usr/bin/env python3
 """Makes the tests' fonts, of seven and eight glyphs of boxes, from nothing. It writes `tiny.ttf` beside itself and, as
-text, to the crates `test_stages` and `test_fonts`; to tests/fontshape and `first_shape` `tall.ttf`, which has metrics of vertical
+text, to the crates `test_stages` and `test_fonts`; to tests/fontshape, `first_shape` and `fill_paragraph` `tall.ttf`, which has metrics of vertical
 lines, a dotted circle and its kerning in GPOS too; and to tests/fontshape `two.ttc`, a collection of both, `flat.ttf`, which has no outlines, and `heavy.ttf`, whose A
 has 65,536 points in few bytes. They are under this repository's licence.
 
@@ -215,6 +215,7 @@ def main():
         "crates/fontshape/data/tiny.ttf": file_of(tiny()),
         "tests/fontshape/tall.ttf": file_of(tall()),
         "crates/first_shape/data/tall.ttf": file_of(tall()),
+        "crates/fill_paragraph/data/tall.ttf": file_of(tall()),
         "tests/fontshape/two.ttc": collection([tiny(), tall()]),
         "tests/fontshape/flat.ttf": file_of(flat()),
         "tests/fontshape/heavy.ttf": file_of(heavy()),
