@@ -16,9 +16,9 @@ use Rattle.shape_normalize.proofs.Hooks.ReorderLemmas.{LawfulReorder}
 use Rattle.shape_plan.specs.Decisions.{MasksAreFeatures}
 use Rattle.shape_plan.specs.Preservation.{RunPreservesFlags}
 use Rattle.shape_plan.specs.Run.{Run}
-use Rattle.shape_position.specs.Steps.{show_steps, finish_steps}
-use Rattle.shape_position.specs.Reversal.{reversed}
-use Rattle.shape_position.proofs.StepPreservation.{steps_preserve_flags}
+use Rattle.shape_glyphs.specs.Steps.{show_steps, finish_steps}
+use Rattle.shape_glyphs.specs.Reversal.{reversed}
+use Rattle.shape_glyphs.proofs.StepPreservation.{steps_preserve_flags}
 use Rattle.shape_prepare.specs.Begun.{begun}
 use Rattle.shape_prepare.specs.ClustersFormed.{clusters_formed}
 use Rattle.shape_prepare.specs.DottedCircle.{dotted_circled}
@@ -26,7 +26,7 @@ use Rattle.shape_prepare.specs.Graphemes.{graphemes_marked}
 use Rattle.shape_prepare.specs.PrepareSteps.{order_steps, prepare_steps}
 use Rattle.shape_prepare.proofs.Preservation.StepPreservation.{begun-preserves_flags, begun-honest}
 use Rattle.shape_prepare.proofs.Preservation.PreservationLemmas.{preparing_preserves_flags}
-use Rattle.shape_substitute.proofs.ListPreservation.{substitution-preserves_flags}
+use Rattle.shape_glyphs.proofs.SubstitutionPreservation.{substitution-preserves_flags}
 use Rattle.shape_pipeline.specs.Headline.{HasFlagsByCluster}
 use Rattle.shape_pipeline.specs.Shaped.{normalising, glyph_phase, place_phase, shaped_steps, all_steps, entered, finished, run_made}
 use Rattle.shape_pipeline.proofs.PhaseLemmas.{Leads, Leads-then, EachStep-glyph_phase, EachStep-place_phase}

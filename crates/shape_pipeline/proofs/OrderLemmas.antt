@@ -22,14 +22,14 @@ use Rattle.shape_fallback.proofs.PreservationLemmas.{fallback-preserves_clusters
 use Rattle.shape_normalize.proofs.Normalized.ClusterOrderLemmas.{PreservesOrder-normalized}
 use Rattle.shape_normalize.proofs.Hooks.ReorderLemmas.{LawfulReorder}
 use Rattle.shape_plan.specs.Run.{Run}
-use Rattle.shape_position.specs.Steps.{show_steps, finish_steps}
-use Rattle.shape_position.specs.Reversal.{reversed}
-use Rattle.shape_position.proofs.StepPreservation.{steps_preserve_clusters}
+use Rattle.shape_glyphs.specs.Steps.{show_steps, finish_steps}
+use Rattle.shape_glyphs.specs.Reversal.{reversed}
+use Rattle.shape_glyphs.proofs.StepPreservation.{steps_preserve_clusters}
 use Rattle.shape_prepare.specs.ClusterPoint.{InOrderFor, direction_for, is_reversed}
 use Rattle.shape_prepare.specs.PrepareSteps.{prepare_steps}
 use Rattle.shape_prepare.proofs.Preservation.FirstLemmas.{preparing_preserves_firsts}
 use Rattle.shape_prepare.proofs.Preservation.PreservationLemmas.{preparing_preserves_order}
-use Rattle.shape_substitute.proofs.ListPreservation.{substitution-preserves_clusters}
+use Rattle.shape_glyphs.proofs.SubstitutionPreservation.{substitution-preserves_clusters}
 use Rattle.shape_pipeline.specs.Headline.{target_of}
 use Rattle.shape_pipeline.specs.Order.{RunPreservesClusters, ComesInOrder, ClustersComeInOrder, grapheme_clusters}
 use Rattle.shape_pipeline.specs.Shaped.{normalising, glyph_phase, place_phase, shaped_steps, all_steps, entered, finished, run_made}

@@ -8,9 +8,10 @@ use Rattle.shape_buffer.proofs.Steps.Runs.{run_steps-append}
 use Rattle.shape_fallback.specs.Preservation.{EachFallback}
 use Rattle.shape_fallback.specs.DueSteps.{recategorize_step, spaces_step, marks_step}
 use Rattle.shape_plan.specs.Run.{Run}
-use Rattle.shape_position.specs.Steps.{advance_steps, table_steps}
-use Rattle.shape_substitute.specs.Preservation.{EachSubstitutionStep}
-use Rattle.shape_substitute.specs.Substitution.{mask_steps, glyph_steps, substitute_steps}
+use Rattle.shape_glyphs.specs.Steps.{advance_steps, table_steps}
+use Rattle.shape_glyphs.specs.SubstitutionPreservation.{EachSubstitutionStep}
+use Rattle.shape_prepare.specs.MaskSteps.{mask_steps}
+use Rattle.shape_glyphs.specs.Substitution.{glyph_steps, substitute_steps}
 use Rattle.shape_pipeline.specs.Shaped.{glyph_start, glyph_phase, place_start, place_phase}
 
 -- steps take one state to another

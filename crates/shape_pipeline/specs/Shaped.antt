@@ -9,9 +9,10 @@ use Rattle.shape_normalize.specs.Normalized.{normalized}
 use Rattle.shape_normalize.specs.RoundOne.{round_one}
 use Rattle.shape_plan.specs.Rules.{Rules}
 use Rattle.shape_plan.specs.Run.{Run}
-use Rattle.shape_position.specs.Steps.{advance_steps, table_steps, finish_steps}
+use Rattle.shape_glyphs.specs.Steps.{advance_steps, table_steps, finish_steps}
 use Rattle.shape_prepare.specs.PrepareSteps.{prepare_steps}
-use Rattle.shape_substitute.specs.Substitution.{mask_steps, glyph_steps, substitute_steps}
+use Rattle.shape_prepare.specs.MaskSteps.{mask_steps}
+use Rattle.shape_glyphs.specs.Substitution.{glyph_steps, substitute_steps}
 
 -- normalising: its longest list is the expanded one
 abbrev pub normalising : Rules → Step

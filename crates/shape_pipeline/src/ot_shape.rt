@@ -18,12 +18,12 @@ use crate::ot_shape::kept::KeptSettings;
 use crate::ot_shape::run::shape_entered;
 use shape_buffer::buffer::{Direction, ShapeError, hb_buffer_t};
 use shape_buffer::interfaces::{hb_font_t, hb_ot_layout_t, hb_unicode_funcs_t};
+pub use shape_glyphs::syllables::syllabic_clear_var;
 use shape_plan::ot_shape_plan::hb_ot_shape_plan_t;
 use shape_plan::ot_shaper::{Runs, hb_ot_shaper_t};
 pub use shape_plan::planner::hb_ot_shape_planner_t;
 use shape_plan::shaping_types::{Meaning, PlanOf, ShapingTypes, TypesOf};
 use shape_prepare::prepare::prepare;
-pub use shape_substitute::syllables::syllabic_clear_var;
 use std::alloc::Global;
 
 /// A buffer that is being shaped, with the plan and the face that it is shaped by, and the direction that the

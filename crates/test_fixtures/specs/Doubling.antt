@@ -6,7 +6,7 @@ use Rattle.shape_items.specs.Buffer.{Buffer}
 use Rattle.shape_items.specs.Items.{Item}
 use Rattle.shape_buffer.specs.Walks.{items_mapped}
 use Rattle.shape_plan.specs.Shaper.{ChangesMasksAlone, without_mask}
-use Rattle.shape_substitute.specs.Ranges.{shifted}
+use Rattle.shape_prepare.specs.Ranges.{shifted}
 
 abbrev pub with_bit : Item → Item
 with_bit item = record item { mask = bit_or item.mask 0x800 }

@@ -5,7 +5,7 @@ use crate::comparing::assert_same;
 use crate::lists::Widths;
 use crate::texts::buffer_of;
 use shape_buffer::buffer::{BufferFlags, ScratchFlags, hb_buffer_t, hb_glyph_info_t};
-use shape_position::flags::propagate_flags;
+use shape_glyphs::flags::propagate_flags;
 use std::process::Abort;
 
 #[test]

@@ -8,12 +8,12 @@ use shape_buffer::buffer::{
     BufferFlags, GlyphId, GlyphPosition, GlyphPropsFlags, ScratchFlags, hb_buffer_t,
     hb_glyph_info_t,
 };
-use shape_position::advances::{clear_positions, put_advances};
-use shape_position::finishing::reverse_backward;
-use shape_position::flags::propagate_flags;
-use shape_position::ignorables::{hide_default_ignorables, zero_width_default_ignorables};
-use shape_position::selectors::deal_with_variation_selectors;
-use shape_position::zeroing::zero_mark_widths_by_gdef;
+use shape_glyphs::advances::{clear_positions, put_advances};
+use shape_glyphs::finishing::reverse_backward;
+use shape_glyphs::flags::propagate_flags;
+use shape_glyphs::ignorables::{hide_default_ignorables, zero_width_default_ignorables};
+use shape_glyphs::selectors::deal_with_variation_selectors;
+use shape_glyphs::zeroing::zero_mark_widths_by_gdef;
 use test_fixtures::{KnownGlyph, PLAIN_FACE, TestFace};
 
 /// The glyph of a mark.

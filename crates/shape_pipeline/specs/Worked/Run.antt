@@ -5,22 +5,22 @@ use Rattle.shape_buffer.specs.Outcome.{Step, step}
 use Rattle.shape_common.specs.declared.text_types.Direction.{Direction}
 use Rattle.shape_fallback.specs.DueSteps.{recategorize_step, spaces_step, marks_step}
 use Rattle.shape_plan.specs.Run.{Run, step_if, hook_if}
-use Rattle.shape_position.specs.Advances.{positions_cleared, advanced}
-use Rattle.shape_position.specs.Ignorables.{ignorables_zeroed, ignorables_hidden}
-use Rattle.shape_position.specs.Selectors.{selectors_replaced}
-use Rattle.shape_position.specs.Tables.{table_positioned, kerned, deleted_narrowed, deleted_removed}
-use Rattle.shape_position.specs.Reversal.{reversed}
-use Rattle.shape_position.specs.Zeroing.{zeroed_early, zeroed_late}
+use Rattle.shape_glyphs.specs.Advances.{positions_cleared, advanced}
+use Rattle.shape_glyphs.specs.Ignorables.{ignorables_zeroed, ignorables_hidden}
+use Rattle.shape_glyphs.specs.Selectors.{selectors_replaced}
+use Rattle.shape_glyphs.specs.Tables.{table_positioned, kerned, deleted_narrowed, deleted_removed}
+use Rattle.shape_glyphs.specs.Reversal.{reversed}
+use Rattle.shape_glyphs.specs.Zeroing.{zeroed_early, zeroed_late}
 use Rattle.shape_prepare.specs.Begun.{begun}
 use Rattle.shape_prepare.specs.ClustersFormed.{clusters_formed}
 use Rattle.shape_prepare.specs.DottedCircle.{dotted_circled}
 use Rattle.shape_prepare.specs.Graphemes.{graphemes_marked}
 use Rattle.shape_prepare.specs.NativeOrder.{natively_ordered}
 use Rattle.shape_prepare.specs.Rotated.{rotated}
-use Rattle.shape_substitute.specs.Classes.{glyphs_mapped, classes_synthesised}
-use Rattle.shape_substitute.specs.Fractions.{fractions_masked}
-use Rattle.shape_substitute.specs.Ranges.{ranges_masked}
-use Rattle.shape_substitute.specs.Substitution.{lookup_steps}
+use Rattle.shape_glyphs.specs.Classes.{glyphs_mapped, classes_synthesised}
+use Rattle.shape_prepare.specs.Fractions.{fractions_masked}
+use Rattle.shape_prepare.specs.Ranges.{ranges_masked}
+use Rattle.shape_glyphs.specs.Substitution.{lookup_steps}
 use Rattle.shape_pipeline.specs.Shaped.{normalising, all_steps}
 
 -- from the text up to the lookups

@@ -7,17 +7,17 @@ ghost use Rattle.shape_pipeline.specs.Shaped.{normalising, all_steps};
 
 use shape_buffer::buffer::{Direction, ShapeError, hb_buffer_t};
 use shape_buffer::interfaces::{hb_font_t, hb_ot_layout_t, hb_unicode_funcs_t};
-use shape_fallback::steps::{place_marks, place_spaces, recategorize_marks};
+use shape_glyphs::advances::position_default;
+use shape_glyphs::fallback_steps::{place_marks, place_spaces, recategorize_marks};
+use shape_glyphs::finishing::finish_glyphs;
+use shape_glyphs::glyphs::setup_glyphs;
+use shape_glyphs::positioning::position_complex;
+use shape_glyphs::substitution::substitute;
 use shape_normalize::ot_shape_normalize::_hb_ot_shape_normalize;
 use shape_plan::ot_shaper::hb_ot_shaper_t;
 use shape_plan::shaping_types::{Meaning, PlanOf, ShapingTypes};
-use shape_position::advances::position_default;
-use shape_position::finishing::finish_glyphs;
-use shape_position::positioning::position_complex;
+use shape_prepare::masks::setup_masks;
 use shape_prepare::prepare::prepare;
-use shape_substitute::glyphs::setup_glyphs;
-use shape_substitute::masks::setup_masks;
-use shape_substitute::substitution::substitute;
 use std::alloc::Global;
 
 /// Makes all steps of a run over a text that was entered, except for its end.

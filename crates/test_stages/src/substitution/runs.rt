@@ -5,13 +5,13 @@ ghost use Rattle.shape_buffer.specs.Outcome.{IsWithinLimit};
 use shape_buffer::buffer::{
     Direction, Feature, GlyphBuffer, ShapeError, ShapeFault, UnicodeBuffer, hb_buffer_t,
 };
+use shape_glyphs::glyphs::setup_glyphs;
+use shape_glyphs::substitution::substitute;
 use shape_pipeline::ot_shape::{hb_ot_shape_context_t, prepare_text};
 use shape_pipeline::ot_shape_normalize::_hb_ot_shape_normalize;
 use shape_pipeline::shape;
 use shape_plan::shaping_types::{PlanOf, ShapingTypes};
-use shape_substitute::glyphs::setup_glyphs;
-use shape_substitute::masks::setup_masks;
-use shape_substitute::substitution::substitute;
+use shape_prepare::masks::setup_masks;
 use std::alloc::Global;
 
 /// Refuses a list that is past its limit.

@@ -3,8 +3,8 @@ use Rattle.shape_buffer.specs.Outcome.{Step, step}
 use Rattle.shape_plan.specs.Run.{step_if}
 use Rattle.shape_pipeline.specs.Worked.Run.{steps_to_lookups}
 use Rattle.shape_pipeline.specs.Shaped.{place_phase}
-use Rattle.shape_position.specs.Steps.{finish_steps}
-use Rattle.shape_substitute.specs.Substitution.{lookup_steps}
+use Rattle.shape_glyphs.specs.Steps.{finish_steps}
+use Rattle.shape_glyphs.specs.Substitution.{lookup_steps}
 use Rattle.shape_pipeline.proofs.worked.steps_come_in_order.Goals as goal
 
 pub returns : goal.returns

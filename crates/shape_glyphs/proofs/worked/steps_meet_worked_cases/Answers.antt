@@ -1,0 +1,5 @@
+use Rattle.shape_glyphs.specs.Worked.Steps.{worked_steps}
+use Rattle.shape_glyphs.proofs.worked.steps_meet_worked_cases.Goals as goal
+
+pub returns : goal.returns
+returns c = worked_steps

@@ -1,0 +1,16 @@
+//! The definitions, computed on small cases whose results were worked out by hand.
+ghost use Rattle.shape_glyphs.specs.Worked.Glyphs.{WorkedGlyphs};
+ghost use Rattle.shape_glyphs.specs.Worked.Positions.{WorkedPositions};
+ghost use Rattle.shape_glyphs.specs.Worked.Steps.{WorkedSteps};
+
+/// Advances in each direction, marks that are zeroed, tables that a plan chooses, the reversal, ignorables,
+/// selectors and flags of some glyphs, as the definitions have them.
+pub fn positions_meet_worked_cases()
+    ensures positions { WorkedPositions }
+    ensures glyphs { WorkedGlyphs }
+{}
+
+/// The order of the steps, on glyphs of which each step leaves a trace.
+pub fn steps_meet_worked_cases()
+    ensures { WorkedSteps }
+{}

@@ -1,6 +1,0 @@
-use Rattle.std.proofs.Common.{rules}
-use Rattle.shape_position.specs.Ignorables.{shown_as}
-use Rattle.shape_position.proofs.ignorables.replace_or_delete.Goals as goal
-
-pub returns-in-Some : goal.returns-in-Some
-returns-in-Some c = rw c.in-Some.is (c.update_items.ensures (shown_as c.in-Some.glyph) (λ x y said. search rules))

@@ -1,5 +1,0 @@
-use Rattle.shape_position.proofs.StepPreservation.{steps_preserve}
-use Rattle.shape_position.proofs.laws.steps_preserve_clusters_and_flags.Goals as goal
-
-pub returns : goal.returns
-returns c = steps_preserve

@@ -1,5 +1,0 @@
-use Rattle.std.proofs.Common.{rules}
-use Rattle.shape_position.proofs.tables.kern_by_plan.Goals as goal
-
-pub returns-then-apply_kern : goal.returns-then-apply_kern
-returns-then-apply_kern g c = let made = c.kern.ensures c.args.plan.now.ot_map in search rules

@@ -1,4 +1,0 @@
-use Rattle.shape_position.proofs.tables.position_finish_advances.Goals as goal
-
-pub returns : goal.returns
-returns g c = c.position_finish_advances.ensures c.args.plan.now.ot_map

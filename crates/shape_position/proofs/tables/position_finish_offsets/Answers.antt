@@ -1,4 +1,0 @@
-use Rattle.shape_position.proofs.tables.position_finish_offsets.Goals as goal
-
-pub returns : goal.returns
-returns g c = c.position_finish_offsets.ensures c.args.plan.now.ot_map

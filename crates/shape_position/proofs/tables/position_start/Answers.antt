@@ -1,4 +1,0 @@
-use Rattle.shape_position.proofs.tables.position_start.Goals as goal
-
-pub returns : goal.returns
-returns g c = c.position_start.ensures c.args.plan.now.ot_map

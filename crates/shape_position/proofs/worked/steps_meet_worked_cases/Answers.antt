@@ -1,5 +1,0 @@
-use Rattle.shape_position.specs.Worked.Steps.{worked_steps}
-use Rattle.shape_position.proofs.worked.steps_meet_worked_cases.Goals as goal
-
-pub returns : goal.returns
-returns c = worked_steps

@@ -1,7 +1,0 @@
-use Rattle.std.proofs.Common.{rules}
-use Rattle.shape_substitute.specs.Classes.{with_nominal_glyph, glyphs_mapped}
-use Rattle.shape_substitute.proofs.glyphs.map_glyphs_fast.Goals as goal
-
-pub returns : goal.returns
-unfolding glyphs_mapped
-returns c = c.update_items.ensures with_nominal_glyph (λ x y said. search rules)

@@ -1,4 +1,0 @@
-use Rattle.shape_substitute.proofs.glyphs.substitute_start.Goals as goal
-
-pub returns : goal.returns
-returns g c = c.substitute_start.ensures c.args.plan.now.ot_map

@@ -1,5 +1,0 @@
-use Rattle.shape_substitute.proofs.ListPreservation.{substitution-preserves_clusters, substitution-preserves_flags}
-use Rattle.shape_substitute.proofs.laws.substitution_preserves_clusters_and_flags.Goals as goal
-
-pub returns : goal.returns
-returns c = record { clusters = substitution-preserves_clusters; flags = substitution-preserves_flags }

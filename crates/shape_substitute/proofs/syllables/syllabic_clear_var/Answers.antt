@@ -1,7 +1,0 @@
-use Rattle.std.proofs.Common.{rules}
-use Rattle.shape_substitute.specs.Classes.{without_syllable, syllables_cleared}
-use Rattle.shape_substitute.proofs.syllables.syllabic_clear_var.Goals as goal
-
-pub returns : goal.returns
-unfolding syllables_cleared
-returns c = c.update_items.ensures without_syllable (λ x y said. search rules)

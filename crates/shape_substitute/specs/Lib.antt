@@ -1,6 +1,0 @@
-pub mod Fractions
-pub mod Ranges
-pub mod Classes
-pub mod Substitution
-pub mod Preservation
-pub mod Worked

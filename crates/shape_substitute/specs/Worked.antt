@@ -1,4 +1,0 @@
-pub mod Fractions
-pub mod Ranges
-pub mod Steps
-pub mod Lookups
