@@ -1,3 +1,5 @@
+mod StageRuns
+pub mod SubstitutionPreservation
 mod StepLemmas
 mod ClearingLemmas
 mod FlagWalkLemmas

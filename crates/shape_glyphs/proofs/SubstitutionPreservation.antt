@@ -1,5 +1,5 @@
--- What the lists of steps of masks and substitution keep, clusters and flags at once: any property of steps that doing
--- nothing has, if each step that is no call has it too.
+-- What making glyphs and substitution preserve, clusters and flags at once: any property of steps that doing nothing
+-- has, if each step that is no call has it too.
 use Rattle.std.proofs.Common.{◌≡◌, ◌&&◌, ◌≤◌, ◌<◌, ℕ, zero, suc, Bool, true, false, [], ◌∷◌, Option, Some, None, refl, arith}
 use Rattle.std.specs.Prelude.{if◌then◌else◌}
 use Rattle.std.proofs.lemmas.Bool.{and_parts}
@@ -8,22 +8,17 @@ use Rattle.shape_items.specs.Buffer.{Buffer}
 use Rattle.shape_buffer.specs.Preservation.{IsClusterPreserving, IsFlagPreserving, EachStep}
 use Rattle.shape_buffer.specs.Outcome.{step}
 use Rattle.shape_items.proofs.Flags.FlagLemmas.{PreservesFlags-same}
-use Rattle.shape_buffer.proofs.Steps.PreservationLemmas.{EachStep-append, PreservesOrder-same}
+use Rattle.shape_buffer.proofs.Steps.PreservationLemmas.{EachStep-append, PreservesOrder-same, order-items_mapped, flags-items_mapped}
 use Rattle.shape_plan.specs.Preservation.{EachCall}
 use Rattle.shape_plan.specs.Run.{Run, hook_if}
-use Rattle.shape_glyphs.specs.Classes.{glyphs_mapped, classes_synthesised}
-use Rattle.shape_prepare.specs.Fractions.{fractions_masked}
+use Rattle.shape_glyphs.specs.Classes.{glyphs_mapped, classes_synthesised, with_nominal_glyph, with_class}
 use Rattle.shape_glyphs.specs.SubstitutionPreservation.{EachSubstitutionStep, SubstitutionPreservesClusters, SubstitutionPreservesFlags}
-use Rattle.shape_prepare.specs.Ranges.{ranges_masked}
 use Rattle.shape_glyphs.specs.Substitution.{stage_steps, lookup_steps}
-use Rattle.shape_prepare.proofs.Masking.MaskPreservation.{order-fractions_masked, order-ranges_masked, order-glyphs_mapped, order-classes_synthesised, flags-fractions_masked, flags-ranges_masked, flags-glyphs_mapped, flags-classes_synthesised}
 use Rattle.shape_plan.proofs.PreservationLemmas.{preserving-hook, preserving-step_if, preserving-step_due}
 
 -- a property of the steps that call nothing, and of doing nothing
-record EachOwnStep (Preserves : (Buffer → Buffer) → Type 0) (run : Run) : Type 0 where
+record EachOwnStep (Preserves : (Buffer → Buffer) → Type 0) : Type 0 where
   none : Preserves (λ b. b)
-  fractions : Preserves (fractions_masked run.decisions)
-  ranges : Preserves (ranges_masked run.map run.user_features)
   glyphs : Preserves glyphs_mapped
   classes : Preserves classes_synthesised
 
@@ -49,15 +44,8 @@ preserving-lookups : (Preserves : (Buffer → Buffer) → Type 0) → Preserves 
 preserving-lookups Preserves none run keep true due = (keep.lookups.aat_substitute due, tt)
 preserving-lookups Preserves none run keep false staged = preserving-stages Preserves none run keep staged run.map.stages (omega arith)
 
-each_step : (Preserves : (Buffer → Buffer) → Type 0) (run : Run) → EachOwnStep Preserves run → EachCall Preserves run → EachSubstitutionStep Preserves run
+each_step : (Preserves : (Buffer → Buffer) → Type 0) (run : Run) → EachOwnStep Preserves → EachCall Preserves run → EachSubstitutionStep Preserves run
 each_step Preserves run own keep = record {
-  masks = (
-    own.fractions,
-    (
-      preserving-hook Preserves own.none run.constants.has_setup_masks run.hooks (λ h. h.setup_masks) (λ h is. (keep.hooks h is).setup_masks),
-      (own.ranges, tt),
-    ),
-  );
   glyphs = (
     own.glyphs,
     (keep.lookups.substitute_start, (preserving-step_if Preserves own.none run.decisions.fallback_glyph_classes own.classes, tt)),
@@ -69,20 +57,32 @@ each_step Preserves run own keep = record {
   );
 }
 
+order-glyphs_mapped : IsClusterPreserving glyphs_mapped
+unfolding glyphs_mapped
+order-glyphs_mapped = order-items_mapped with_nominal_glyph (λ item. refl)
+
+flags-glyphs_mapped : IsFlagPreserving glyphs_mapped
+unfolding glyphs_mapped
+flags-glyphs_mapped = flags-items_mapped with_nominal_glyph (λ item. refl)
+
+order-classes_synthesised : IsClusterPreserving classes_synthesised
+unfolding classes_synthesised
+order-classes_synthesised = order-items_mapped with_class (λ item. refl)
+
+flags-classes_synthesised : IsFlagPreserving classes_synthesised
+unfolding classes_synthesised
+flags-classes_synthesised = flags-items_mapped with_class (λ item. refl)
+
 pub substitution-preserves_clusters : SubstitutionPreservesClusters
 substitution-preserves_clusters run keep = each_step IsClusterPreserving run (record {
   none = λ b monotone. PreservesOrder-same b;
-  fractions = order-fractions_masked run.decisions;
-  ranges = order-ranges_masked run.map run.user_features;
   glyphs = order-glyphs_mapped;
   classes = order-classes_synthesised;
 }) keep
 
 pub substitution-preserves_flags : SubstitutionPreservesFlags
-substitution-preserves_flags run masks features keep = each_step IsFlagPreserving run (record {
+substitution-preserves_flags run keep = each_step IsFlagPreserving run (record {
   none = PreservesFlags-same;
-  fractions = flags-fractions_masked run.decisions features;
-  ranges = flags-ranges_masked run.map masks run.user_features;
   glyphs = flags-glyphs_mapped;
   classes = flags-classes_synthesised;
 }) keep

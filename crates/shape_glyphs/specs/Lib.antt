@@ -1,3 +1,6 @@
+pub mod Classes
+pub mod Substitution
+pub mod SubstitutionPreservation
 pub mod Advances
 pub mod Zeroing
 pub mod Exact

@@ -1,20 +1,10 @@
--- Masks and substitution as steps of a run.
+-- Glyphs and substitution as steps of a run.
 use Rattle.std.specs.Prelude.{ℕ, zero, suc, ◌&&◌, List, [], ◌∷◌, ◌++◌, if◌then◌else◌}
 use Rattle.std.specs.Option.{option_map_or}
 use Rattle.shape_items.specs.Buffer.{Buffer}
 use Rattle.shape_buffer.specs.Outcome.{Step, step}
 use Rattle.shape_plan.specs.Run.{Run, step_if, hook_if}
 use Rattle.shape_glyphs.specs.Classes.{glyphs_mapped, classes_synthesised}
-use Rattle.shape_prepare.specs.Fractions.{fractions_masked}
-use Rattle.shape_prepare.specs.Ranges.{ranges_masked}
-
--- the masks of the items: fractions, what the shaper sets, and the user's features
-abbrev pub mask_steps : Run → List Step
-mask_steps run =
-    step (fractions_masked run.decisions)
-    ∷ step (hook_if run.constants.has_setup_masks run.hooks (λ hooks. hooks.setup_masks))
-    ∷ step (ranges_masked run.map run.user_features)
-    ∷ []
 
 -- glyphs, as substitution finds them
 abbrev pub glyph_steps : Run → List Step

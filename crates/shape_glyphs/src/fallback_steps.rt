@@ -7,13 +7,13 @@ ghost use Rattle.shape_buffer.specs.Outcome.{Made};
 ghost use Rattle.shape_fallback.specs.DueSteps.{recategorize_step, spaces_step, marks_step};
 ghost use Rattle.shape_fallback.specs.DueSteps.{marks_adjusted};
 
-use crate::ot_shape_fallback::{
-    _hb_ot_shape_fallback_mark_position_recategorize_marks, _hb_ot_shape_fallback_spaces,
-    position_marks,
-};
 use bitflags::Flags;
 use shape_buffer::buffer::{ScratchFlags, hb_buffer_t};
 use shape_buffer::interfaces::{hb_font_t, hb_unicode_funcs_t};
+use shape_fallback::{
+    _hb_ot_shape_fallback_mark_position_recategorize_marks, _hb_ot_shape_fallback_spaces,
+    position_marks,
+};
 use shape_plan::shaping_types::{PlanOf, ShapingTypes};
 
 /// Gives marks the ccc that they are placed by, if the plan places marks by their extents.
@@ -30,7 +30,7 @@ pub fn recategorize_marks<T: ShapingTypes>(
 }
 
 /// Places spaces, if one without a glyph was seen.
-#[tactic(auto, unfolding(crate::specs::DueSteps::spaces_step))]
+#[tactic(auto, unfolding(shape_fallback::specs::DueSteps::spaces_step))]
 pub fn place_spaces<T: ShapingTypes>(plan: &PlanOf<'_, T>, face: &T::Face, buffer: &mut hb_buffer_t)
     ensures { Made (spaces_step (T.Face.face face.now)) buffer.old buffer.new }
 {
@@ -54,7 +54,7 @@ pub fn place_marks<T: ShapingTypes>(plan: &PlanOf<'_, T>, face: &T::Face, buffer
 }
 
 /// Places marks, as the plan and the buffer's direction adjust offsets.
-#[tactic(auto, unfolding(crate::specs::DueSteps::marks_adjusted))]
+#[tactic(auto, unfolding(shape_fallback::specs::DueSteps::marks_adjusted))]
 fn place_adjusted<T: ShapingTypes>(plan: &PlanOf<'_, T>, face: &T::Face, buffer: &mut hb_buffer_t)
     ensures { Made (marks_adjusted T.Unicode.unicode (T.Face.face face.now) plan.now.direction
         plan.now.script plan.now.decisions) buffer.old buffer.new }

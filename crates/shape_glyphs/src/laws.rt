@@ -2,6 +2,15 @@
 ghost use Rattle.shape_glyphs.specs.Exact.{ExactAdvances, ExactMarkWidths};
 ghost use Rattle.shape_glyphs.specs.Preservation.{StepsPreserve};
 ghost use Rattle.shape_glyphs.specs.OneTable.{EachRunsOneTable};
+ghost use Rattle.shape_glyphs.specs.SubstitutionPreservation.{SubstitutionPreservesClusters};
+ghost use Rattle.shape_glyphs.specs.SubstitutionPreservation.{SubstitutionPreservesFlags};
+
+/// Every step of making and substituting glyphs preserves clusters at the monotone levels, if the lookups and the
+/// hooks do, and the flags of glyphs, if these do. Does nothing: a caller's proof cites it.
+pub fn substitution_preserves_clusters_and_flags()
+    ensures clusters { SubstitutionPreservesClusters }
+    ensures flags { SubstitutionPreservesFlags }
+{}
 
 /// Each step of positions and of the end of a run preserves the order of clusters and the flags of glyphs,
 /// if the lookups and hooks of the run do. The reversal inverts the order of clusters if the buffer's

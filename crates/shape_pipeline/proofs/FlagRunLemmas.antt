@@ -26,6 +26,7 @@ use Rattle.shape_prepare.specs.Graphemes.{graphemes_marked}
 use Rattle.shape_prepare.specs.PrepareSteps.{order_steps, prepare_steps}
 use Rattle.shape_prepare.proofs.Preservation.StepPreservation.{begun-preserves_flags, begun-honest}
 use Rattle.shape_prepare.proofs.Preservation.PreservationLemmas.{preparing_preserves_flags}
+use Rattle.shape_prepare.proofs.Masking.MaskPreservation.{masks-preserve_flags}
 use Rattle.shape_glyphs.proofs.SubstitutionPreservation.{substitution-preserves_flags}
 use Rattle.shape_pipeline.specs.Headline.{HasFlagsByCluster}
 use Rattle.shape_pipeline.specs.Shaped.{normalising, glyph_phase, place_phase, shaped_steps, all_steps, entered, finished, run_made}
@@ -75,7 +76,8 @@ module _ (run : Run) (target : Direction) (flags : BufferFlags) (lawful : Lawful
   seen-glyphs : Leads (IsSeen flags) (glyph_phase run) (IsSeen flags)
   seen-glyphs = seen-run flags (glyph_phase run)
       (EachStep-glyph_phase IsFlagPreserving run (fallback-preserves_flags run.unicode run.face run.direction run.script run.decisions)
-      (substitution-preserves_flags run masks (record { frac = features.frac; numr = features.numr; dnom = features.dnom }) preserves))
+      (masks-preserve_flags run masks (record { frac = features.frac; numr = features.numr; dnom = features.dnom }) preserves)
+      (substitution-preserves_flags run preserves))
 
   seen-placed : Leads (IsSeen flags) (place_phase run) (IsSeen flags)
   seen-placed = seen-run flags (place_phase run)

@@ -29,6 +29,7 @@ use Rattle.shape_prepare.specs.ClusterPoint.{InOrderFor, direction_for, is_rever
 use Rattle.shape_prepare.specs.PrepareSteps.{prepare_steps}
 use Rattle.shape_prepare.proofs.Preservation.FirstLemmas.{preparing_preserves_firsts}
 use Rattle.shape_prepare.proofs.Preservation.PreservationLemmas.{preparing_preserves_order}
+use Rattle.shape_prepare.proofs.Masking.MaskPreservation.{masks-preserve_clusters}
 use Rattle.shape_glyphs.proofs.SubstitutionPreservation.{substitution-preserves_clusters}
 use Rattle.shape_pipeline.specs.Headline.{target_of}
 use Rattle.shape_pipeline.specs.Order.{RunPreservesClusters, ComesInOrder, ClustersComeInOrder, grapheme_clusters}
@@ -151,7 +152,7 @@ module _ (run : Run) (target : Direction) (valid : target â‰¢ Invalid) (From : â
   facing-glyphs : Leads (IsFacing From target) (glyph_phase run) (IsFacing From target)
   facing-glyphs = Leads-preserving (IsPreserved-facing From target) (glyph_phase run)
       (EachStep-glyph_phase IsClusterPreserving run (fallback-preserves_clusters run.unicode run.face run.direction run.script run.decisions)
-      (substitution-preserves_clusters run preserves.calls))
+      (masks-preserve_clusters run preserves.calls) (substitution-preserves_clusters run preserves.calls))
 
   facing-placed : Leads (IsFacing From target) (place_phase run) (IsFacing From target)
   facing-placed = Leads-preserving (IsPreserved-facing From target) (place_phase run)

@@ -26,11 +26,11 @@ Leads-then {After = After} {steps = steps} {more = more} first second = record {
 
 module _ (Preserves : (Buffer → Buffer) → Type 0) (run : Run)
     (fallback : EachFallback Preserves run.unicode run.face run.direction run.script run.decisions) where
-  pub EachStep-glyph_phase : EachSubstitutionStep Preserves run → EachStep Preserves (glyph_phase run)
-  EachStep-glyph_phase each =
+  pub EachStep-glyph_phase : EachStep Preserves (mask_steps run) → EachSubstitutionStep Preserves run → EachStep Preserves (glyph_phase run)
+  EachStep-glyph_phase masks each =
       let behind : EachStep Preserves (step (recategorize_step run.decisions) ∷ glyph_steps run) = (fallback.recategorize, each.glyphs) in
       EachStep-append Preserves (glyph_start run) (substitute_steps run)
-      (EachStep-append Preserves (mask_steps run) (step (recategorize_step run.decisions) ∷ glyph_steps run) each.masks behind)
+      (EachStep-append Preserves (mask_steps run) (step (recategorize_step run.decisions) ∷ glyph_steps run) masks behind)
       each.lookups
 
   pub EachStep-place_phase : EachStep Preserves (advance_steps run) → EachStep Preserves (table_steps run) → EachStep Preserves (place_phase run)

@@ -1,4 +1,5 @@
 mod Spans
 pub mod Preservation
+pub mod Masking
 mod StepLemmas
 mod GraphemeLemmas

@@ -6,6 +6,9 @@ pub mod ClustersFormed
 pub mod NativeOrder
 pub mod Rotated
 pub mod PrepareSteps
+pub mod Fractions
+pub mod Ranges
+pub mod MaskSteps
 pub mod Worked
 pub mod Preservation
 pub mod ClusterPoint

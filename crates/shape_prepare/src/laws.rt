@@ -1,8 +1,9 @@
-//! What preparing preserves, as laws over all runs.
+//! What preparing and masks preserve, as laws over all runs.
 ghost use Rattle.shape_prepare.specs.ClusterPoint.{PreparingPreservesOrder, PreparingPreservesFirsts};
 ghost use Rattle.shape_prepare.specs.PreservedCharacters.{PreparingPreservesCharacters};
 ghost use Rattle.shape_prepare.specs.PreparedPoint.{PreparingPrepares};
 ghost use Rattle.shape_prepare.specs.Preservation.{PreparingPreservesFlags};
+ghost use Rattle.shape_prepare.specs.Preservation.{MasksPreserveClusters, MasksPreserveFlags};
 
 /// Each step preserves the flags of glyphs, if the plan's masks have none and the shaper's hook preserves them.
 pub fn preparing_preserves_flags()
@@ -32,4 +33,11 @@ pub fn preparing_prepares()
 /// each character is its own form for the direction, and a given hook leaves characters.
 pub fn preparing_preserves_characters()
     ensures { PreparingPreservesCharacters }
+{}
+
+/// Every step of masks preserves clusters at the monotone levels, if the hook does. Every one preserves the
+/// flags of glyphs, if the hook does and no mask of the plan or of its features has the bit of a flag.
+pub fn masks_preserve_clusters_and_flags()
+    ensures clusters { MasksPreserveClusters }
+    ensures flags { MasksPreserveFlags }
 {}

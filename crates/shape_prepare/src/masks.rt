@@ -1,14 +1,23 @@
-//! The beginning of a run: its masks and positions.
+//! Masks: what a run begins with, and what depends on the text.
 //!
-//! A buffer may come with masks and positions of an earlier use. Features that are on for the whole text
-//! stand in every item's mask from here on; positions are set anew once there are glyphs.
-ghost use Rattle.shape_buffer.specs.Outcome.{Made};
+//! The mask of an item says which features are on for it. A buffer may come with masks and positions of an
+//! earlier use. Features that are on for the whole text stand in every item's mask from the beginning;
+//! positions are set anew once there are glyphs. After normalising come fractions, what the shaper sets, and
+//! what the user asks for: each later one sees what the earlier ones have set, so the user's request
+//! overrides the shaper's.
+ghost use Rattle.std.specs.Prelude.{◌≡◌};
+ghost use Rattle.shape_buffer.specs.Outcome.{IsWithinLimit, Made, Ran};
+ghost use Rattle.shape_plan.specs.Run.{hook_if};
 ghost use Rattle.shape_prepare.specs.Begun.{begun};
+ghost use Rattle.shape_prepare.specs.MaskSteps.{mask_steps};
 
+use crate::fractions::setup_masks_fraction;
+use crate::ranges::setup_masks_user;
 use shape_buffer::buffer::hb_buffer_t;
-use shape_buffer::interfaces::{hb_font_t, hb_ot_layout_t};
+use shape_buffer::interfaces::{hb_font_t, hb_ot_layout_t, hb_unicode_funcs_t};
 use shape_buffer::walks::update_items;
-use shape_plan::shaping_types::{PlanOf, ShapingTypes};
+use shape_plan::ot_shaper::hb_ot_shaper_t;
+use shape_plan::shaping_types::{Meaning, PlanOf, ShapingTypes};
 
 /// Makes each mask the plan's global one, and each position zeros. Takes no memory.
 #[tactic(auto, unfolding(crate::specs::Begun::begun))]
@@ -22,4 +31,31 @@ pub fn initialize_masks<T: ShapingTypes>(plan: &PlanOf<'_, T>, buffer: &mut hb_b
         info
     });
     buffer.clear_positions();
+}
+
+/// Calls the hook `setup_masks`, if the plan uses the shaper and it is given.
+pub fn setup_masks_shaper<T: ShapingTypes>(
+    plan: &PlanOf<'_, T>,
+    face: &T::Face,
+    buffer: &mut hb_buffer_t,
+)
+    ensures { let run = ⟦<T as Meaning>⟧.run plan.now face.now in
+        Made (hook_if run.constants.has_setup_masks run.hooks (λ hooks. hooks.setup_masks))
+        buffer.old buffer.new }
+{
+    match plan.shaper() {
+        Some(shaper) if T::Shaper::HAS_SETUP_MASKS => shaper.setup_masks(plan, face, buffer),
+        _ => (),
+    }
+}
+
+/// Sets the masks: fractions, what the shaper sets, and the user's features. Takes no memory.
+pub fn setup_masks<T: ShapingTypes>(plan: &PlanOf<'_, T>, face: &T::Face, buffer: &mut hb_buffer_t)
+    requires { IsWithinLimit buffer.old }
+    ensures { Ran (mask_steps (⟦<T as Meaning>⟧.run plan.now face.now))
+        buffer.old buffer.new }
+{
+    setup_masks_fraction(plan, buffer);
+    setup_masks_shaper::<T>(plan, face, buffer);
+    setup_masks_user::<T>(plan, buffer);
 }

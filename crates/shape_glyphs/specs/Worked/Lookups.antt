@@ -62,7 +62,7 @@ with_engine n run =
       lookups = substituting;
       map = with_stages n;
       hooks = None;
-      constants = constants true true;
+      constants = constants true;
       decisions = by_tables false false;
     }
 

@@ -1,4 +1,4 @@
--- Lists of steps, run on small cases whose answers are worked out by hand.
+-- Glyphs and stages as lists of steps, run on small cases whose results are worked out by hand.
 use Rattle.std.specs.Prelude.{◌≡◌, ℕ, ◌+◌, ◌*◌, ◌==◌, Bool, true, false, List, [], ◌∷◌, length, map, None, Some, refl, if◌then◌else◌}
 use Rattle.shape_items.specs.Buffer.{Buffer, new_buffer}
 use Rattle.shape_buffer.specs.Walks.{items_mapped}
@@ -7,29 +7,20 @@ use Rattle.shape_buffer.specs.Layout.{MapMeaning, LookupMeaning}
 use Rattle.shape_buffer.specs.NoLookups.{no_lookups}
 use Rattle.shape_buffer.specs.Outcome.{run_steps}
 use Rattle.shape_common.specs.Unicode.{UnicodeMeaning}
-use Rattle.shape_common.specs.declared.text_types.Direction.TheVariants.{LeftToRight}
 use Rattle.shape_common.specs.declared.text_types.Feature.{Feature}
+use Rattle.shape_plan.specs.Worked.Decisions.{no_decisions}
 use Rattle.shape_plan.specs.Worked.Plans.{constants_of}
 use Rattle.shape_plan.specs.Run.{Run}
 use Rattle.shape_plan.specs.Shaper.{ShaperConstants, HookMeaning}
 use Rattle.shape_plan.specs.declared.decisions.Decisions.{Decisions}
 use Rattle.shape_plan.specs.Shapers.{no_hooks}
 use Rattle.shape_glyphs.specs.Classes.{glyphs_mapped, classes_synthesised}
-use Rattle.shape_prepare.specs.Fractions.{fractions_masked, slash_masked, features_added}
-use Rattle.shape_prepare.specs.Ranges.{ranges_masked}
-use Rattle.shape_prepare.specs.MaskSteps.{mask_steps}
 use Rattle.shape_glyphs.specs.Substitution.{glyph_steps, substitute_steps}
-use Rattle.shape_prepare.specs.Worked.Fractions.{with_fractions, text, half, masks_of}
 
 -- what is done to each glyph
 abbrev each_glyph : (ℕ → ℕ) → Buffer → Buffer
 each_glyph f b =
     let change : Item → Item = λ item. record item { glyph_id = f item.glyph_id } in
-    record b { items = map change b.items }
-
-abbrev each_mask : (ℕ → ℕ) → Buffer → Buffer
-each_mask f b =
-    let change : Item → Item = λ item. record item { mask = f item.mask } in
     record b { items = map change b.items }
 
 -- glyph and class as the engine prepares them
@@ -56,25 +47,21 @@ with_stages n = record {
   pause_after = λ i. if i == 0 then Some 7 else None;
 }
 
-abbrev pub constants : Bool → Bool → ShaperConstants
-constants has_pause has_setup_masks = record constants_of {
+abbrev pub constants : Bool → ShaperConstants
+constants has_pause = record constants_of {
   is_default = true;
   zero_width_marks = 0;
   fallback_position = false;
   has_create_data = false;
   has_pause = has_pause;
-  has_setup_masks = has_setup_masks;
 }
 
--- pause 7 doubles each glyph, every other one makes it 0; `setup_masks` adds 0x110 to each mask
+-- pause 7 doubles each glyph, every other one makes it 0
 abbrev doubling : UnicodeMeaning → HookMeaning
-doubling unicode = record (no_hooks unicode) {
-  setup_masks = each_mask (λ m. m + 0x110);
-  pause = λ n. each_glyph (λ g. if n == 7 then g * 2 else 0);
-}
+doubling unicode = record (no_hooks unicode) { pause = λ n. each_glyph (λ g. if n == 7 then g * 2 else 0) }
 
 abbrev pub by_tables : Bool → Bool → Decisions
-by_tables morx gpos = record (with_fractions true) { apply_morx = morx; apply_gpos = gpos }
+by_tables morx gpos = record no_decisions { apply_morx = morx; apply_gpos = gpos }
 
 -- one item of glyph 5
 abbrev glyph_5 : Buffer
@@ -85,9 +72,6 @@ glyphs b = map (λ item. item.glyph_id) b.items
 
 abbrev whole_feature : Feature
 whole_feature = record { tag = record { 0 = 1 }; value = 1; start = 0; end = 4294967295 }
-
-abbrev first_feature : Feature
-first_feature = record { tag = record { 0 = 1 }; value = 2; start = 0; end = 1 }
 
 -- the run with the shaper, and with none
 abbrev hooked : Run → Run
@@ -106,23 +90,23 @@ glyphs_after run = glyphs (run_steps (substitute_steps run) glyph_5)
 
 pub record RunsOfLookups (run : Run) : Type 0 where
   -- 5 and 1, twice, and 3
-  pub pause_between : glyphs_after (hooked (staged run (constants true false) 2 (by_tables false true))) ≡ 15 ∷ []
-  pub without_shaper : glyphs_after (unhooked (staged run (constants true false) 2 (by_tables false true))) ≡ 9 ∷ []
-  pub pause_not_given : glyphs_after (hooked (staged run (constants false false) 2 (by_tables false false))) ≡ 9 ∷ []
-  pub no_stage : glyphs_after (hooked (staged run (constants true false) 0 (by_tables false false))) ≡ 5 ∷ []
-  pub one_stage : glyphs_after (hooked (staged run (constants true false) 1 (by_tables false false))) ≡ 12 ∷ []
-  pub three_stages : glyphs_after (hooked (staged run (constants true false) 3 (by_tables false false))) ≡ 1015 ∷ []
+  pub pause_between : glyphs_after (hooked (staged run (constants true) 2 (by_tables false true))) ≡ 15 ∷ []
+  pub without_shaper : glyphs_after (unhooked (staged run (constants true) 2 (by_tables false true))) ≡ 9 ∷ []
+  pub pause_not_given : glyphs_after (hooked (staged run (constants false) 2 (by_tables false false))) ≡ 9 ∷ []
+  pub no_stage : glyphs_after (hooked (staged run (constants true) 0 (by_tables false false))) ≡ 5 ∷ []
+  pub one_stage : glyphs_after (hooked (staged run (constants true) 1 (by_tables false false))) ≡ 12 ∷ []
+  pub three_stages : glyphs_after (hooked (staged run (constants true) 3 (by_tables false false))) ≡ 1015 ∷ []
   -- 5, two features and 100
-  pub by_morx : glyphs_after (record (hooked (staged run (constants true false) 2 (by_tables true false)))
+  pub by_morx : glyphs_after (record (hooked (staged run (constants true) 2 (by_tables true false)))
       { user_features = whole_feature ∷ whole_feature ∷ [] }) ≡ 107 ∷ []
   -- 5 and 100, three times
-  pub morx_and_gpos : glyphs_after (record (unhooked (staged run (constants true false) 2 (by_tables true true)))
+  pub morx_and_gpos : glyphs_after (record (unhooked (staged run (constants true) 2 (by_tables true true)))
       { user_features = [] }) ≡ 315 ∷ []
 
 -- three stages, with pause 7 after this one alone
 abbrev glyphs_paused : Run → ℕ → List ℕ
 glyphs_paused run stage =
-    glyphs_after (record (hooked (staged run (constants true false) 3 (by_tables false false)))
+    glyphs_after (record (hooked (staged run (constants true) 3 (by_tables false false)))
     { map = record (with_stages 3) { pause_after = λ i. if i == stage then Some 7 else None } })
 
 -- 5, and 1, 3 and 1000 by the stages, doubled after one of them
@@ -134,34 +118,18 @@ pub record RunsOfPauses (run : Run) : Type 0 where
 -- before the lookups: the glyph of the index, doubled by `substitute_start`, in class 4; another class in its place if
 -- the plan says so
 pub record RunsOfGlyphs (run : Run) : Type 0 where
-  pub mapped_first : glyphs (run_steps (glyph_steps (record run { decisions = with_fractions true })) glyph_5) ≡ 12 ∷ []
+  pub mapped_first : glyphs (run_steps (glyph_steps (record run { decisions = no_decisions })) glyph_5) ≡ 12 ∷ []
   pub classes_of_face : map (λ item. item.properties.glyph_class.0)
-      (run_steps (glyph_steps (record run { decisions = with_fractions true })) glyph_5).items ≡ 4 ∷ []
+      (run_steps (glyph_steps (record run { decisions = no_decisions })) glyph_5).items ≡ 4 ∷ []
   pub classes_made_up : map (λ item. item.properties.glyph_class.0)
-      (run_steps (glyph_steps (record run { decisions = record (with_fractions true) { fallback_glyph_classes = true } })) glyph_5).items
+      (run_steps (glyph_steps (record run { decisions = record no_decisions { fallback_glyph_classes = true } })) glyph_5).items
       ≡ 2 ∷ []
 
--- the run that sets masks of fractions, of the shaper and of these features
-abbrev masking : Run → ShaperConstants → List Feature → Run
-masking run of_shaper features = record (staged run of_shaper 0 (with_fractions true)) { user_features = features }
-
-abbrev masks_after : Run → Buffer → List ℕ
-masks_after run b = masks_of (run_steps (mask_steps run) b)
-
--- a fraction adds 0x300, 0x103 and 0x503, the hook adds 0x110, and then the user sets 2 in 0x300 of the first cluster
-pub record RunsOfMasks (run : Run) : Type 0 where
-  pub hook_then_user : masks_after (hooked (masking run (constants false true) (first_feature ∷ []))) glyph_5 ≡ 0x210 ∷ []
-  pub fraction_then_hook : masks_after (hooked (masking run (constants false true) [])) (text LeftToRight 0 1 half)
-      ≡ 0x410 ∷ 0x213 ∷ 0x613 ∷ []
-  pub hook_not_given : masks_after (hooked (masking run (constants true false) (first_feature ∷ []))) glyph_5 ≡ 0x200 ∷ []
-  pub without_shaper : masks_after (unhooked (masking run (constants true true) [])) glyph_5 ≡ 0 ∷ []
-
 -- whatever else a run depends on
-pub record WorkedSteps : Type 0 where
+pub record WorkedSubstitution : Type 0 where
   pub lookups : (run : Run) → RunsOfLookups (record run { lookups = adding })
   pub pauses : (run : Run) → RunsOfPauses (record run { lookups = adding })
   pub glyphs : (run : Run) → RunsOfGlyphs (record run { lookups = adding })
-  pub masks : (run : Run) → RunsOfMasks run
 
 runs_of_lookups : (run : Run) → RunsOfLookups (record run { lookups = adding })
 runs_of_lookups run = record {
@@ -182,9 +150,5 @@ runs_of_glyphs : (run : Run) → RunsOfGlyphs (record run { lookups = adding })
 unfolding glyphs_mapped classes_synthesised items_mapped
 runs_of_glyphs run = record { mapped_first = refl; classes_of_face = refl; classes_made_up = refl }
 
-runs_of_masks : (run : Run) → RunsOfMasks run
-unfolding fractions_masked slash_masked features_added ranges_masked items_mapped
-runs_of_masks run = record { hook_then_user = refl; fraction_then_hook = refl; hook_not_given = refl; without_shaper = refl }
-
-pub worked_steps : WorkedSteps
-worked_steps = record { lookups = runs_of_lookups; pauses = runs_of_pauses; glyphs = runs_of_glyphs; masks = runs_of_masks }
+pub worked_substitution : WorkedSubstitution
+worked_substitution = record { lookups = runs_of_lookups; pauses = runs_of_pauses; glyphs = runs_of_glyphs }

@@ -1,4 +1,4 @@
--- What each step of masks and substitution keeps.
+-- What each step of masks preserves, and their list.
 use Rattle.std.proofs.Common.{◌≡◌, ◌&&◌, ◌+◌, ℕ, true, false, nat_le, nat_lt, List, [], ◌∷◌, map, refl, ap, sym, ◌∙◌, inl, inr, arith, fold}
 use Rattle.std.proofs.lemmas.Bool.{cases_Bool}
 use Rattle.std.proofs.lemmas.Bool.Decides.{nat_tests}
@@ -11,14 +11,14 @@ use Rattle.shape_buffer.specs.Layout.{MapMeaning, LawfulMasks, HasNoDefinedFlag}
 use Rattle.shape_common.specs.declared.text_types.Direction.{Direction}
 use Rattle.shape_common.specs.declared.text_types.Feature.{Feature}
 use Rattle.shape_items.proofs.Flags.FlagLemmas.{the_first, range_brings, unsafe_to_break_preserves, PreservesFlags-items, PreservesFlags-same, PreservesFlags-then}
-use Rattle.shape_buffer.proofs.Steps.PreservationLemmas.{order-items_mapped, flags-none_brought, flags-items_mapped, flags-unsafe_to_concat}
+use Rattle.shape_buffer.proofs.Steps.PreservationLemmas.{PreservesOrder-same, flags-none_brought, flags-unsafe_to_concat}
 use Rattle.shape_buffer.proofs.Flags.FeatureBitLemmas.{feature-or, added_brings_none}
 use Rattle.shape_plan.specs.Shaper.{without_mask}
+use Rattle.shape_plan.proofs.PreservationLemmas.{preserving-hook}
 use Rattle.shape_plan.proofs.MaskLemmas.{MasksAlone, MasksAlone-same, MasksAlone-then, alone-items_mapped, order-masks}
 use Rattle.shape_plan.specs.declared.decisions.Decisions.{Decisions}
-use Rattle.shape_glyphs.specs.Classes.{glyphs_mapped, classes_synthesised, with_nominal_glyph, with_class}
 use Rattle.shape_prepare.specs.Fractions.{with_features, features_added, has_whole, whole_start, whole_end, slash_masked, slash_places, next_place, slashes_masked, fraction_masks, may_have_fractions, fractions_masked}
-use Rattle.shape_glyphs.specs.SubstitutionPreservation.{FractionsAreFeatures}
+use Rattle.shape_prepare.specs.Preservation.{FractionsAreFeatures, MasksPreserveClusters, MasksPreserveFlags}
 use Rattle.shape_plan.specs.Requests.{is_global}
 use Rattle.shape_prepare.specs.Ranges.{shifted, with_feature, range_masked, ranges_masked}
 use Rattle.shape_prepare.specs.declared.fractions.FractionMasks.{FractionMasks}
@@ -27,7 +27,7 @@ use Rattle.shape_prepare.proofs.Masking.MaskLemmas.{alone-fractions_masked, slas
 
 -- ---- fractions
 
-pub order-fractions_masked : (decisions : Decisions) → IsClusterPreserving (fractions_masked decisions)
+order-fractions_masked : (decisions : Decisions) → IsClusterPreserving (fractions_masked decisions)
 order-fractions_masked decisions = order-masks (fractions_masked decisions) (alone-fractions_masked decisions)
 
 flags-features_added : (mask start end : ℕ) → HasNoDefinedFlag mask → IsFlagPreserving (features_added mask start end)
@@ -71,7 +71,7 @@ plain_parts decisions direction features = elim (cases_Bool (is_forward directio
   | inr backward ↦ rw backward (record { before = feature-or _ _ features.frac features.dnom; slash = features.frac; after = feature-or _ _ features.numr features.frac })
 ]
 
-pub flags-fractions_masked : (decisions : Decisions) → FractionsAreFeatures decisions → IsFlagPreserving (fractions_masked decisions)
+flags-fractions_masked : (decisions : Decisions) → FractionsAreFeatures decisions → IsFlagPreserving (fractions_masked decisions)
 unfolding fractions_masked
 flags-fractions_masked decisions features b = elim (cases_Bool (may_have_fractions decisions b)) [
   | inl due ↦ rw due (flags-slashes_masked (fraction_masks decisions b.direction) (plain_parts decisions b.direction features) 0
@@ -98,7 +98,7 @@ alone-features map [] b = MasksAlone-same b
 alone-features map (feature ∷ features) b =
     MasksAlone-then (alone-range_masked map feature b) (alone-features map features (range_masked map b feature))
 
-pub order-ranges_masked : (map : MapMeaning) (features : List Feature) → IsClusterPreserving (ranges_masked map features)
+order-ranges_masked : (map : MapMeaning) (features : List Feature) → IsClusterPreserving (ranges_masked map features)
 unfolding ranges_masked
 order-ranges_masked map features = order-masks (ranges_masked map features) (alone-features map features)
 
@@ -124,24 +124,28 @@ flags-features map lawful [] b = PreservesFlags-same b
 flags-features map lawful (feature ∷ features) b =
     PreservesFlags-then b _ _ (flags-range_masked map lawful feature b) (flags-features map lawful features (range_masked map b feature))
 
-pub flags-ranges_masked : (map : MapMeaning) → LawfulMasks map → (features : List Feature) → IsFlagPreserving (ranges_masked map features)
+flags-ranges_masked : (map : MapMeaning) → LawfulMasks map → (features : List Feature) → IsFlagPreserving (ranges_masked map features)
 unfolding ranges_masked
 flags-ranges_masked map lawful features = flags-features map lawful features
 
--- ---- glyphs, classes, syllables
+-- ---- the list
 
-pub order-glyphs_mapped : IsClusterPreserving glyphs_mapped
-unfolding glyphs_mapped
-order-glyphs_mapped = order-items_mapped with_nominal_glyph (λ item. refl)
+pub masks-preserve_clusters : MasksPreserveClusters
+masks-preserve_clusters run keep = (
+  order-fractions_masked run.decisions,
+  (
+    preserving-hook IsClusterPreserving (λ b monotone. PreservesOrder-same b) run.constants.has_setup_masks run.hooks (λ h. h.setup_masks)
+        (λ h is. (keep.hooks h is).setup_masks),
+    (order-ranges_masked run.map run.user_features, tt),
+  ),
+)
 
-pub flags-glyphs_mapped : IsFlagPreserving glyphs_mapped
-unfolding glyphs_mapped
-flags-glyphs_mapped = flags-items_mapped with_nominal_glyph (λ item. refl)
-
-pub order-classes_synthesised : IsClusterPreserving classes_synthesised
-unfolding classes_synthesised
-order-classes_synthesised = order-items_mapped with_class (λ item. refl)
-
-pub flags-classes_synthesised : IsFlagPreserving classes_synthesised
-unfolding classes_synthesised
-flags-classes_synthesised = flags-items_mapped with_class (λ item. refl)
+pub masks-preserve_flags : MasksPreserveFlags
+masks-preserve_flags run masks features keep = (
+  flags-fractions_masked run.decisions features,
+  (
+    preserving-hook IsFlagPreserving PreservesFlags-same run.constants.has_setup_masks run.hooks (λ h. h.setup_masks)
+        (λ h is. (keep.hooks h is).setup_masks),
+    (flags-ranges_masked run.map masks run.user_features, tt),
+  ),
+)
