@@ -1,7 +1,7 @@
 //! Fallback positions of marks and spaces, for faces whose lookups place none.
 //!
-//! [`ot_shape_fallback`] has the calls, [`laws`] what they leave alone and when their numbers are exact. A run
-//! makes them if a plan or a buffer asks for it: `shape_glyphs` has these steps.
+//! [`ot_shape_fallback`] has the calls, [`laws`] what they leave alone and when their numbers are
+//! exact. A run makes them if a plan or a buffer asks for it: `shape_glyphs` has these steps.
 #![tactic(auto)]
 #![allow(non_camel_case_types)]
 

@@ -1,14 +1,20 @@
--- The steps of a run from the first position to the flags of glyphs, in their order.
+-- The steps of a run from masked characters to the flags of glyphs, in their order.
 use Rattle.std.specs.Prelude.{List, [], ◌∷◌, ◌++◌}
 use Rattle.shape_items.specs.Flags.{flags_propagated}
 use Rattle.shape_buffer.specs.Outcome.{Step, step}
 use Rattle.shape_plan.specs.Run.{Run, hook_if}
+use Rattle.shape_fallback.specs.DueSteps.{recategorize_step, spaces_step, marks_step}
 use Rattle.shape_glyphs.specs.Advances.{positions_cleared, advanced}
 use Rattle.shape_glyphs.specs.Ignorables.{ignorables_zeroed, ignorables_hidden}
 use Rattle.shape_glyphs.specs.Selectors.{selectors_replaced}
 use Rattle.shape_glyphs.specs.Tables.{table_positioned, kerned, deleted_narrowed, deleted_removed}
 use Rattle.shape_glyphs.specs.Reversal.{reversed}
+use Rattle.shape_glyphs.specs.Substitution.{glyph_steps, substitute_steps}
 use Rattle.shape_glyphs.specs.Zeroing.{zeroed_early, zeroed_late}
+
+-- ccc that marks are placed by, glyphs with their classes, and lookups
+abbrev pub substitute_pre_steps : Run → List Step
+substitute_pre_steps run = step (recategorize_step run.decisions) ∷ (glyph_steps run ++ substitute_steps run)
 
 -- what the face says of each glyph; fallback spaces come after
 abbrev pub advance_steps : Run → List Step
@@ -36,6 +42,13 @@ close_steps run =
 -- positions by tables; fallback marks come after
 abbrev pub table_steps : Run → List Step
 table_steps run = place_steps run ++ close_steps run
+
+-- positions: the face, spaces without a glyph, tables, and marks that no table places
+abbrev pub position_steps : Run → List Step
+position_steps run =
+    advance_steps run
+    ++ (step (spaces_step run.face)
+    ∷ (table_steps run ++ (step (marks_step run.unicode run.face run.direction run.script run.decisions) ∷ [])))
 
 -- which glyphs are handed out, in their order
 abbrev pub show_steps : Run → List Step

@@ -5,7 +5,6 @@
 ghost use Rattle.std.specs.Prelude.{◌≡◌};
 ghost use Rattle.shape_buffer.specs.Outcome.{Made};
 ghost use Rattle.shape_fallback.specs.DueSteps.{recategorize_step, spaces_step, marks_step};
-ghost use Rattle.shape_fallback.specs.DueSteps.{marks_adjusted};
 
 use bitflags::Flags;
 use shape_buffer::buffer::{ScratchFlags, hb_buffer_t};
@@ -44,21 +43,13 @@ pub fn place_spaces<T: ShapingTypes>(plan: &PlanOf<'_, T>, face: &T::Face, buffe
 
 /// Places marks, if the plan places marks by their extents. Offsets lose the advances of marks whose
 /// base has no extents if the plan adjusts them, and in forward text alone.
+#[tactic(auto, unfolding(shape_fallback::specs::DueSteps::marks_adjusted))]
 pub fn place_marks<T: ShapingTypes>(plan: &PlanOf<'_, T>, face: &T::Face, buffer: &mut hb_buffer_t)
     ensures { Made (marks_step T.Unicode.unicode (T.Face.face face.now) plan.now.direction
         plan.now.script plan.now.decisions) buffer.old buffer.new }
 {
     if plan.fallback_mark_positioning() {
-        place_adjusted::<T>(plan, face, buffer);
+        let adjust = plan.adjust_mark_positioning_when_zeroing() && buffer.direction().is_forward();
+        position_marks::<T::Unicode, _, _, _, _>(plan, face, buffer, adjust);
     }
-}
-
-/// Places marks, as the plan and the buffer's direction adjust offsets.
-#[tactic(auto, unfolding(shape_fallback::specs::DueSteps::marks_adjusted))]
-fn place_adjusted<T: ShapingTypes>(plan: &PlanOf<'_, T>, face: &T::Face, buffer: &mut hb_buffer_t)
-    ensures { Made (marks_adjusted T.Unicode.unicode (T.Face.face face.now) plan.now.direction
-        plan.now.script plan.now.decisions) buffer.old buffer.new }
-{
-    let adjust = plan.adjust_mark_positioning_when_zeroing() && buffer.direction().is_forward();
-    position_marks::<T::Unicode, _, _, _, _>(plan, face, buffer, adjust);
 }

@@ -11,6 +11,7 @@ ghost use Rattle.shape_glyphs.specs.Classes.{with_class as with_class_of, glyphs
 ghost use Rattle.shape_glyphs.specs.Classes.{classes_synthesised};
 ghost use Rattle.shape_glyphs.specs.Substitution.{glyph_steps};
 
+use crate::engine_calls::substitute_start;
 use shape_buffer::buffer::{
     GlyphPropsFlags, hb_buffer_t, hb_glyph_info_t, hb_unicode_general_category_t,
 };
@@ -79,18 +80,6 @@ pub fn synthesize_classes<S, P, D>(plan: &hb_ot_shape_plan_t<'_, S, P, D>, buffe
     if plan.fallback_glyph_classes() {
         hb_synthesize_glyph_classes(buffer);
     }
-}
-
-/// Has the engine prepare the buffer for substitution.
-pub fn substitute_start<T: ShapingTypes>(
-    plan: &PlanOf<'_, T>,
-    face: &T::Face,
-    buffer: &mut hb_buffer_t,
-)
-    ensures { Made (T.Engine.lookups plan.now.ot_map face.now).substitute_start
-        buffer.old buffer.new }
-{
-    T::Engine::substitute_start(face, buffer);
 }
 
 /// Makes glyphs of the items, prepares the buffer for substitution, and makes up the classes if the

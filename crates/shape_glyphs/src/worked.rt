@@ -6,16 +6,16 @@ ghost use Rattle.shape_glyphs.specs.Worked.Positions.{WorkedPositions};
 ghost use Rattle.shape_glyphs.specs.Worked.Steps.{WorkedSteps};
 ghost use Rattle.shape_glyphs.specs.Worked.Substitution.{WorkedSubstitution};
 
-/// Classes of glyphs, and the lists of steps run on an engine that adds numbers to glyphs and on one with single,
-/// ligature and multiple substitutions, as the definitions have them.
+/// Classes of glyphs, and the lists of steps run on an engine that adds numbers to glyphs and on
+/// one with single, ligature and multiple substitutions, as the definitions have them.
 pub fn substitutions_meet_worked_cases()
     ensures classes { ClassesOfGlyphs }
     ensures steps { WorkedSubstitution }
     ensures lookups { WorkedLookups }
 {}
 
-/// Advances in each direction, marks that are zeroed, tables that a plan chooses, the reversal, ignorables,
-/// selectors and flags of some glyphs, as the definitions have them.
+/// Advances in each direction, marks that are zeroed, tables that a plan chooses, the reversal,
+/// ignorables, selectors and flags of some glyphs, as the definitions have them.
 pub fn positions_meet_worked_cases()
     ensures positions { WorkedPositions }
     ensures glyphs { WorkedGlyphs }

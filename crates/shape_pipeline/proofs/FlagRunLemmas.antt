@@ -16,7 +16,7 @@ use Rattle.shape_normalize.proofs.Hooks.ReorderLemmas.{LawfulReorder}
 use Rattle.shape_plan.specs.Decisions.{MasksAreFeatures}
 use Rattle.shape_plan.specs.Preservation.{RunPreservesFlags}
 use Rattle.shape_plan.specs.Run.{Run}
-use Rattle.shape_glyphs.specs.Steps.{show_steps, finish_steps}
+use Rattle.shape_glyphs.specs.Steps.{position_steps, show_steps, finish_steps}
 use Rattle.shape_glyphs.specs.Reversal.{reversed}
 use Rattle.shape_glyphs.proofs.StepPreservation.{steps_preserve_flags}
 use Rattle.shape_prepare.specs.Begun.{begun}
@@ -29,8 +29,8 @@ use Rattle.shape_prepare.proofs.Preservation.PreservationLemmas.{preparing_prese
 use Rattle.shape_prepare.proofs.Masking.MaskPreservation.{masks-preserve_flags}
 use Rattle.shape_glyphs.proofs.SubstitutionPreservation.{substitution-preserves_flags}
 use Rattle.shape_pipeline.specs.Headline.{HasFlagsByCluster}
-use Rattle.shape_pipeline.specs.Shaped.{normalising, glyph_phase, place_phase, shaped_steps, all_steps, entered, finished, run_made}
-use Rattle.shape_pipeline.proofs.PhaseLemmas.{Leads, Leads-then, EachStep-glyph_phase, EachStep-place_phase}
+use Rattle.shape_pipeline.specs.Shaped.{normalising, glyph_phase, shaped_steps, all_steps, entered, finished, run_made}
+use Rattle.shape_pipeline.proofs.PhaseLemmas.{Leads, Leads-then, EachStep-glyph_phase, EachStep-position_steps}
 
 -- the buffer's flags are the caller's
 abbrev HasFlags : BufferFlags → Buffer → Type 0
@@ -79,9 +79,9 @@ module _ (run : Run) (target : Direction) (flags : BufferFlags) (lawful : Lawful
       (masks-preserve_flags run masks (record { frac = features.frac; numr = features.numr; dnom = features.dnom }) preserves)
       (substitution-preserves_flags run preserves))
 
-  seen-placed : Leads (IsSeen flags) (place_phase run) (IsSeen flags)
-  seen-placed = seen-run flags (place_phase run)
-      (EachStep-place_phase IsFlagPreserving run (fallback-preserves_flags run.unicode run.face run.direction run.script run.decisions)
+  seen-placed : Leads (IsSeen flags) (position_steps run) (IsSeen flags)
+  seen-placed = seen-run flags (position_steps run)
+      (EachStep-position_steps IsFlagPreserving run (fallback-preserves_flags run.unicode run.face run.direction run.script run.decisions)
       (steps_preserve_flags.advances run) (steps_preserve_flags.tables run preserves))
 
   flagged-last : Leads (IsSeen flags) (step flags_propagated ∷ []) (IsFlagged flags)
@@ -102,8 +102,8 @@ module _ (run : Run) (target : Direction) (flags : BufferFlags) (lawful : Lawful
       flagged-last
 
   flagged-shaped : Leads (IsSeen flags) (shaped_steps run) (IsFlagged flags)
-  flagged-shaped = Leads-then {steps = glyph_phase run} {more = place_phase run ++ finish_steps run} seen-glyphs
-      (Leads-then {steps = place_phase run} {more = finish_steps run} seen-placed flagged-finished)
+  flagged-shaped = Leads-then {steps = glyph_phase run} {more = position_steps run ++ finish_steps run} seen-glyphs
+      (Leads-then {steps = position_steps run} {more = finish_steps run} seen-placed flagged-finished)
 
   flagged-all : Leads (HasFlags flags) (all_steps run target) (IsFlagged flags)
   flagged-all = Leads-then {steps = prepare_steps run target} {more = normalising run.rules ∷ shaped_steps run} seen-prepared

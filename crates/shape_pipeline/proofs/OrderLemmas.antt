@@ -22,7 +22,7 @@ use Rattle.shape_fallback.proofs.PreservationLemmas.{fallback-preserves_clusters
 use Rattle.shape_normalize.proofs.Normalized.ClusterOrderLemmas.{PreservesOrder-normalized}
 use Rattle.shape_normalize.proofs.Hooks.ReorderLemmas.{LawfulReorder}
 use Rattle.shape_plan.specs.Run.{Run}
-use Rattle.shape_glyphs.specs.Steps.{show_steps, finish_steps}
+use Rattle.shape_glyphs.specs.Steps.{position_steps, show_steps, finish_steps}
 use Rattle.shape_glyphs.specs.Reversal.{reversed}
 use Rattle.shape_glyphs.proofs.StepPreservation.{steps_preserve_clusters}
 use Rattle.shape_prepare.specs.ClusterPoint.{InOrderFor, direction_for, is_reversed}
@@ -33,8 +33,8 @@ use Rattle.shape_prepare.proofs.Masking.MaskPreservation.{masks-preserve_cluster
 use Rattle.shape_glyphs.proofs.SubstitutionPreservation.{substitution-preserves_clusters}
 use Rattle.shape_pipeline.specs.Headline.{target_of}
 use Rattle.shape_pipeline.specs.Order.{RunPreservesClusters, ComesInOrder, ClustersComeInOrder, grapheme_clusters}
-use Rattle.shape_pipeline.specs.Shaped.{normalising, glyph_phase, place_phase, shaped_steps, all_steps, entered, finished, run_made}
-use Rattle.shape_pipeline.proofs.PhaseLemmas.{Leads, Leads-then, EachStep-glyph_phase, EachStep-place_phase}
+use Rattle.shape_pipeline.specs.Shaped.{normalising, glyph_phase, shaped_steps, all_steps, entered, finished, run_made}
+use Rattle.shape_pipeline.proofs.PhaseLemmas.{Leads, Leads-then, EachStep-glyph_phase, EachStep-position_steps}
 
 -- ---- states of a run, where each cluster is one of `From`
 
@@ -154,9 +154,9 @@ module _ (run : Run) (target : Direction) (valid : target ≢ Invalid) (From : �
       (EachStep-glyph_phase IsClusterPreserving run (fallback-preserves_clusters run.unicode run.face run.direction run.script run.decisions)
       (masks-preserve_clusters run preserves.calls) (substitution-preserves_clusters run preserves.calls))
 
-  facing-placed : Leads (IsFacing From target) (place_phase run) (IsFacing From target)
-  facing-placed = Leads-preserving (IsPreserved-facing From target) (place_phase run)
-      (EachStep-place_phase IsClusterPreserving run (fallback-preserves_clusters run.unicode run.face run.direction run.script run.decisions)
+  facing-placed : Leads (IsFacing From target) (position_steps run) (IsFacing From target)
+  facing-placed = Leads-preserving (IsPreserved-facing From target) (position_steps run)
+      (EachStep-position_steps IsClusterPreserving run (fallback-preserves_clusters run.unicode run.face run.direction run.script run.decisions)
       (steps_preserve_clusters.advances run) (steps_preserve_clusters.tables run preserves.calls))
 
   shown-finished : Leads (IsFacing From target) (finish_steps run) (IsShown From target)
@@ -170,8 +170,8 @@ module _ (run : Run) (target : Direction) (valid : target ≢ Invalid) (From : �
 
   shown-normalised : Leads (IsFacing From target) (normalising run.rules ∷ shaped_steps run) (IsShown From target)
   shown-normalised = Leads-then {steps = normalising run.rules ∷ []} {more = shaped_steps run} facing-normalised
-      (Leads-then {steps = glyph_phase run} {more = place_phase run ++ finish_steps run} facing-glyphs
-      (Leads-then {steps = place_phase run} {more = finish_steps run} facing-placed shown-finished))
+      (Leads-then {steps = glyph_phase run} {more = position_steps run ++ finish_steps run} facing-glyphs
+      (Leads-then {steps = position_steps run} {more = finish_steps run} facing-placed shown-finished))
 
   -- a whole run, from what is known of the text as it is prepared
   shown-all : (b : Buffer) → b.direction ≡ target → IsMonotoneLevel b.cluster_level → IsNonDecreasing (clusters b.items)

@@ -6,13 +6,13 @@ use Rattle.shape_buffer.specs.Outcome.{Step, step, run_steps}
 use Rattle.shape_buffer.proofs.Steps.PreservationLemmas.{EachStep-append}
 use Rattle.shape_buffer.proofs.Steps.Runs.{run_steps-append}
 use Rattle.shape_fallback.specs.Preservation.{EachFallback}
-use Rattle.shape_fallback.specs.DueSteps.{recategorize_step, spaces_step, marks_step}
+use Rattle.shape_fallback.specs.DueSteps.{spaces_step, marks_step}
 use Rattle.shape_plan.specs.Run.{Run}
-use Rattle.shape_glyphs.specs.Steps.{advance_steps, table_steps}
+use Rattle.shape_glyphs.specs.Steps.{advance_steps, table_steps, substitute_pre_steps, position_steps}
 use Rattle.shape_glyphs.specs.SubstitutionPreservation.{EachSubstitutionStep}
 use Rattle.shape_prepare.specs.MaskSteps.{mask_steps}
 use Rattle.shape_glyphs.specs.Substitution.{glyph_steps, substitute_steps}
-use Rattle.shape_pipeline.specs.Shaped.{glyph_start, glyph_phase, place_start, place_phase}
+use Rattle.shape_pipeline.specs.Shaped.{glyph_phase}
 
 -- steps take one state to another
 pub record Leads (Before : Buffer → Type 0) (steps : List Step) (After : Buffer → Type 0) : Type 0 where
@@ -28,16 +28,13 @@ module _ (Preserves : (Buffer → Buffer) → Type 0) (run : Run)
     (fallback : EachFallback Preserves run.unicode run.face run.direction run.script run.decisions) where
   pub EachStep-glyph_phase : EachStep Preserves (mask_steps run) → EachSubstitutionStep Preserves run → EachStep Preserves (glyph_phase run)
   EachStep-glyph_phase masks each =
-      let behind : EachStep Preserves (step (recategorize_step run.decisions) ∷ glyph_steps run) = (fallback.recategorize, each.glyphs) in
-      EachStep-append Preserves (glyph_start run) (substitute_steps run)
-      (EachStep-append Preserves (mask_steps run) (step (recategorize_step run.decisions) ∷ glyph_steps run) masks behind)
-      each.lookups
+      EachStep-append Preserves (mask_steps run) (substitute_pre_steps run) masks
+      (fallback.recategorize, EachStep-append Preserves (glyph_steps run) (substitute_steps run) each.glyphs each.lookups)
 
-  pub EachStep-place_phase : EachStep Preserves (advance_steps run) → EachStep Preserves (table_steps run) → EachStep Preserves (place_phase run)
-  EachStep-place_phase advances tables =
-      let spaces : EachStep Preserves (step (spaces_step run.face) ∷ []) = (fallback.spaces, tt) in
+  pub EachStep-position_steps : EachStep Preserves (advance_steps run) → EachStep Preserves (table_steps run)
+      → EachStep Preserves (position_steps run)
+  EachStep-position_steps advances tables =
       let placing : List Step = step (marks_step run.unicode run.face run.direction run.script run.decisions) ∷ [] in
       let marks : EachStep Preserves placing = (fallback.marks, tt) in
-      EachStep-append Preserves (place_start run) (table_steps run ++ placing)
-      (EachStep-append Preserves (advance_steps run) (step (spaces_step run.face) ∷ []) advances spaces)
-      (EachStep-append Preserves (table_steps run) placing tables marks)
+      EachStep-append Preserves (advance_steps run) (step (spaces_step run.face) ∷ (table_steps run ++ placing)) advances
+      (fallback.spaces, EachStep-append Preserves (table_steps run) placing tables marks)

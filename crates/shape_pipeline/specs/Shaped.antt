@@ -4,40 +4,25 @@ use Rattle.shape_items.specs.Buffer.{Buffer, limit_of, run_limit}
 use Rattle.shape_buffer.specs.Guess.{guessed, guessed_direction}
 use Rattle.shape_buffer.specs.Outcome.{Step, step, run_steps, EachWithin, SomePast}
 use Rattle.shape_common.specs.declared.text_types.Direction.{Direction}
-use Rattle.shape_fallback.specs.DueSteps.{recategorize_step, spaces_step, marks_step}
 use Rattle.shape_normalize.specs.Normalized.{normalized}
 use Rattle.shape_normalize.specs.RoundOne.{round_one}
 use Rattle.shape_plan.specs.Rules.{Rules}
 use Rattle.shape_plan.specs.Run.{Run}
-use Rattle.shape_glyphs.specs.Steps.{advance_steps, table_steps, finish_steps}
+use Rattle.shape_glyphs.specs.Steps.{substitute_pre_steps, position_steps, finish_steps}
 use Rattle.shape_prepare.specs.PrepareSteps.{prepare_steps}
 use Rattle.shape_prepare.specs.MaskSteps.{mask_steps}
-use Rattle.shape_glyphs.specs.Substitution.{glyph_steps, substitute_steps}
 
 -- normalising: its longest list is the expanded one
 abbrev pub normalising : Rules → Step
 normalising rules = record { makes = normalized rules; counts = λ b. length (round_one rules b).items }
 
--- what substitution finds: masks, ccc that marks are placed by, glyphs with their classes
-abbrev pub glyph_start : Run → List Step
-glyph_start run = mask_steps run ++ (step (recategorize_step run.decisions) ∷ glyph_steps run)
-
 -- from characters to glyphs
 abbrev pub glyph_phase : Run → List Step
-glyph_phase run = glyph_start run ++ substitute_steps run
-
--- what the face alone says of positions: advances, origins and spaces
-abbrev pub place_start : Run → List Step
-place_start run = advance_steps run ++ (step (spaces_step run.face) ∷ [])
-
--- from glyphs to positions: the face, tables, and marks that no table places
-abbrev pub place_phase : Run → List Step
-place_phase run =
-    place_start run ++ (table_steps run ++ (step (marks_step run.unicode run.face run.direction run.script run.decisions) ∷ []))
+glyph_phase run = mask_steps run ++ substitute_pre_steps run
 
 -- what is made of a normalised list
 abbrev pub shaped_steps : Run → List Step
-shaped_steps run = glyph_phase run ++ (place_phase run ++ finish_steps run)
+shaped_steps run = glyph_phase run ++ (position_steps run ++ finish_steps run)
 
 -- a whole run, in its order
 abbrev pub all_steps : Run → Direction → List Step

@@ -1,17 +1,16 @@
 //! Masks: what a run begins with, and what depends on the text.
 //!
-//! The mask of an item says which features are on for it. A buffer may come with masks and positions of an
-//! earlier use. Features that are on for the whole text stand in every item's mask from the beginning;
-//! positions are set anew once there are glyphs. After normalising come fractions, what the shaper sets, and
-//! what the user asks for: each later one sees what the earlier ones have set, so the user's request
-//! overrides the shaper's.
-ghost use Rattle.std.specs.Prelude.{◌≡◌};
+//! The mask of an item says which features are on for it. A buffer may come with masks and
+//! positions of an earlier use. Features that are on for the whole text stand in every item's mask
+//! from the beginning; positions are set anew once there are glyphs. After normalising come
+//! fractions, what the shaper sets, and what the user asks for: each later one sees what the
+//! earlier ones have set, so the user's request overrides the shaper's.
 ghost use Rattle.shape_buffer.specs.Outcome.{IsWithinLimit, Made, Ran};
-ghost use Rattle.shape_plan.specs.Run.{hook_if};
 ghost use Rattle.shape_prepare.specs.Begun.{begun};
 ghost use Rattle.shape_prepare.specs.MaskSteps.{mask_steps};
 
 use crate::fractions::setup_masks_fraction;
+use crate::hook_calls::setup_masks_shaper;
 use crate::ranges::setup_masks_user;
 use shape_buffer::buffer::hb_buffer_t;
 use shape_buffer::interfaces::{hb_font_t, hb_ot_layout_t, hb_unicode_funcs_t};
@@ -31,22 +30,6 @@ pub fn initialize_masks<T: ShapingTypes>(plan: &PlanOf<'_, T>, buffer: &mut hb_b
         info
     });
     buffer.clear_positions();
-}
-
-/// Calls the hook `setup_masks`, if the plan uses the shaper and it is given.
-pub fn setup_masks_shaper<T: ShapingTypes>(
-    plan: &PlanOf<'_, T>,
-    face: &T::Face,
-    buffer: &mut hb_buffer_t,
-)
-    ensures { let run = ⟦<T as Meaning>⟧.run plan.now face.now in
-        Made (hook_if run.constants.has_setup_masks run.hooks (λ hooks. hooks.setup_masks))
-        buffer.old buffer.new }
-{
-    match plan.shaper() {
-        Some(shaper) if T::Shaper::HAS_SETUP_MASKS => shaper.setup_masks(plan, face, buffer),
-        _ => (),
-    }
 }
 
 /// Sets the masks: fractions, what the shaper sets, and the user's features. Takes no memory.

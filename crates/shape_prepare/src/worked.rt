@@ -11,21 +11,21 @@ pub fn beginnings_meet_worked_cases()
     ensures { WorkedBegun }
 {}
 
-/// Which items continue a grapheme (flags of two regional indicators, emoji with skin tones, ZWJ, tags
-/// and keycaps, marks), each rule with what stands beside it, and where a dotted circle is put in, as the
-/// definitions have them.
+/// Which items continue a grapheme (flags of two regional indicators, emoji with skin tones, ZWJ,
+/// tags and keycaps, marks), each rule with what stands beside it, and where a dotted circle is
+/// put in, as the definitions have them.
 pub fn graphemes_meet_worked_cases()
     ensures { WorkedGraphemes }
 {}
 
-/// The clusters of graphemes by level, the native order, the forms for a direction and what else an item
-/// keeps, as the definitions have them.
+/// The clusters of graphemes by level, the native order, the forms for a direction and what else
+/// an item keeps, as the definitions have them.
 pub fn orders_meet_worked_cases()
     ensures { WorkedOrder }
 {}
 
-/// Masks of fractions, features of the user over ranges, and the order in which masks are set, as the
-/// definitions have them.
+/// Masks of fractions, features of the user over ranges, and the order in which masks are set, as
+/// the definitions have them.
 pub fn masks_meet_worked_cases()
     ensures fractions { WorkedFractions }
     ensures ranges { WorkedRanges }

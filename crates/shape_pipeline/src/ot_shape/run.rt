@@ -7,12 +7,9 @@ ghost use Rattle.shape_pipeline.specs.Shaped.{normalising, all_steps};
 
 use shape_buffer::buffer::{Direction, ShapeError, hb_buffer_t};
 use shape_buffer::interfaces::{hb_font_t, hb_ot_layout_t, hb_unicode_funcs_t};
-use shape_glyphs::advances::position_default;
-use shape_glyphs::fallback_steps::{place_marks, place_spaces, recategorize_marks};
 use shape_glyphs::finishing::finish_glyphs;
-use shape_glyphs::glyphs::setup_glyphs;
-use shape_glyphs::positioning::position_complex;
-use shape_glyphs::substitution::substitute;
+use shape_glyphs::positioning::position;
+use shape_glyphs::substitution::substitute_pre;
 use shape_normalize::ot_shape_normalize::_hb_ot_shape_normalize;
 use shape_plan::ot_shaper::hb_ot_shaper_t;
 use shape_plan::shaping_types::{Meaning, PlanOf, ShapingTypes};
@@ -35,13 +32,8 @@ pub(crate) fn shape_entered<T: ShapingTypes>(
     prepare::<T>(alloc, plan, face, buffer, target)?;
     normalize::<T>(alloc, plan, face, buffer)?;
     setup_masks::<T>(plan, face, buffer);
-    recategorize_marks::<T>(plan, face, buffer);
-    setup_glyphs::<T>(plan, face, buffer);
-    substitute::<T>(alloc, plan, face, buffer)?;
-    position_default::<T>(plan, face, buffer);
-    place_spaces::<T>(plan, face, buffer);
-    position_complex::<T>(alloc, plan, face, buffer)?;
-    place_marks::<T>(plan, face, buffer);
+    substitute_pre::<T>(alloc, plan, face, buffer)?;
+    position::<T>(alloc, plan, face, buffer)?;
     finish_glyphs::<T>(alloc, plan, face, buffer)
 }
 

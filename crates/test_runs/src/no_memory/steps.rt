@@ -9,26 +9,26 @@ use shape_fallback::ot_shape_fallback::{
     _hb_ot_shape_fallback_spaces, position_marks,
 };
 use shape_glyphs::advances::{clear_positions, position_default, put_advances};
+use shape_glyphs::engine_calls::{
+    position_finish_advances, position_finish_offsets, position_start, remove_deleted,
+    substitute_start, zero_width_deleted,
+};
 use shape_glyphs::fallback_steps::{place_marks, place_spaces, recategorize_marks};
 use shape_glyphs::finishing::reverse_backward;
 use shape_glyphs::flags::propagate_flags;
 use shape_glyphs::glyphs::{
-    hb_synthesize_glyph_classes, map_glyphs_fast, setup_glyphs, substitute_start,
-    synthesize_classes,
+    hb_synthesize_glyph_classes, map_glyphs_fast, setup_glyphs, synthesize_classes,
 };
 use shape_glyphs::ignorables::{hide_default_ignorables, zero_width_default_ignorables};
 use shape_glyphs::selectors::deal_with_variation_selectors;
-use shape_glyphs::tables::{
-    position_finish_advances, position_finish_offsets, position_start, remove_deleted,
-    zero_width_deleted,
-};
 use shape_glyphs::zeroing::{zero_mark_widths_by_gdef, zero_marks_early, zero_marks_late};
 use shape_pipeline::ot_shape::syllabic_clear_var;
 use shape_plan::shaping_types::{PlanOf, ShapingTypes};
 use shape_prepare::clusters::form_clusters;
 use shape_prepare::fractions::setup_masks_fraction;
 use shape_prepare::graphemes::set_unicode_props;
-use shape_prepare::masks::{initialize_masks, setup_masks, setup_masks_shaper};
+use shape_prepare::hook_calls::setup_masks_shaper;
+use shape_prepare::masks::{initialize_masks, setup_masks};
 use shape_prepare::native_direction::ensure_native_direction;
 use shape_prepare::ranges::setup_masks_user;
 use shape_prepare::rotation::rotate_chars;

@@ -1,5 +1,9 @@
-//! The hook `preprocess_text`: what the script shaper makes of the text.
-ghost use Rattle.shape_buffer.specs.Outcome.{Outcome, IsWithinLimit, step};
+//! The calls of the script shaper's hooks on characters, one function each.
+//!
+//! A hook is called if the plan uses the shaper and the shaper gives it. They are functions so
+//! that a list of steps can be proved by them: a shaper's clause speaks of the shaper that is
+//! called, a step of the one that the plan uses, if any.
+ghost use Rattle.shape_buffer.specs.Outcome.{IsWithinLimit, Made, Outcome, step};
 ghost use Rattle.shape_plan.specs.Run.{hook_if};
 
 use shape_buffer::buffer::{ShapeError, hb_buffer_t};
@@ -25,5 +29,21 @@ pub fn preprocess_text<T: ShapingTypes>(
             shaper.preprocess_text(alloc, plan, face, buffer)
         }
         _ => Ok(()),
+    }
+}
+
+/// Calls the hook `setup_masks`, if the plan uses the shaper and it is given.
+pub fn setup_masks_shaper<T: ShapingTypes>(
+    plan: &PlanOf<'_, T>,
+    face: &T::Face,
+    buffer: &mut hb_buffer_t,
+)
+    ensures { let run = ⟦<T as Meaning>⟧.run plan.now face.now in
+        Made (hook_if run.constants.has_setup_masks run.hooks (λ hooks. hooks.setup_masks))
+        buffer.old buffer.new }
+{
+    match plan.shaper() {
+        Some(shaper) if T::Shaper::HAS_SETUP_MASKS => shaper.setup_masks(plan, face, buffer),
+        _ => (),
     }
 }
