@@ -107,7 +107,7 @@ runs_kerx d = not d.apply_gpos && d.apply_kerx
 
 -- kerning falls back exactly when no table positions; kern and kerx are never both applied. `one_table` holds of any
 -- decisions, by the two definitions above; that the steps call at most one of GPOS and kerx is the law `one_table_runs`
--- of shape_position
+-- of shape_glyphs
 pub record PositionsByOneTable (d : Decisions) : Type 0 where
   pub fallback : IsTrue d.apply_fallback_kern ↔ ((d.apply_gpos ≡ false) × (d.apply_kerx ≡ false) × (d.apply_kern ≡ false))
   pub one_kerning : (d.apply_kern && d.apply_kerx) ≡ false
