@@ -6,3 +6,4 @@ pub mod HiddenLemmas
 pub mod ItemGlyphLemmas
 pub mod ClusterOrderLemmas
 pub mod NormalFlagLemmas
+pub mod PromiseLemmas

@@ -7,5 +7,6 @@ pub mod RoundThree
 pub mod Normalized
 pub mod Origins
 pub mod CanonicalForm
+pub mod NormalForm
 pub mod PremiseTest
 pub mod Worked

@@ -1,6 +1,6 @@
 -- Round one of normalising: each item becomes the items of its character's expansion, or takes a glyph with the
 -- variation selector after it.
-use Rattle.std.specs.Prelude.{ℕ, ◌+◌, ◌==◌, ◌&&◌, not, Bool, true, false, if◌then◌else◌, List, [], ◌∷◌, ◌++◌, map, fold, replicate, length, Option, None, Some, is_some, unwrap_or}
+use Rattle.std.specs.Prelude.{ℕ, ◌+◌, ◌==◌, ◌<◌, ◌&&◌, not, Bool, true, false, if◌then◌else◌, List, [], ◌∷◌, ◌++◌, map, fold, replicate, length, Option, None, Some, is_some, unwrap_or}
 use Rattle.std.specs.Option.{option_map, option_map_or, option_or}
 use Rattle.std.specs.List.{flat_map, list_any}
 use Rattle.std.specs.Int.RustNames.{bit_or}
@@ -9,7 +9,7 @@ use Rattle.canonical_form.specs.Divided.{divided}
 use Rattle.shape_items.specs.Items.{Item, is_mark_item}
 use Rattle.shape_common.specs.Positions.{zero_position}
 use Rattle.shape_items.specs.Spans.{all_merged}
-use Rattle.shape_items.specs.Buffer.{Buffer}
+use Rattle.shape_items.specs.Buffer.{Buffer, limit_of}
 use Rattle.canonical_form.specs.Expansion.{chosen_expansion}
 use Rattle.shape_common.specs.Face.{FaceMeaning}
 use Rattle.shape_common.specs.Unicode.{UnicodeMeaning}
@@ -191,3 +191,7 @@ round_one rules b =
       positions = replicate (length items) zero_position;
       scratch_flags = fold (seen_sequence rules b.invisible_glyph) merged.scratch_flags (sequences merged.items);
     }
+
+-- the expanded list would pass the buffer's limit
+abbrev pub ExpandsPastLimit : Rules → Buffer → Type 0
+ExpandsPastLimit rules b = limit_of b < length (round_one rules b).items

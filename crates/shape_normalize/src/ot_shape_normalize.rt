@@ -10,18 +10,12 @@
 //! and items by their place are then compared except for ccc. Rounds one and two are defined over
 //! items, and the places that items came from are claimed beside them, since a hook is a function
 //! on buffers that carries no place.
-ghost use Rattle.std.specs.Prelude.{◌≡◌, ◌<◌, ◌≤◌, [], length, map, All, IsOk, OnOk, OnErr, Err};
+ghost use Rattle.std.specs.Prelude.{◌≡◌, ◌≤◌, [], length, IsOk, OnOk, OnErr, Err};
 ghost use Rattle.shape_items.specs.Buffer.{cleared, limit_of};
-ghost use Rattle.shape_items.specs.Clusters.{clusters};
-ghost use Rattle.shape_items.specs.ClusterOrder.{PreservesClusters, IsMonotoneLevel};
-ghost use Rattle.shape_items.specs.Items.{char_of};
-ghost use Rattle.shape_normalize.specs.RoundOne.{round_one};
-ghost use Rattle.shape_normalize.specs.RoundTwo.{has_mark_past_first as has_mark_past_first_of};
-ghost use Rattle.shape_normalize.specs.CanonicalForm.{NormalizesCanonically};
-ghost use Rattle.shape_normalize.specs.Origins.{ComesByPlace};
-ghost use Rattle.shape_normalize.specs.Normalized.{normalized, BroughtInHaveGlyphs, HasItemGlyph};
-ghost use Rattle.shape_normalize.specs.Normalized.{HookPreservesClusters, PreservesFeatures, PreservesHidden};
-ghost use Rattle.shape_normalize.specs.Normalized.{OrdersExpanded, Recomposes};
+ghost use Rattle.shape_normalize.specs.NormalForm;
+ghost use Rattle.shape_normalize.specs.Normalized.{normalized};
+ghost use Rattle.shape_normalize.specs.RoundOne.{ExpandsPastLimit, round_one};
+ghost use Rattle.shape_normalize.specs.RoundTwo;
 
 mod cgj;
 mod compare;
@@ -29,6 +23,7 @@ mod context;
 mod decompose;
 mod expand_and_order;
 mod mode;
+mod one_character;
 mod one_walk;
 mod part;
 mod premises;
@@ -85,32 +80,10 @@ where
     F: hb_font_t,
     M: hb_ot_layout_t<F>,
     S: hb_ot_shaper_t<U, F, M>,
-    ensures ok { OnOk result (buffer.new
-        ≡ normalized (⟦<S as Runs<U, F, M>>⟧.rules plan.now face.now) buffer.old) }
-    ensures brought_in { OnOk result (BroughtInHaveGlyphs (F.face face.now).nominal_glyph
-        (map char_of buffer.old.items) (map char_of buffer.new.items)) }
-    ensures item_glyphs { OnOk result (All (HasItemGlyph
-        (⟦<S as Runs<U, F, M>>⟧.rules plan.now face.now) buffer.old) buffer.new.items) }
-    ensures features { OnOk result (PreservesFeatures buffer.old buffer.new) }
-    ensures cgj { OnOk result (PreservesHidden
+    ensures ok { OnOk result (NormalForm.Normalizes
         (⟦<S as Runs<U, F, M>>⟧.rules plan.now face.now) buffer.old buffer.new) }
-    ensures by_place { OnOk result (ComesByPlace
-        (⟦<S as Runs<U, F, M>>⟧.rules plan.now face.now) buffer.old buffer.new) }
-    ensures canonical_form { OnOk result (NormalizesCanonically
-        (⟦<S as Runs<U, F, M>>⟧.rules plan.now face.now) buffer.old buffer.new) }
-    ensures ordered { OnOk result (OrdersExpanded
-        (⟦<S as Runs<U, F, M>>⟧.rules plan.now face.now) buffer.old buffer.new) }
-    ensures recomposed { OnOk result (Recomposes
-        (⟦<S as Runs<U, F, M>>⟧.rules plan.now face.now) buffer.old buffer.new) }
-    ensures clusters { OnOk result (IsMonotoneLevel buffer.old.cluster_level
-        → HookPreservesClusters (⟦<S as Runs<U, F, M>>⟧.rules plan.now face.now)
-        → PreservesClusters (clusters buffer.old.items) (clusters buffer.new.items)) }
-    ensures within { OnOk result (length buffer.new.items ≤ limit_of buffer.old) }
-    ensures counted { OnOk result (length (round_one
-        (⟦<S as Runs<U, F, M>>⟧.rules plan.now face.now) buffer.old).items ≤ limit_of buffer.old) }
-
-    ensures length { result ≡ Err ShapeError.Length → limit_of buffer.old < length (round_one
-        (⟦<S as Runs<U, F, M>>⟧.rules plan.now face.now) buffer.old).items }
+    ensures length { result ≡ Err ShapeError.Length → ExpandsPastLimit
+        (⟦<S as Runs<U, F, M>>⟧.rules plan.now face.now) buffer.old }
     ensures settings { cleared buffer.new ≡ cleared buffer.old }
     ensures cleared { OnErr result (buffer.new ≡ cleared buffer.old) }
     ensures empty { buffer.old.items ≡ [] → IsOk result }
@@ -134,8 +107,8 @@ fn run_rounds<T: ShapingTypes>(
         ≡ normalized (⟦<T as Meaning>⟧.rules plan.now face.now) buffer.old) }
     ensures counted { OnOk result (length (round_one
         (⟦<T as Meaning>⟧.rules plan.now face.now) buffer.old).items ≤ limit_of buffer.old) }
-    ensures length { result ≡ Err ShapeError.Length → limit_of buffer.old < length (round_one
-        (⟦<T as Meaning>⟧.rules plan.now face.now) buffer.old).items }
+    ensures length { result ≡ Err ShapeError.Length → ExpandsPastLimit
+        (⟦<T as Meaning>⟧.rules plan.now face.now) buffer.old }
     ensures settings { cleared buffer.new ≡ cleared buffer.old }
     ensures empty { buffer.old.items ≡ [] → IsOk result }
 {
@@ -153,7 +126,7 @@ fn run_rounds<T: ShapingTypes>(
 
 /// Whether a mark stands past the first item.
 fn has_mark_past_first(infos: &[hb_glyph_info_t]) -> bool
-    ensures { result ≡ has_mark_past_first_of infos.now }
+    ensures { result ≡ RoundTwo.has_mark_past_first infos.now }
 {
     infos
         .iter()

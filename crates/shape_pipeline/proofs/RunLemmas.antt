@@ -10,21 +10,16 @@ use Rattle.shape_buffer.specs.declared.buffer.error.ShapeError.{ShapeError}
 use Rattle.shape_buffer.specs.declared.buffer.error.ShapeError.TheVariants.{Memory, Length}
 use Rattle.shape_buffer.proofs.Steps.Runs.{run_steps-append}
 use Rattle.shape_normalize.specs.Normalized.{normalized, ordered}
-use Rattle.shape_normalize.specs.RoundOne.{round_one}
+use Rattle.shape_normalize.specs.RoundOne.{ExpandsPastLimit}
 use Rattle.shape_normalize.specs.RoundThree.{round_three, absorbed_spans, recomposed_items}
 use Rattle.shape_normalize.specs.RoundTwo.{has_mark_past_first}
 use Rattle.shape_normalize.proofs.Hooks.ReorderLemmas.{LawfulReorder}
-use Rattle.shape_normalize.proofs.RoundThree.ByAllLemmas.{normalized_recomposes}
 use Rattle.shape_normalize.proofs.RoundThree.RoundThreeLemmas.{limit-spans_merged_out}
 use Rattle.shape_normalize.proofs.Normalized.SettingLemmas.{limit_of-ordered}
 use Rattle.shape_plan.specs.Rules.{Rules}
 use Rattle.shape_common.specs.Unicode.{LawfulUnicode}
-use Rattle.shape_normalize.proofs.Form.CanonicalFormLemmas.{NormalizesCanonically-normalized}
-use Rattle.shape_normalize.proofs.Normalized.ClusterOrderLemmas.{normalized_preserves}
-use Rattle.shape_normalize.proofs.Places.ByPlaceLemmas.{normalized_by_place}
-use Rattle.shape_normalize.proofs.Normalized.FeatureLemmas.{normalized_preserves_features}
-use Rattle.shape_normalize.proofs.Normalized.ItemGlyphLemmas.{normalized_has_glyphs}
-use Rattle.shape_normalize.proofs.Normalized.NormalizedLemmas.{normalized_brings_in}
+use Rattle.shape_normalize.proofs.Normalized.PromiseLemmas.{NormalForm-normalized}
+use Rattle.shape_normalize.specs.NormalForm.{Normalizes}
 use Rattle.shape_pipeline.specs.Headline.{IsMadeOfNormalisedList, NormalForm, target_of}
 use Rattle.shape_plan.specs.Run.{Run}
 use Rattle.shape_prepare.specs.PrepareSteps.{prepare_steps}
@@ -46,15 +41,13 @@ limit-normalized rules lawful b = by_test (has_mark_past_first b.items && rules.
 
 -- what normalising promises makes it a step of a run
 pub outcome-normalised : {T : Type 0} (rules : Rules) → LawfulReorder rules.reorder → (old new : Buffer) (result : Result T ShapeError)
-    → OnOk result (new ≡ normalized rules old) → OnOk result (length (round_one rules old).items ≤ limit_of old)
-    → OnOk result (length new.items ≤ limit_of old)
-    → (result ≡ Err Length → limit_of old < length (round_one rules old).items)
+    → OnOk result (Normalizes rules old new) → (result ≡ Err Length → ExpandsPastLimit rules old)
     → RunOutcome (normalising rules ∷ []) old new result
-outcome-normalised rules lawful old new (Ok value) made counted within past =
-    let same : limit_of new ≡ limit_of old = ap limit_of made ∙ limit-normalized rules lawful old in
-    record { made = made; each_within = (counted, tt); within = subst (λ n. length new.items ≤ n) (sym same) within; same_limit = same }
-outcome-normalised rules lawful old new (Err Memory) made counted within past = for_memory
-outcome-normalised rules lawful old new (Err Length) made counted within past = for_length (inl (past refl))
+outcome-normalised rules lawful old new (Ok value) done past =
+    let same : limit_of new ≡ limit_of old = ap limit_of done.made ∙ limit-normalized rules lawful old in
+    record { made = done.made; each_within = (done.counted, tt); within = subst (λ n. length new.items ≤ n) (sym same) done.within; same_limit = same }
+outcome-normalised rules lawful old new (Err Memory) done past = for_memory
+outcome-normalised rules lawful old new (Err Length) done past = for_length (inl (past refl))
 
 -- ---- what is made of a text, by whether it has items
 
@@ -154,15 +147,7 @@ direction-made run target b is = direction_from run target b is b.items
 -- the normalised list of any text has its form
 pub normal_form : (rules : Rules) → LawfulReorder rules.reorder → LawfulUnicode rules.unicode → (b : Buffer)
     → NormalForm rules b (normalized rules b)
-normal_form rules lawful unicode b = record {
-  brought_in = normalized_brings_in rules lawful b (normalized rules b) refl;
-  item_glyphs = normalized_has_glyphs rules lawful b (normalized rules b) refl;
-  features = normalized_preserves_features rules lawful b (normalized rules b) refl;
-  by_place = normalized_by_place rules lawful b (normalized rules b) refl;
-  clusters = normalized_preserves rules lawful b (normalized rules b) refl;
-  canonical_form = NormalizesCanonically-normalized rules unicode b (normalized rules b) refl;
-  recomposed = normalized_recomposes rules b (normalized rules b) refl;
-}
+normal_form rules lawful unicode b = NormalForm-normalized rules lawful unicode b (normalized rules b) refl
 
 -- what holds always holds of a result
 pub if_ok_always : {T E : Type 0} {P : Type 0} (result : Result T E) → P → IfOk result (λ _. P)

@@ -1,5 +1,5 @@
 -- What a normalised list has of the list that it was made of.
-use Rattle.std.proofs.Common.{◌≡◌, ℕ, ◌≤◌, ◌⊎◌, ◌==◌, ◌&&◌, Result, Ok, Err, OnOk, Bool, true, false, if◌then◌else◌, List, [], ◌∷◌, length, map, bit_and, Option, None, refl, sym, subst, ◌∙◌, ap, arith, inl, inr}
+use Rattle.std.proofs.Common.{◌≡◌, ℕ, ◌≤◌, ◌⊎◌, ◌==◌, ◌&&◌, Bool, true, false, if◌then◌else◌, List, [], ◌∷◌, length, map, bit_and, Option, None, refl, sym, subst, ◌∙◌, ap, arith, inl, inr}
 use Rattle.std.specs.List.{AllByRecursion, Contains}
 use Rattle.std.proofs.lemmas.Bool.{cases_Bool, cond-true, cond-false, and_right}
 use Rattle.std.proofs.lemmas.List.{length-map}
@@ -61,12 +61,6 @@ module _ (rules : Rules) (lawful : LawfulReorder rules.reorder) where
       preserved_by_rounds rules (λ c. length c.items ≤ length (round_one rules b).items) b
       (λ below. omega (arith, length-marks_ordered rules.reorder lawful (round_one rules b)))
       (λ c below. omega (arith, length-cgj_unhidden_where_seen c)) (λ c below. omega (arith, length-round_three rules c)) (omega arith)
-
-  -- so the list is within a limit that the expanded one is within
-  pub within_normalized : {E : Type 0} (b new : Buffer) (result : Result (Unit {0}) E) (limit : ℕ) → OnOk result (new ≡ normalized rules b)
-      → OnOk result (length (round_one rules b).items ≤ limit) → OnOk result (length new.items ≤ limit)
-  within_normalized b new (Ok done) limit is within = rw is (omega (arith, length-normalized b))
-  within_normalized b new (Err e) limit is within = tt
 
 -- ---- what holds of each item
 

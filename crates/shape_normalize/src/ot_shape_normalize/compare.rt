@@ -1,13 +1,10 @@
 //! Comparing two texts by their normalised lists.
-ghost use Rattle.std.specs.Prelude.{◌≡◌, ◌<◌, ◌≤◌, ◌↔◌, ◌⊎◌, ◌==◌, IsTrue, IfOk, OnOk, OnErr, Err};
-ghost use Rattle.std.specs.Prelude.{length, map};
+ghost use Rattle.std.specs.Prelude.{◌≡◌, ◌↔◌, ◌⊎◌, ◌==◌, IsTrue, IfOk, OnOk, OnErr, Err, map};
 ghost use Rattle.std.specs.List.{list_all, zip};
-ghost use Rattle.shape_items.specs.Buffer.{cleared, limit_of};
+ghost use Rattle.shape_items.specs.Buffer.{cleared};
 ghost use Rattle.shape_items.specs.Items.{char_of};
-ghost use Rattle.shape_normalize.specs.CanonicalForm.{text_of, AreEquivalent};
-ghost use Rattle.shape_normalize.specs.CanonicalForm.{CanonicalFormPremises};
-ghost use Rattle.shape_normalize.specs.Normalized.{normalized};
-ghost use Rattle.shape_normalize.specs.RoundOne.{round_one};
+ghost use Rattle.shape_normalize.specs.NormalForm;
+ghost use Rattle.shape_normalize.specs.RoundOne.{ExpandsPastLimit};
 
 use crate::ot_shape_normalize::_hb_ot_shape_normalize;
 use shape_buffer::buffer::{ShapeError, hb_buffer_t, hb_glyph_info_t};
@@ -39,27 +36,11 @@ where
     F: hb_font_t,
     M: hb_ot_layout_t<F>,
     S: hb_ot_shaper_t<U, F, M>,
-    ensures first { OnOk result (a.new
-        ≡ normalized (⟦<S as Runs<U, F, M>>⟧.rules plan.now face.now) a.old) }
-    ensures second { OnOk result (b.new
-        ≡ normalized (⟦<S as Runs<U, F, M>>⟧.rules plan.now face.now) b.old) }
-    ensures equal { IfOk result (λ equal. IsTrue equal ↔ (text_of a.new ≡ text_of b.new)) }
-    ensures equivalent { IfOk result (λ equal. CanonicalFormPremises
-        (⟦<S as Runs<U, F, M>>⟧.rules plan.now face.now) a.old
-        → CanonicalFormPremises (⟦<S as Runs<U, F, M>>⟧.rules plan.now face.now) b.old
-        → IsTrue equal
-        ↔ AreEquivalent (⟦<S as Runs<U, F, M>>⟧.rules plan.now face.now) (text_of a.old)
-        (text_of b.old)) }
-    ensures length { result ≡ Err ShapeError.Length → (limit_of a.old < length (round_one
-        (⟦<S as Runs<U, F, M>>⟧.rules plan.now face.now) a.old).items)
-        ⊎ (limit_of b.old < length (round_one
-        (⟦<S as Runs<U, F, M>>⟧.rules plan.now face.now) b.old).items) }
-    ensures within_first { OnOk result (length a.new.items ≤ limit_of a.old) }
-    ensures within_second { OnOk result (length b.new.items ≤ limit_of b.old) }
-    ensures counted_first { OnOk result (length (round_one
-        (⟦<S as Runs<U, F, M>>⟧.rules plan.now face.now) a.old).items ≤ limit_of a.old) }
-    ensures counted_second { OnOk result (length (round_one
-        (⟦<S as Runs<U, F, M>>⟧.rules plan.now face.now) b.old).items ≤ limit_of b.old) }
+    ensures ok { IfOk result (λ same. NormalForm.AreCompared
+        (⟦<S as Runs<U, F, M>>⟧.rules plan.now face.now) a.old b.old a.new b.new same) }
+    ensures length { let rules = ⟦<S as Runs<U, F, M>>⟧.rules plan.now face.now in
+        result ≡ Err ShapeError.Length
+        → ExpandsPastLimit rules a.old ⊎ ExpandsPastLimit rules b.old }
     ensures settings_first { cleared a.new ≡ cleared a.old }
     ensures settings_second { cleared b.new ≡ cleared b.old }
     ensures cleared_first { OnErr result (a.new ≡ cleared a.old) }
@@ -82,20 +63,13 @@ fn normalize_both<T: ShapingTypes>(
     a: &mut hb_buffer_t,
     b: &mut hb_buffer_t,
 ) -> Result<(), ShapeError>
-    ensures first { OnOk result (a.new
-        ≡ normalized (⟦<T as Meaning>⟧.rules plan.now face.now) a.old) }
-    ensures second { OnOk result (b.new
-        ≡ normalized (⟦<T as Meaning>⟧.rules plan.now face.now) b.old) }
-    ensures length { result ≡ Err ShapeError.Length → (limit_of a.old < length (round_one
-        (⟦<T as Meaning>⟧.rules plan.now face.now) a.old).items)
-        ⊎ (limit_of b.old < length (round_one
-        (⟦<T as Meaning>⟧.rules plan.now face.now) b.old).items) }
-    ensures within_first { OnOk result (length a.new.items ≤ limit_of a.old) }
-    ensures within_second { OnOk result (length b.new.items ≤ limit_of b.old) }
-    ensures counted_first { OnOk result (length (round_one
-        (⟦<T as Meaning>⟧.rules plan.now face.now) a.old).items ≤ limit_of a.old) }
-    ensures counted_second { OnOk result (length (round_one
-        (⟦<T as Meaning>⟧.rules plan.now face.now) b.old).items ≤ limit_of b.old) }
+    ensures first { OnOk result (NormalForm.Normalizes
+        (⟦<T as Meaning>⟧.rules plan.now face.now) a.old a.new) }
+    ensures second { OnOk result (NormalForm.Normalizes
+        (⟦<T as Meaning>⟧.rules plan.now face.now) b.old b.new) }
+    ensures length { let rules = ⟦<T as Meaning>⟧.rules plan.now face.now in
+        result ≡ Err ShapeError.Length
+        → ExpandsPastLimit rules a.old ⊎ ExpandsPastLimit rules b.old }
     ensures settings_first { cleared a.new ≡ cleared a.old }
     ensures settings_second { cleared b.new ≡ cleared b.old }
 {

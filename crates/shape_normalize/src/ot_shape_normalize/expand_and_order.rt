@@ -6,16 +6,17 @@
 //!
 //! Both ways have one definition, what the two rounds make. Which is taken is decided before the
 //! first write, since items that stay keep the glyph index that they had.
-ghost use Rattle.std.specs.Prelude.{◌≡◌, ◌≤◌, ◌<◌, length, OnOk, Err, if◌then◌else◌, None, false};
+ghost use Rattle.std.specs.Prelude.{◌≡◌, ◌≤◌, [], length, map, OnOk, Err, if◌then◌else◌, None};
+ghost use Rattle.std.specs.Prelude.{true, false};
 ghost use Rattle.shape_items.specs.Buffer.{cleared, limit_of};
-ghost use Rattle.shape_normalize.specs.OneWalk.{HasNoSelectorSequence};
-ghost use Rattle.shape_normalize.specs.RoundOne.{round_one};
-ghost use Rattle.shape_normalize.specs.RoundTwo.{has_mark_past_first as has_mark_past_first_of};
-ghost use Rattle.shape_normalize.specs.RoundTwo.{marks_ordered};
+ghost use Rattle.shape_items.specs.Items.{ccc_of_item};
+ghost use Rattle.shape_normalize.specs.OneWalk.{FollowsRuns, HasNoSelectorSequence};
+ghost use Rattle.shape_normalize.specs.RoundOne.{ExpandsPastLimit, round_one};
+ghost use Rattle.shape_normalize.specs.RoundTwo;
 
 use crate::ot_shape_normalize::one_walk::expand_in_one_walk;
 use crate::ot_shape_normalize::round_one::{expand, holds_selector};
-use crate::ot_shape_normalize::round_two::{order_runs, reorders_marks, settle_followed};
+use crate::ot_shape_normalize::round_two::{order_runs, reorders_marks};
 use crate::ot_shape_normalize::runs::FollowedRuns;
 use shape_buffer::buffer::{ShapeError, hb_buffer_t, hb_glyph_info_t};
 use shape_buffer::interfaces::{hb_font_t, hb_ot_layout_t, hb_unicode_funcs_t};
@@ -29,7 +30,7 @@ fn may_hold_selector_sequence<U: hb_unicode_funcs_t>(
     infos: &[hb_glyph_info_t],
     has_marks: bool,
 ) -> bool
-    requires { has_marks ≡ has_mark_past_first_of infos.now }
+    requires { has_marks ≡ RoundTwo.has_mark_past_first infos.now }
     ensures { result ≡ false → HasNoSelectorSequence U.unicode infos.now }
 {
     has_marks && holds_selector::<U>(infos)
@@ -41,7 +42,7 @@ fn takes_two_rounds<T: ShapingTypes>(
     infos: &[hb_glyph_info_t],
     has_marks: bool,
 ) -> bool
-    requires { has_marks ≡ has_mark_past_first_of infos.now }
+    requires { has_marks ≡ RoundTwo.has_mark_past_first infos.now }
     ensures expands { result ≡ false → HasNoSelectorSequence T.Unicode.unicode infos.now }
     ensures no_hook { (face : T.Face) → result ≡ false
         → (⟦<T as Meaning>⟧.rules plan.now face).reorder ≡ None }
@@ -49,55 +50,58 @@ fn takes_two_rounds<T: ShapingTypes>(
     reorders_marks::<T>(plan) || may_hold_selector_sequence::<T::Unicode>(infos, has_marks)
 }
 
-/// Expands the items, and then puts the marks in order.
-fn take_two_rounds<T: ShapingTypes>(
+/// Expands the items in a round of their own, and follows the runs of that, unless a shaper reorders.
+fn expand_then_follow<T: ShapingTypes>(
     alloc: Global,
     plan: &PlanOf<'_, T>,
     buffer: &mut hb_buffer_t,
     face: &T::Face,
-    has_marks: bool,
+    runs: &mut FollowedRuns,
 ) -> Result<(), ShapeError>
-    ensures ok { OnOk result (buffer.new ≡ (if has_marks
-        then marks_ordered (⟦<T as Meaning>⟧.rules plan.now face.now).reorder
-        (round_one (⟦<T as Meaning>⟧.rules plan.now face.now) buffer.old)
-        else round_one (⟦<T as Meaning>⟧.rules plan.now face.now) buffer.old)) }
-    ensures counted { OnOk result (length (round_one
-        (⟦<T as Meaning>⟧.rules plan.now face.now) buffer.old).items ≤ limit_of buffer.old) }
-    ensures length { result ≡ Err ShapeError.Length → limit_of buffer.old < length (round_one
-        (⟦<T as Meaning>⟧.rules plan.now face.now) buffer.old).items }
+    requires { FollowsRuns [] runs.old }
+    ensures ok { OnOk result (buffer.new
+        ≡ round_one (⟦<T as Meaning>⟧.rules plan.now face.now) buffer.old) }
+    ensures within { OnOk result (length buffer.new.items ≤ limit_of buffer.old) }
+    ensures length { result ≡ Err ShapeError.Length → ExpandsPastLimit
+        (⟦<T as Meaning>⟧.rules plan.now face.now) buffer.old }
     ensures settings { cleared buffer.new ≡ cleared buffer.old }
+    ensures runs { OnOk result ((⟦<T as Meaning>⟧.rules plan.now face.now).reorder ≡ None
+        → FollowsRuns (map ccc_of_item buffer.new.items) runs.new) }
 {
     expand::<T>(alloc, plan, buffer, face)?;
-    if has_marks {
-        return order_runs::<T>(alloc, plan, face, buffer);
-    }
-    Ok(())
+    let follows = !reorders_marks::<T>(plan);
+    runs.follow_from(follows, buffer.infos(), 0)
 }
 
-/// The same in one walk, if each sequence is expanded and no shaper reorders.
-fn take_one_walk<T: ShapingTypes>(
+/// Expands the items by one of the two ways. If marks stand past the first item, as `has_marks` says, and no
+/// shaper reorders, the runs of the expanded list are followed.
+fn expand_by_way<T: ShapingTypes>(
     alloc: Global,
     plan: &PlanOf<'_, T>,
     buffer: &mut hb_buffer_t,
     face: &T::Face,
     has_marks: bool,
+    runs: &mut FollowedRuns,
 ) -> Result<(), ShapeError>
-    requires { HasNoSelectorSequence T.Unicode.unicode buffer.old.items }
-    ensures ok { OnOk result (buffer.new ≡ (if has_marks then marks_ordered None
-        (round_one (⟦<T as Meaning>⟧.rules plan.now face.now) buffer.old)
-        else round_one (⟦<T as Meaning>⟧.rules plan.now face.now) buffer.old)) }
-    ensures counted { OnOk result (length (round_one
-        (⟦<T as Meaning>⟧.rules plan.now face.now) buffer.old).items ≤ limit_of buffer.old) }
-    ensures length { result ≡ Err ShapeError.Length → limit_of buffer.old < length (round_one
-        (⟦<T as Meaning>⟧.rules plan.now face.now) buffer.old).items }
+    requires marks { has_marks ≡ RoundTwo.has_mark_past_first buffer.old.items }
+    requires runs { FollowsRuns [] runs.old }
+    ensures ok { OnOk result (buffer.new
+        ≡ round_one (⟦<T as Meaning>⟧.rules plan.now face.now) buffer.old) }
+    ensures within { OnOk result (length buffer.new.items ≤ limit_of buffer.old) }
+    ensures length { result ≡ Err ShapeError.Length → ExpandsPastLimit
+        (⟦<T as Meaning>⟧.rules plan.now face.now) buffer.old }
     ensures settings { cleared buffer.new ≡ cleared buffer.old }
+    ensures runs { OnOk result (has_marks ≡ true
+        → (⟦<T as Meaning>⟧.rules plan.now face.now).reorder ≡ None
+        → FollowsRuns (map ccc_of_item buffer.new.items) runs.new) }
 {
-    let mut runs = FollowedRuns::new(alloc);
-    if has_marks {
-        expand_in_one_walk::<T>(alloc, plan, buffer, face, true, &mut runs)?;
-        return settle_followed(alloc, buffer, &mut runs);
+    if takes_two_rounds::<T>(plan, buffer.infos(), has_marks) {
+        return expand_then_follow::<T>(alloc, plan, buffer, face, runs);
     }
-    expand_in_one_walk::<T>(alloc, plan, buffer, face, false, &mut runs)
+    if has_marks {
+        return expand_in_one_walk::<T>(alloc, plan, buffer, face, true, runs);
+    }
+    expand_in_one_walk::<T>(alloc, plan, buffer, face, false, runs)
 }
 
 /// Expands the items and puts the marks in order, if some stand past the first item, as `has_marks` says.
@@ -110,20 +114,21 @@ pub(crate) fn expand_and_order<T: ShapingTypes>(
     face: &T::Face,
     has_marks: bool,
 ) -> Result<(), ShapeError>
-    requires { has_marks ≡ has_mark_past_first_of buffer.old.items }
-    ensures ok { OnOk result (buffer.new ≡ (if has_mark_past_first_of buffer.old.items
-        then marks_ordered (⟦<T as Meaning>⟧.rules plan.now face.now).reorder
-        (round_one (⟦<T as Meaning>⟧.rules plan.now face.now) buffer.old)
-        else round_one (⟦<T as Meaning>⟧.rules plan.now face.now) buffer.old)) }
+    requires { has_marks ≡ RoundTwo.has_mark_past_first buffer.old.items }
+    ensures ok { let rules = ⟦<T as Meaning>⟧.rules plan.now face.now in
+        OnOk result (buffer.new ≡ (if RoundTwo.has_mark_past_first buffer.old.items
+        then RoundTwo.marks_ordered rules.reorder (round_one rules buffer.old)
+        else round_one rules buffer.old)) }
     ensures counted { OnOk result (length (round_one
         (⟦<T as Meaning>⟧.rules plan.now face.now) buffer.old).items ≤ limit_of buffer.old) }
-    ensures length { result ≡ Err ShapeError.Length → limit_of buffer.old < length (round_one
-        (⟦<T as Meaning>⟧.rules plan.now face.now) buffer.old).items }
+    ensures length { result ≡ Err ShapeError.Length → ExpandsPastLimit
+        (⟦<T as Meaning>⟧.rules plan.now face.now) buffer.old }
     ensures settings { cleared buffer.new ≡ cleared buffer.old }
 {
-    if takes_two_rounds::<T>(plan, buffer.infos(), has_marks) {
-        take_two_rounds::<T>(alloc, plan, buffer, face, has_marks)
-    } else {
-        take_one_walk::<T>(alloc, plan, buffer, face, has_marks)
+    let mut runs = FollowedRuns::new(alloc);
+    expand_by_way::<T>(alloc, plan, buffer, face, has_marks, &mut runs)?;
+    if has_marks {
+        return order_runs::<T>(alloc, plan, face, buffer, &mut runs);
     }
+    Ok(())
 }

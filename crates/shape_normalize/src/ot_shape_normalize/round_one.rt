@@ -10,21 +10,19 @@ ghost use Rattle.std.specs.Prelude.{◌≡◌, ◌<◌, ◌≤◌, ◌++◌, len
 ghost use Rattle.std.specs.Prelude.{Err};
 ghost use Rattle.std.specs.List.{flat_map};
 ghost use Rattle.shape_items.specs.Buffer.{cleared, limit_of};
-ghost use Rattle.shape_normalize.specs.RoundOne.{expanded, expanded_item, round_one, seen_expanded};
+ghost use Rattle.shape_normalize.specs.RoundOne.{expanded, expanded_item, ExpandsPastLimit, round_one, seen_expanded};
 ghost use Rattle.shape_normalize.specs.RoundOne.{seen_sequence, sequence_items, sequences};
 
-mod expanded;
 mod selectors;
 mod sequences;
 mod variation_sequences;
 
-use crate::ot_shape_normalize::decompose::Expansion;
 use crate::ot_shape_normalize::mode::goes_short;
+use crate::ot_shape_normalize::one_character::Emitted;
 use crate::ot_shape_normalize::round_one::sequences::{
     first_sequence, is_selector_sequence, is_with_marks,
 };
 use crate::ot_shape_normalize::round_one::variation_sequences::merge_variation_sequences;
-pub(crate) use expanded::{Expanded, unexpanded};
 pub(crate) use sequences::holds_selector;
 use shape_buffer::buffer::{ShapeError, hb_buffer_t, hb_glyph_info_t};
 use shape_buffer::interfaces::{hb_font_t, hb_ot_layout_t, hb_unicode_funcs_t};
@@ -32,9 +30,9 @@ use shape_plan::ot_shaper::hb_ot_shaper_t;
 use shape_plan::shaping_types::{Meaning, PlanOf, ShapingTypes};
 use std::alloc::Global;
 
-impl Expanded {
+impl Emitted {
     /// Emits what the items of a sequence become, each by itself. Refuses with `Length` if that passes
-    /// the buffer's limit.
+    /// the limit.
     fn put_items<T: ShapingTypes>(
         &mut self,
         plan: &PlanOf<'_, T>,
@@ -43,7 +41,7 @@ impl Expanded {
         sequence: &[hb_glyph_info_t],
         shortest: bool,
     ) -> Result<(), ShapeError>
-        requires { vec_len self.old.infos ≤ limit_of buffer.now }
+        requires { vec_len self.old.infos ≤ self.old.limit }
         ensures infos { OnOk result (self.new.infos.items
             ≡ self.old.infos.items ++ flat_map (expanded_item
             (⟦<T as Meaning>⟧.rules plan.now face.now) buffer.now.invisible_glyph shortest)
@@ -51,21 +49,21 @@ impl Expanded {
         ensures flags { OnOk result (self.new.scratch_flags ≡ fold (seen_expanded
             (⟦<T as Meaning>⟧.rules plan.now face.now) buffer.now.invisible_glyph shortest)
             self.old.scratch_flags sequence.now) }
-        ensures within { OnOk result (vec_len self.new.infos ≤ limit_of buffer.now) }
+        ensures within { OnOk result (vec_len self.new.infos ≤ self.new.limit) }
+        ensures limit { OnOk result (self.new.limit ≡ self.old.limit) }
         ensures length { result ≡ Err ShapeError.Length
-            → limit_of buffer.now < length (self.old.infos.items ++ flat_map (expanded_item
+            → self.old.limit < length (self.old.infos.items ++ flat_map (expanded_item
             (⟦<T as Meaning>⟧.rules plan.now face.now) buffer.now.invisible_glyph shortest)
             sequence.now) }
     {
         let invisible = buffer.invisible_glyph();
-        let limit = buffer.length_limit();
         'items: for info in sequence {
-            self.put_item::<T>(plan, face, info, shortest, invisible, limit)?;
+            self.put_item::<T>(plan, face, info, shortest, invisible)?;
         }
         Ok(())
     }
 
-    /// Emits what a sequence becomes. Refuses with `Length` if that passes the buffer's limit.
+    /// Emits what a sequence becomes. Refuses with `Length` if that passes the limit.
     fn put_sequence<T: ShapingTypes>(
         &mut self,
         plan: &PlanOf<'_, T>,
@@ -73,16 +71,17 @@ impl Expanded {
         buffer: &hb_buffer_t,
         sequence: &[hb_glyph_info_t],
     ) -> Result<(), ShapeError>
-        requires { vec_len self.old.infos ≤ limit_of buffer.now }
+        requires { vec_len self.old.infos ≤ self.old.limit }
         ensures infos { OnOk result (self.new.infos.items ≡ self.old.infos.items ++ sequence_items
             (⟦<T as Meaning>⟧.rules plan.now face.now)
             buffer.now.invisible_glyph buffer.now.not_found_variation_selector_glyph sequence.now) }
         ensures flags { OnOk result (self.new.scratch_flags ≡ seen_sequence
             (⟦<T as Meaning>⟧.rules plan.now face.now)
             buffer.now.invisible_glyph self.old.scratch_flags sequence.now) }
-        ensures within { OnOk result (vec_len self.new.infos ≤ limit_of buffer.now) }
+        ensures within { OnOk result (vec_len self.new.infos ≤ self.new.limit) }
+        ensures limit { OnOk result (self.new.limit ≡ self.old.limit) }
         ensures length { result ≡ Err ShapeError.Length
-            → limit_of buffer.now < length (self.old.infos.items ++ sequence_items
+            → self.old.limit < length (self.old.infos.items ++ sequence_items
             (⟦<T as Meaning>⟧.rules plan.now face.now)
             buffer.now.invisible_glyph buffer.now.not_found_variation_selector_glyph sequence.now) }
     {
@@ -100,7 +99,7 @@ fn expand_all<T: ShapingTypes>(
     plan: &PlanOf<'_, T>,
     face: &T::Face,
     buffer: &hb_buffer_t,
-) -> Result<Expanded, ShapeError>
+) -> Result<Emitted, ShapeError>
     ensures infos { IfOk result (λ out. out.infos.items ≡ expanded
         (⟦<T as Meaning>⟧.rules plan.now face.now)
         buffer.now.invisible_glyph buffer.now.not_found_variation_selector_glyph buffer.now.items) }
@@ -112,11 +111,8 @@ fn expand_all<T: ShapingTypes>(
         (⟦<T as Meaning>⟧.rules plan.now face.now)
         buffer.now.invisible_glyph buffer.now.not_found_variation_selector_glyph buffer.now.items) }
 {
-    let mut out = Expanded {
-        infos: Vec::with_capacity(alloc, buffer.len())?,
-        scratch_flags: buffer.scratch_flags(),
-        expansion: Expansion::new(alloc),
-    };
+    let mut out = Emitted::begin(alloc, buffer);
+    out.infos.reserve_exact(buffer.len())?;
     let mut rest = buffer.infos();
     'sequences: while let Some((sequence, after)) = first_sequence(rest) {
         out.put_sequence::<T>(plan, face, buffer, sequence)?;
@@ -136,8 +132,8 @@ pub(crate) fn expand<T: ShapingTypes>(
     ensures ok { OnOk result (buffer.new
         ≡ round_one (⟦<T as Meaning>⟧.rules plan.now face.now) buffer.old) }
     ensures within { OnOk result (length buffer.new.items ≤ limit_of buffer.old) }
-    ensures length { result ≡ Err ShapeError.Length → limit_of buffer.old < length (round_one
-        (⟦<T as Meaning>⟧.rules plan.now face.now) buffer.old).items }
+    ensures length { result ≡ Err ShapeError.Length → ExpandsPastLimit
+        (⟦<T as Meaning>⟧.rules plan.now face.now) buffer.old }
     ensures settings { cleared buffer.new ≡ cleared buffer.old }
 {
     merge_variation_sequences::<T::Unicode, T::Face>(alloc, face, buffer)?;

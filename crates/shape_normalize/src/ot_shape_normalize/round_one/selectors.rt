@@ -3,11 +3,10 @@
 ghost use Rattle.std.specs.Prelude.{◌≡◌, ◌<◌, ◌≤◌, ◌∷◌, ◌++◌, length, map, fold, vec_len, OnOk};
 ghost use Rattle.std.specs.Prelude.{Err};
 ghost use Rattle.std.specs.List.{flat_map};
-ghost use Rattle.shape_items.specs.Buffer.{limit_of};
 ghost use Rattle.shape_normalize.specs.RoundOne.{marked_selector, skipped_item, seen_variant};
 ghost use Rattle.shape_normalize.specs.RoundOne.{variant_items, variants, with_selector_fallback};
 
-use crate::ot_shape_normalize::round_one::expanded::Expanded;
+use crate::ot_shape_normalize::one_character::Emitted;
 use crate::ot_shape_normalize::round_one::sequences::first_variant;
 use bitflags::Flags;
 use shape_buffer::buffer::{GlyphId, ScratchFlags, ShapeError, hb_buffer_t, hb_glyph_info_t};
@@ -51,7 +50,7 @@ fn mark_selector(info: &mut hb_glyph_info_t, not_found: Option<GlyphId>)
     }
 }
 
-impl Expanded {
+impl Emitted {
     /// Emits an item that became one with its selector, and those after them.
     fn put_variation_sequence<F: hb_font_t>(
         &mut self,
@@ -64,6 +63,7 @@ impl Expanded {
             ++ record info.now { glyph_index = glyph.0 }
             ∷ map (skipped_item (F.face face.now).nominal_glyph) rest.now) }
         ensures flags { self.new.scratch_flags ≡ self.old.scratch_flags }
+        ensures limit { self.new.limit ≡ self.old.limit }
     {
         let mut one = *info;
         one.glyph_index = glyph.0;
@@ -86,6 +86,7 @@ impl Expanded {
             ∷ marked_selector not_found (skipped_item (F.face face.now).nominal_glyph selector.now)
             ∷ map (skipped_item (F.face face.now).nominal_glyph) rest.now) }
         ensures flags { self.new.scratch_flags ≡ with_selector_fallback self.old.scratch_flags }
+        ensures limit { self.new.limit ≡ self.old.limit }
     {
         self.scratch_flags
             .insert(ScratchFlags::HAS_VARIATION_SELECTOR_FALLBACK);
@@ -104,19 +105,19 @@ impl Expanded {
         face: &F,
         part: &[hb_glyph_info_t],
         not_found: Option<GlyphId>,
-        limit: usize,
     ) -> Result<(), ShapeError>
-        requires { vec_len self.old.infos ≤ limit }
+        requires { vec_len self.old.infos ≤ self.old.limit }
         ensures infos { OnOk result (self.new.infos.items
             ≡ self.old.infos.items ++ variant_items (F.face face.now) not_found part.now) }
         ensures flags { OnOk result (self.new.scratch_flags
             ≡ seen_variant (F.face face.now) self.old.scratch_flags part.now) }
-        ensures within { OnOk result (vec_len self.new.infos ≤ limit) }
+        ensures within { OnOk result (vec_len self.new.infos ≤ self.new.limit) }
+        ensures limit { OnOk result (self.new.limit ≡ self.old.limit) }
         ensures length { result ≡ Err ShapeError.Length
-            → limit < length (self.old.infos.items
+            → self.old.limit < length (self.old.infos.items
             ++ variant_items (F.face face.now) not_found part.now) }
     {
-        let room = limit - self.infos.len();
+        let room = self.limit - self.infos.len();
         let [info, selector, rest @ ..] = part else {
             if room < part.len() {
                 return Err(ShapeError::Length);
@@ -136,31 +137,31 @@ impl Expanded {
     }
 
     /// Emits what a sequence that holds a variation selector becomes. Refuses with `Length` if that
-    /// passes the buffer's limit.
+    /// passes the limit.
     pub(super) fn put_variants<U: hb_unicode_funcs_t, F: hb_font_t>(
         &mut self,
         face: &F,
         buffer: &hb_buffer_t,
         sequence: &[hb_glyph_info_t],
     ) -> Result<(), ShapeError>
-        requires { vec_len self.old.infos ≤ limit_of buffer.now }
+        requires { vec_len self.old.infos ≤ self.old.limit }
         ensures infos { OnOk result (self.new.infos.items ≡ self.old.infos.items
             ++ flat_map (variant_items (F.face face.now)
             buffer.now.not_found_variation_selector_glyph) (variants U.unicode sequence.now)) }
         ensures flags { OnOk result (self.new.scratch_flags
             ≡ fold (seen_variant (F.face face.now)) self.old.scratch_flags
             (variants U.unicode sequence.now)) }
-        ensures within { OnOk result (vec_len self.new.infos ≤ limit_of buffer.now) }
+        ensures within { OnOk result (vec_len self.new.infos ≤ self.new.limit) }
+        ensures limit { OnOk result (self.new.limit ≡ self.old.limit) }
         ensures length { result ≡ Err ShapeError.Length
-            → limit_of buffer.now < length (self.old.infos.items
+            → self.old.limit < length (self.old.infos.items
             ++ flat_map (variant_items (F.face face.now)
             buffer.now.not_found_variation_selector_glyph) (variants U.unicode sequence.now)) }
     {
         let not_found = buffer.not_found_variation_selector_glyph();
-        let limit = buffer.length_limit();
         let mut rest = sequence;
         'parts: while let Some((part, after)) = first_variant::<U>(rest) {
-            self.put_variant(face, part, not_found, limit)?;
+            self.put_variant(face, part, not_found)?;
             rest = after;
         }
         Ok(())

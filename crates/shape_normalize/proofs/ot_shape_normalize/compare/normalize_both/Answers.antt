@@ -9,8 +9,3 @@ returns-clause-first g c =
 
 pub returns-clause-length : goal.returns-clause-length
 returns-clause-length g c = λ is_length. inr (c._hb_ot_shape_normalize-2.ensures.length is_length)
-
-pub returns-clause-within_first : goal.returns-clause-within_first
-returns-clause-within_first g c =
-    on_ok_weaker c._hb_ot_shape_normalize-2.result
-    (λ second. c.in_ok-_hb_ot_shape_normalize.ensures.within) c._hb_ot_shape_normalize-2.ensures.ok

@@ -21,19 +21,21 @@ loop-i-preserved g c =
     let infos_are : c.infos-infos.result.now ≡ items = c.infos-infos.ensures in
     let within : i < length items = omega (arith, c.loop-i-test.true, c.loop-i.invariant.as_many, c.len-i-end.ensures.items) in
     let at : item ≡ get_or items i item = c.index-infos-i.is ∙ ap (λ xs. get_or xs i item) infos_are in
-    let short : c.is_asked.result ≡ planned.short (stands_with_marks (i == 0) (drop i items)) =
-    c.is_asked.ensures planned.short c.requires.shortest
+    let short : c.is_asked-is_short.result ≡ planned.short (stands_with_marks (i == 0) (drop i items)) =
+    c.is_asked-is_short.ensures planned.short c.of-shortest.ensures
     ∙ ap planned.short (c.stands_with_marks_at.ensures ∙ ap (λ xs. stands_with_marks (i == 0) (drop i xs)) infos_are) in
-    let becomes : expanded_item planned invisible c.is_asked.result item ≡ whole ∷ [] = search (rules, c.in_ok-found.ensures.item) in
+    let becomes : expanded_item planned invisible c.is_asked-is_short.result item ≡ whole ∷ [] = search (rules, c.in_ok-found.ensures.item) in
     let stays : expanded_item planned invisible (planned.short (stands_with_marks (i == 0) (drop i items))) item ≡ whole ∷ [] =
     rw short at becomes in
-    let flags : c.unexpanded.new.scratch_flags ≡ seen_expanded planned invisible c.is_asked.result c.loop-i.scratch_flags item =
+    let flags : c.keep_or_expand.new.self.scratch_flags ≡ seen_expanded planned invisible c.is_asked-is_short.result c.loop-i.out.scratch_flags item =
     search (rules, c.in_ok-found.ensures.flags) in
     let written : c.set_info.new.self.items ≡ set items i whole = ap (λ (b : Buffer). b.items) c.set_info.ensures in
     record {
       placed = rw written (placed_more planned invisible items i item whole within at stays ∙ c.loop-i.invariant.placed);
-      seen = rw (written, flags, short) (seen_more planned invisible items i item whole c.loop-i.scratch_flags within at ∙ c.loop-i.invariant.seen);
+      seen = rw (written, flags, short) (seen_more planned invisible items i item whole c.loop-i.out.scratch_flags within at ∙ c.loop-i.invariant.seen);
       as_many = grind (arith, common_steps, written);
+      infos = c.in_ok-found.ensures.infos ∙ c.loop-i.invariant.infos;
+      limit = c.in_ok-found.ensures.limit ∙ c.loop-i.invariant.limit;
       rest = c.set_info.ensures ∙ ap (λ (b : Buffer). record b { items = set items i whole }) c.loop-i.invariant.rest
           ∙ ap (λ (xs : List Item). record c.args.buffer.now { items = xs }) (sym written);
       runs = λ yes. subst (λ xs. FollowsRuns (map ccc_of_item (take (i + 1) xs)) c.follow_at.new.self) c.infos.ensures

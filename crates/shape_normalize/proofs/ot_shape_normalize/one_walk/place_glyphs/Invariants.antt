@@ -13,9 +13,11 @@ invariant-loop-i g l =
     record {
       placed : take l.i l.buffer.items ++ expanded_after rules l.invisible (l.i == 0) (drop l.i l.buffer.items)
           ≡ expanded_after rules l.invisible true old.items;
-      seen : seen_after rules l.invisible (l.i == 0) l.scratch_flags (drop l.i l.buffer.items)
+      seen : seen_after rules l.invisible (l.i == 0) l.out.scratch_flags (drop l.i l.buffer.items)
           ≡ seen_after rules l.invisible true old.scratch_flags old.items;
       as_many : length l.buffer.items ≡ length old.items;
+      infos : l.out.infos ≡ l.fn.out.infos;
+      limit : l.out.limit ≡ l.fn.out.limit;
       rest : l.buffer ≡ record old { items = l.buffer.items };
       runs : l.follows ≡ true → FollowsRuns (map ccc_of_item (take l.i l.buffer.items)) l.runs;
     }

@@ -15,7 +15,8 @@ invariant-sequences g l =
       infos : l.out.infos.items ++ expanded rules invisible not_found l.rest ≡ expanded rules invisible not_found l.buffer.items;
       flags : fold (seen_sequence rules invisible) l.out.scratch_flags (sequences l.rest)
           ≡ fold (seen_sequence rules invisible) l.buffer.scratch_flags (sequences l.buffer.items);
-      within : vec_len l.out.infos ≤ limit_of l.buffer;
+      within : vec_len l.out.infos ≤ l.out.limit;
+      limit : l.out.limit ≡ limit_of l.buffer;
     }
 
 abbrev pub decreases-sequences : goal.decreases-sequences

@@ -10,9 +10,9 @@ pub returns-clause-alike : goal.returns-clause-alike
 returns-clause-alike g c =
     let shaper = g.S.hb_ot_shaper_t in
     let rules = rules_of g.U.hb_unicode_funcs_t.unicode shaper.constants shaper.hooks g.F.hb_font_t.face c.args.plan.now c.args.face.now in
-    let compared = c.in_ok-same.ensures in
-    let first = ap (λ (b : Buffer). text_of b) (compared.first ∙ ap (λ (b : Buffer). normalized rules b) c.in_ok-a.ensures.ok) in
-    let second = ap (λ (b : Buffer). text_of b) (compared.second ∙ ap (λ (b : Buffer). normalized rules b) c.in_ok-b.ensures.ok) in
+    let compared = c.in_ok-same.ensures.ok in
+    let first = ap (λ (b : Buffer). text_of b) (compared.first.made ∙ ap (λ (b : Buffer). normalized rules b) c.in_ok-a.ensures.ok) in
+    let second = ap (λ (b : Buffer). text_of b) (compared.second.made ∙ ap (λ (b : Buffer). normalized rules b) c.in_ok-b.ensures.ok) in
     (λ same. sym first ∙ compared.equal.0 same ∙ second, λ alike. compared.equal.1 (first ∙ alike ∙ sym second))
 
 pub returns-in_err-a-clause-length : goal.returns-in_err-a-clause-length

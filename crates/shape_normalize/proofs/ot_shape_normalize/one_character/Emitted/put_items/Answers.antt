@@ -2,12 +2,12 @@ use Rattle.std.proofs.Common.{rules, arith}
 use Rattle.shape_plan.specs.Rules.{rules_of}
 use Rattle.shape_normalize.specs.RoundOne.{expanded_item}
 use Rattle.shape_normalize.proofs.RoundOne.PieceLemmas.{passed_by_all}
-use Rattle.shape_normalize.proofs.ot_shape_normalize.round_one.expanded.Expanded.put_items.Goals as goal
+use Rattle.shape_normalize.proofs.ot_shape_normalize.one_character.Emitted.put_items.Goals as goal
 
 -- what the items up to this one become is a part of what all become
 pub returns-in_err-put_item-clause-length : goal.returns-in_err-put_item-clause-length
 returns-in_err-put_item-clause-length g c is_length =
     let shaper = g.T.Shaper.hb_ot_shaper_t in
     let planned = rules_of g.T.Unicode.hb_unicode_funcs_t.unicode shaper.constants shaper.hooks g.T.Face.hb_font_t.face c.args.plan.now c.args.face.now in
-    rw (← c.length_limit-limit.ensures, ← c.invisible_glyph-invisible.ensures)
-    (passed_by_all (expanded_item planned c.invisible_glyph-invisible.result c.args.shortest) c.args.sequence.now c.items.info-index c.info-item.result c.args.self.now.infos.items _ c.length_limit-limit.result (omega arith) c.info-item.is c.items.invariant.infos (c.in_err-put_item.ensures.length (search rules)))
+    rw (← c.items.invariant.limit, ← c.invisible_glyph-invisible.ensures)
+    (passed_by_all (expanded_item planned c.invisible_glyph-invisible.result c.args.shortest) c.args.sequence.now c.items.info-index c.info-item.result c.args.self.now.infos.items _ c.items.self.limit (omega arith) c.info-item.is c.items.invariant.infos (c.in_err-put_item.ensures.length (search rules)))

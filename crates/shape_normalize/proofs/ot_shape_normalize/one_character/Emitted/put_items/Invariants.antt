@@ -2,7 +2,7 @@ use Rattle.std.proofs.Common.{◌≡◌, ◌≤◌, ◌++◌, take, fold, vec_le
 use Rattle.std.specs.List.{flat_map}
 use Rattle.shape_plan.specs.Rules.{rules_of}
 use Rattle.shape_normalize.specs.RoundOne.{expanded_item, seen_expanded}
-use Rattle.shape_normalize.proofs.ot_shape_normalize.round_one.expanded.Expanded.put_items.Given as goal
+use Rattle.shape_normalize.proofs.ot_shape_normalize.one_character.Emitted.put_items.Given as goal
 
 abbrev pub invariant-items : goal.invariant-items
 invariant-items g l =
@@ -13,5 +13,6 @@ invariant-items g l =
           ≡ l.initial.self.infos.items ++ flat_map (expanded_item rules l.invisible l.shortest) (take l.info-index l.sequence);
       flags : l.self.scratch_flags
           ≡ fold (seen_expanded rules l.invisible l.shortest) l.initial.self.scratch_flags (take l.info-index l.sequence);
-      within : vec_len l.self.infos ≤ l.limit;
+      within : vec_len l.self.infos ≤ l.self.limit;
+      limit : l.self.limit ≡ l.initial.self.limit;
     }

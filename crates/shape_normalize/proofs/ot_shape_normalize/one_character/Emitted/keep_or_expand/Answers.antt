@@ -5,14 +5,14 @@ use Rattle.shape_normalize.specs.Part.{part_of_char}
 use Rattle.shape_normalize.specs.RoundOne.{expansion_of, expanded_item, seen_expanded, whole_item, remembers_space, with_space_fallback}
 use Rattle.shape_normalize.specs.declared.ot_shape_normalize.part.Part.{Part}
 use Rattle.shape_normalize.proofs.RoundOne.ChainPartLemmas.{parts_put, parts_seen}
-use Rattle.shape_normalize.proofs.ot_shape_normalize.round_one.expanded.unexpanded.Goals as goal
+use Rattle.shape_normalize.proofs.ot_shape_normalize.one_character.Emitted.keep_or_expand.Goals as goal
 
 pub returns-then-branch-clause-parts : goal.returns-then-branch-clause-parts
 returns-then-branch-clause-parts g c =
     let shaper = g.T.Shaper.hb_ot_shaper_t in
     let planned = rules_of g.T.Unicode.hb_unicode_funcs_t.unicode shaper.constants shaper.hooks g.T.Face.hb_font_t.face c.args.plan.now c.args.face.now in
     let item = c.args.info.now in
-    let flags = c.args.scratch_flags.now in
+    let flags = c.args.self.now.scratch_flags in
     let parts : List Part = c.decompose.new.expansion.first ∷ reverse c.decompose.new.expansion.seconds.items in
     let kept : Some parts ≡ option_map (map (part_of_char planned.face.nominal_glyph)) (expansion_of planned false item) =
     ap (λ (t : Bool). if t then Some parts else None) (sym c.if-branch.true) ∙ c.in_ok-decompose.ensures in
@@ -25,7 +25,7 @@ returns-then-branch-clause-seen g c =
     let shaper = g.T.Shaper.hb_ot_shaper_t in
     let planned = rules_of g.T.Unicode.hb_unicode_funcs_t.unicode shaper.constants shaper.hooks g.T.Face.hb_font_t.face c.args.plan.now c.args.face.now in
     let item = c.args.info.now in
-    let flags = c.args.scratch_flags.now in
+    let flags = c.args.self.now.scratch_flags in
     let parts : List Part = c.decompose.new.expansion.first ∷ reverse c.decompose.new.expansion.seconds.items in
     let kept : Some parts ≡ option_map (map (part_of_char planned.face.nominal_glyph)) (expansion_of planned false item) =
     ap (λ (t : Bool). if t then Some parts else None) (sym c.if-branch.true) ∙ c.in_ok-decompose.ensures in
@@ -38,7 +38,7 @@ returns-then-branch-2-clause-parts g c =
     let shaper = g.T.Shaper.hb_ot_shaper_t in
     let planned = rules_of g.T.Unicode.hb_unicode_funcs_t.unicode shaper.constants shaper.hooks g.T.Face.hb_font_t.face c.args.plan.now c.args.face.now in
     let item = c.args.info.now in
-    let flags = c.args.scratch_flags.now in
+    let flags = c.args.self.now.scratch_flags in
     let parts : List Part = c.decompose-2.new.expansion.first ∷ reverse c.decompose-2.new.expansion.seconds.items in
     let kept : Some parts ≡ option_map (map (part_of_char planned.face.nominal_glyph)) (expansion_of planned true item) =
     ap (λ (t : Bool). if t then Some parts else None) (sym c.if-branch-2.true) ∙ c.in_ok-decompose-2.ensures in
@@ -51,7 +51,7 @@ returns-then-branch-2-clause-seen g c =
     let shaper = g.T.Shaper.hb_ot_shaper_t in
     let planned = rules_of g.T.Unicode.hb_unicode_funcs_t.unicode shaper.constants shaper.hooks g.T.Face.hb_font_t.face c.args.plan.now c.args.face.now in
     let item = c.args.info.now in
-    let flags = c.args.scratch_flags.now in
+    let flags = c.args.self.now.scratch_flags in
     let parts : List Part = c.decompose-2.new.expansion.first ∷ reverse c.decompose-2.new.expansion.seconds.items in
     let kept : Some parts ≡ option_map (map (part_of_char planned.face.nominal_glyph)) (expansion_of planned true item) =
     ap (λ (t : Bool). if t then Some parts else None) (sym c.if-branch-2.true) ∙ c.in_ok-decompose-2.ensures in

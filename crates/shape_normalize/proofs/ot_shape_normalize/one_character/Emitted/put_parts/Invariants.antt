@@ -1,6 +1,6 @@
 use Rattle.std.proofs.Common.{◌≡◌, ◌++◌, reverse, map, vec_len}
 use Rattle.shape_normalize.specs.Part.{with_part, seen_parts}
-use Rattle.shape_normalize.proofs.ot_shape_normalize.round_one.expanded.Expanded.put_parts.Given as goal
+use Rattle.shape_normalize.proofs.ot_shape_normalize.one_character.Emitted.put_parts.Given as goal
 
 abbrev pub invariant-loop-part : goal.invariant-loop-part
 invariant-loop-part g l =
@@ -10,6 +10,7 @@ invariant-loop-part g l =
           ≡ l.initial.self.infos.items ++ map (with_part unicode l.info) (reverse l.initial.self.expansion.seconds.items);
       flags : seen_parts unicode l.self.scratch_flags (reverse l.self.expansion.seconds.items)
           ≡ seen_parts unicode l.initial.self.scratch_flags (reverse l.initial.self.expansion.seconds.items);
+      limit : l.self.limit ≡ l.initial.self.limit;
     }
 
 abbrev pub decreases-loop-part : goal.decreases-loop-part

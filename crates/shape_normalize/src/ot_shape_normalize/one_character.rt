@@ -1,12 +1,17 @@
-//! What one item becomes: the items of an expansion of its character, or itself with a glyph.
+//! Normalising one character: its item becomes the items of an expansion, or keeps the character with a glyph.
 //!
+//! The mode says which expansion is asked for, the shortest or the longest ([`Shortest`]); an item with a glyph
+//! that is asked for the shortest keeps it, and any other is expanded along the chain of its splits, if it can be.
 //! An item without a glyph that has no expansion either may take that of another character: a space that
 //! of U+0020, or the invisible glyph, and remembers how wide it is; U+2011 that of U+2010. No shaper has a
 //! say in that, so the functions for one item that stays whole state it by the rules without a shaper.
 ghost use Rattle.std.specs.Prelude.{◌≡◌, ◌<◌, ◌≤◌, [], ◌∷◌, ◌++◌, length, map, reverse, vec_len};
-ghost use Rattle.std.specs.Prelude.{if◌then◌else◌, OnOk, IfOk, IfSome, IfNone, Err, None};
+ghost use Rattle.std.specs.Prelude.{if◌then◌else◌, Bool, OnOk, IfOk, IfSome, IfNone, Err, None};
+ghost use Rattle.shape_items.specs.Buffer.{limit_of};
 ghost use Rattle.shape_items.specs.UnicodeProps.{with_scratch_of};
-ghost use Rattle.shape_plan.specs.Rules.{rules_without_shaper};
+ghost use Rattle.shape_plan.specs.Rules.{rules_without_shaper, used_mode};
+ghost use Rattle.shape_plan.specs.Rules.{goes_short as goes_short_in};
+ghost use Rattle.shape_normalize.specs.OneWalk.{shortest_of};
 ghost use Rattle.shape_normalize.specs.Part.{with_part as with_part_of, seen_parts};
 ghost use Rattle.shape_normalize.specs.RoundOne.{remembers_space as remembers_space_of};
 ghost use Rattle.shape_normalize.specs.RoundOne.{whole_item as whole_item_of, expanded_item};
@@ -16,10 +21,11 @@ ghost use Rattle.shape_normalize.specs.RoundOne.{is_fallback_space as is_fallbac
 ghost use Rattle.shape_normalize.specs.RoundOne.{fallback_index as fallback_index_of};
 
 use crate::ot_shape_normalize::decompose::{Expansion, decompose};
+use crate::ot_shape_normalize::mode::goes_short;
 use crate::ot_shape_normalize::part::{Part, glyph_index, with_part};
 use bitflags::Flags;
 use shape_buffer::buffer::{
-    GlyphId, ScratchFlags, ShapeError, hb_glyph_info_t, hb_unicode_general_category_t,
+    GlyphId, ScratchFlags, ShapeError, hb_buffer_t, hb_glyph_info_t, hb_unicode_general_category_t,
 };
 use shape_buffer::interfaces::space_types::NOT_SPACE;
 use shape_buffer::interfaces::{hb_font_t, hb_ot_layout_t, hb_unicode_funcs_t};
@@ -32,6 +38,38 @@ const SPACE: char = ' ';
 const HYPHEN: char = '\u{2010}';
 
 const NON_BREAKING_HYPHEN: char = '\u{2011}';
+
+/// Whether the shortest expansion is asked for, of items by themselves and of those that stand in sequences with
+/// marks; the mode is asked once for a whole text.
+#[derive(Clone, Copy)]
+pub(crate) struct Shortest {
+    alone: bool,
+    with_marks: bool,
+}
+
+impl Shortest {
+    pub(crate) fn of<T: ShapingTypes>(plan: &PlanOf<'_, T>) -> Self
+        ensures { result
+            ≡ shortest_of (goes_short_in (used_mode T.Shaper.constants.preference plan.now)) }
+    {
+        Shortest {
+            alone: goes_short::<T>(plan, false),
+            with_marks: goes_short::<T>(plan, true),
+        }
+    }
+
+    /// Whether it is asked for, by whether an item stands in a sequence with marks.
+    pub(crate) fn is_asked(&self, with_marks: bool) -> bool
+        ensures { (short : Bool → Bool) → self.now ≡ shortest_of short
+            → result ≡ short with_marks }
+    {
+        if with_marks {
+            self.with_marks
+        } else {
+            self.alone
+        }
+    }
+}
 
 /// The glyph that replaces a space: that of U+0020, else the invisible one.
 fn space_glyph<U: hb_unicode_funcs_t, F: hb_font_t>(
@@ -126,59 +164,87 @@ fn kept_item<U: hb_unicode_funcs_t, F: hb_font_t>(
     lacking_item::<U, F>(face, info, invisible, scratch_flags)
 }
 
-/// The item with its glyph, if it keeps its character; none if it expands, and then `expansion` is
-/// what it becomes. The face is asked once about an item that has a glyph and keeps it.
-pub(crate) fn unexpanded<T: ShapingTypes>(
-    plan: &PlanOf<'_, T>,
-    face: &T::Face,
-    info: &hb_glyph_info_t,
-    shortest: bool,
-    invisible: Option<GlyphId>,
-    expansion: &mut Expansion,
-    scratch_flags: &mut ScratchFlags,
-) -> Result<Option<hb_glyph_info_t>, AllocError>
-    ensures item { IfOk result (λ found. IfSome found (λ whole. expanded_item
-        (⟦<T as Meaning>⟧.rules plan.now face.now) invisible shortest info.now ≡ whole ∷ [])) }
-    ensures flags { IfOk result (λ found. IfSome found (λ _. scratch_flags.new ≡ seen_expanded
-        (⟦<T as Meaning>⟧.rules plan.now face.now)
-        invisible shortest scratch_flags.old info.now)) }
-    ensures same { IfOk result (λ found. IfNone found (scratch_flags.new ≡ scratch_flags.old)) }
-    ensures parts { IfOk result (λ found. IfNone found (expanded_item
-        (⟦<T as Meaning>⟧.rules plan.now face.now) invisible shortest info.now
-        ≡ map (with_part_of T.Unicode.unicode info.now)
-        (expansion.new.first ∷ reverse expansion.new.seconds.items))) }
-    ensures seen { IfOk result (λ found. IfNone found (seen_expanded
-        (⟦<T as Meaning>⟧.rules plan.now face.now) invisible shortest scratch_flags.old info.now
-        ≡ seen_parts T.Unicode.unicode scratch_flags.old
-        (expansion.new.first ∷ reverse expansion.new.seconds.items))) }
-{
-    if !shortest {
-        if decompose::<T>(plan, face, info.codepoint, false, expansion)? {
-            return Ok(None);
-        }
-        return Ok(Some(kept_item::<T::Unicode, T::Face>(face, info, invisible, scratch_flags)));
-    }
-    if let Some(GlyphId(glyph)) = face.get_nominal_glyph(info.codepoint) {
-        let mut whole = *info;
-        whole.glyph_index = glyph;
-        return Ok(Some(whole));
-    }
-    if decompose::<T>(plan, face, info.codepoint, true, expansion)? {
-        return Ok(None);
-    }
-    Ok(Some(lacking_item::<T::Unicode, T::Face>(face, info, invisible, scratch_flags)))
-}
-
-/// The items that were emitted, and the scratch flags that their characters show.
+/// The items that were emitted, at most `limit` of them, and the scratch flags that their characters show.
 #[derive(Drop)]
-pub(crate) struct Expanded {
+pub(crate) struct Emitted {
     pub(crate) infos: Vec<hb_glyph_info_t>,
+    pub(crate) limit: usize,
     pub(crate) scratch_flags: ScratchFlags,
     /// Room for what an item becomes.
     pub(crate) expansion: Expansion,
 }
 
-impl Expanded {
+impl Emitted {
+    /// No item, within the limit of a buffer and with its scratch flags. Takes no memory.
+    pub(crate) fn begin(alloc: Global, buffer: &hb_buffer_t) -> Self
+        ensures infos { result.infos.items ≡ [] }
+        ensures limit { result.limit ≡ limit_of buffer.now }
+        ensures flags { result.scratch_flags ≡ buffer.now.scratch_flags }
+    {
+        Emitted {
+            infos: Vec::new(alloc),
+            limit: buffer.length_limit(),
+            scratch_flags: buffer.scratch_flags(),
+            expansion: Expansion::new(alloc),
+        }
+    }
+
+    /// The item with its glyph, if it keeps its character; none if it expands, and then `expansion` is
+    /// what it becomes. The face is asked once about an item that has a glyph and keeps it.
+    pub(crate) fn keep_or_expand<T: ShapingTypes>(
+        &mut self,
+        plan: &PlanOf<'_, T>,
+        face: &T::Face,
+        info: &hb_glyph_info_t,
+        shortest: bool,
+        invisible: Option<GlyphId>,
+    ) -> Result<Option<hb_glyph_info_t>, AllocError>
+        ensures item { IfOk result (λ found. IfSome found (λ whole. expanded_item
+            (⟦<T as Meaning>⟧.rules plan.now face.now) invisible shortest info.now ≡ whole ∷ [])) }
+        ensures flags { IfOk result (λ found. IfSome found (λ _. self.new.scratch_flags
+            ≡ seen_expanded (⟦<T as Meaning>⟧.rules plan.now face.now)
+            invisible shortest self.old.scratch_flags info.now)) }
+        ensures same { IfOk result (λ found.
+            IfNone found (self.new.scratch_flags ≡ self.old.scratch_flags)) }
+        ensures parts { IfOk result (λ found. IfNone found (expanded_item
+            (⟦<T as Meaning>⟧.rules plan.now face.now) invisible shortest info.now
+            ≡ map (with_part_of T.Unicode.unicode info.now)
+            (self.new.expansion.first ∷ reverse self.new.expansion.seconds.items))) }
+        ensures seen { IfOk result (λ found. IfNone found (seen_expanded
+            (⟦<T as Meaning>⟧.rules plan.now face.now)
+            invisible shortest self.old.scratch_flags info.now
+            ≡ seen_parts T.Unicode.unicode self.old.scratch_flags
+            (self.new.expansion.first ∷ reverse self.new.expansion.seconds.items))) }
+        ensures infos { self.new.infos ≡ self.old.infos }
+        ensures limit { self.new.limit ≡ self.old.limit }
+    {
+        if !shortest {
+            if decompose::<T>(plan, face, info.codepoint, false, &mut self.expansion)? {
+                return Ok(None);
+            }
+            return Ok(Some(kept_item::<T::Unicode, T::Face>(
+                face,
+                info,
+                invisible,
+                &mut self.scratch_flags,
+            )));
+        }
+        if let Some(GlyphId(glyph)) = face.get_nominal_glyph(info.codepoint) {
+            let mut whole = *info;
+            whole.glyph_index = glyph;
+            return Ok(Some(whole));
+        }
+        if decompose::<T>(plan, face, info.codepoint, true, &mut self.expansion)? {
+            return Ok(None);
+        }
+        Ok(Some(lacking_item::<T::Unicode, T::Face>(
+            face,
+            info,
+            invisible,
+            &mut self.scratch_flags,
+        )))
+    }
+
     /// Emits an item of an expansion.
     fn put_part<U: hb_unicode_funcs_t>(
         &mut self,
@@ -190,6 +256,7 @@ impl Expanded {
         ensures flags { OnOk result (self.new.scratch_flags
             ≡ with_scratch_of U.unicode part.c self.old.scratch_flags) }
         ensures expansion { self.new.expansion ≡ self.old.expansion }
+        ensures limit { self.new.limit ≡ self.old.limit }
     {
         let copy = with_part::<U>(info, part, &mut self.scratch_flags);
         self.infos.push(copy)?;
@@ -204,6 +271,7 @@ impl Expanded {
         ensures flags { OnOk result (self.new.scratch_flags
             ≡ seen_parts U.unicode self.old.scratch_flags
             (self.old.expansion.first ∷ reverse self.old.expansion.seconds.items)) }
+        ensures limit { OnOk result (self.new.limit ≡ self.old.limit) }
     {
         self.put_part::<U>(info, self.expansion.first)?;
         while let Some(part) = self.expansion.seconds.pop() {
@@ -220,29 +288,21 @@ impl Expanded {
         info: &hb_glyph_info_t,
         shortest: bool,
         invisible: Option<GlyphId>,
-        limit: usize,
     ) -> Result<(), ShapeError>
-        requires { vec_len self.old.infos ≤ limit }
+        requires { vec_len self.old.infos ≤ self.old.limit }
         ensures infos { OnOk result (self.new.infos.items ≡ self.old.infos.items ++ expanded_item
             (⟦<T as Meaning>⟧.rules plan.now face.now) invisible shortest info.now) }
         ensures flags { OnOk result (self.new.scratch_flags ≡ seen_expanded
             (⟦<T as Meaning>⟧.rules plan.now face.now)
             invisible shortest self.old.scratch_flags info.now) }
-        ensures within { OnOk result (vec_len self.new.infos ≤ limit) }
+        ensures within { OnOk result (vec_len self.new.infos ≤ self.new.limit) }
+        ensures limit { OnOk result (self.new.limit ≡ self.old.limit) }
         ensures length { result ≡ Err ShapeError.Length
-            → limit < length (self.old.infos.items ++ expanded_item
+            → self.old.limit < length (self.old.infos.items ++ expanded_item
             (⟦<T as Meaning>⟧.rules plan.now face.now) invisible shortest info.now) }
     {
-        let room = limit - self.infos.len();
-        let found = unexpanded::<T>(
-            plan,
-            face,
-            info,
-            shortest,
-            invisible,
-            &mut self.expansion,
-            &mut self.scratch_flags,
-        )?;
+        let room = self.limit - self.infos.len();
+        let found = self.keep_or_expand::<T>(plan, face, info, shortest, invisible)?;
         let Some(whole) = found else {
             if room <= self.expansion.seconds.len() {
                 return Err(ShapeError::Length);
