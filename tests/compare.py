@@ -1,17 +1,19 @@
 #!/usr/bin/env -S python3 -B
-"""Compares what `fontshape` and `shapeline` print with what other programs and a model print.
+"""Compares what `fontshape`, `shapeline` and `fill_paragraph` print with what other programs and
+models print.
 
     tests/compare.py KIND [OPTION ..]
     tests/compare.py KIND --help
 
 Status 0: no difference. 1: there are some, which are shown. 77: something is not installed.
 """
-from checks import cuts, normalising, options, random_fonts, scripts, texts
+from checks import cuts, normalising, options, paragraphs, random_fonts, scripts, texts
 from checks.command import run_kind
 
 KINDS = {
     "texts": texts,
     "scripts": scripts,
+    "paragraphs": paragraphs,
     "options": options,
     "fonts": random_fonts,
     "cuts": cuts,

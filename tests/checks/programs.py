@@ -25,9 +25,10 @@ FONTSHAPE = program_of("fontshape")
 
 def build(crate, *arguments):
     """Builds the program of a crate by a run of it, however that ends, if it isn't built."""
+    given = CRATES / crate / "stdin"
     if not program_of(crate).exists():
-        with open(CRATES / crate / "stdin", "rb") as given:
-            subprocess.run(["rt", "run", *arguments], cwd=CRATES / crate, stdin=given,
+        with open(given if given.exists() else os.devnull, "rb") as source:
+            subprocess.run(["rt", "run", *arguments], cwd=CRATES / crate, stdin=source,
                            stdout=subprocess.DEVNULL)
 
 

@@ -1,5 +1,5 @@
 //! The carets of a text, each with its place on the line.
-ghost use Rattle.std.specs.Prelude.{◌≡◌, ℕ, ◌+◌, ◌<◌, ◌≤◌, ◌++◌, pos, int_div, drop, length, slice_index, IfOk, OnOk, IsOkUnless};
+ghost use Rattle.std.specs.Prelude.{◌≡◌, ◌↔◌, ℕ, ◌+◌, ◌<◌, ◌≤◌, ◌++◌, pos, int_div, drop, length, slice_index, IfOk, OnOk, IsOkUnless, IsTrue};
 ghost use Rattle.std.specs.List.Sorted.{IsNonDecreasing};
 ghost use Rattle.shape_common.specs.Direction.{is_backward};
 ghost use Rattle.shape_common.specs.Wrapping.{◌+ʷ◌};
@@ -46,6 +46,13 @@ pub fn carets(
     let backward = direction.is_backward();
     let cells = cells(alloc, clusters, backward, text_start, text_end)?;
     Ok(carets_in(alloc, &cells, backward, text_end, stops)?)
+}
+
+/// Whether stops rise, as [`carets`] asks.
+pub fn stops_rise(stops: &[u32]) -> bool
+    ensures { IsTrue result ↔ IsNonDecreasing stops.now }
+{
+    stops.is_sorted()
 }
 
 /// The carets of cells that rise.

@@ -12,6 +12,6 @@ pub mod places;
 pub mod selecting;
 pub mod worked;
 
-pub use caret::{Caret, carets};
+pub use caret::{Caret, carets, stops_rise};
 pub use places::{caret_of_offset, offset_of_x};
 pub use selecting::{Span, selection};

@@ -1,7 +1,9 @@
 //! Carets, clicks and selections. The numbers were worked out by hand.
 
 use shape_buffer::buffer::{Direction, GlyphCluster, ShapeError};
-use shape_carets::{Caret, Span, caret_of_offset, carets, offset_of_x, selection};
+use shape_carets::{
+    Caret, Span, caret_of_offset, carets, offset_of_x, selection, stops_rise,
+};
 use std::alloc::Global;
 
 /// A cluster of this advance.
@@ -40,6 +42,11 @@ fn to_the_right(rt: HostRuntime) {
             end: 1000
         })
     );
+}
+
+#[test]
+fn stops_that_rise(rt: HostRuntime) {
+    assert!(rt; stops_rise(&[1, 2, 2]) && !stops_rise(&[2, 1]));
 }
 
 #[test]
