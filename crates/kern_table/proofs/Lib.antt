@@ -1,2 +1,3 @@
 pub mod SubtableLemmas
+pub mod SideLemmas
 pub mod PreservationLemmas

@@ -1,4 +1,5 @@
 pub mod Pairs
+pub mod Sides
 pub mod Walk
 pub mod Tables
 pub mod Map

@@ -1,5 +1,5 @@
 -- Values of pairs of glyphs, by formats 0 and 2 of `kern`.
-use Rattle.std.specs.Prelude.{◌≡◌, ◌<◌, ◌^◌, ℕ, ℤ, pos, List, Bool, Option, ◌+◌, ◌-◌, ◌*◌, ◌/◌, ◌&&◌, ◌||◌, not, nat_eq, nat_lt, nat_le, slice_index, if◌then◌else◌}
+use Rattle.std.specs.Prelude.{◌≡◌, ◌<◌, ◌^◌, ℕ, ℤ, pos, List, Bool, Option, ◌+◌, ◌-◌, ◌*◌, ◌/◌, ◌&&◌, ◌||◌, not, nat_eq, nat_lt, nat_le, slice_index, slice_index_or, length, false, if◌then◌else◌}
 use Rattle.std.specs.Option.{option_map_or}
 use Rattle.std.specs.declared.cmp.Ordering.{Ordering}
 use Rattle.shape_font.specs.Bytes.{u16_of, u32_of, i16_of, fitting}
@@ -51,8 +51,14 @@ abbrev pub value_of : List ℕ → ℕ → ℕ → ℕ → ℤ
 value_of t start left right =
     if nat_eq (slice_index t (start + 4)) 2 then classed_value t start left right else listed_value t start left right
 
--- what was read of a subtable is what its bytes say
+-- a glyph that isn't marked has no value as the left one of two, or as the right one
+pub record HoldSides (t : List ℕ) (start : ℕ) (lefts rights : List Bool) : Type 0 where
+  pub left : (left right : ℕ) → left < length lefts → slice_index_or lefts left false ≡ false → value_of t start left right ≡ pos 0
+  pub right : (left right : ℕ) → right < length rights → slice_index_or rights right false ≡ false → value_of t start left right ≡ pos 0
+
+-- what was read of a subtable is what its bytes say, and what is stored of it holds
 pub record IsRead (s : Subtable) : Type 0 where
   pub near : s.start < 2 ^ 34
+  pub sides : HoldSides s.kern.now s.start s.sides.lefts.now s.sides.rights.now
   pub classed : s.classed ≡ nat_eq (slice_index s.kern.now (s.start + 4)) 2
   pub count : s.count ≡ fitting s.kern.now (u16_of s.kern.now (s.start + 6)) (s.start + 14) 6

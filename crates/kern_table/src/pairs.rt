@@ -1,25 +1,28 @@
 //! Values of pairs of glyphs: formats 0 and 2 of the table `kern`.
-ghost use Rattle.std.specs.Prelude.{◌≡◌, ◌+◌, ◌*◌, ◌<◌, ◌^◌, ◌≤ℤ◌, pos, negsuc};
-ghost use Rattle.kern_table.specs.Pairs.{side_of_pair, pair_of, listed_value as listed_value_of, is_classed as is_classed_of, class_of, value_at as value_at_of, classed_value as classed_value_of, value_of, IsRead};
+ghost use Rattle.std.specs.Prelude.{◌≡◌, ◌+◌, ◌*◌, ◌<◌, ◌^◌, ◌≤ℤ◌, pos, negsuc, length, not, ◌||◌, false, nat_lt, slice_index_or};
+ghost use Rattle.kern_table.specs.Pairs.{side_of_pair, pair_of, listed_value as listed_value_of, is_classed as is_classed_of, class_of, value_at as value_at_of, classed_value as classed_value_of, value_of, HoldSides, IsRead};
 ghost use Rattle.std.specs.Option.{IfSome};
 
+use crate::sides::Sides;
 use shape_font::bytes::{i16_at, long, records, u8_at, u16_at};
 use shape_font::search::{found_within, side};
 use std::cmp::Ordering;
 
-/// A subtable of the table, and what is read of it once for all pairs: whether it is of format 2, and how many pairs it
-/// has room for.
+/// A subtable of the table, what is stored of it, and what is read of it once for all pairs: whether it is of format 2, and
+/// how many pairs it has room for.
 #[derive(Clone, Copy)]
 pub(crate) struct Subtable<'a> {
     pub kern: &'a [u8],
     pub start: usize,
+    pub sides: Sides<'a>,
     pub classed: bool,
     pub count: u32,
 }
 
 /// Reads the head of the subtable that begins at `start`.
-pub(crate) fn read_subtable(kern: &[u8], start: usize) -> Subtable<'_>
-    requires { start < 2 ^ 34 }
+pub(crate) fn read_subtable<'a>(kern: &'a [u8], start: usize, sides: Sides<'a>) -> Subtable<'a>
+    requires near { start < 2 ^ 34 }
+    requires sides { HoldSides kern.now start sides.lefts.now sides.rights.now }
     ensures so { IsRead result }
     ensures kern { result.kern.now ≡ kern.now }
     ensures start { result.start ≡ start }
@@ -27,6 +30,7 @@ pub(crate) fn read_subtable(kern: &[u8], start: usize) -> Subtable<'_>
     Subtable {
         kern,
         start,
+        sides,
         classed: u8_at(kern, start + 4) == 2,
         count: records(kern, u32::from(u16_at(kern, start + 6)), start + 14, 6),
     }
@@ -132,8 +136,16 @@ fn classed_value(kern: &[u8], start: usize, left: u32, right: u32) -> i32
     )
 }
 
-/// How far two glyphs are moved apart by a subtable whose head was read.
-pub(crate) fn pair_value(subtable: Subtable<'_>, left: u32, right: u32) -> i32
+/// Whether a glyph is marked, or has no mark.
+fn may_stand(marks: &[bool], glyph: u32) -> bool
+    ensures { result ≡ (not (nat_lt glyph (length marks.now)) || slice_index_or marks.now glyph false) }
+{
+    let at = glyph as usize;
+    marks.len() <= at || marks[at]
+}
+
+/// The value of two glyphs, sought among all pairs.
+fn sought_value(subtable: Subtable<'_>, left: u32, right: u32) -> i32
     requires { IsRead subtable }
     ensures value { result ≡ value_of subtable.entry.kern.now subtable.entry.start left right }
     ensures low { negsuc 32767 ≤ℤ result }
@@ -146,6 +158,21 @@ pub(crate) fn pair_value(subtable: Subtable<'_>, left: u32, right: u32) -> i32
     }
 }
 
+/// How far two glyphs are moved apart by a subtable whose head was read. Nothing is sought for two of which one stands in
+/// no pair.
+pub(crate) fn pair_value(subtable: Subtable<'_>, left: u32, right: u32) -> i32
+    requires { IsRead subtable }
+    ensures value { result ≡ value_of subtable.entry.kern.now subtable.entry.start left right }
+    ensures low { negsuc 32767 ≤ℤ result }
+    ensures high { result ≤ℤ pos 32767 }
+{
+    if may_stand(subtable.sides.lefts, left) && may_stand(subtable.sides.rights, right) {
+        sought_value(subtable, left, right)
+    } else {
+        0
+    }
+}
+
 /// How far two glyphs are moved apart by the subtable of the table that begins at `start`, in units of the face;
 /// together if it is negative, and 0 if the subtable doesn't have them. A subtable of format 2 has values by classes, every
 /// other one is read as format 0.
@@ -155,5 +182,5 @@ pub fn value(kern: &[u8], start: usize, left: u32, right: u32) -> i32
     ensures low { negsuc 32767 ≤ℤ result }
     ensures high { result ≤ℤ pos 32767 }
 {
-    pair_value(read_subtable(kern, start), left, right)
+    pair_value(read_subtable(kern, start, Sides::none()), left, right)
 }

@@ -1,9 +1,12 @@
 //! Kerning by a whole table `kern`: its subtables in order, those of formats 0 and 2 that move glyphs along the line.
-ghost use Rattle.std.specs.Prelude.{◌≡◌, ◌<◌, ◌≤◌, ◌^◌, length};
+ghost use Rattle.std.specs.Prelude.{◌≡◌, ℕ, List, ◌<◌, ◌≤◌, ◌^◌, length};
 ghost use Rattle.shape_items.specs.Buffer.{limit_of};
+ghost use Rattle.kern_table.specs.Pairs.{HoldSides, IsRead};
 ghost use Rattle.kern_table.specs.Tables.{subtable_count_of, is_read as is_read_of, subtable_kerned, table_kerned};
 
-use crate::walk::kern_all;
+use crate::pairs::{Subtable, read_subtable};
+use crate::sides::Sides;
+use crate::walk::kern_each;
 use shape_buffer::buffer::{hb_buffer_t, hb_mask_t};
 use shape_font::bytes::{u8_at, u16_at};
 
@@ -30,29 +33,50 @@ fn is_read(kern: &[u8], start: usize, horizontal: bool) -> bool
     matches!(u8_at(kern, start + 4), 0 | 2) && coverage % 2 == line && coverage / 4 % 2 == 0
 }
 
-/// Kerns a buffer by the subtable that begins at `start`, from the left of the line to its right.
-fn kern_subtable(kern: &[u8], start: usize, mask: hb_mask_t, buffer: &mut hb_buffer_t)
-    requires { start < 2 ^ 34 }
-    ensures made { buffer.new ≡ subtable_kerned kern.now start mask buffer.old }
+/// Kerns a buffer by a subtable whose head was read, from the left of the line to its right.
+fn kern_subtable(subtable: Subtable<'_>, mask: hb_mask_t, buffer: &mut hb_buffer_t)
+    requires { IsRead subtable }
+    ensures made { buffer.new
+        ≡ subtable_kerned subtable.entry.kern.now subtable.entry.start mask buffer.old }
     ensures len { length buffer.new.items ≡ length buffer.old.items }
     ensures limit { limit_of buffer.new ≡ limit_of buffer.old }
 {
-    if !is_read(kern, start, buffer.direction().is_horizontal()) {
+    let horizontal = buffer.direction().is_horizontal();
+    if !is_read(subtable.kern, subtable.start, horizontal) {
         return;
     }
     if buffer.direction().is_backward() {
         buffer.reverse();
-        kern_all(kern, start, mask, buffer);
+        kern_each(subtable, mask, buffer);
         buffer.reverse();
     } else {
-        kern_all(kern, start, mask, buffer);
+        kern_each(subtable, mask, buffer);
     }
+}
+
+/// What is stored of the subtable that begins at `start`, if this is stored of the first one.
+fn sides_at(start: usize, first: Sides<'_>) -> Sides<'_>
+    ensures { (t : List ℕ) → HoldSides t 4 first.entry.lefts.now first.entry.rights.now
+        → HoldSides t start result.lefts.now result.rights.now }
+{
+    if start == 4 { first } else { Sides::none() }
 }
 
 /// Kerns a buffer by all subtables of the table that are read, in order, if the mask isn't 0. A subtable that
 /// says that it is shorter than its header ends the table. Takes no memory.
-#[tactic(auto, using(crate::proofs::SubtableLemmas::kerned_from_next, crate::proofs::SubtableLemmas::kerned_from_short, crate::proofs::SubtableLemmas::kerned_from_end))]
 pub fn kern_table(kern: &[u8], mask: hb_mask_t, buffer: &mut hb_buffer_t)
+    ensures made { buffer.new ≡ table_kerned kern.now mask buffer.old }
+    ensures len { length buffer.new.items ≡ length buffer.old.items }
+    ensures limit { limit_of buffer.new ≡ limit_of buffer.old }
+{
+    kern_table_by(kern, Sides::none(), mask, buffer);
+}
+
+/// The same, where this is stored of the first subtable ([`PairGlyphs`](crate::PairGlyphs)): two glyphs of which one has no
+/// pair take a few instructions.
+#[tactic(auto, using(crate::proofs::SubtableLemmas::kerned_from_next, crate::proofs::SubtableLemmas::kerned_from_short, crate::proofs::SubtableLemmas::kerned_from_end))]
+pub fn kern_table_by(kern: &[u8], first: Sides<'_>, mask: hb_mask_t, buffer: &mut hb_buffer_t)
+    requires { HoldSides kern.now 4 first.lefts.now first.rights.now }
     ensures made { buffer.new ≡ table_kerned kern.now mask buffer.old }
     ensures len { length buffer.new.items ≡ length buffer.old.items }
     ensures limit { limit_of buffer.new ≡ limit_of buffer.old }
@@ -66,7 +90,8 @@ pub fn kern_table(kern: &[u8], mask: hb_mask_t, buffer: &mut hb_buffer_t)
         if len < 6 {
             return;
         }
-        kern_subtable(kern, start, mask, buffer);
+        let subtable = read_subtable(kern, start, sides_at(start, first));
+        kern_subtable(subtable, mask, buffer);
         start += usize::from(len);
     }
 }

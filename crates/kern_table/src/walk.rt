@@ -10,6 +10,7 @@ ghost use Rattle.kern_table.specs.Pairs.{IsRead};
 ghost use Rattle.kern_table.specs.Walk.{is_skipped as is_skipped_of, moved_on as moved_on_of, moved as moved_of, position_at, position_put, pair_moved, pair_kerned, kerned_at, left_after, kerned as kerned_of};
 
 use crate::pairs::{Subtable, pair_value, read_subtable};
+use crate::sides::Sides;
 use bitflags::Flags;
 use shape_buffer::buffer::{
     GlyphPosition, GlyphPropsFlags, hb_buffer_t, hb_glyph_info_t, hb_mask_t,
@@ -148,20 +149,29 @@ fn kern_at(
     Some(j)
 }
 
-/// Kerns a buffer from left to right by the subtable of the table that begins at `start`: each glyph for which kerning
+/// Kerns a buffer from left to right by a subtable whose head was read: each glyph for which kerning
 /// is on with the next one for which it is, if only glyphs that are skipped stand between them. Takes no
 /// memory, and a step for each glyph.
 #[tactic(auto, using(crate::specs::CountLaws::length_concat, crate::specs::CountLaws::limit_concat, crate::proofs::SubtableLemmas::kerned_to_next_buffer, crate::proofs::SubtableLemmas::kerned_to_next_left))]
+pub(crate) fn kern_each(subtable: Subtable<'_>, mask: hb_mask_t, buffer: &mut hb_buffer_t)
+    requires { IsRead subtable }
+    ensures made { buffer.new ≡ kerned_of subtable.entry.kern.now subtable.entry.start mask buffer.old }
+    ensures len { length buffer.new.items ≡ length buffer.old.items }
+    ensures limit { limit_of buffer.new ≡ limit_of buffer.old }
+{
+    buffer.unsafe_to_concat(0, buffer.len());
+    let mut left = None;
+    for j in 0..buffer.len() {
+        left = kern_at(subtable, mask, buffer, j, left);
+    }
+}
+
+/// Kerns a buffer from left to right by the subtable of the table that begins at `start`, of which nothing is stored.
 pub fn kern_all(kern: &[u8], start: usize, mask: hb_mask_t, buffer: &mut hb_buffer_t)
     requires { start < 2 ^ 34 }
     ensures made { buffer.new ≡ kerned_of kern.now start mask buffer.old }
     ensures len { length buffer.new.items ≡ length buffer.old.items }
     ensures limit { limit_of buffer.new ≡ limit_of buffer.old }
 {
-    buffer.unsafe_to_concat(0, buffer.len());
-    let subtable = read_subtable(kern, start);
-    let mut left = None;
-    for j in 0..buffer.len() {
-        left = kern_at(subtable, mask, buffer, j, left);
-    }
+    kern_each(read_subtable(kern, start, Sides::none()), mask, buffer);
 }

@@ -1,5 +1,5 @@
 -- what pages and their index make together
-use Rattle.std.proofs.Common.{◌≡◌, ◌<◌, ◌≤◌, ◌+◌, ◌*◌, ◌/◌, ◌%◌, ℕ, List, length, slice_index, ◌∙◌, ap, arith}
+use Rattle.std.proofs.Common.{◌≡◌, ◌<◌, ◌+◌, ◌*◌, ◌/◌, ◌%◌, ℕ, List, length, slice_index, ◌∙◌, ap, arith}
 use Rattle.shape_font.specs.Cmap.{mapped_glyph}
 use Rattle.shape_font.specs.declared.face.FontFace.{FontFace}
 use Rattle.opened_face.specs.Pages.{IsIndexOf, glyph_in, AreGlyphsOf, AreStored}

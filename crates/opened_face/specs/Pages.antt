@@ -1,5 +1,7 @@
 -- what an opened face stores
 use Rattle.std.specs.Prelude.{◌≡◌, ◌<◌, ◌≤◌, ℕ, ℤ, pos, List, ◌+◌, ◌*◌, ◌/◌, ◌%◌, length, slice_index, slice_index_or}
+use Rattle.kern_table.specs.Sides.{HoldPairs}
+use Rattle.kern_table.specs.declared.sides.PairGlyphs.{PairGlyphs}
 use Rattle.shape_font.specs.Cmap.{mapped_glyph}
 use Rattle.shape_font.specs.Face.{h_advance_of}
 use Rattle.shape_font.specs.declared.face.FontFace.{FontFace}
@@ -27,10 +29,13 @@ abbrev pub AreAdvances : FontFace → List ℤ → Type 0
 AreAdvances f advances = (g : ℕ) → g < length advances
     → slice_index_or advances g (pos 0) ≡ h_advance_of f (record { 0 = g })
 
-pub record IsOpened (f : FontFace) (index glyphs : List ℕ) (advances : List ℤ) : Type 0 where
+pub record IsOpened (f : FontFace) (index glyphs : List ℕ) (advances : List ℤ) (pairs : PairGlyphs) : Type 0 where
   pub stored : AreStored f index glyphs
   pub advanced : AreAdvances f advances
-  -- 512 pages of 256 glyphs at most, those of Unicode, and the advances of 65,535 glyphs at most
+  pub paired : HoldPairs f.kern.now pairs
+  -- 512 pages of 256 glyphs at most, those of Unicode, and the advances and sides of 65,535 glyphs at most
   pub few_glyphs : length glyphs ≤ 131072
   pub few_pages : length index ≤ 4352
   pub few_advances : length advances ≤ 65535
+  pub few_lefts : length pairs.lefts.items ≤ 65535
+  pub few_rights : length pairs.rights.items ≤ 65535

@@ -5,6 +5,8 @@
 ghost use Rattle.std.specs.Prelude.{◌≡◌};
 
 use crate::face::OpenedFace;
+use crate::kerning::{AsBelow, ByStoredPairs, KernsOpened};
+use kern_table::KernTable;
 use shape_buffer::buffer::{
     Feature, Language, Script, ShapeError, hb_buffer_t, hb_mask_t, hb_tag_t,
 };
@@ -13,12 +15,20 @@ use shape_font::FontFace;
 use std::alloc::Global;
 use std::marker::PhantomData;
 
-/// The engine `M` over faces that are opened once.
-pub struct OverOpened<M> {
+/// The engine `M` over faces that are opened once, which kerns in the way `K`.
+pub struct OverOpenedBy<M, K> {
     engine: PhantomData<M>,
+    kerning: PhantomData<K>,
 }
 
-impl<'a, M: hb_ot_layout_t<FontFace<'a>>> hb_ot_layout_t<OpenedFace<'a>> for OverOpened<M> {
+/// The engine `M` over faces that are opened once.
+pub type OverOpened<M> = OverOpenedBy<M, AsBelow>;
+
+/// The engine `KernTable` over faces that are opened once: it seeks no pair of which one glyph has none.
+pub type OpenedKernTable = OverOpenedBy<KernTable, ByStoredPairs>;
+
+impl<'a, M: hb_ot_layout_t<FontFace<'a>>, K: KernsOpened<'a, M>> hb_ot_layout_t<OpenedFace<'a>>
+    for OverOpenedBy<M, K> {
     type Map = M::Map;
 
     ghost layout = { M.layout };
@@ -153,7 +163,7 @@ impl<'a, M: hb_ot_layout_t<FontFace<'a>>> hb_ot_layout_t<OpenedFace<'a>> for Ove
         face: &OpenedFace<'a>,
         buffer: &mut hb_buffer_t,
     ) -> Result<(), ShapeError> {
-        M::kern(alloc, kern_mask, face.face(), buffer)
+        K::kern(alloc, kern_mask, face, buffer)
     }
 
     ghost lawful_masks = { M.lawful_masks };

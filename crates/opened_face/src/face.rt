@@ -1,9 +1,11 @@
 //! The face that is opened once.
 ghost use Rattle.std.specs.Prelude.{◌≡◌, ◌<◌, IfOk, IsOkUnless};
+ghost use Rattle.kern_table.specs.Pairs.{HoldSides};
 ghost use Rattle.shape_font.specs.Face.{font_face, numbered as numbered_of, glyph_of, h_advance_of};
 
 use crate::advances::advances_of;
 use crate::pages::{glyphs_of, index_of, listed_pages};
+use kern_table::{PairGlyphs, Sides};
 use shape_buffer::{GlyphId, ShapeError, hb_font_t, hb_glyph_extents_t, hb_tables_t};
 use shape_font::FontFace;
 use std::alloc::Global;
@@ -13,13 +15,14 @@ use std::marker::Model;
 /// see it as that face.
 ///
 /// The tables take 8,704 bytes, 1,024 for each page of 256 characters that `cmap` lists (at most 512 pages),
-/// and four for each glyph: less than a megabyte for any font.
+/// and six for each glyph: less than a megabyte for any font.
 #[derive(Drop)]
 pub struct OpenedFace<'a> {
     face: FontFace<'a>,
     index: Vec<u16>,
     glyphs: Vec<u32>,
     advances: Vec<i32>,
+    pairs: PairGlyphs,
 }
 
 impl<'a> Model for OpenedFace<'a> {
@@ -30,7 +33,7 @@ impl<'a> Model for OpenedFace<'a> {
 
     ghost view = { λ o. o.face };
 
-    ghost invariant = { λ o. IsOpened o.face o.index.items o.glyphs.items o.advances.items };
+    ghost invariant = { λ o. IsOpened o.face o.index.items o.glyphs.items o.advances.items o.pairs };
 }
 
 /// The glyph with this number; 0 is none.
@@ -45,8 +48,8 @@ fn numbered(glyph: u32) -> Option<GlyphId>
 }
 
 impl<'a> OpenedFace<'a> {
-    /// Opens a face: stores the pages of its character map and its advances. Refuses with `Memory` if a growth was
-    /// refused.
+    /// Opens a face: stores the pages of its character map, its advances, and which glyphs stand in pairs of `kern`. Refuses
+    /// with `Memory` if a growth was refused.
     #[tactic(auto, using(crate::proofs::PageLemmas::stored))]
     pub fn new(alloc: Global, face: FontFace<'a>) -> Result<OpenedFace<'a>, ShapeError>
         ensures ok { IfOk result (λ opened. opened ≡ face.entry) }
@@ -56,11 +59,13 @@ impl<'a> OpenedFace<'a> {
         let index = index_of(alloc, &pages)?;
         let glyphs = glyphs_of(alloc, &face, &pages)?;
         let advances = advances_of(alloc, &face)?;
+        let pairs = PairGlyphs::new(alloc, face.kern_table(), face.glyph_count())?;
         Ok(OpenedFace {
             face,
             index,
             glyphs,
             advances,
+            pairs,
         })
     }
 
@@ -69,6 +74,13 @@ impl<'a> OpenedFace<'a> {
         ensures { result.now ≡ self.now }
     {
         &self.face
+    }
+
+    /// Which glyphs stand in pairs of the first subtable of `kern`.
+    pub fn pair_sides(&self) -> Sides<'_>
+        ensures { HoldSides self.now.kern.now 4 result.lefts.now result.rights.now }
+    {
+        self.pairs.sides()
     }
 
     /// The glyph of a character: from its page, or by a search if its page isn't stored.

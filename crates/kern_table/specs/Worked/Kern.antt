@@ -16,6 +16,7 @@ use Rattle.shape_font.specs.Bytes.{i16_of}
 use Rattle.kern_table.specs.Map.{map_of, kern_masks}
 use Rattle.kern_table.specs.Pairs.{value_of}
 use Rattle.kern_table.specs.Tables.{subtable_count_of, is_read, subtable_kerned, table_kerned}
+use Rattle.kern_table.specs.Sides.{glyph_of_pair}
 use Rattle.kern_table.specs.Walk.{left_after, kerned}
 
 -- a subtable of format 0, of this length and coverage, that states so many pairs and has room for two: glyphs 2 and 3 by
@@ -127,6 +128,11 @@ pub record WorkedValues : Type 0 where
   pub many_pairs : value_of (0 ∷ 0 ∷ 0 ∷ 1 ∷ 0 ∷ 0 ∷ 0 ∷ 20 ∷ 0 ∷ 1 ∷ 1 ∷ 0 ∷ 0 ∷ 0 ∷ 0 ∷ 0 ∷ 0 ∷ 0
       ∷ 0 ∷ 2 ∷ 0 ∷ 3 ∷ 0xFF ∷ 0xCE ∷ []) 4 2 3 ≡ negsuc 49
 
+  pub at_the_left : glyph_of_pair (table 1 1) 4 true 0 ≡ 2
+  pub at_the_right : glyph_of_pair (table 1 1) 4 false 0 ≡ 3
+  pub at_the_left_of_the_second : glyph_of_pair (table 1 1) 4 true 1 ≡ 3
+  pub at_the_right_of_the_second : glyph_of_pair (table 1 1) 4 false 1 ≡ 2
+
 pub worked_values : WorkedValues
 unfolding i16_of
 worked_values = record {
@@ -151,6 +157,10 @@ worked_values = record {
   format_1 = refl;
   many_subtables = refl;
   many_pairs = refl;
+  at_the_left = refl;
+  at_the_right = refl;
+  at_the_left_of_the_second = refl;
+  at_the_right_of_the_second = refl;
 }
 
 -- an item with a glyph, for which kerning is on (bit 4) or off

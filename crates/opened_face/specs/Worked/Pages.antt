@@ -1,7 +1,8 @@
 -- What an opened face stores, on tables that were read by hand.
 use Rattle.std.specs.Prelude.{◌≡◌, ◌<◌, ◌≤◌, ℕ, ℤ, pos, List, [], ◌∷◌, length, slice_index, slice_index_or, false, refl}
 use Rattle.std.proofs.Common.{lit<, ◌∙◌}
-use Rattle.shape_font.specs.Worked.Glyphs.{words, short_list, long_list}
+use Rattle.kern_table.specs.declared.sides.PairGlyphs.{PairGlyphs}
+use Rattle.shape_font.specs.Worked.Glyphs.{words, short_list}
 use Rattle.shape_font.specs.declared.face.FontFace.{FontFace}
 use Rattle.opened_face.specs.Pages.{IsIndexOf, glyph_in, AreGlyphsOf, AreStored, AreAdvances, IsOpened}
 
@@ -21,9 +22,13 @@ pub record WorkedPages : Type 0 where
       → f.hmtx.now ≡ words (500 ∷ 50 ∷ 600 ∷ 60 ∷ []) → AreAdvances f advances → 6 < length advances
       → slice_index_or advances 6 (pos 0) ≡ pos 600
   -- 512 pages of 256 glyphs, the 4352 pages of Unicode, and an advance for each glyph that has a number of 16 bits but the last
-  pub most_glyphs : (f : FontFace) (index glyphs : List ℕ) (advances : List ℤ) → IsOpened f index glyphs advances → length glyphs ≤ 131072
-  pub most_pages : (f : FontFace) (index glyphs : List ℕ) (advances : List ℤ) → IsOpened f index glyphs advances → length index ≤ 4352
-  pub most_advances : (f : FontFace) (index glyphs : List ℕ) (advances : List ℤ) → IsOpened f index glyphs advances → length advances ≤ 65535
+  pub most_glyphs : (f : FontFace) (index glyphs : List ℕ) (advances : List ℤ) (pairs : PairGlyphs) → IsOpened f index glyphs advances pairs → length glyphs ≤ 131072
+  pub most_pages : (f : FontFace) (index glyphs : List ℕ) (advances : List ℤ) (pairs : PairGlyphs) → IsOpened f index glyphs advances pairs → length index ≤ 4352
+  pub most_advances : (f : FontFace) (index glyphs : List ℕ) (advances : List ℤ) (pairs : PairGlyphs) → IsOpened f index glyphs advances pairs → length advances ≤ 65535
+  pub most_lefts : (f : FontFace) (index glyphs : List ℕ) (advances : List ℤ) (pairs : PairGlyphs) → IsOpened f index glyphs advances pairs
+      → length pairs.lefts.items ≤ 65535
+  pub most_rights : (f : FontFace) (index glyphs : List ℕ) (advances : List ℤ) (pairs : PairGlyphs) → IsOpened f index glyphs advances pairs
+      → length pairs.rights.items ≤ 65535
 
 pub worked_pages : WorkedPages
 unfolding glyph_in
@@ -33,7 +38,9 @@ worked_pages = record {
   found = λ f glyphs s c h inside. h 0x41 (lit< tt) inside ∙ rw (s, c) refl;
   found_in_page_1 = λ f glyphs s c h inside. h 0x141 (lit< tt) inside ∙ rw (s, c) refl;
   advance = λ f advances e n t h inside. h 6 inside ∙ rw (e, n, t) refl;
-  most_glyphs = λ f index glyphs advances is. is.few_glyphs;
-  most_pages = λ f index glyphs advances is. is.few_pages;
-  most_advances = λ f index glyphs advances is. is.few_advances;
+  most_glyphs = λ f index glyphs advances pairs is. is.few_glyphs;
+  most_pages = λ f index glyphs advances pairs is. is.few_pages;
+  most_advances = λ f index glyphs advances pairs is. is.few_advances;
+  most_lefts = λ f index glyphs advances pairs is. is.few_lefts;
+  most_rights = λ f index glyphs advances pairs is. is.few_rights;
 }

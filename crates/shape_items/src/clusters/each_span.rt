@@ -114,7 +114,7 @@ fn ends_grapheme(infos: &[hb_glyph_info_t], end: usize) -> bool
     end == infos.len() || !infos[end]._hb_glyph_info_get_continuation()
 }
 
-/// Merges each grapheme, in order. `starts` has room for a number for each item.
+/// Merges each grapheme, in order; one of a single item is passed over. `starts` has room for a number for each item.
 pub fn merge_graphemes(infos: &mut [hb_glyph_info_t], starts: &mut [usize])
     requires { length infos.old ≤ length starts.old }
     ensures merged { infos.new ≡ merge_each_of (grapheme_spans infos.old) infos.old }
@@ -126,9 +126,11 @@ pub fn merge_graphemes(infos: &mut [hb_glyph_info_t], starts: &mut [usize])
     for last in 0..infos.len() {
         let end = last + 1;
         if ends_grapheme(infos, end) {
-            runs = open_runs(infos, starts, runs, kept, start);
-            runs = merge_after(infos, &starts[..runs], start, end);
-            kept = start;
+            if start < last {
+                runs = open_runs(infos, starts, runs, kept, start);
+                runs = merge_after(infos, &starts[..runs], start, end);
+                kept = start;
+            }
             start = end;
         }
     }

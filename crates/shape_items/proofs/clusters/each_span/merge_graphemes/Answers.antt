@@ -3,12 +3,13 @@ use Rattle.std.proofs.lemmas.List.{take-take, length-take-le, length-map, drop_a
 use Rattle.shape_items.specs.Clusters.{merge}
 use Rattle.shape_items.specs.GraphemeSpans.{is_continuation, ends}
 use Rattle.shape_items.specs.Unwritten.{StandsFor}
+use Rattle.shape_items.proofs.Merging.ClusterLemmas.{merge_short}
 use Rattle.shape_items.proofs.MergingInOrder.GraphemeWalkLemmas.{walk-spans, walk_ends, walk_goes_on, left_to_do, merged-continuations}
 use Rattle.shape_items.proofs.MergingInOrder.StandingLemmas.{front-longer}
 use Rattle.shape_items.proofs.Unwritten.GivenLemmas.{length-given}
 use Rattle.shape_items.proofs.Unwritten.UnwrittenLemmas.{StandsFor-none}
 use Rattle.shape_items.proofs.clusters.each_span.merge_graphemes.Goals as goal
-use Rattle.shape_items.proofs.clusters.each_span.merge_graphemes.Goals.{then-ends_grapheme, else-ends_grapheme}
+use Rattle.shape_items.proofs.clusters.each_span.merge_graphemes.Goals.{then-ends_grapheme+then-start-last, then-ends_grapheme+else-start-last, else-ends_grapheme}
 
 pub loop-last-init : goal.loop-last-init
 loop-last-init c =
@@ -45,7 +46,7 @@ loop-last-preserved c =
     sym (c.ends_grapheme.ensures ∙ ap ends (sym (drop-map is_continuation (last + 1) xs) ∙ further)) in
     let inside : last < length bits = rw (length-map c.args.infos.now is_continuation) (omega (arith, so_far.as_many)) in
     elim c.if-ends_grapheme.branch [
-      | then-ends_grapheme w ↦
+      | then-ends_grapheme+then-start-last w ↦
           let new = w.merge_after-runs.new.infos in
           let starts = w.open_runs-runs.new.starts in
           let opened = w.open_runs-runs.ensures.stands given so_far.left.1 in
@@ -73,6 +74,23 @@ loop-last-preserved c =
               merged.0,
               subst (λ z. StandsFor (take start new) z merged.0) fewer merged.1,
               ap (left_to_do merge (last + 1) (last + 1) (drop (last + 1) bits)) made
+                  ∙ walk_ends merge start last bits (given ++ drop kept xs) inside (told ∙ w.if-ends_grapheme.true) ∙ so_far.left.2,
+            );
+          })
+      | then-ends_grapheme+else-start-last w ↦
+          let alone : merge start (last + 1) (given ++ drop kept xs) ≡ given ++ drop kept xs =
+          merge_short start (last + 1) (given ++ drop kept xs) (grind (arith, w.if-start-last.false)) in
+          rw (w.infos-is, w.starts-is, w.kept-is, w.runs-is, w.start-is) (record {
+            runs = so_far.runs;
+            within = omega (arith, so_far.within, so_far.ordered);
+            ordered = omega arith;
+            as_many = so_far.as_many;
+            room = so_far.room;
+            bits = further;
+            left = (
+              given,
+              so_far.left.1,
+              ap (left_to_do merge (last + 1) (last + 1) (drop (last + 1) bits)) (sym alone)
                   ∙ walk_ends merge start last bits (given ++ drop kept xs) inside (told ∙ w.if-ends_grapheme.true) ∙ so_far.left.2,
             );
           })

@@ -1,7 +1,7 @@
 use Rattle.std.proofs.Common.{◌≡◌, ◌+◌, ◌-◌, ◌*◌, ◌≤◌, length}
 use Rattle.shape_items.specs.Buffer.{limit_of}
 use Rattle.kern_table.specs.Tables.{subtable_count_of, kerned_from}
-use Rattle.kern_table.proofs.tables.kern_table.Given as goal
+use Rattle.kern_table.proofs.tables.kern_table_by.Given as goal
 
 -- what the subtables from here on make of the buffer is what all make of the first one
 abbrev pub invariant-loop-i : goal.invariant-loop-i
