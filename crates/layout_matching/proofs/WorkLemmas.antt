@@ -9,7 +9,7 @@ use Rattle.layout_tables.specs.declared.lookups.LookupSubtable.{LookupSubtable}
 use Rattle.layout_matching.specs.Found.{is_chained, is_context_subtable, whole_rule, is_first, number_of}
 use Rattle.layout_matching.specs.Loops.{steps}
 use Rattle.layout_matching.specs.Skipping.{nth}
-use Rattle.layout_matching.specs.Work.{is_whole, whole_charged, numbered_charged, subtable_charged, charged_at_subtable, lookup_charged}
+use Rattle.layout_matching.specs.Work.{is_whole, whole_charged, numbered_charged, subtable_charged, charged_at_subtable, is_plain, subtables_charged, lookup_charged}
 use Rattle.layout_matching.specs.declared.lookup.Lookup.{Lookup}
 
 pub steps_still : {S : Type 0} (f : ℕ → S → Option S) (s : S) (n k : ℕ) → ((i : ℕ) → k ≤ i → i < k + n → f i s ≡ Some s)
@@ -51,9 +51,15 @@ subtable_free l items at left subtable =
     by_kind false true first o x not = by_number o not
     by_kind false false first o x not = by_number o not
 
+pub plain_free : (l : Lookup) (items : List Item) (at left : ℕ) (plain : Bool)
+    → subtables_charged l items at left ≡ Some left → (if plain then Some left else subtables_charged l items at left) ≡ Some left
+plain_free l items at left true free = refl
+plain_free l items at left false free = free
+
 pub lookup_free : (l : Lookup) (items : List Item) (at left : ℕ)
     → ((i : ℕ) → i < subtable_count_of l.table.now l.place → charged_at_subtable l items at i left ≡ Some left)
     → lookup_charged l items at left ≡ Some left
 lookup_free l items at left each =
-    steps_still (charged_at_subtable l items at) left (subtable_count_of l.table.now l.place) 0
-    (λ i from below. each i (omega (arith, below)))
+    plain_free l items at left (is_plain l)
+    (steps_still (charged_at_subtable l items at) left (subtable_count_of l.table.now l.place) 0
+    (λ i from below. each i (omega (arith, below))))

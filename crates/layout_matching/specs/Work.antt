@@ -6,9 +6,9 @@ use Rattle.shape_font.specs.Bytes.{u16_of, fitting}
 use Rattle.shape_font.specs.Search.{first_at}
 use Rattle.shape_items.specs.Buffer.{most_countable}
 use Rattle.shape_items.specs.Items.{Item}
-use Rattle.layout_tables.specs.Lookups.{subtable_count_of}
+use Rattle.layout_tables.specs.Lookups.{lookup_type_of, subtable_count_of}
 use Rattle.layout_tables.specs.declared.lookups.LookupSubtable.{LookupSubtable}
-use Rattle.layout_matching.specs.Found.{is_chained, is_context_subtable, whole_rule, is_first, set_for, rule_of, number_of, subtable_at}
+use Rattle.layout_matching.specs.Found.{is_chained, is_context, is_context_subtable, whole_rule, is_first, set_for, rule_of, number_of, subtable_at}
 use Rattle.layout_matching.specs.Loops.{steps}
 use Rattle.layout_matching.specs.Rules.{rules_at, row, rule_place}
 use Rattle.layout_matching.specs.Skipping.{nth, is_skipped, is_transparent}
@@ -162,9 +162,23 @@ charged_at_subtable l items at i left = option_map_or (subtable_charged l items 
 
 -- ---- lookups
 
+-- whether no subtable has rules or ligatures, or marks a whole list, by the type of the lookup: in `GPOS` all but context, in
+-- `GSUB` kinds 1 and 2, and 3 if it isn't at random
+abbrev pub is_plain : Lookup → Bool
+is_plain l = let type = lookup_type_of l.table.now l.place in
+    (if l.positioning then not (is_context l) else nat_eq type 1 || nat_eq type 2 || (nat_eq type 3 && not l.random))
+
 -- the subtables that begin with the glyph at a place; none if what is left doesn't suffice for all of them
+abbrev pub subtables_charged : Lookup → List Item → ℕ → ℕ → Option ℕ
+subtables_charged l items at left = steps (charged_at_subtable l items at) (subtable_count_of l.table.now l.place) 0 left
+
+-- a plain lookup is paid by the walk over a list, or where a rule names it
 abbrev pub lookup_charged : Lookup → List Item → ℕ → ℕ → Option ℕ
-lookup_charged l items at left = steps (charged_at_subtable l items at) (subtable_count_of l.table.now l.place) 0 left
+lookup_charged l items at left = if is_plain l then Some left else subtables_charged l items at left
+
+-- what each of the subtables costs at each item of a list, whether it begins there or not
+abbrev pub step_work : Lookup → ℕ
+step_work l = if is_plain l then SUBTABLE_WORK else 1
 
 abbrev pub NESTED_WORK : ℕ
 NESTED_WORK = 32
@@ -172,15 +186,15 @@ NESTED_WORK = 32
 -- a lookup that a rule names is charged for all of its subtables
 abbrev pub nested_charged : Lookup → List Item → ℕ → ℕ → Option ℕ
 nested_charged l items at left =
-    option_and_then (lookup_charged l items at) (charged (subtable_count_of l.table.now l.place + NESTED_WORK) left)
+    option_and_then (lookup_charged l items at) (charged (subtable_count_of l.table.now l.place * step_work l + NESTED_WORK) left)
 
 -- one that goes over a list, for each of its subtables at each item
 abbrev pub walk_work : Lookup → ℕ → ℕ
-walk_work l count = min (count * subtable_count_of l.table.now l.place) most_countable
+walk_work l count = min (count * (subtable_count_of l.table.now l.place * step_work l)) most_countable
 
 -- so much for each item of a list, and so much at least
 abbrev pub WORK_FACTOR : ℕ
-WORK_FACTOR = 65536
+WORK_FACTOR = 32768
 
 abbrev pub WORK_MIN : ℕ
 WORK_MIN = 1048576

@@ -3,29 +3,31 @@
 //! Parts of a table may be shared, so that a small font names very many. Each subtable that begins with the glyph is charged for,
 //! with the rules or ligatures of its set: one for each glyph that they name, and for each that is passed over beside the place.
 //! A lookup is tried only if what is left of a count suffices for all of them; nothing is read that isn't paid for.
-ghost use Rattle.std.specs.Prelude.{◌≡◌, ◌<◌, ◌^◌, length};
+ghost use Rattle.std.specs.Prelude.{◌≡◌, ◌<◌, ◌*◌, ◌^◌, length};
 ghost use Rattle.std.specs.Option.{IfSome};
-ghost use Rattle.layout_matching.specs.Work.{charged as charged_of, passed_charged as passed_charged_of, rule_charged as rule_charged_of, part_rule as part_rule_of, part_counted as part_counted_of, set_counted as set_counted_of, set_charged as set_charged_of, is_backward as is_backward_of, is_ligature as is_ligature_of, parts_for as parts_for_of, whole_list as whole_list_of, begun_charged as begun_charged_of, parts_charged as parts_charged_of, numbered_charged as numbered_charged_of, whole_charged as whole_charged_of, is_whole as is_whole_of, subtable_charged as subtable_charged_of, charged_at_subtable as charged_at_subtable_of, lookup_charged as lookup_charged_of, nested_charged as nested_charged_of, walk_work as walk_work_of, most_work as most_work_of};
+ghost use Rattle.layout_tables.specs.Lookups.{subtable_count_of};
+ghost use Rattle.layout_matching.specs.Work.{charged as charged_of, passed_charged as passed_charged_of, rule_charged as rule_charged_of, part_rule as part_rule_of, part_counted as part_counted_of, set_counted as set_counted_of, set_charged as set_charged_of, is_backward as is_backward_of, is_ligature as is_ligature_of, parts_for as parts_for_of, whole_list as whole_list_of, begun_charged as begun_charged_of, parts_charged as parts_charged_of, numbered_charged as numbered_charged_of, whole_charged as whole_charged_of, is_whole as is_whole_of, subtable_charged as subtable_charged_of, charged_at_subtable as charged_at_subtable_of, is_plain as is_plain_of, subtables_charged as subtables_charged_of, lookup_charged as lookup_charged_of, step_work as step_work_of, nested_charged as nested_charged_of, walk_work as walk_work_of, most_work as most_work_of};
 
 use crate::found::{
-    is_chained, is_context_subtable, is_first, number_in, rule_by, set_for, subtable_at, whole_rule,
+    is_chained, is_context, is_context_subtable, is_first, number_in, rule_by, set_for,
+    subtable_at, whole_rule,
 };
 use crate::lookup::Lookup;
 use crate::passing::{passed_after, passed_before};
 use crate::rules::{Rule, rule_at, rules};
 use crate::tally::{Tally, backward_rule, ligature_rule, null_counted, rule_counted, uncounted};
 use layout_buffer::ItemList;
-use layout_tables::lookups::{LookupSubtable, subtable_count};
+use layout_tables::lookups::{LookupSubtable, lookup_type, subtable_count};
 use shape_font::bytes::{records, u16_at};
 
-/// What a subtable costs that begins with the glyph at the place.
+/// What a subtable costs that begins with the glyph at the place, and at each item one of a plain lookup.
 const SUBTABLE_WORK: usize = 8;
 
 /// What a lookup costs that a rule names.
 const NESTED_WORK: usize = 32;
 
 /// How much may be asked for in a stage for each item that it begins with.
-const WORK_FACTOR: usize = 65536;
+const WORK_FACTOR: usize = 32768;
 
 /// How much may be, however few items there are.
 const WORK_MIN: usize = 1_048_576;
@@ -322,8 +324,46 @@ fn charged_at_subtable(
     }
 }
 
-/// What is left after the lookup was charged for the subtables that begin with the glyph at a place; none if it doesn't suffice.
+/// Whether no subtable of the lookup has rules or ligatures, nor marks a whole list, by the lookup's type: in `GPOS` all but
+/// context, in `GSUB` kinds 1 and 2, and 3 if it isn't at random.
+fn is_plain(lookup: &Lookup<'_>) -> bool
+    requires { lookup.now.place < 2 ^ 17 }
+    ensures { result ≡ is_plain_of lookup.now }
+{
+    if lookup.positioning {
+        return !is_context(lookup);
+    }
+    match lookup_type(lookup.table, lookup.place) {
+        1 | 2 => true,
+        3 => !lookup.random,
+        _ => false,
+    }
+}
+
+/// What is left after all subtables that begin with the glyph at a place.
 #[tactic(auto, using(crate::proofs::LoopLemmas::steps_next, crate::proofs::LoopLemmas::steps_none, crate::proofs::LoopLemmas::steps_end))]
+fn subtables_charged(
+    lookup: &Lookup<'_>,
+    items: &ItemList<'_>,
+    at: usize,
+    left: usize,
+) -> Option<usize>
+    requires near { lookup.now.place < 2 ^ 17 }
+    requires inside { at < length items.now }
+    ensures { result ≡ subtables_charged_of lookup.now items.now at left }
+{
+    let mut left = left;
+    for i in 0..subtable_count(lookup.table, lookup.place) {
+        match charged_at_subtable(lookup, items, at, i, left) {
+            Some(less) => left = less,
+            None => return None,
+        }
+    }
+    Some(left)
+}
+
+/// What is left after the lookup was charged for the subtables that begin with the glyph at a place; none if it doesn't suffice.
+/// One without rules and ligatures is paid by the walk over the list, or where a rule names it.
 pub fn lookup_charged(
     lookup: &Lookup<'_>,
     items: &ItemList<'_>,
@@ -334,14 +374,25 @@ pub fn lookup_charged(
     requires inside { at < length items.now }
     ensures { result ≡ lookup_charged_of lookup.now items.now at left }
 {
-    let mut left = left;
-    for i in 0..subtable_count(lookup.table, lookup.place) {
-        match charged_at_subtable(lookup, items, at, i, left) {
-            Some(less) => left = less,
-            None => return None,
-        }
+    if is_plain(lookup) {
+        Some(left)
+    } else {
+        subtables_charged(lookup, items, at, left)
     }
-    Some(left)
+}
+
+/// What the subtables of the lookup cost at each item of a list, whether they begin there or not.
+fn step_work(lookup: &Lookup<'_>) -> usize
+    requires { lookup.now.place < 2 ^ 17 }
+    ensures value { result ≡ subtable_count_of lookup.now.table.now lookup.now.place * step_work_of lookup.now }
+    ensures near { result < 2 ^ 20 }
+{
+    let count = subtable_count(lookup.table, lookup.place) as usize;
+    if is_plain(lookup) {
+        count * SUBTABLE_WORK
+    } else {
+        count
+    }
 }
 
 /// What is left after a lookup that a rule names was charged for all of its subtables, and for those that begin with the glyph.
@@ -355,8 +406,7 @@ pub fn nested_charged(
     requires inside { at < length items.now }
     ensures { result ≡ nested_charged_of lookup.now items.now at left }
 {
-    let count = subtable_count(lookup.table, lookup.place) as usize;
-    match charged(count + NESTED_WORK, left) {
+    match charged(step_work(lookup) + NESTED_WORK, left) {
         Some(left) => lookup_charged(lookup, items, at, left),
         None => None,
     }
@@ -367,7 +417,7 @@ pub fn walk_work(lookup: &Lookup<'_>, count: usize) -> usize
     requires { lookup.now.place < 2 ^ 17 }
     ensures { result ≡ walk_work_of lookup.now count }
 {
-    count.saturating_mul(subtable_count(lookup.table, lookup.place) as usize)
+    count.saturating_mul(step_work(lookup))
 }
 
 /// How much the lookups of a stage may ask for that begins with so many items: a bound on its time.

@@ -1,60 +1,78 @@
 //! Coverage tables: which glyphs a subtable is for, and the index of each.
-ghost use Rattle.std.specs.Prelude.{◌≡◌, ◌<◌, ◌+◌, ◌^◌, is_some};
+ghost use Rattle.std.specs.Prelude.{◌≡◌, ◌<◌, ◌+◌, ◌*◌, ◌^◌, is_some};
 ghost use Rattle.shape_font.specs.Bytes.{u16_of, fitting};
-ghost use Rattle.layout_tables.specs.Coverage.{side_of_listed, listed, side_of_range, ranged, index_in_range as index_in_range_of, coverage_index as coverage_index_of, covers as covers_of};
+ghost use Rattle.layout_tables.specs.Coverage.{listed, ranged, index_in_range as index_in_range_of, coverage_index as coverage_index_of, covers as covers_of};
 
 use shape_font::bytes::{records, u16_at, word};
-use shape_font::search::{found_within, side};
-use std::cmp::Ordering;
 
-/// Where a glyph stands to glyph `i` of the list. It is read behind no test.
-fn listed_side(table: &[u8], start: usize, glyph: u32, i: u32) -> Ordering
+/// Glyph `i` of the list. It is read behind no test.
+fn listed_glyph(table: &[u8], start: usize, i: u32) -> u32
     requires { i < fitting table.now (u16_of table.now (start + 2)) (start + 4) 2 }
-    ensures { result ≡ side_of_listed table.now start glyph i }
+    ensures { result ≡ u16_of table.now (start + 4 + 2 * i) }
 {
-    let there = u32::from(word(table, start + 4 + 2 * i as usize));
-    side(glyph, there, there)
+    u32::from(word(table, start + 4 + 2 * i as usize))
 }
 
 /// The index of a glyph in a list of glyphs.
+///
+/// A search of its own, as that of ranges: of `search::found_within` LLVM keeps the three answers of each step apart, which
+/// takes half of the time of layout.
+#[tactic(auto, using(crate::proofs::SearchLemmas::nowhere))]
 fn in_list(table: &[u8], start: usize, glyph: u32) -> Option<u32>
     requires { start < 2 ^ 40 }
     ensures { result ≡ listed table.now start glyph }
 {
     let count = records(table, u32::from(u16_at(table, start + 2)), start + 4, 2);
-    found_within(
-        count,
-        |i|
-            requires { i < fitting table.now (u16_of table.now (start + 2)) (start + 4) 2 }
-        { listed_side(table, start, glyph, i) },
-    )
+    let (mut from, mut end) = (0, count);
+    while from < end {
+        let middle = from + (end - from - 1) / 2;
+        let there = listed_glyph(table, start, middle);
+        if glyph < there {
+            end = middle;
+        } else if there < glyph {
+            from = middle + 1;
+        } else {
+            return Some(middle);
+        }
+    }
+    None
 }
 
-/// Where a glyph stands to range `i` of the list. It is read behind no test.
-fn range_side(table: &[u8], start: usize, glyph: u32, i: u32) -> Ordering
+/// The first glyph of range `i`. It is read behind no test.
+fn range_first(table: &[u8], start: usize, i: u32) -> u32
     requires { i < fitting table.now (u16_of table.now (start + 2)) (start + 4) 6 }
-    ensures { result ≡ side_of_range table.now start glyph i }
+    ensures { result ≡ u16_of table.now (start + 4 + 6 * i) }
 {
-    let at = start + 4 + 6 * i as usize;
-    side(
-        glyph,
-        u32::from(word(table, at)),
-        u32::from(word(table, at + 2)),
-    )
+    u32::from(word(table, start + 4 + 6 * i as usize))
+}
+
+/// The last glyph of range `i`. It is read behind no test.
+fn range_last(table: &[u8], start: usize, i: u32) -> u32
+    requires { i < fitting table.now (u16_of table.now (start + 2)) (start + 4) 6 }
+    ensures { result ≡ u16_of table.now (start + 4 + 6 * i + 2) }
+{
+    u32::from(word(table, start + 4 + 6 * i as usize + 2))
 }
 
 /// The range that holds a glyph: coverage and classes of format 2 have ranges of the same layout.
+#[tactic(auto, using(crate::proofs::SearchLemmas::nowhere))]
 pub(crate) fn range(table: &[u8], start: usize, glyph: u32) -> Option<u32>
     requires { start < 2 ^ 40 }
     ensures { result ≡ ranged table.now start glyph }
 {
     let count = records(table, u32::from(u16_at(table, start + 2)), start + 4, 6);
-    found_within(
-        count,
-        |i|
-            requires { i < fitting table.now (u16_of table.now (start + 2)) (start + 4) 6 }
-        { range_side(table, start, glyph, i) },
-    )
+    let (mut from, mut end) = (0, count);
+    while from < end {
+        let middle = from + (end - from - 1) / 2;
+        if glyph < range_first(table, start, middle) {
+            end = middle;
+        } else if range_last(table, start, middle) < glyph {
+            from = middle + 1;
+        } else {
+            return Some(middle);
+        }
+    }
+    None
 }
 
 /// The index of a glyph of range `i`.

@@ -2,7 +2,7 @@
 use Rattle.std.specs.Prelude.{◌≡◌, ℕ, List, [], ◌∷◌, Some, None, true, false, refl}
 use Rattle.shape_font.specs.Worked.Glyphs.{words}
 use Rattle.shape_items.specs.Items.{Item, new_item, new_properties}
-use Rattle.layout_matching.specs.Work.{lookup_charged, nested_charged, walk_work, most_work}
+use Rattle.layout_matching.specs.Work.{is_plain, lookup_charged, nested_charged, walk_work, most_work}
 use Rattle.layout_matching.specs.declared.lookup.Lookup.{Lookup}
 
 -- three ligatures of two components that share one place, the last of them NULL
@@ -28,6 +28,21 @@ one_alternate = words (3 ∷ 8 ∷ 1 ∷ 8 ∷ 1 ∷ 8 ∷ 1 ∷ 14 ∷ 1 ∷ 1 
 abbrev pub two_subtables : List ℕ
 two_subtables = words (1 ∷ 8 ∷ 2 ∷ 10 ∷ 10 ∷ 1 ∷ 6 ∷ 3 ∷ 1 ∷ 1 ∷ 5 ∷ [])
 
+-- the same, of ligatures
+abbrev pub two_of_ligatures : List ℕ
+two_of_ligatures = words (4 ∷ 8 ∷ 2 ∷ 10 ∷ 10 ∷ 1 ∷ 8 ∷ 1 ∷ 14 ∷ 1 ∷ 1 ∷ 5 ∷ 1 ∷ 4 ∷ 50 ∷ 2 ∷ 6 ∷ [])
+
+-- an extension that stands for one of single substitution
+abbrev pub extended_single : List ℕ
+extended_single = words (7 ∷ 8 ∷ 1 ∷ 8 ∷ 1 ∷ 1 ∷ 0 ∷ 8 ∷ 1 ∷ 6 ∷ 3 ∷ 1 ∷ 1 ∷ 5 ∷ [])
+
+-- context of `GPOS`, and an extension of `GPOS` that stands for it
+abbrev pub context_of_positions : List ℕ
+context_of_positions = words (7 ∷ 8 ∷ 1 ∷ 8 ∷ 3 ∷ 2 ∷ 1 ∷ 14 ∷ 14 ∷ 0 ∷ 0 ∷ 1 ∷ 1 ∷ 5 ∷ [])
+
+abbrev pub extended_context : List ℕ
+extended_context = words (9 ∷ 8 ∷ 1 ∷ 8 ∷ 1 ∷ 7 ∷ 0 ∷ 8 ∷ 3 ∷ 2 ∷ 1 ∷ 14 ∷ 14 ∷ 0 ∷ 0 ∷ 1 ∷ 1 ∷ 5 ∷ [])
+
 -- a lookup of `GSUB` that ignores marks
 abbrev pub over_marks : Lookup → Lookup
 over_marks l = record l { place = 0; flags = 8; positioning = false; random = false }
@@ -37,6 +52,9 @@ plain glyph = record (new_item 0 0) { glyph_id = glyph }
 
 abbrev pub a_mark : Item
 a_mark = record (plain 9) { properties = record new_properties { glyph_class = record { 0 = 8 } } }
+
+abbrev pub of_positions : Lookup → Lookup
+of_positions l = record l { place = 0; flags = 8; positioning = true; random = false }
 
 -- what is left of 100 at a place
 abbrev pub Leaves : List ℕ → List Item → ℕ → ℕ → Type 0
@@ -61,15 +79,25 @@ pub record WorkedWork : Type 0 where
   pub not_its_first_glyph : Leaves one_rule (plain 6 ∷ []) 0 100
   pub backwards : Leaves backward_table (plain 5 ∷ []) 0 87
   pub back_over_a_mark : Leaves backward_table (a_mark ∷ plain 5 ∷ []) 1 86
-  pub alternate : Leaves one_alternate (plain 5 ∷ plain 6 ∷ plain 7 ∷ []) 0 92
+  -- kinds 1 to 3 are paid by the walk, but for an alternate at random, and an extension, whose type is 7
+  pub alternate : Leaves one_alternate (plain 5 ∷ plain 6 ∷ plain 7 ∷ []) 0 100
   pub at_random : (l : Lookup) → l.table.now ≡ one_alternate
       → lookup_charged (record (over_marks l) { random = true }) (plain 5 ∷ plain 6 ∷ plain 7 ∷ []) 0 100 ≡ Some 89
-  pub each_subtable : Leaves two_subtables (plain 5 ∷ []) 0 84
-  -- 2 subtables and 32, and 8 for each that begins with the glyph
-  pub nested : (l : Lookup) → l.table.now ≡ two_subtables → nested_charged (over_marks l) (plain 5 ∷ []) 0 100 ≡ Some 50
-  pub walk : (l : Lookup) → l.table.now ≡ two_subtables → walk_work (over_marks l) 3 ≡ 6
-  pub at_least : most_work 16 ≡ 1048576
-  pub for_each_item : most_work 17 ≡ 1114112
+  pub singles : Leaves two_subtables (plain 5 ∷ []) 0 100
+  pub extension : Leaves extended_single (plain 5 ∷ []) 0 92
+  -- in `GPOS` all but context is
+  pub positions : (l : Lookup) → l.table.now ≡ two_subtables → lookup_charged (of_positions l) (plain 5 ∷ []) 0 100 ≡ Some 100
+  pub context : (l : Lookup) → l.table.now ≡ context_of_positions → is_plain (of_positions l) ≡ false
+  pub far_context : (l : Lookup) → l.table.now ≡ extended_context → is_plain (of_positions l) ≡ false
+  -- 8, and 3 for the ligature, for each of two subtables
+  pub each_subtable : Leaves two_of_ligatures (plain 5 ∷ []) 0 78
+  -- 1 for each subtable and 32, and what they cost at the place; 8 for each of a plain one
+  pub nested : (l : Lookup) → l.table.now ≡ two_of_ligatures → nested_charged (over_marks l) (plain 5 ∷ []) 0 100 ≡ Some 44
+  pub nested_singles : (l : Lookup) → l.table.now ≡ two_subtables → nested_charged (over_marks l) (plain 5 ∷ []) 0 100 ≡ Some 52
+  pub walk : (l : Lookup) → l.table.now ≡ two_of_ligatures → walk_work (over_marks l) 3 ≡ 6
+  pub walk_of_singles : (l : Lookup) → l.table.now ≡ two_subtables → walk_work (over_marks l) 3 ≡ 48
+  pub at_least : most_work 32 ≡ 1048576
+  pub for_each_item : most_work 33 ≡ 1081344
   pub countable : most_work 18446744073709551615 ≡ 18446744073709551615
 
 pub worked_work : WorkedWork
@@ -90,9 +118,16 @@ worked_work = record {
   back_over_a_mark = λ l t. rw t refl;
   alternate = λ l t. rw t refl;
   at_random = λ l t. rw t refl;
+  singles = λ l t. rw t refl;
+  extension = λ l t. rw t refl;
+  positions = λ l t. rw t refl;
+  context = λ l t. rw t refl;
+  far_context = λ l t. rw t refl;
   each_subtable = λ l t. rw t refl;
   nested = λ l t. rw t refl;
+  nested_singles = λ l t. rw t refl;
   walk = λ l t. rw t refl;
+  walk_of_singles = λ l t. rw t refl;
   at_least = refl;
   for_each_item = refl;
   countable = refl;

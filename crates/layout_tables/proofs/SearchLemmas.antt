@@ -1,0 +1,52 @@
+-- a search by midpoints, by what is read at the middle place of those left
+use Rattle.std.proofs.Common.{◌≡◌, ℕ, ◌<◌, ◌≤◌, ◌+◌, ◌-◌, ◌/◌, true, false, Option, Some, None, nat_lt, refl, sym, ◌∙◌, arith}
+use Rattle.std.proofs.lemmas.Bool.Decides.{nat_tests}
+use Rattle.std.specs.declared.cmp.Ordering.TheVariants.{Less, Equal, Greater}
+use Rattle.shape_font.specs.Search.{side_of, found_in}
+use Rattle.shape_font.proofs.MidpointLemmas.{found_in-none, step_less, step_equal, step_greater}
+
+-- where a number stands to a range
+pub side_less : (n first last : ℕ) → n < first → side_of n first last ≡ Less
+side_less n first last h = let t : nat_lt n first ≡ true = grind (arith, nat_tests) in rw t refl
+
+pub side_greater : (n first last : ℕ) → first ≤ n → last < n → side_of n first last ≡ Greater
+side_greater n first last h k =
+    let t : nat_lt n first ≡ false = grind (arith, nat_tests) in
+    let u : nat_lt last n ≡ true = grind (arith, nat_tests) in
+    rw t (rw u refl)
+
+pub side_equal : (n first last : ℕ) → first ≤ n → n ≤ last → side_of n first last ≡ Equal
+side_equal n first last h k =
+    let t : nat_lt n first ≡ false = grind (arith, nat_tests) in
+    let u : nat_lt last n ≡ false = grind (arith, nat_tests) in
+    rw t (rw u refl)
+
+-- of the places from `from` up to `end`, by their middle: the first half is left, or the second, or the middle is found
+pub before : (first last : ℕ → ℕ) (n from end : ℕ) (sought : Option ℕ) → from < end
+    → n < first (from + (end - from - 1) / 2)
+    → found_in (λ i. side_of n (first i) (last i)) (end - from) from end ≡ sought
+    → found_in (λ i. side_of n (first i) (last i)) (from + (end - from - 1) / 2 - from) from (from + (end - from - 1) / 2) ≡ sought
+before first last n from end sought some h is =
+    let middle = from + (end - from - 1) / 2 in
+    sym (step_less (λ i. side_of n (first i) (last i)) from end middle some refl (side_less n (first middle) (last middle) h)) ∙ is
+
+pub behind : (first last : ℕ → ℕ) (n from end : ℕ) (sought : Option ℕ) → from < end
+    → first (from + (end - from - 1) / 2) ≤ n → last (from + (end - from - 1) / 2) < n
+    → found_in (λ i. side_of n (first i) (last i)) (end - from) from end ≡ sought
+    → found_in (λ i. side_of n (first i) (last i)) (end - (from + (end - from - 1) / 2 + 1)) (from + (end - from - 1) / 2 + 1) end ≡ sought
+behind first last n from end sought some h k is =
+    let middle = from + (end - from - 1) / 2 in
+    sym (step_greater (λ i. side_of n (first i) (last i)) from end middle some refl (side_greater n (first middle) (last middle) h k)) ∙ is
+
+pub there : (first last : ℕ → ℕ) (n from end : ℕ) (sought : Option ℕ) → from < end
+    → first (from + (end - from - 1) / 2) ≤ n → n ≤ last (from + (end - from - 1) / 2)
+    → found_in (λ i. side_of n (first i) (last i)) (end - from) from end ≡ sought
+    → Some (from + (end - from - 1) / 2) ≡ sought
+there first last n from end sought some h k is =
+    let middle = from + (end - from - 1) / 2 in
+    sym (step_equal (λ i. side_of n (first i) (last i)) from end middle some refl (side_equal n (first middle) (last middle) h k)) ∙ is
+
+pub nowhere : (first last : ℕ → ℕ) (n from end : ℕ) (sought : Option ℕ) → end ≤ from
+    → found_in (λ i. side_of n (first i) (last i)) (end - from) from end ≡ sought → None ≡ sought
+nowhere first last n from end sought none is =
+    sym (found_in-none (λ i. side_of n (first i) (last i)) (end - from) from end none) ∙ is

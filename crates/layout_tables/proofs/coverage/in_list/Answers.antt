@@ -1,0 +1,34 @@
+use Rattle.std.proofs.Common.{◌+◌, ◌*◌, ℕ, arith}
+use Rattle.shape_font.specs.Bytes.{u16_of}
+use Rattle.layout_tables.specs.Coverage.{listed}
+use Rattle.layout_tables.proofs.SearchLemmas.{before, behind, there}
+use Rattle.layout_tables.proofs.coverage.in_list.Goals as goal
+
+pub loop-from-preserved-then-glyph-there : goal.loop-from-preserved-then-glyph-there
+loop-from-preserved-then-glyph-there c =
+    let l = c.loop-from in
+    let glyph-at : ℕ → ℕ = λ i. u16_of c.args.table.now (c.args.start + 4 + 2 * i) in
+    record {
+      within = omega (arith, l.invariant.within, c.loop-from-test.true);
+      same = before glyph-at glyph-at c.args.glyph l.from l.end (listed c.args.table.now c.args.start c.args.glyph) c.loop-from-test.true
+          (omega (arith, c.if-glyph-there.true, c.listed_glyph-there.ensures)) l.invariant.same;
+    }
+
+pub loop-from-preserved : goal.loop-from-preserved
+loop-from-preserved c =
+    let l = c.loop-from in
+    let glyph-at : ℕ → ℕ = λ i. u16_of c.args.table.now (c.args.start + 4 + 2 * i) in
+    record {
+      within = l.invariant.within;
+      same = behind glyph-at glyph-at c.args.glyph l.from l.end (listed c.args.table.now c.args.start c.args.glyph) c.loop-from-test.true
+          (omega (arith, c.if-glyph-there.false, c.listed_glyph-there.ensures))
+          (omega (arith, c.if-there-glyph.true, c.listed_glyph-there.ensures)) l.invariant.same;
+    }
+
+pub returns-else-there-glyph : goal.returns-else-there-glyph
+returns-else-there-glyph c =
+    let l = c.loop-from in
+    let glyph-at : ℕ → ℕ = λ i. u16_of c.args.table.now (c.args.start + 4 + 2 * i) in
+    there glyph-at glyph-at c.args.glyph l.from l.end (listed c.args.table.now c.args.start c.args.glyph) c.loop-from-test.true
+    (omega (arith, c.if-glyph-there.false, c.listed_glyph-there.ensures))
+    (omega (arith, c.if-there-glyph.false, c.listed_glyph-there.ensures)) l.invariant.same
