@@ -1,4 +1,4 @@
-pub mod Part
+pub mod Recast
 pub mod RoundOne
 pub mod RoundTwo
 pub mod OneWalk

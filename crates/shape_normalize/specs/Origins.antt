@@ -13,8 +13,8 @@ use Rattle.canonical_form.specs.Runs.{AreRunsSettled}
 use Rattle.shape_plan.specs.Rules.{Rules, has_glyph}
 use Rattle.shape_normalize.specs.Normalized.{ordered, features_of, hidden_char}
 use Rattle.shape_normalize.specs.Reordered.{unmerged, without_ccc}
-use Rattle.shape_normalize.specs.Part.{part_item}
-use Rattle.shape_normalize.specs.RoundOne.{item_glyph, expanded_item, variant_items, is_selector_item, is_with_marks, is_selector_sequence, variation_sequences_merged, round_one}
+use Rattle.shape_normalize.specs.Recast.{recast_to}
+use Rattle.shape_normalize.specs.RoundOne.{item_glyph, emitted_for, variant_items, is_selector_item, is_with_marks, is_selector_sequence, variation_sequences_merged, round_one}
 use Rattle.shape_normalize.specs.RoundTwo.{max_run, has_mark_past_first, unhidden, has_seen_cgj}
 use Rattle.shape_normalize.specs.RoundThree.{Absorbed, Placed, recomposed_items}
 
@@ -46,7 +46,7 @@ variant_origins face at places =
 -- of what the sequence at these places becomes: each item of an expansion came from the item that was expanded
 abbrev pub sequence_origins : Rules → Option GlyphId → (ℕ → Item) → List ℕ → List Origin
 sequence_origins rules invisible at places =
-    let become = expanded_item rules invisible (rules.short (is_with_marks (map at places))) in
+    let become = emitted_for rules invisible (rules.short (is_with_marks (map at places))) in
     if is_selector_sequence rules.unicode (map at places)
     then flat_map (variant_origins rules.face at) (divided (λ place. is_selector_item rules.unicode (at place)) places)
     else flat_map (λ place. map (λ item. origin_at false place) (become (at place))) places
@@ -125,7 +125,7 @@ abbrev pub IsOnceComposed : Rules → Item → List Absorbed → Item → Type 0
 IsOnceComposed rules from [] item = unmerged item ≡ unmerged from
 IsOnceComposed rules from (mark ∷ marks) item =
     (item.codepoint ≡ last_char mark.char marks) × (has_glyph rules.face.nominal_glyph item.codepoint ≡ true)
-    × (unmerged item ≡ unmerged (part_item rules.unicode rules.face.nominal_glyph from item.codepoint))
+    × (unmerged item ≡ unmerged (recast_to rules.unicode rules.face.nominal_glyph from item.codepoint))
 
 -- an item is what became of the starter that stood at its place
 abbrev pub IsFromStarter : Rules → List Item → Placed → Item → Type 0

@@ -17,7 +17,7 @@ use Rattle.shape_common.specs.declared.flags.ScratchFlags.{ScratchFlags}
 use Rattle.shape_common.specs.declared.text_types.GlyphId.{GlyphId}
 use Rattle.shape_plan.specs.Rules.{Rules, decompositions, has_glyph}
 use Rattle.shape_common.specs.FlagNames.{HAS_SPACE_FALLBACK, HAS_VARIATION_SELECTOR_FALLBACK}
-use Rattle.shape_normalize.specs.Part.{glyph_index, part_item, seen_chars}
+use Rattle.shape_normalize.specs.Recast.{glyph_index, recast_to, seen_chars}
 
 -- ---- the glyph of an item
 
@@ -61,9 +61,9 @@ whole_item rules invisible item =
     else kept
 
 -- what an item becomes: the items of its expansion, itself if none is supported
-abbrev pub expanded_item : Rules → Option GlyphId → Bool → Item → List Item
-expanded_item rules invisible short item =
-    option_map_or (map (part_item rules.unicode rules.face.nominal_glyph item)) (expansion_of rules short item)
+abbrev pub emitted_for : Rules → Option GlyphId → Bool → Item → List Item
+emitted_for rules invisible short item =
+    option_map_or (map (recast_to rules.unicode rules.face.nominal_glyph item)) (expansion_of rules short item)
     (whole_item rules invisible item ∷ [])
 
 -- scratch flags with "has space fallback"
@@ -71,8 +71,8 @@ abbrev pub with_space_fallback : ScratchFlags → ScratchFlags
 with_space_fallback flags = record { 0 = bit_or flags.0 HAS_SPACE_FALLBACK }
 
 -- the scratch flags once an item was expanded: its parts were seen, or its fallback type was remembered
-abbrev pub seen_expanded : Rules → Option GlyphId → Bool → ScratchFlags → Item → ScratchFlags
-seen_expanded rules invisible short flags item =
+abbrev pub seen_emitted : Rules → Option GlyphId → Bool → ScratchFlags → Item → ScratchFlags
+seen_emitted rules invisible short flags item =
     option_map_or (seen_chars rules.unicode flags) (expansion_of rules short item)
     (if remembers_space rules invisible item then with_space_fallback flags else flags)
 
@@ -164,12 +164,12 @@ variation_sequences_from unicode face place (sequence ∷ rest) =
 abbrev pub sequence_items : Rules → Option GlyphId → Option GlyphId → List Item → List Item
 sequence_items rules invisible not_found sequence =
     if is_selector_sequence rules.unicode sequence then flat_map (variant_items rules.face not_found) (variants rules.unicode sequence)
-    else flat_map (expanded_item rules invisible (rules.short (is_with_marks sequence))) sequence
+    else flat_map (emitted_for rules invisible (rules.short (is_with_marks sequence))) sequence
 
 abbrev pub seen_sequence : Rules → Option GlyphId → ScratchFlags → List Item → ScratchFlags
 seen_sequence rules invisible flags sequence =
     if is_selector_sequence rules.unicode sequence then fold (seen_variant rules.face) flags (variants rules.unicode sequence)
-    else fold (seen_expanded rules invisible (rules.short (is_with_marks sequence))) flags sequence
+    else fold (seen_emitted rules invisible (rules.short (is_with_marks sequence))) flags sequence
 
 -- two items that become one are merged first, from left to right; that this is done before the walk changes nothing,
 -- since the selector that goes is next to its item and in one cluster with it, so that a merge grows over both or

@@ -8,7 +8,7 @@ use Rattle.shape_items.specs.Buffer.{Buffer}
 use Rattle.shape_items.specs.Spans.{spans_merged_out}
 use Rattle.canonical_form.specs.Recompose.{is_blocked, is_blocked_by_last, compose_with_glyph, recomposed}
 use Rattle.shape_plan.specs.Rules.{Rules, has_glyph}
-use Rattle.shape_normalize.specs.Part.{part_item, seen_chars}
+use Rattle.shape_normalize.specs.Recast.{recast_to, seen_chars}
 
 -- a mark that was composed with a starter: the place where it stood, and the character that the two made
 pub record Absorbed : Type 0 where
@@ -36,7 +36,7 @@ is_mark_placed p = is_mark_item p.item
 abbrev pub compose_placed : Rules → Placed → Placed → Option Placed
 compose_placed rules starter mark =
     option_map (λ c. record {
-      item = part_item rules.unicode rules.face.nominal_glyph starter.item c;
+      item = recast_to rules.unicode rules.face.nominal_glyph starter.item c;
       place = starter.place;
       absorbed = starter.absorbed ++ record { place = mark.place; char = c } ∷ [];
     }) (compose_with_glyph rules.compose (has_glyph rules.face.nominal_glyph) starter.item.codepoint mark.item.codepoint)

@@ -1,6 +1,6 @@
 -- What is asked of pauses, worked by hand.
-use Rattle.std.proofs.Common.{◌≡◌, ◌∙◌, ℕ, Bool, true, false, Option, Some, None, refl, sym, subst, arith}
-use Rattle.shape_pipeline.specs.Worked.Obligations.{WorkedObligations, PausesAreAsked}
+use Rattle.std.proofs.Common.{◌≡◌, ◌∙◌, ℕ, true, false, Option, Some, None, sym, subst, arith}
+use Rattle.shape_pipeline.specs.Worked.Obligations.{PausesAreAsked}
 
 none_is_none : {C : Type 0} (answer : Option ℕ) (n : ℕ) → answer ≡ None → answer ≡ Some n → C
 none_is_none None n none some = cc

@@ -8,7 +8,7 @@ use Rattle.shape_common.specs.declared.text_types.GlyphId.{GlyphId}
 use Rattle.shape_items.specs.Prepared.{IsPreparedItem}
 pub use Rattle.shape_items.proofs.PreparedLemmas.{ArePrepared, unmarked_ccc, ccc_with_props, prepared-with_props, PreparedKey, prepared_key, IsKey-prepared_key, IsPreparedKey, chars_of_keys, prepared_keys, prepared_from_keys, prepared_by_keys}
 use Rattle.shape_plan.specs.Rules.{Rules}
-use Rattle.shape_normalize.specs.Part.{part_item}
+use Rattle.shape_normalize.specs.Recast.{recast_to}
 use Rattle.shape_normalize.specs.RoundOne.{whole_item, expansion_of, variation_sequences_merged, round_one}
 use Rattle.shape_normalize.specs.RoundTwo.{cgj_unhidden_where_seen}
 use Rattle.shape_normalize.proofs.RoundTwo.CgjLemmas.{keys-cgj_unhidden_where_seen}
@@ -20,15 +20,15 @@ prepared-cgj_unhidden_where_seen unicode b h = prepared_by_keys unicode b.items 
 
 module _ (rules : Rules) (lawful : LawfulUnicode rules.unicode) where
   -- an item of an expansion is prepared, and so is one that is recomposed
-  pub prepared-part : (item : Item) (c : ℕ) → IsPreparedItem rules.unicode (part_item rules.unicode rules.face.nominal_glyph item c)
+  pub prepared-part : (item : Item) (c : ℕ) → IsPreparedItem rules.unicode (recast_to rules.unicode rules.face.nominal_glyph item c)
   prepared-part item c = record { mark = refl; ccc = ccc_with_props rules.unicode lawful c }
 
-  prepared-parts : (item : Item) (cs : List ℕ) → ArePrepared rules.unicode (map (part_item rules.unicode rules.face.nominal_glyph item) cs)
+  prepared-parts : (item : Item) (cs : List ℕ) → ArePrepared rules.unicode (map (recast_to rules.unicode rules.face.nominal_glyph item) cs)
   prepared-parts item [] = tt
   prepared-parts item (c ∷ cs) = (prepared-part item c, prepared-parts item cs)
 
   prepared-found : (invisible : Option GlyphId) (item : Item) (found : Option (List ℕ)) → IsPreparedItem rules.unicode item
-      → ArePrepared rules.unicode (option_map_or (map (part_item rules.unicode rules.face.nominal_glyph item)) found
+      → ArePrepared rules.unicode (option_map_or (map (recast_to rules.unicode rules.face.nominal_glyph item)) found
       (whole_item rules invisible item ∷ []))
   prepared-found invisible item None h = (
     whole_item_is rules invisible (IsPreparedItem rules.unicode) item (λ glyph. record { mark = h.mark; ccc = h.ccc })

@@ -15,8 +15,8 @@ use Rattle.shape_buffer.proofs.Steps.PreservationLemmas.{PreservesClusters-then}
 use Rattle.shape_items.proofs.MergingInOrder.EachSpanLemmas.{all_merged_preserve}
 use Rattle.shape_plan.specs.Rules.{Rules}
 use Rattle.shape_normalize.proofs.RoundOne.SelectorLemmas.{variation_sequences_in_order}
-use Rattle.shape_normalize.specs.Part.{part_item}
-use Rattle.shape_normalize.specs.RoundOne.{whole_item, expansion_of, expanded_item, skipped_item, marked_selector, variant_items, variants, is_selector_item, is_selector_sequence, is_with_marks, variation_sequences_from, variation_sequences_merged, sequences, sequence_items, expanded, round_one}
+use Rattle.shape_normalize.specs.Recast.{recast_to}
+use Rattle.shape_normalize.specs.RoundOne.{whole_item, expansion_of, emitted_for, skipped_item, marked_selector, variant_items, variants, is_selector_item, is_selector_sequence, is_with_marks, variation_sequences_from, variation_sequences_merged, sequences, sequence_items, expanded, round_one}
 use Rattle.shape_normalize.specs.RoundTwo.{cgj_unhidden_where_seen}
 use Rattle.shape_normalize.specs.Normalized.{normalized, HookPreservesClusters}
 use Rattle.shape_normalize.proofs.RoundOne.DrawnLemmas.{DrawsBefore, DrawsBefore-same, draws_whole, draws_pieces}
@@ -33,10 +33,10 @@ use Rattle.shape_normalize.proofs.Normalized.SettingLemmas.{level-round_one, set
 module _ (rules : Rules) where
   -- the parts of an item stand in its cluster
   draws_parts : (item : Item) (cs : List ℕ) (from drawn : List ℕ) → DrawsInOrder (item.cluster ∷ from) drawn
-      → DrawsInOrder (item.cluster ∷ from) (clusters (map (part_item rules.unicode rules.face.nominal_glyph item) cs) ++ drawn)
+      → DrawsInOrder (item.cluster ∷ from) (clusters (map (recast_to rules.unicode rules.face.nominal_glyph item) cs) ++ drawn)
   draws_parts item [] from drawn h = h
   draws_parts item (c ∷ cs) from drawn h =
-      DrawsInOrder-again item.cluster from (clusters (map (part_item rules.unicode rules.face.nominal_glyph item) cs) ++ drawn)
+      DrawsInOrder-again item.cluster from (clusters (map (recast_to rules.unicode rules.face.nominal_glyph item) cs) ++ drawn)
       (draws_parts item cs from drawn h)
 
   cluster-whole_item : (invisible : Option GlyphId) (item : Item) → (whole_item rules invisible item).cluster ≡ item.cluster
@@ -45,16 +45,16 @@ module _ (rules : Rules) where
 
   draws_found : (invisible : Option GlyphId) (item : Item) (found : Option (List ℕ))
       → DrawsBefore (item.cluster
-      ∷ []) (clusters (option_map_or (map (part_item rules.unicode rules.face.nominal_glyph item)) found
+      ∷ []) (clusters (option_map_or (map (recast_to rules.unicode rules.face.nominal_glyph item)) found
       (whole_item rules invisible item ∷ [])))
   draws_found invisible item None = rw (cluster-whole_item invisible item) (DrawsBefore-same (item.cluster ∷ []))
   draws_found invisible item (Some cs) = λ from drawn h. draws_parts item cs from drawn (DrawsInOrder-after item.cluster from drawn h)
 
-  draws_expanded_items : (invisible : Option GlyphId) (short : Bool) (items : List Item)
-      → DrawsBefore (clusters items) (clusters (flat_map (expanded_item rules invisible short) items))
-  draws_expanded_items invisible short items =
+  draws_emitted : (invisible : Option GlyphId) (short : Bool) (items : List Item)
+      → DrawsBefore (clusters items) (clusters (flat_map (emitted_for rules invisible short) items))
+  draws_emitted invisible short items =
       rw (← flat_map_single (λ (item : Item). item.cluster) items)
-      (draws_pieces (expanded_item rules invisible short) (λ (item : Item). item.cluster ∷ [])
+      (draws_pieces (emitted_for rules invisible short) (λ (item : Item). item.cluster ∷ [])
       (λ item. draws_found invisible item (expansion_of rules short item)) items)
 
   clusters-skipped : (items : List Item) → clusters (map (skipped_item rules.face.nominal_glyph) items) ≡ clusters items
@@ -90,9 +90,9 @@ module _ (rules : Rules) where
   draws_sequence invisible not_found sequence =
       elim (is_selector_sequence rules.unicode sequence) as (λ t. DrawsBefore (clusters sequence)
       (clusters (if t then flat_map (variant_items rules.face not_found) (variants rules.unicode sequence)
-      else flat_map (expanded_item rules invisible (rules.short (is_with_marks sequence))) sequence))) [
+      else flat_map (emitted_for rules invisible (rules.short (is_with_marks sequence))) sequence))) [
         | true ↦ draws_variants not_found sequence
-        | false ↦ draws_expanded_items invisible (rules.short (is_with_marks sequence)) sequence
+        | false ↦ draws_emitted invisible (rules.short (is_with_marks sequence)) sequence
       ]
 
   expanded_draws : (invisible not_found : Option GlyphId) (items : List Item)

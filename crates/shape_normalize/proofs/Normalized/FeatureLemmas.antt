@@ -10,7 +10,7 @@ use Rattle.shape_items.specs.Items.{Item}
 use Rattle.shape_common.specs.declared.text_types.GlyphId.{GlyphId}
 use Rattle.shape_items.proofs.Merging.KeyLemmas.{IsKey, keys-merge_out}
 use Rattle.shape_normalize.specs.Normalized.{normalized, features_of, PreservesFeatures}
-use Rattle.shape_normalize.specs.Part.{part_item}
+use Rattle.shape_normalize.specs.Recast.{recast_to}
 use Rattle.shape_normalize.specs.RoundOne.{whole_item, expansion_of, variation_sequences_merged, round_one}
 use Rattle.shape_items.specs.Spans.{spans_merged_out}
 use Rattle.shape_normalize.specs.RoundThree.{Placed, recomposed_items, absorbed_spans, with_cluster_at, round_three}
@@ -49,12 +49,12 @@ module _ (rules : Rules) (P : ℕ → Type 0) where
 
   -- ---- round one
 
-  parts_have : (item : Item) → P (features_of item) → (cs : List ℕ) → Has (map (part_item rules.unicode rules.face.nominal_glyph item) cs)
+  parts_have : (item : Item) → P (features_of item) → (cs : List ℕ) → Has (map (recast_to rules.unicode rules.face.nominal_glyph item) cs)
   parts_have item h [] = tt
   parts_have item h (c ∷ cs) = (h, parts_have item h cs)
 
   found_have : (invisible : Option GlyphId) (item : Item) → P (features_of item) → (found : Option (List ℕ))
-      → Has (option_map_or (map (part_item rules.unicode rules.face.nominal_glyph item)) found (whole_item rules invisible item ∷ []))
+      → Has (option_map_or (map (recast_to rules.unicode rules.face.nominal_glyph item)) found (whole_item rules invisible item ∷ []))
   found_have invisible item h None =
       (whole_item_is rules invisible (λ whole. P (features_of whole)) item (λ glyph. h) (λ glyph space. h), tt)
   found_have invisible item h (Some cs) = parts_have item h cs

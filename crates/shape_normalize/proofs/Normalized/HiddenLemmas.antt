@@ -13,7 +13,7 @@ use Rattle.shape_common.specs.declared.text_types.GlyphId.{GlyphId}
 use Rattle.shape_items.proofs.Merging.ClusterLemmas.{unsafe_to_break-cases, merge_clusters-cases}
 use Rattle.shape_items.proofs.Merging.KeyLemmas.{IsKey}
 use Rattle.shape_normalize.specs.Normalized.{ordered, normalized, hidden_char, PreservesHidden}
-use Rattle.shape_normalize.specs.Part.{part_item}
+use Rattle.shape_normalize.specs.Recast.{recast_to}
 use Rattle.shape_normalize.specs.RoundOne.{whole_item, expansion_of, variation_sequences_merged, round_one}
 use Rattle.shape_normalize.specs.RoundThree.{round_three}
 use Rattle.shape_normalize.specs.RoundTwo.{spans, run_cccs, run_settled, marks_ordered, has_mark_past_first, has_seen_cgj, cgj_unhidden, cgj_unhidden_where_seen}
@@ -78,12 +78,12 @@ module _ (rules : Rules) (those : List (ℕ × Bool)) where
   abbrev EachHides : List Item → Type 0
   EachHides items = AllByRecursion (λ item. Hides (hidden_char item)) items
 
-  parts_hide : (item : Item) (cs : List ℕ) → EachHides (map (part_item rules.unicode rules.face.nominal_glyph item) cs)
+  parts_hide : (item : Item) (cs : List ℕ) → EachHides (map (recast_to rules.unicode rules.face.nominal_glyph item) cs)
   parts_hide item [] = tt
   parts_hide item (c ∷ cs) = (inl refl, parts_hide item cs)
 
   found_hide : (invisible : Option GlyphId) (item : Item) → Contains those (hidden_char item) → (found : Option (List ℕ))
-      → EachHides (option_map_or (map (part_item rules.unicode rules.face.nominal_glyph item)) found (whole_item rules invisible item ∷ []))
+      → EachHides (option_map_or (map (recast_to rules.unicode rules.face.nominal_glyph item)) found (whole_item rules invisible item ∷ []))
   found_hide invisible item h None =
       (whole_item_is rules invisible (λ whole. Hides (hidden_char whole)) item (λ glyph. inr h) (λ glyph space. inr h), tt)
   found_hide invisible item h (Some cs) = parts_hide item cs

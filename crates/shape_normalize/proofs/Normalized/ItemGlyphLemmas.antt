@@ -12,8 +12,8 @@ use Rattle.shape_common.specs.declared.text_types.GlyphId.{GlyphId}
 use Rattle.canonical_form.proofs.Expanding.ChoiceLemmas.{chosen_glyphs}
 use Rattle.canonical_form.proofs.Lists.EveryLemmas.{append_all}
 use Rattle.shape_plan.specs.Rules.{Rules, decompositions, has_glyph}
-use Rattle.shape_normalize.specs.Part.{part_item}
-use Rattle.shape_normalize.specs.RoundOne.{item_glyph, remembers_space, whole_item, expanded_item, expansion_of, sequences, is_selector_sequence, is_with_marks, variation_sequences_merged, sequence_items, round_one}
+use Rattle.shape_normalize.specs.Recast.{recast_to}
+use Rattle.shape_normalize.specs.RoundOne.{item_glyph, remembers_space, whole_item, emitted_for, expansion_of, sequences, is_selector_sequence, is_with_marks, variation_sequences_merged, sequence_items, round_one}
 use Rattle.shape_normalize.specs.Normalized.{normalized, content, selector_items, HasItemGlyph}
 use Rattle.shape_normalize.proofs.Normalized.NormalizedLemmas.{normalized_all}
 use Rattle.shape_normalize.proofs.Hooks.ReorderLemmas.{LawfulReorder}
@@ -36,11 +36,11 @@ module _ (rules : Rules) (invisible not_found : Option GlyphId) where
   HasOwnGlyph item = item.glyph_index ≡ item_glyph rules invisible item
 
   pub part_has_glyph : (item : Item) (c : ℕ) → has_glyph rules.face.nominal_glyph c ≡ true
-      → HasOwnGlyph (part_item rules.unicode rules.face.nominal_glyph item c)
+      → HasOwnGlyph (recast_to rules.unicode rules.face.nominal_glyph item c)
   part_has_glyph item c has = index_of_glyph (rules.face.nominal_glyph c) _ has
 
   parts_have_glyphs : (item : Item) (cs : List ℕ) → AllByRecursion (λ c. has_glyph rules.face.nominal_glyph c ≡ true) cs
-      → AllByRecursion HasOwnGlyph (map (part_item rules.unicode rules.face.nominal_glyph item) cs)
+      → AllByRecursion HasOwnGlyph (map (recast_to rules.unicode rules.face.nominal_glyph item) cs)
   parts_have_glyphs item [] each = tt
   parts_have_glyphs item (c ∷ cs) each = (part_has_glyph item c each.0, parts_have_glyphs item cs each.1)
 
@@ -50,12 +50,12 @@ module _ (rules : Rules) (invisible not_found : Option GlyphId) where
 
   found_has_glyphs : (item : Item) (found : Option (List ℕ))
       → ((cs : List ℕ) → found ≡ Some cs → AllByRecursion (λ c. has_glyph rules.face.nominal_glyph c ≡ true) cs)
-      → AllByRecursion HasOwnGlyph (option_map_or (map (part_item rules.unicode rules.face.nominal_glyph item)) found
+      → AllByRecursion HasOwnGlyph (option_map_or (map (recast_to rules.unicode rules.face.nominal_glyph item)) found
       (whole_item rules invisible item ∷ []))
   found_has_glyphs item None has = (whole_has_glyph item, tt)
   found_has_glyphs item (Some cs) has = parts_have_glyphs item cs (has cs refl)
 
-  pub item_has_glyphs : (short : Bool) (item : Item) → AllByRecursion HasOwnGlyph (expanded_item rules invisible short item)
+  pub item_has_glyphs : (short : Bool) (item : Item) → AllByRecursion HasOwnGlyph (emitted_for rules invisible short item)
   item_has_glyphs short item =
       let has = has_glyph rules.face.nominal_glyph in
       found_has_glyphs item (expansion_of rules short item)
@@ -63,10 +63,10 @@ module _ (rules : Rules) (invisible not_found : Option GlyphId) where
       (AllPass-from_list_all has cs (chosen_glyphs (decompositions rules) has short item.codepoint cs found)))
 
   plain_have_glyphs : (short : Bool) (sequence : List Item)
-      → AllByRecursion HasOwnGlyph (flat_map (expanded_item rules invisible short) sequence)
+      → AllByRecursion HasOwnGlyph (flat_map (emitted_for rules invisible short) sequence)
   plain_have_glyphs short [] = tt
   plain_have_glyphs short (item ∷ sequence) =
-      append_all HasOwnGlyph (expanded_item rules invisible short item) _ (item_has_glyphs short item) (plain_have_glyphs short sequence)
+      append_all HasOwnGlyph (emitted_for rules invisible short item) _ (item_has_glyphs short item) (plain_have_glyphs short sequence)
 
   -- each item of a sequence without a selector has its glyph
   sequence_has_glyphs : (sequence : List Item) → is_selector_sequence rules.unicode sequence ≡ false

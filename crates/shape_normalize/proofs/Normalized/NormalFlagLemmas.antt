@@ -21,8 +21,8 @@ use Rattle.canonical_form.proofs.Ordering.OrderLemmas.{Swaps-in_order}
 use Rattle.canonical_form.proofs.Ordering.SwapLemmas.{all-swaps}
 use Rattle.shape_normalize.specs.Normalized.{normalized}
 use Rattle.shape_plan.specs.Reorder.{exchanged, ccc_set, Reorders}
-use Rattle.shape_normalize.specs.Part.{part_item, seen_chars}
-use Rattle.shape_normalize.specs.RoundOne.{whole_item, expansion_of, variation_sequences_merged, variation_sequences_from, sequences, round_one, remembers_space, seen_expanded, seen_variant, seen_sequence, variants, is_selector_sequence, is_with_marks, with_space_fallback, with_selector_fallback}
+use Rattle.shape_normalize.specs.Recast.{recast_to, seen_chars}
+use Rattle.shape_normalize.specs.RoundOne.{whole_item, expansion_of, variation_sequences_merged, variation_sequences_from, sequences, round_one, remembers_space, seen_emitted, seen_variant, seen_sequence, variants, is_selector_sequence, is_with_marks, with_space_fallback, with_selector_fallback}
 use Rattle.shape_items.specs.Spans.{spans_merged_out}
 use Rattle.shape_normalize.specs.RoundThree.{Placed, recomposed_items, absorbed_spans, with_cluster_at, round_three, composed_chars}
 use Rattle.shape_normalize.specs.RoundTwo.{spans, run_cccs, spans_merged, run_in_order, run_reordered, run_settled, marks_ordered, cgj_unhidden_where_seen, cgj_unhidden}
@@ -115,7 +115,7 @@ seen-variant face flags (x ∷ v ∷ rest) = by_glyph (face.variation_glyph x.co
 
 module _ (rules : Rules) (invisible : Option GlyphId) where
   seen-expanded : (short : Bool) (flags : ScratchFlags) (item : Item)
-      → bit_and (seen_expanded rules invisible short flags item).0 32 ≡ bit_and flags.0 32
+      → bit_and (seen_emitted rules invisible short flags item).0 32 ≡ bit_and flags.0 32
   seen-expanded short flags item = by_found (expansion_of rules short item) (remembers_space rules invisible item)
     where
       by_found : (found : Option (List ℕ)) (test : Bool)
@@ -131,10 +131,10 @@ module _ (rules : Rules) (invisible : Option GlyphId) where
     where
       by_test : (test : Bool)
           → bit_and (if test then fold (seen_variant rules.face) flags (variants rules.unicode sequence)
-          else fold (seen_expanded rules invisible (rules.short (is_with_marks sequence))) flags sequence).0 32 ≡ bit_and flags.0 32
+          else fold (seen_emitted rules invisible (rules.short (is_with_marks sequence))) flags sequence).0 32 ≡ bit_and flags.0 32
       by_test true = seen-fold (seen_variant rules.face) (seen-variant rules.face) (variants rules.unicode sequence) flags
       by_test false =
-          seen-fold (seen_expanded rules invisible (rules.short (is_with_marks sequence)))
+          seen-fold (seen_emitted rules invisible (rules.short (is_with_marks sequence)))
           (seen-expanded (rules.short (is_with_marks sequence))) sequence flags
 
 -- ---- merging many spans
@@ -156,12 +156,12 @@ flags-spans_out (span ∷ parts) b =
 
 module _ (rules : Rules) (flag : ℕ) where
   parts_bare : (item : Item) → has_flag flag item ≡ false → (cs : List ℕ)
-      → Bare flag (map (part_item rules.unicode rules.face.nominal_glyph item) cs)
+      → Bare flag (map (recast_to rules.unicode rules.face.nominal_glyph item) cs)
   parts_bare item h [] = tt
   parts_bare item h (c ∷ cs) = (h, parts_bare item h cs)
 
   found_bare : (invisible : Option GlyphId) (item : Item) → has_flag flag item ≡ false → (found : Option (List ℕ))
-      → Bare flag (option_map_or (map (part_item rules.unicode rules.face.nominal_glyph item)) found (whole_item rules invisible item ∷ []))
+      → Bare flag (option_map_or (map (recast_to rules.unicode rules.face.nominal_glyph item)) found (whole_item rules invisible item ∷ []))
   found_bare invisible item h None =
       (whole_item_is rules invisible (λ whole. has_flag flag whole ≡ false) item (λ glyph. h) (λ glyph space. h), tt)
   found_bare invisible item h (Some cs) = parts_bare item h cs

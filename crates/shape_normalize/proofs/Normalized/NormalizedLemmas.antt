@@ -9,7 +9,7 @@ use Rattle.shape_items.specs.Buffer.{Buffer}
 use Rattle.shape_common.specs.declared.positions.GlyphPosition.{GlyphPosition}
 use Rattle.shape_items.proofs.Merging.KeyLemmas.{IsKey, IsKey-unflagged}
 use Rattle.shape_plan.specs.Rules.{Rules, has_glyph}
-use Rattle.shape_normalize.specs.Part.{part_item}
+use Rattle.shape_normalize.specs.Recast.{recast_to}
 use Rattle.shape_normalize.specs.RoundOne.{round_one}
 use Rattle.shape_normalize.specs.RoundTwo.{has_mark_past_first, marks_ordered, unhidden, cgj_unhidden_where_seen, without_place, OrdersMarks}
 use Rattle.shape_normalize.specs.RoundThree.{round_three}
@@ -73,7 +73,7 @@ content-without_ccc rules f is item ccc = rw is refl
 
 module _ (rules : Rules) (lawful : LawfulReorder rules.reorder) (P : Item → Type 0)
     (composes : (item : Item) (c : ℕ) → has_glyph rules.face.nominal_glyph c ≡ true
-    → P (content rules (part_item rules.unicode rules.face.nominal_glyph item c))) where
+    → P (content rules (recast_to rules.unicode rules.face.nominal_glyph item c))) where
   -- what depends on an item's content, and holds of each composed item, holds of each item of the normalised list if it
   -- does of the expanded one
   pub normalized_all : (b : Buffer) → AllByRecursion (λ item. P (content rules item)) (round_one rules b).items

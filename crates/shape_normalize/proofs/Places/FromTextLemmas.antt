@@ -17,7 +17,7 @@ use Rattle.shape_plan.specs.Rules.{Rules}
 use Rattle.shape_normalize.specs.Normalized.{ordered, hidden_char}
 use Rattle.shape_normalize.specs.Origins.{item_at, Origin, origin_at, origins, HasOfOrigin, all_places, PermutesRuns, IsFromPlace, IsOnceComposed, IsFromStarter, is_recomposed, new_origins}
 use Rattle.shape_normalize.specs.Reordered.{unmerged, without_ccc}
-use Rattle.shape_normalize.specs.Part.{part_item}
+use Rattle.shape_normalize.specs.Recast.{recast_to}
 use Rattle.shape_normalize.specs.RoundOne.{item_glyph, round_one}
 use Rattle.shape_normalize.specs.RoundTwo.{max_run, unhidden, has_seen_cgj}
 use Rattle.shape_normalize.specs.RoundThree.{Absorbed, Placed, recomposed_items}
@@ -147,7 +147,7 @@ module _ (rules : Rules) (text : Buffer) where
         → Has origin item
     has_once_composed origin from item [] has same = has_same origin item from (ap (with_ccc 0) same) has
     has_once_composed origin from item (mark ∷ marks) has absorbed =
-        has_same origin item (part_item rules.unicode rules.face.nominal_glyph from item.codepoint) (ap (with_ccc 0) absorbed.2)
+        has_same origin item (recast_to rules.unicode rules.face.nominal_glyph from item.codepoint) (ap (with_ccc 0) absorbed.2)
         (record {
           features = has.features;
           glyph = λ outside. part_has_glyph rules text.invisible_glyph None from item.codepoint absorbed.1;

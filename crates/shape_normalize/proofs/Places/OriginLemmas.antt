@@ -11,8 +11,8 @@ use Rattle.shape_common.specs.declared.text_types.GlyphId.{GlyphId}
 use Rattle.shape_plan.specs.Rules.{Rules}
 use Rattle.shape_normalize.specs.Normalized.{features_of, hidden_char}
 use Rattle.shape_normalize.specs.Origins.{item_at, all_places, Origin, origin_at, variant_origins, sequence_origins, origins, HasOfOrigin}
-use Rattle.shape_normalize.specs.Part.{part_item}
-use Rattle.shape_normalize.specs.RoundOne.{item_glyph, skipped_item, whole_item, expanded_item, expansion_of, is_selector_item, is_selector_sequence, is_with_marks, marked_selector, variant_items, variants, sequences, sequence_items, variation_sequences_merged, round_one}
+use Rattle.shape_normalize.specs.Recast.{recast_to}
+use Rattle.shape_normalize.specs.RoundOne.{item_glyph, skipped_item, whole_item, emitted_for, expansion_of, is_selector_item, is_selector_sequence, is_with_marks, marked_selector, variant_items, variants, sequences, sequence_items, variation_sequences_merged, round_one}
 use Rattle.shape_normalize.proofs.Normalized.FeatureLemmas.{IsKey-features}
 use Rattle.shape_normalize.proofs.Normalized.HiddenLemmas.{IsKey-hidden_char}
 use Rattle.shape_normalize.proofs.Normalized.ItemGlyphLemmas.{item_has_glyphs}
@@ -139,14 +139,14 @@ module _ (rules : Rules) (text : Buffer) where
     HasGlyph item = item.glyph_index ≡ item_glyph rules text.invisible_glyph item
 
     parts_have : (place : ℕ) (cs : List ℕ)
-        → AllByRecursion HasGlyph (map (part_item rules.unicode rules.face.nominal_glyph (at place)) cs)
-        → AllByRecursion (Has (origin_at false place)) (map (part_item rules.unicode rules.face.nominal_glyph (at place)) cs)
+        → AllByRecursion HasGlyph (map (recast_to rules.unicode rules.face.nominal_glyph (at place)) cs)
+        → AllByRecursion (Has (origin_at false place)) (map (recast_to rules.unicode rules.face.nominal_glyph (at place)) cs)
     parts_have place [] each = tt
     parts_have place (c ∷ cs) each =
         (record { features = same_features place; glyph = λ outside. each.0; hidden = inr (inl refl) }, parts_have place cs each.1)
 
     found_have : (place : ℕ) (found : Option (List ℕ)) →
-        let become = option_map_or (map (part_item rules.unicode rules.face.nominal_glyph (at place))) found
+        let become = option_map_or (map (recast_to rules.unicode rules.face.nominal_glyph (at place))) found
         (whole_item rules text.invisible_glyph (at place) ∷ []) in
         AllByRecursion HasGlyph become → AllByRecursion (Has (origin_at false place)) become
     found_have place None each =
@@ -162,17 +162,17 @@ module _ (rules : Rules) (text : Buffer) where
     found_have place (Some cs) each = parts_have place cs each
 
     item_zip : (short : Bool) (place : ℕ) →
-        let become = expanded_item rules text.invisible_glyph short (at place) in
+        let become = emitted_for rules text.invisible_glyph short (at place) in
         AllZip Has (map (λ item. origin_at false place) become) become
     item_zip short place =
-        zip_one Has (origin_at false place) (expanded_item rules text.invisible_glyph short (at place))
+        zip_one Has (origin_at false place) (emitted_for rules text.invisible_glyph short (at place))
         (found_have place (expansion_of rules short (at place)) (item_has_glyphs rules text.invisible_glyph not_found short (at place)))
 
     sequence_zip : (places : List ℕ) → AllZip Has (sequence_origins rules text.invisible_glyph at places)
         (sequence_items rules text.invisible_glyph not_found (map at places))
     sequence_zip places =
         let sequence = map at places in
-        let become = expanded_item rules text.invisible_glyph (rules.short (is_with_marks sequence)) in
+        let become = emitted_for rules text.invisible_glyph (rules.short (is_with_marks sequence)) in
         let one : ℕ → List Origin = λ place. map (λ item. origin_at false place) (become (at place)) in
         elim (is_selector_sequence rules.unicode sequence) as (λ t. AllZip Has
         (if t then flat_map (variant_origins rules.face at)

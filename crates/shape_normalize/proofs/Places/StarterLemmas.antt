@@ -9,7 +9,7 @@ use Rattle.shape_plan.specs.Rules.{Rules, has_glyph}
 use Rattle.shape_normalize.specs.Normalized.{features_of}
 use Rattle.shape_normalize.specs.Origins.{item_at, last_char, IsOnceComposed, IsFromStarter}
 use Rattle.shape_normalize.specs.Reordered.{unmerged}
-use Rattle.shape_normalize.specs.Part.{part_item}
+use Rattle.shape_normalize.specs.Recast.{recast_to}
 use Rattle.shape_items.specs.Spans.{spans_merged_out}
 use Rattle.shape_normalize.specs.RoundThree.{Absorbed, Placed, placed, ccc_of_placed, is_mark_placed, compose_placed, recomposed_items, absorbed_spans, with_cluster_at, round_three}
 use Rattle.shape_normalize.proofs.Normalized.FeatureLemmas.{features-spans_merged_out}
@@ -38,7 +38,7 @@ module _ (rules : Rules) where
   -- an item, once marks were composed with it, by the character that it has then
   abbrev once_composed : Item → List Absorbed → ℕ → Item
   once_composed from [] c = from
-  once_composed from (mark ∷ marks) c = part_item rules.unicode rules.face.nominal_glyph from c
+  once_composed from (mark ∷ marks) c = recast_to rules.unicode rules.face.nominal_glyph from c
 
   -- which is that of the last composition, and has a glyph
   abbrev HasGlyphOnceComposed : List Absorbed → ℕ → Type 0
@@ -47,9 +47,9 @@ module _ (rules : Rules) where
 
   -- an item that is composed with one more mark has that character alone
   composed_once : (from item : Item) (absorbed : List Absorbed) (mark : Absorbed) (c : ℕ) → item ≡ once_composed from absorbed item.codepoint
-      → part_item rules.unicode rules.face.nominal_glyph item c ≡ once_composed from (absorbed ++ mark ∷ []) c
-  composed_once from item [] mark c is = ap (λ (one : Item). part_item rules.unicode rules.face.nominal_glyph one c) is
-  composed_once from item (m ∷ ms) mark c is = ap (λ (one : Item). part_item rules.unicode rules.face.nominal_glyph one c) is
+      → recast_to rules.unicode rules.face.nominal_glyph item c ≡ once_composed from (absorbed ++ mark ∷ []) c
+  composed_once from item [] mark c is = ap (λ (one : Item). recast_to rules.unicode rules.face.nominal_glyph one c) is
+  composed_once from item (m ∷ ms) mark c is = ap (λ (one : Item). recast_to rules.unicode rules.face.nominal_glyph one c) is
 
   has_glyph_once : (absorbed : List Absorbed) (mark : Absorbed) → has_glyph rules.face.nominal_glyph mark.char ≡ true
       → HasGlyphOnceComposed (absorbed ++ mark ∷ []) mark.char
@@ -68,7 +68,7 @@ module _ (rules : Rules) where
       let char : new.codepoint ≡ item.codepoint = ap (λ (one : Item). one.codepoint) same in (
         char ∙ has.0,
         ap (has_glyph rules.face.nominal_glyph) char ∙ has.1,
-        same ∙ ap unmerged is ∙ ap (λ c. unmerged (part_item rules.unicode rules.face.nominal_glyph from c)) (sym char),
+        same ∙ ap unmerged is ∙ ap (λ c. unmerged (recast_to rules.unicode rules.face.nominal_glyph from c)) (sym char),
       )
 
   module _ (items : List Item) where

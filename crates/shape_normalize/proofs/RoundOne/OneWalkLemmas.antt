@@ -16,7 +16,7 @@ use Rattle.shape_common.specs.Unicode.{UnicodeMeaning}
 use Rattle.shape_common.specs.declared.flags.ScratchFlags.{ScratchFlags}
 use Rattle.shape_common.specs.declared.text_types.GlyphId.{GlyphId}
 use Rattle.shape_plan.specs.Rules.{Rules}
-use Rattle.shape_normalize.specs.RoundOne.{expanded_item, seen_expanded, sequences, is_with_marks, is_selector_item, is_selector_sequence, sequence_items, seen_sequence, variation_sequences_from, variation_sequences_merged, expanded, round_one}
+use Rattle.shape_normalize.specs.RoundOne.{emitted_for, seen_emitted, sequences, is_with_marks, is_selector_item, is_selector_sequence, sequence_items, seen_sequence, variation_sequences_from, variation_sequences_merged, expanded, round_one}
 use Rattle.shape_normalize.specs.OneWalk.{HasNoSelectorSequence, item_becomes, stands_with_marks, expanded_after, seen_after}
 use Rattle.shape_normalize.specs.RoundTwo.{has_mark_past_first}
 use Rattle.shape_normalize.proofs.RoundOne.SequenceLemmas.{each_part, each_weaker, flat_map_same, sequence_becomes, sequences-expanded}
@@ -38,19 +38,19 @@ module _ (rules : Rules) (invisible : Option GlyphId) where
   -- the items after a place become what the item there becomes, and then what those after it become
   pub after_here : (items : List Item) (i : ℕ) (x : Item) → i < length items → x ≡ get_or items i x
       → expanded_after rules invisible (i == 0) (drop i items)
-      ≡ expanded_item rules invisible (rules.short (stands_with_marks (i == 0) (drop i items))) x
+      ≡ emitted_for rules invisible (rules.short (stands_with_marks (i == 0) (drop i items))) x
       ++ expanded_after rules invisible (i + 1 == 0) (drop (i + 1) items)
   after_here items i x within at = rw (after_first i, at_place items i x within at) refl
 
   pub seen_here : (items : List Item) (i : ℕ) (x : Item) (flags : ScratchFlags) → i < length items → x ≡ get_or items i x
       → seen_after rules invisible (i == 0) flags (drop i items)
       ≡ seen_after rules invisible (i + 1 == 0)
-      (seen_expanded rules invisible (rules.short (stands_with_marks (i == 0) (drop i items))) flags x) (drop (i + 1) items)
+      (seen_emitted rules invisible (rules.short (stands_with_marks (i == 0) (drop i items))) flags x) (drop (i + 1) items)
   seen_here items i x flags within at = rw (after_first i, at_place items i x within at) refl
 
   -- an item that stays whole is written where it stands
   pub placed_more : (items : List Item) (i : ℕ) (x w : Item) → i < length items → x ≡ get_or items i x
-      → expanded_item rules invisible (rules.short (stands_with_marks (i == 0) (drop i items))) x ≡ w ∷ []
+      → emitted_for rules invisible (rules.short (stands_with_marks (i == 0) (drop i items))) x ≡ w ∷ []
       → take (i + 1) (set items i w) ++ expanded_after rules invisible (i + 1 == 0) (drop (i + 1) (set items i w))
       ≡ take i items ++ expanded_after rules invisible (i == 0) (drop i items)
   placed_more items i x w within at stays =
@@ -64,7 +64,7 @@ module _ (rules : Rules) (invisible : Option GlyphId) where
 
   pub seen_more : (items : List Item) (i : ℕ) (x w : Item) (flags : ScratchFlags) → i < length items → x ≡ get_or items i x
       → seen_after rules invisible (i + 1 == 0)
-      (seen_expanded rules invisible (rules.short (stands_with_marks (i == 0) (drop i items))) flags x) (drop (i + 1) (set items i w))
+      (seen_emitted rules invisible (rules.short (stands_with_marks (i == 0) (drop i items))) flags x) (drop (i + 1) (set items i w))
       ≡ seen_after rules invisible (i == 0) flags (drop i items)
   seen_more items i x w flags within at =
       let back : drop (i + 1) (set items i w) ≡ drop (i + 1) items = drop-set-lt (i + 1) items i w (omega arith) in
@@ -83,7 +83,7 @@ module _ (rules : Rules) (invisible : Option GlyphId) where
 
   -- the scratch flags go through a list of steps, one for each item
   abbrev steps : Bool → Item → List (ScratchFlags → ScratchFlags)
-  steps with_marks item = (λ flags. seen_expanded rules invisible (rules.short with_marks) flags item) ∷ []
+  steps with_marks item = (λ flags. seen_emitted rules invisible (rules.short with_marks) flags item) ∷ []
 
   abbrev taken : ScratchFlags → List (ScratchFlags → ScratchFlags) → ScratchFlags
   taken flags list = fold (λ flags step. step flags) flags list
@@ -92,16 +92,16 @@ module _ (rules : Rules) (invisible : Option GlyphId) where
       → taken flags (expanded_from is_mark_item steps first items) ≡ seen_after rules invisible first flags items
   taken-after first flags [] = refl
   taken-after first flags (x ∷ rest) =
-      taken-after false (seen_expanded rules invisible (rules.short (stands_with_marks first (x ∷ rest))) flags x) rest
+      taken-after false (seen_emitted rules invisible (rules.short (stands_with_marks first (x ∷ rest))) flags x) rest
 
   taken-append : (flags : ScratchFlags) (front back : List (ScratchFlags → ScratchFlags)) → taken flags (front ++ back) ≡ taken (taken flags front) back
   taken-append flags [] back = refl
   taken-append flags (step ∷ front) back = taken-append (step flags) front back
 
   taken-items : (with_marks : Bool) (flags : ScratchFlags) (items : List Item)
-      → taken flags (flat_map (steps with_marks) items) ≡ fold (seen_expanded rules invisible (rules.short with_marks)) flags items
+      → taken flags (flat_map (steps with_marks) items) ≡ fold (seen_emitted rules invisible (rules.short with_marks)) flags items
   taken-items with_marks flags [] = refl
-  taken-items with_marks flags (x ∷ rest) = taken-items with_marks (seen_expanded rules invisible (rules.short with_marks) flags x) rest
+  taken-items with_marks flags (x ∷ rest) = taken-items with_marks (seen_emitted rules invisible (rules.short with_marks) flags x) rest
 
   seen-parts : (flags : ScratchFlags) (parts : List (List Item)) → AllByRecursion (λ sequence. is_selector_sequence rules.unicode sequence ≡ false) parts
       → fold (seen_sequence rules invisible) flags parts ≡ taken flags (flat_map (sequence_becomes steps) parts)

@@ -19,8 +19,8 @@ use Rattle.shape_common.specs.declared.text_types.GlyphId.{GlyphId}
 use Rattle.shape_normalize.specs.Normalized.{BroughtInHaveGlyphs}
 use Rattle.shape_items.specs.Prepared.{IsPreparedItem}
 use Rattle.shape_items.specs.Spans.{all_merged}
-use Rattle.shape_normalize.specs.Part.{part_item}
-use Rattle.shape_normalize.specs.RoundOne.{item_glyph, skipped_item, whole_item, remembers_space, expanded_item, expanded, expansion_of, is_selector_item, is_selector_sequence, is_with_marks, marked_selector, variant_items, variants, sequences, sequence_items, variation_sequences_from, variation_sequences_merged, round_one}
+use Rattle.shape_normalize.specs.Recast.{recast_to}
+use Rattle.shape_normalize.specs.RoundOne.{item_glyph, skipped_item, whole_item, remembers_space, emitted_for, expanded, expansion_of, is_selector_item, is_selector_sequence, is_with_marks, marked_selector, variant_items, variants, sequences, sequence_items, variation_sequences_from, variation_sequences_merged, round_one}
 use Rattle.shape_plan.specs.Rules.{Rules, decompositions, has_glyph}
 use Rattle.shape_normalize.proofs.RoundOne.SequenceLemmas.{each_part, each_of_values, each_value, each_weaker, flat_map_all, flat_map_same, flat_map_parts_all, sequence_becomes, sequences-expanded}
 
@@ -45,22 +45,22 @@ module _ (rules : Rules) (invisible : Option GlyphId) where
         | false ↦ plain (item_glyph rules invisible item)
       ]
 
-  chars-parts : (item : Item) (cs : List ℕ) → map char_of (map (part_item rules.unicode rules.face.nominal_glyph item) cs) ≡ cs
+  chars-parts : (item : Item) (cs : List ℕ) → map char_of (map (recast_to rules.unicode rules.face.nominal_glyph item) cs) ≡ cs
   chars-parts item [] = refl
   chars-parts item (c ∷ cs) = ap (λ rest. c ∷ rest) (chars-parts item cs)
 
   chars-found : (item : Item) (found : Option (List ℕ))
-      → map char_of (option_map_or (map (part_item rules.unicode rules.face.nominal_glyph item)) found
+      → map char_of (option_map_or (map (recast_to rules.unicode rules.face.nominal_glyph item)) found
       (whole_item rules invisible item ∷ [])) ≡ unwrap_or found (item.codepoint ∷ [])
   chars-found item None =
       ap (λ c. c ∷ []) (whole_item_is (λ whole. char_of whole ≡ item.codepoint) item (λ glyph. refl) (λ glyph space. refl))
   chars-found item (Some cs) = chars-parts item cs
 
   -- the characters that an item becomes are the choice of its character
-  pub chars-expanded_item : (short : Bool) (item : Item)
-      → map char_of (expanded_item rules invisible short item)
+  pub chars-emitted_for : (short : Bool) (item : Item)
+      → map char_of (emitted_for rules invisible short item)
       ≡ choice (decompositions rules) (has_glyph rules.face.nominal_glyph) short item.codepoint
-  chars-expanded_item short item = chars-found item (expansion_of rules short item)
+  chars-emitted_for short item = chars-found item (expansion_of rules short item)
 
 -- ---- what holds of each item
 
@@ -68,7 +68,7 @@ module _ (rules : Rules) (invisible : Option GlyphId) where
 module _ (rules : Rules) (invisible not_found : Option GlyphId) (P Q : Item → Type 0) (takes_glyph : (item : Item) (glyph : ℕ) → P item
     → Q (record item { glyph_index = glyph })) (is_marked : (item : Item) (glyph : ℕ) → P item
     → Q (marked_selector not_found (record item { glyph_index = glyph })))
-    (expands : (short : Bool) (item : Item) → P item → AllByRecursion Q (expanded_item rules invisible short item)) where
+    (expands : (short : Bool) (item : Item) → P item → AllByRecursion Q (emitted_for rules invisible short item)) where
   skipped_all : (rest : List Item) → AllByRecursion P rest → AllByRecursion Q (map (skipped_item rules.face.nominal_glyph) rest)
   skipped_all [] each = tt
   skipped_all (item ∷ rest) each = (takes_glyph item _ each.0, skipped_all rest each.1)
@@ -91,9 +91,9 @@ module _ (rules : Rules) (invisible not_found : Option GlyphId) (P Q : Item → 
   sequence_all sequence each =
       elim (is_selector_sequence rules.unicode sequence) as (λ t. AllByRecursion Q
       (if t then flat_map (variant_items rules.face not_found) (variants rules.unicode sequence)
-      else flat_map (expanded_item rules invisible (rules.short (is_with_marks sequence))) sequence)) [
+      else flat_map (emitted_for rules invisible (rules.short (is_with_marks sequence))) sequence)) [
         | true ↦ flat_map_parts_all (is_selector_item rules.unicode) P Q (variant_items rules.face not_found) variant_all sequence each
-        | false ↦ flat_map_all P Q (expanded_item rules invisible (rules.short (is_with_marks sequence)))
+        | false ↦ flat_map_all P Q (emitted_for rules invisible (rules.short (is_with_marks sequence)))
             (expands (rules.short (is_with_marks sequence))) sequence each
       ]
 
@@ -111,24 +111,24 @@ module _ (rules : Rules) (among : List ℕ) where
   of_choice c d here (inl has) = inl has
   of_choice c d here (inr same) = inr (rw same here)
 
-  expanded_item_brings_in : (invisible : Option GlyphId) (short : Bool) (item : Item) → Contains among item.codepoint
-      → AllByRecursion (λ new. IsBroughtIn rules among new.codepoint) (expanded_item rules invisible short item)
-  expanded_item_brings_in invisible short item here =
+  emitted_for_brings_in : (invisible : Option GlyphId) (short : Bool) (item : Item) → Contains among item.codepoint
+      → AllByRecursion (λ new. IsBroughtIn rules among new.codepoint) (emitted_for rules invisible short item)
+  emitted_for_brings_in invisible short item here =
       let chosen = choice (decompositions rules) (has_glyph rules.face.nominal_glyph) short item.codepoint in
       let each : AllByRecursion (IsBroughtIn rules among) chosen =
       each_weaker (HasGlyphOrIs (has_glyph rules.face.nominal_glyph) item.codepoint) (IsBroughtIn rules among)
       (λ d. of_choice item.codepoint d here) chosen
       (recursion_from_All (HasGlyphOrIs (has_glyph rules.face.nominal_glyph) item.codepoint) chosen
       (choice_glyphs (decompositions rules) (has_glyph rules.face.nominal_glyph) short item.codepoint)) in
-      each_of_values char_of (IsBroughtIn rules among) (expanded_item rules invisible short item)
-      (subst (AllByRecursion (IsBroughtIn rules among)) (sym (chars-expanded_item rules invisible short item)) each)
+      each_of_values char_of (IsBroughtIn rules among) (emitted_for rules invisible short item)
+      (subst (AllByRecursion (IsBroughtIn rules among)) (sym (chars-emitted_for rules invisible short item)) each)
 
   expanded_brings_in : (invisible not_found : Option GlyphId) (items : List Item) → AllByRecursion (Contains among) (map char_of items)
       → AllByRecursion (IsBroughtIn rules among) (map char_of (expanded rules invisible not_found items))
   expanded_brings_in invisible not_found items each =
       each_value char_of (IsBroughtIn rules among) (expanded rules invisible not_found items)
       (expanded_all rules invisible not_found (λ item. Contains among item.codepoint) (λ new. IsBroughtIn rules among new.codepoint)
-      (λ item glyph here. inr here) (λ item glyph here. inr here) (expanded_item_brings_in invisible) items
+      (λ item glyph here. inr here) (λ item glyph here. inr here) (emitted_for_brings_in invisible) items
       (each_of_values char_of (Contains among) items each))
 
 -- every character of the expanded list has a glyph or stands in the list as it was
@@ -172,7 +172,7 @@ module _ (rules : Rules) where
 
   -- what an item becomes by whether it stands in a sequence with marks
   abbrev pub item_becomes : Option GlyphId → Bool → Item → List Item
-  item_becomes invisible with_marks item = expanded_item rules invisible (rules.short with_marks) item
+  item_becomes invisible with_marks item = emitted_for rules invisible (rules.short with_marks) item
 
   -- each item is expanded, by whether it stands in a sequence with marks
   pub expanded-no_selector : (invisible not_found : Option GlyphId) (items : List Item) → HasNoSelectorItem items
@@ -194,6 +194,6 @@ module _ (rules : Rules) where
       ∙ ap (map char_of) (expanded-no_selector b.invisible_glyph b.not_found_variation_selector_glyph b.items none)
       ∙ expanded-map (IsPreparedItem rules.unicode) char_of char_of is_mark_item (is_mark rules.unicode) (item_becomes b.invisible_glyph)
       (λ with_marks. choice (decompositions rules) (has_glyph rules.face.nominal_glyph) (rules.short with_marks))
-      (λ item prepared. sym prepared.mark) (λ with_marks item prepared. chars-expanded_item rules b.invisible_glyph
+      (λ item prepared. sym prepared.mark) (λ with_marks item prepared. chars-emitted_for rules b.invisible_glyph
       (rules.short with_marks) item)
       b.items prepared

@@ -10,7 +10,7 @@ use Rattle.shape_items.specs.Items.{Item}
 use Rattle.canonical_form.specs.Recompose.{is_blocked}
 use Rattle.canonical_form.proofs.Recomposing.RecomposeLemmas.{recomposed-all}
 use Rattle.shape_plan.specs.Rules.{Rules, has_glyph}
-use Rattle.shape_normalize.specs.Part.{part_item}
+use Rattle.shape_normalize.specs.Recast.{recast_to}
 use Rattle.shape_normalize.proofs.RoundThree.RoundThreePlaceLemmas.{absorbed_is, length-recomposed}
 use Rattle.shape_items.specs.Spans.{spans_merged_out}
 use Rattle.shape_normalize.specs.RoundThree.{Placed, placed, ccc_of_placed, is_mark_placed, compose_placed, recomposed_items, absorbed_spans, with_cluster_at, round_three}
@@ -28,7 +28,7 @@ glyph_of_composed has (Some d) c is =
 -- what holds of each item, and with a starter also of what that becomes, holds of each item that is emitted, before it
 -- takes the cluster and the mask at its place
 module _ (rules : Rules) (P : Item → Type 0) (composes : (item : Item) (c : ℕ) → has_glyph rules.face.nominal_glyph c ≡ true → P item
-    → P (part_item rules.unicode rules.face.nominal_glyph item c)) where
+    → P (recast_to rules.unicode rules.face.nominal_glyph item c)) where
   each_placed : (place : ℕ) (items : List Item) → AllByRecursion P items → AllByRecursion (λ (p : Placed). P p.item) (placed place items)
   each_placed place [] each = tt
   each_placed place (item ∷ items) each = (each.0, each_placed (suc place) items each.1)
@@ -51,7 +51,7 @@ module _ (rules : Rules) (P : Item → Type 0) (composes : (item : Item) (c : �
 module _ (rules : Rules) (P : Item → Type 0)
     (anywhere : (item : Item) (cluster mask : ℕ) → P item → P (record item { cluster = cluster; mask = mask }))
     (composes : (item : Item) (c : ℕ) → has_glyph rules.face.nominal_glyph c ≡ true → P item
-    → P (part_item rules.unicode rules.face.nominal_glyph item c)) where
+    → P (recast_to rules.unicode rules.face.nominal_glyph item c)) where
   each_put_out : (items : List Item) (out : List Placed) → AllByRecursion (λ (p : Placed). P p.item) out
       → AllByRecursion P (map (with_cluster_at items) out)
   each_put_out items [] each = tt

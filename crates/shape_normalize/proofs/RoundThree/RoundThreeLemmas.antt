@@ -8,7 +8,7 @@ use Rattle.shape_items.specs.Items.{Item}
 use Rattle.shape_common.specs.Positions.{zero_position}
 use Rattle.shape_common.specs.declared.flags.ScratchFlags.{ScratchFlags}
 use Rattle.shape_items.proofs.MergingInOrder.EachSpanLemmas.{spans_merged_out_is, length-spans_merged_out}
-use Rattle.shape_normalize.specs.Part.{seen_chars}
+use Rattle.shape_normalize.specs.Recast.{seen_chars}
 use Rattle.shape_items.specs.Spans.{AreSpansInOrder, spans_merged_out}
 use Rattle.shape_normalize.specs.RoundThree.{Placed, recomposed_items, absorbed_spans, chained_spans, composed_chars, with_cluster_at, round_three, cluster_and_mask, AreComposedInPlace, without_ends, ends_taken_out}
 use Rattle.shape_plan.specs.Rules.{Rules}

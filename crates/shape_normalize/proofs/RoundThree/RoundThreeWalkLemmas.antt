@@ -14,7 +14,7 @@ use Rattle.shape_common.specs.declared.flags.ScratchFlags.{ScratchFlags}
 use Rattle.canonical_form.proofs.Lists.EveryLemmas.{append_all, push_all}
 use Rattle.canonical_form.proofs.Recomposing.BlockLemmas.{blocked_by_number, greatest_ccc-push}
 use Rattle.canonical_form.proofs.Recomposing.RecomposeLemmas.{recomposed_from-some, recomposed_from-starter, recomposed_from-mark}
-use Rattle.shape_normalize.specs.Part.{part_item, seen_chars}
+use Rattle.shape_normalize.specs.Recast.{recast_to, seen_chars}
 use Rattle.shape_normalize.specs.RoundThree.{Absorbed, Placed, placed, ccc_of_placed, is_mark_placed, compose_placed, recomposed_items, spans_between, chained_spans, composed_chars, composed_char, cluster_and_mask, AreComposedInPlace}
 use Rattle.shape_plan.specs.Rules.{Rules, has_glyph}
 
@@ -114,7 +114,7 @@ module _ (rules : Rules) where
   -- the starter with the character that it makes with a mark
   abbrev pub made_with : Placed → Placed → ℕ → Placed
   made_with starter mark c = record {
-    item = part_item rules.unicode rules.face.nominal_glyph starter.item c;
+    item = recast_to rules.unicode rules.face.nominal_glyph starter.item c;
     place = starter.place;
     absorbed = starter.absorbed ++ record { place = mark.place; char = c } ∷ [];
   }
@@ -290,12 +290,12 @@ module _ (rules : Rules) where
 
     -- the next item goes into the starter
     pub IsRecomposedTo-absorbed : (c : ℕ) → Some c ≡ composed_char rules s greatest x
-        → IsRecomposedTo items flags (i + 1) (set now starter (part_item rules.unicode rules.face.nominal_glyph s c))
+        → IsRecomposedTo items flags (i + 1) (set now starter (recast_to rules.unicode rules.face.nominal_glyph s c))
         (spans ++ (from, i + 1) ∷ []) (with_scratch_of rules.unicode c seen) starter i greatest
     IsRecomposedTo-absorbed c was =
         let d : Placed = made_with h.at next c in
-        let put_is : set now starter (part_item rules.unicode rules.face.nominal_glyph s c) ≡ set now h.at.place d.item =
-        ap₂ (λ n p. set now n (part_item rules.unicode rules.face.nominal_glyph p c)) h.starter_is starter_at in
+        let put_is : set now starter (recast_to rules.unicode rules.face.nominal_glyph s c) ≡ set now h.at.place d.item =
+        ap₂ (λ n p. set now n (recast_to rules.unicode rules.face.nominal_glyph p c)) h.starter_is starter_at in
         subst (λ l. IsRecomposedTo items flags (i + 1) l (spans ++ (from, i + 1) ∷ []) (with_scratch_of rules.unicode c seen) starter i greatest)
         (sym put_is) (record {
           before = h.before;

@@ -6,7 +6,7 @@ use Rattle.shape_common.specs.declared.general_category.hb_unicode_general_categ
 use Rattle.shape_common.specs.declared.text_types.BufferClusterLevel.TheVariants.{Characters}
 use Rattle.shape_plan.specs.Plan.{Plan}
 use Rattle.shape_plan.specs.Rules.{goes_short, mode_recomposes, used_mode}
-use Rattle.shape_normalize.specs.RoundOne.{is_fallback_space, item_glyph, expanded_item, skipped_item, variant_items, sequences, is_selector_sequence, variation_sequence_spans, variation_sequences_from, variation_sequences_merged, round_one}
+use Rattle.shape_normalize.specs.RoundOne.{is_fallback_space, item_glyph, emitted_for, skipped_item, variant_items, sequences, is_selector_sequence, variation_sequence_spans, variation_sequences_from, variation_sequences_merged, round_one}
 use Rattle.shape_normalize.specs.Worked.Fixture.{fixture, face_of, rules_in, item, buffer_of, at, glyph, marked}
 
 -- which modes go short, by themselves and in a sequence, and which compose
@@ -105,18 +105,18 @@ char_ccc_and_category one = (one.codepoint, (one.properties.modified_ccc, one.pr
 -- what an item becomes
 pub record ItemsWorked : Type 0 where
   -- an item that keeps its character keeps its properties, except for its glyph and a remembered type
-  pub kept : expanded_item (rules_in 1 (0x62 ∷ [])) None false (odd_item 0x62) ≡ record (odd_item 0x62) { glyph_index = 0x62 } ∷ []
-  pub remembered : map (λ (one : Item). one.properties.space_type) (expanded_item (rules_in 1 (0x20 ∷ [])) None false (item 0x2002 0))
+  pub kept : emitted_for (rules_in 1 (0x62 ∷ [])) None false (odd_item 0x62) ≡ record (odd_item 0x62) { glyph_index = 0x62 } ∷ []
+  pub remembered : map (λ (one : Item). one.properties.space_type) (emitted_for (rules_in 1 (0x20 ∷ [])) None false (item 0x2002 0))
       ≡ 2 ∷ []
   pub with_glyph_forgotten : map (λ (one : Item). one.properties.space_type)
-      (expanded_item (rules_in 1 (0x2002 ∷ 0x20 ∷ [])) None false (item 0x2002 0)) ≡ 0 ∷ []
+      (emitted_for (rules_in 1 (0x2002 ∷ 0x20 ∷ [])) None false (item 0x2002 0)) ≡ 0 ∷ []
   -- the items of an expansion have their characters' properties, and keep the shaper's two bytes
-  pub parts : map char_ccc_and_category (expanded_item (rules_in 1 (0x61 ∷ 0x301 ∷ [])) None false (odd_item 0xE1))
+  pub parts : map char_ccc_and_category (emitted_for (rules_in 1 (0x61 ∷ 0x301 ∷ [])) None false (odd_item 0xE1))
       ≡ (0x61, (0, 5)) ∷ (0x301, (230, 5)) ∷ []
-  pub parts_place : map marked (expanded_item (rules_in 1 (0x61 ∷ 0x301 ∷ [])) None false (odd_item 0xE1))
+  pub parts_place : map marked (emitted_for (rules_in 1 (0x61 ∷ 0x301 ∷ [])) None false (odd_item 0xE1))
       ≡ (0x61, (3, 256)) ∷ (0x301, (3, 256)) ∷ []
-  pub shortest : map glyph (expanded_item (rules_in 1 (0xE1 ∷ 0x61 ∷ 0x301 ∷ [])) None true (item 0xE1 0)) ≡ (0xE1, 0xE1) ∷ []
-  pub half_supported : map glyph (expanded_item (rules_in 1 (0x61 ∷ [])) None false (item 0xE1 0)) ≡ (0xE1, 0) ∷ []
+  pub shortest : map glyph (emitted_for (rules_in 1 (0xE1 ∷ 0x61 ∷ 0x301 ∷ [])) None true (item 0xE1 0)) ≡ (0xE1, 0xE1) ∷ []
+  pub half_supported : map glyph (emitted_for (rules_in 1 (0x61 ∷ [])) None false (item 0xE1 0)) ≡ (0xE1, 0) ∷ []
 
 items_worked : ItemsWorked
 items_worked =

@@ -6,7 +6,7 @@ use Rattle.shape_common.specs.declared.general_category.hb_unicode_general_categ
 use Rattle.shape_common.specs.declared.text_types.BufferClusterLevel.TheVariants.{Characters}
 use Rattle.shape_normalize.specs.RoundThree.{Placed, recomposed_items, recomposed_by_last, absorbed_spans, chained_spans, round_three, AreComposedInPlace, ends_taken_out}
 use Rattle.shape_normalize.specs.Normalized.{normalized}
-use Rattle.shape_normalize.specs.Part.{part_item}
+use Rattle.shape_normalize.specs.Recast.{recast_to}
 use Rattle.shape_normalize.specs.RoundTwo.{run_settled}
 use Rattle.shape_common.specs.Positions.{zero_position}
 use Rattle.shape_plan.specs.Rules.{Rules}
@@ -160,7 +160,7 @@ abbrev few_rules : Rules
 few_rules = rules_in 3 few_chars
 
 abbrev composed_first : Item
-composed_first = part_item few_rules.unicode few_rules.face.nominal_glyph (item 0x61 0) 0xE1
+composed_first = recast_to few_rules.unicode few_rules.face.nominal_glyph (item 0x61 0) 0xE1
 
 -- the walk of the code: characters in place, spans, and what stays
 pub record InPlaceWorked : Type 0 where

@@ -2,8 +2,7 @@
 //!
 //! One that keeps nothing apart is unhidden: lookups may then skip it as they skip other ignorable characters.
 ghost use Rattle.std.specs.Prelude.{◌≡◌};
-ghost use Rattle.shape_normalize.specs.RoundTwo.{keeps_nothing_apart as keeps_nothing_apart_of};
-ghost use Rattle.shape_normalize.specs.RoundTwo.{one_cgj_unhidden, cgj_unhidden_where_seen};
+ghost use Rattle.shape_normalize.specs.RoundTwo;
 
 use bitflags::Flags;
 use shape_buffer::buffer::{ScratchFlags, hb_buffer_t, hb_glyph_info_t};
@@ -12,7 +11,7 @@ const COMBINING_GRAPHEME_JOINER: char = '\u{34F}';
 
 /// Whether a CGJ between two items keeps nothing apart: the second wouldn't go before the first.
 fn keeps_nothing_apart(before: &hb_glyph_info_t, after: &hb_glyph_info_t) -> bool
-    ensures { result ≡ keeps_nothing_apart_of before.now after.now }
+    ensures { result ≡ RoundTwo.keeps_nothing_apart before.now after.now }
 {
     let ccc = after._hb_glyph_info_get_modified_combining_class();
     ccc == 0 || before._hb_glyph_info_get_modified_combining_class() <= ccc
@@ -24,7 +23,7 @@ fn unhide_one_cgj(
     info: &hb_glyph_info_t,
     after: &hb_glyph_info_t,
 ) -> hb_glyph_info_t
-    ensures { result ≡ one_cgj_unhidden before.now info.now after.now }
+    ensures { result ≡ RoundTwo.one_cgj_unhidden before.now info.now after.now }
 {
     let mut info = *info;
     if info.codepoint == COMBINING_GRAPHEME_JOINER && keeps_nothing_apart(before, after) {
@@ -36,7 +35,7 @@ fn unhide_one_cgj(
 /// Unhides each CGJ that keeps nothing apart, if the run has seen one; the first and the last
 /// item stay.
 pub(crate) fn unhide_cgj(buffer: &mut hb_buffer_t)
-    ensures { buffer.new ≡ cgj_unhidden_where_seen buffer.old }
+    ensures { buffer.new ≡ RoundTwo.cgj_unhidden_where_seen buffer.old }
 {
     if !buffer.scratch_flags().contains(ScratchFlags::HAS_CGJ) {
         return;

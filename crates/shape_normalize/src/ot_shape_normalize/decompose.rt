@@ -20,9 +20,9 @@ ghost use Rattle.canonical_form.specs.Chain.{kept_part};
 ghost use Rattle.canonical_form.specs.Expansion.{chosen_expansion};
 ghost use Rattle.shape_plan.specs.Plan.{hooks_of};
 ghost use Rattle.shape_plan.specs.Rules.{decompositions, has_glyph};
-ghost use Rattle.shape_normalize.specs.Part.{part_of_char};
+ghost use Rattle.shape_normalize.specs.Recast.{mapped_char};
 
-use crate::ot_shape_normalize::part::{Part, part_with_glyph};
+use crate::ot_shape_normalize::recast::{MappedChar, mapped};
 use shape_buffer::interfaces::{hb_font_t, hb_ot_layout_t, hb_unicode_funcs_t};
 use shape_plan::ot_shaper::hb_ot_shaper_t;
 use shape_plan::shaping_types::{Meaning, PlanOf, ShapingTypes};
@@ -32,8 +32,8 @@ use std::alloc::{AllocError, Global};
 /// the whole text, so that the second parts of all its characters take memory once.
 #[derive(Drop)]
 pub(crate) struct Expansion {
-    pub(crate) first: Part,
-    pub(crate) seconds: Vec<Part>,
+    pub(crate) first: MappedChar,
+    pub(crate) seconds: Vec<MappedChar>,
 }
 
 /// The split of a character: the hook's if it is given and the plan uses the shaper, else Unicode's.
@@ -51,17 +51,21 @@ pub(crate) fn split_of<T: ShapingTypes>(
 }
 
 /// Keeps a second part, unless it is U+0000, and says whether the face has a glyph for it.
-fn keep_second<F: hb_font_t>(face: &F, b: char, seconds: &mut Vec<Part>) -> Result<bool, AllocError>
+fn keep_second<F: hb_font_t>(
+    face: &F,
+    b: char,
+    seconds: &mut Vec<MappedChar>,
+) -> Result<bool, AllocError>
     ensures test { IfOk result (λ t. t
         ≡ list_all (has_glyph (F.face face.now).nominal_glyph) (kept_part b)) }
     ensures kept { result ≡ Ok true → seconds.new.items
-        ≡ seconds.old.items ++ map (part_of_char (F.face face.now).nominal_glyph) (kept_part b) }
+        ≡ seconds.old.items ++ map (mapped_char (F.face face.now).nominal_glyph) (kept_part b) }
     ensures same { result ≡ Ok false → seconds.new.items ≡ seconds.old.items }
 {
     if b == '\0' {
         return Ok(true);
     }
-    let Some(part) = part_with_glyph(face, b) else {
+    let Some(part) = mapped(face, b) else {
         return Ok(false);
     };
     seconds.push(part)?;
@@ -76,13 +80,13 @@ fn walk_chain<T: ShapingTypes>(
     face: &T::Face,
     c: char,
     shortest: bool,
-    seconds: &mut Vec<Part>,
-) -> Result<Option<(Part, usize)>, AllocError>
+    seconds: &mut Vec<MappedChar>,
+) -> Result<Option<(MappedChar, usize)>, AllocError>
     requires empty { seconds.old.items ≡ [] }
     requires lacking { IsTrue shortest → has_glyph (T.Face.face face.now).nominal_glyph c ≡ false }
     ensures { IfOk result (λ found. option_map
         (λ f. f.0 ∷ reverse (take f.1 seconds.new.items)) found
-        ≡ option_map (map (part_of_char (T.Face.face face.now).nominal_glyph))
+        ≡ option_map (map (mapped_char (T.Face.face face.now).nominal_glyph))
         (chosen_expansion (decompositions (⟦<T as Meaning>⟧.rules plan.now face.now))
         (has_glyph (T.Face.face face.now).nominal_glyph) shortest c)) }
 {
@@ -93,7 +97,7 @@ fn walk_chain<T: ShapingTypes>(
             return Ok(found);
         }
         point = a;
-        if let Some(part) = part_with_glyph(face, a) {
+        if let Some(part) = mapped(face, a) {
             found = Some((part, seconds.len()));
             if shortest {
                 return Ok(found);
@@ -107,7 +111,7 @@ impl Expansion {
     /// Room for expansions. Takes no memory.
     pub(crate) fn new(alloc: Global) -> Self {
         Expansion {
-            first: Part { c: '\0', glyph: 0 },
+            first: MappedChar { c: '\0', glyph: 0 },
             seconds: Vec::new(alloc),
         }
     }
@@ -126,7 +130,7 @@ pub(crate) fn decompose<T: ShapingTypes>(
     requires { IsTrue shortest → has_glyph (T.Face.face face.now).nominal_glyph c ≡ false }
     ensures { IfOk result (λ found. (if found
         then Some (expansion.new.first ∷ reverse expansion.new.seconds.items) else None)
-        ≡ option_map (map (part_of_char (T.Face.face face.now).nominal_glyph))
+        ≡ option_map (map (mapped_char (T.Face.face face.now).nominal_glyph))
         (chosen_expansion (decompositions (⟦<T as Meaning>⟧.rules plan.now face.now))
         (has_glyph (T.Face.face face.now).nominal_glyph) shortest c)) }
 {
@@ -149,7 +153,7 @@ fn keep_expansion<T: ShapingTypes>(
     requires { IsTrue shortest → has_glyph (T.Face.face face.now).nominal_glyph c ≡ false }
     ensures { IfOk result (λ found. (if found
         then Some (expansion.new.first ∷ reverse expansion.new.seconds.items) else None)
-        ≡ option_map (map (part_of_char (T.Face.face face.now).nominal_glyph))
+        ≡ option_map (map (mapped_char (T.Face.face face.now).nominal_glyph))
         (chosen_expansion (decompositions (⟦<T as Meaning>⟧.rules plan.now face.now))
         (has_glyph (T.Face.face face.now).nominal_glyph) shortest c)) }
 {

@@ -26,7 +26,8 @@ fn mode_of<T: ShapingTypes>(plan: &PlanOf<'_, T>) -> hb_ot_shape_normalization_m
 
 /// Whether the shortest expansion is asked for, by whether a character stands in a sequence with marks.
 pub(crate) fn goes_short<T: ShapingTypes>(plan: &PlanOf<'_, T>, with_marks: bool) -> bool
-    ensures { result ≡ Rules.goes_short (Rules.used_mode T.Shaper.constants.preference plan.now) with_marks }
+    ensures { result
+        ≡ Rules.goes_short (Rules.used_mode T.Shaper.constants.preference plan.now) with_marks }
 {
     match mode_of::<T>(plan) {
         HB_OT_SHAPE_NORMALIZATION_MODE_NONE => true,
@@ -38,7 +39,8 @@ pub(crate) fn goes_short<T: ShapingTypes>(plan: &PlanOf<'_, T>, with_marks: bool
 
 /// Whether marks are composed with their starters again.
 pub(crate) fn recomposes<T: ShapingTypes>(plan: &PlanOf<'_, T>) -> bool
-    ensures { result ≡ Rules.mode_recomposes (Rules.used_mode T.Shaper.constants.preference plan.now) }
+    ensures { result
+        ≡ Rules.mode_recomposes (Rules.used_mode T.Shaper.constants.preference plan.now) }
 {
     matches!(
         mode_of::<T>(plan),

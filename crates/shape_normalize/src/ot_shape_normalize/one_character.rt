@@ -1,28 +1,23 @@
-//! Normalising one character: its item becomes the items of an expansion, or keeps the character with a glyph.
+//! Normalising one character: its item becomes the items of an expansion, or keeps the character.
 //!
-//! The mode says which expansion is asked for, the shortest or the longest ([`Shortest`]); an item with a glyph
-//! that is asked for the shortest keeps it, and any other is expanded along the chain of its splits, if it can be.
-//! An item without a glyph that has no expansion either may take that of another character: a space that
-//! of U+0020, or the invisible glyph, and remembers how wide it is; U+2011 that of U+2010. No shaper has a
-//! say in that, so the functions for one item that stays whole state it by the rules without a shaper.
+//! The mode says which expansion is asked for, the shortest or the longest ([`Shortest`]). An item that
+//! has a glyph and is asked for the shortest stays; any other is expanded along the chain of its splits,
+//! if it can be. An item without a glyph that has no expansion either may take that of another character:
+//! a space that of U+0020, or the invisible glyph, and remembers how wide it is; U+2011 that of U+2010. No
+//! shaper has a say in that, so the functions for one item that stays state it by the rules without one.
 ghost use Rattle.std.specs.Prelude.{◌≡◌, ◌<◌, ◌≤◌, [], ◌∷◌, ◌++◌, length, map, reverse, vec_len};
 ghost use Rattle.std.specs.Prelude.{if◌then◌else◌, Bool, OnOk, IfOk, IfSome, IfNone, Err, None};
 ghost use Rattle.shape_items.specs.Buffer.{limit_of};
 ghost use Rattle.shape_items.specs.UnicodeProps.{with_scratch_of};
-ghost use Rattle.shape_plan.specs.Rules.{rules_without_shaper, used_mode};
-ghost use Rattle.shape_plan.specs.Rules.{goes_short as goes_short_in};
+ghost use Rattle.shape_plan.specs.Rules;
+ghost use Rattle.shape_plan.specs.Rules.{rules_without_shaper};
 ghost use Rattle.shape_normalize.specs.OneWalk.{shortest_of};
-ghost use Rattle.shape_normalize.specs.Part.{with_part as with_part_of, seen_parts};
-ghost use Rattle.shape_normalize.specs.RoundOne.{remembers_space as remembers_space_of};
-ghost use Rattle.shape_normalize.specs.RoundOne.{whole_item as whole_item_of, expanded_item};
-ghost use Rattle.shape_normalize.specs.RoundOne.{with_space_fallback, seen_expanded};
-ghost use Rattle.shape_normalize.specs.RoundOne.{space_glyph as space_glyph_of};
-ghost use Rattle.shape_normalize.specs.RoundOne.{is_fallback_space as is_fallback_space_of};
-ghost use Rattle.shape_normalize.specs.RoundOne.{fallback_index as fallback_index_of};
+ghost use Rattle.shape_normalize.specs.Recast;
+ghost use Rattle.shape_normalize.specs.RoundOne;
 
 use crate::ot_shape_normalize::decompose::{Expansion, decompose};
 use crate::ot_shape_normalize::mode::goes_short;
-use crate::ot_shape_normalize::part::{Part, glyph_index, with_part};
+use crate::ot_shape_normalize::recast::{MappedChar, glyph_index, recast};
 use bitflags::Flags;
 use shape_buffer::buffer::{
     GlyphId, ScratchFlags, ShapeError, hb_buffer_t, hb_glyph_info_t, hb_unicode_general_category_t,
@@ -50,7 +45,8 @@ pub(crate) struct Shortest {
 impl Shortest {
     pub(crate) fn of<T: ShapingTypes>(plan: &PlanOf<'_, T>) -> Self
         ensures { result
-            ≡ shortest_of (goes_short_in (used_mode T.Shaper.constants.preference plan.now)) }
+            ≡ shortest_of (Rules.goes_short
+            (Rules.used_mode T.Shaper.constants.preference plan.now)) }
     {
         Shortest {
             alone: goes_short::<T>(plan, false),
@@ -76,7 +72,8 @@ fn space_glyph<U: hb_unicode_funcs_t, F: hb_font_t>(
     face: &F,
     invisible: Option<GlyphId>,
 ) -> Option<GlyphId>
-    ensures { result ≡ space_glyph_of (rules_without_shaper U.unicode (F.face face.now)) invisible }
+    ensures { result
+        ≡ RoundOne.space_glyph (rules_without_shaper U.unicode (F.face face.now)) invisible }
 {
     face.get_nominal_glyph(SPACE).or(invisible)
 }
@@ -89,7 +86,7 @@ fn is_fallback_space<U: hb_unicode_funcs_t, F: hb_font_t>(
     invisible: Option<GlyphId>,
 ) -> bool
     ensures { result
-        ≡ is_fallback_space_of (rules_without_shaper U.unicode (F.face face.now))
+        ≡ RoundOne.is_fallback_space (rules_without_shaper U.unicode (F.face face.now))
         invisible info.now }
 {
     let separates = matches!(
@@ -108,7 +105,8 @@ fn fallback_index<U: hb_unicode_funcs_t, F: hb_font_t>(
     invisible: Option<GlyphId>,
 ) -> u32
     ensures { result
-        ≡ fallback_index_of (rules_without_shaper U.unicode (F.face face.now)) invisible info.now }
+        ≡ RoundOne.fallback_index (rules_without_shaper U.unicode (F.face face.now))
+        invisible info.now }
 {
     if is_fallback_space::<U, F>(face, info, invisible) {
         return space_glyph::<U, F>(face, invisible).map_or(0, |glyph| glyph.0);
@@ -128,10 +126,11 @@ fn lacking_item<U: hb_unicode_funcs_t, F: hb_font_t>(
 ) -> hb_glyph_info_t
     requires { (F.face face.now).nominal_glyph info.now.codepoint ≡ None }
     ensures item { result
-        ≡ whole_item_of (rules_without_shaper U.unicode (F.face face.now)) invisible info.now }
-    ensures flags { scratch_flags.new ≡ (if remembers_space_of
+        ≡ RoundOne.whole_item (rules_without_shaper U.unicode (F.face face.now))
+        invisible info.now }
+    ensures flags { scratch_flags.new ≡ (if RoundOne.remembers_space
         (rules_without_shaper U.unicode (F.face face.now)) invisible info.now
-        then with_space_fallback scratch_flags.old else scratch_flags.old) }
+        then RoundOne.with_space_fallback scratch_flags.old else scratch_flags.old) }
 {
     let mut whole = *info;
     whole.glyph_index = fallback_index::<U, F>(face, info, invisible);
@@ -151,10 +150,11 @@ fn kept_item<U: hb_unicode_funcs_t, F: hb_font_t>(
     scratch_flags: &mut ScratchFlags,
 ) -> hb_glyph_info_t
     ensures item { result
-        ≡ whole_item_of (rules_without_shaper U.unicode (F.face face.now)) invisible info.now }
-    ensures flags { scratch_flags.new ≡ (if remembers_space_of
+        ≡ RoundOne.whole_item (rules_without_shaper U.unicode (F.face face.now))
+        invisible info.now }
+    ensures flags { scratch_flags.new ≡ (if RoundOne.remembers_space
         (rules_without_shaper U.unicode (F.face face.now)) invisible info.now
-        then with_space_fallback scratch_flags.old else scratch_flags.old) }
+        then RoundOne.with_space_fallback scratch_flags.old else scratch_flags.old) }
 {
     if let Some(GlyphId(glyph)) = face.get_nominal_glyph(info.codepoint) {
         let mut whole = *info;
@@ -199,21 +199,21 @@ impl Emitted {
         shortest: bool,
         invisible: Option<GlyphId>,
     ) -> Result<Option<hb_glyph_info_t>, AllocError>
-        ensures item { IfOk result (λ found. IfSome found (λ whole. expanded_item
+        ensures item { IfOk result (λ found. IfSome found (λ whole. RoundOne.emitted_for
             (⟦<T as Meaning>⟧.rules plan.now face.now) invisible shortest info.now ≡ whole ∷ [])) }
         ensures flags { IfOk result (λ found. IfSome found (λ _. self.new.scratch_flags
-            ≡ seen_expanded (⟦<T as Meaning>⟧.rules plan.now face.now)
+            ≡ RoundOne.seen_emitted (⟦<T as Meaning>⟧.rules plan.now face.now)
             invisible shortest self.old.scratch_flags info.now)) }
         ensures same { IfOk result (λ found.
             IfNone found (self.new.scratch_flags ≡ self.old.scratch_flags)) }
-        ensures parts { IfOk result (λ found. IfNone found (expanded_item
+        ensures parts { IfOk result (λ found. IfNone found (RoundOne.emitted_for
             (⟦<T as Meaning>⟧.rules plan.now face.now) invisible shortest info.now
-            ≡ map (with_part_of T.Unicode.unicode info.now)
+            ≡ map (Recast.recast T.Unicode.unicode info.now)
             (self.new.expansion.first ∷ reverse self.new.expansion.seconds.items))) }
-        ensures seen { IfOk result (λ found. IfNone found (seen_expanded
+        ensures seen { IfOk result (λ found. IfNone found (RoundOne.seen_emitted
             (⟦<T as Meaning>⟧.rules plan.now face.now)
             invisible shortest self.old.scratch_flags info.now
-            ≡ seen_parts T.Unicode.unicode self.old.scratch_flags
+            ≡ Recast.seen_mapped T.Unicode.unicode self.old.scratch_flags
             (self.new.expansion.first ∷ reverse self.new.expansion.seconds.items))) }
         ensures infos { self.new.infos ≡ self.old.infos }
         ensures limit { self.new.limit ≡ self.old.limit }
@@ -246,36 +246,39 @@ impl Emitted {
     }
 
     /// Emits an item of an expansion.
-    fn put_part<U: hb_unicode_funcs_t>(
+    fn put_char<U: hb_unicode_funcs_t>(
         &mut self,
         info: &hb_glyph_info_t,
-        part: Part,
+        mapped: MappedChar,
     ) -> Result<(), AllocError>
         ensures infos { OnOk result (self.new.infos.items
-            ≡ self.old.infos.items ++ with_part_of U.unicode info.now part ∷ []) }
+            ≡ self.old.infos.items ++ Recast.recast U.unicode info.now mapped ∷ []) }
         ensures flags { OnOk result (self.new.scratch_flags
-            ≡ with_scratch_of U.unicode part.c self.old.scratch_flags) }
+            ≡ with_scratch_of U.unicode mapped.c self.old.scratch_flags) }
         ensures expansion { self.new.expansion ≡ self.old.expansion }
         ensures limit { self.new.limit ≡ self.old.limit }
     {
-        let copy = with_part::<U>(info, part, &mut self.scratch_flags);
+        let copy = recast::<U>(info, mapped, &mut self.scratch_flags);
         self.infos.push(copy)?;
         Ok(())
     }
 
     /// Emits the items of the expansion, which keeps no second part.
-    fn put_parts<U: hb_unicode_funcs_t>(&mut self, info: &hb_glyph_info_t) -> Result<(), AllocError>
+    fn put_expansion<U: hb_unicode_funcs_t>(
+        &mut self,
+        info: &hb_glyph_info_t,
+    ) -> Result<(), AllocError>
         ensures infos { OnOk result (self.new.infos.items ≡ self.old.infos.items
-            ++ map (with_part_of U.unicode info.now)
+            ++ map (Recast.recast U.unicode info.now)
             (self.old.expansion.first ∷ reverse self.old.expansion.seconds.items)) }
         ensures flags { OnOk result (self.new.scratch_flags
-            ≡ seen_parts U.unicode self.old.scratch_flags
+            ≡ Recast.seen_mapped U.unicode self.old.scratch_flags
             (self.old.expansion.first ∷ reverse self.old.expansion.seconds.items)) }
         ensures limit { OnOk result (self.new.limit ≡ self.old.limit) }
     {
-        self.put_part::<U>(info, self.expansion.first)?;
+        self.put_char::<U>(info, self.expansion.first)?;
         while let Some(part) = self.expansion.seconds.pop() {
-            self.put_part::<U>(info, part)?;
+            self.put_char::<U>(info, part)?;
         }
         Ok(())
     }
@@ -290,15 +293,16 @@ impl Emitted {
         invisible: Option<GlyphId>,
     ) -> Result<(), ShapeError>
         requires { vec_len self.old.infos ≤ self.old.limit }
-        ensures infos { OnOk result (self.new.infos.items ≡ self.old.infos.items ++ expanded_item
+        ensures infos { OnOk result (self.new.infos.items
+            ≡ self.old.infos.items ++ RoundOne.emitted_for
             (⟦<T as Meaning>⟧.rules plan.now face.now) invisible shortest info.now) }
-        ensures flags { OnOk result (self.new.scratch_flags ≡ seen_expanded
+        ensures flags { OnOk result (self.new.scratch_flags ≡ RoundOne.seen_emitted
             (⟦<T as Meaning>⟧.rules plan.now face.now)
             invisible shortest self.old.scratch_flags info.now) }
         ensures within { OnOk result (vec_len self.new.infos ≤ self.new.limit) }
         ensures limit { OnOk result (self.new.limit ≡ self.old.limit) }
         ensures length { result ≡ Err ShapeError.Length
-            → self.old.limit < length (self.old.infos.items ++ expanded_item
+            → self.old.limit < length (self.old.infos.items ++ RoundOne.emitted_for
             (⟦<T as Meaning>⟧.rules plan.now face.now) invisible shortest info.now) }
     {
         let room = self.limit - self.infos.len();
@@ -307,7 +311,7 @@ impl Emitted {
             if room <= self.expansion.seconds.len() {
                 return Err(ShapeError::Length);
             }
-            self.put_parts::<T::Unicode>(info)?;
+            self.put_expansion::<T::Unicode>(info)?;
             return Ok(());
         };
         if room == 0 {

@@ -11,9 +11,7 @@ ghost use Rattle.std.specs.Prelude.{◌≡◌, ◌↔◌, ◌&&◌, IsTrue, not,
 ghost use Rattle.std.specs.List.{list_all};
 ghost use Rattle.canonical_form.specs.Chain.{full};
 ghost use Rattle.shape_normalize.specs.CanonicalForm.{CanonicalFormPremises, HasLawfulHooks};
-ghost use Rattle.shape_normalize.specs.PremiseTest.{front_with, front_before, front_of as front_of_text};
-ghost use Rattle.shape_normalize.specs.PremiseTest.{is_plain_item, is_full_mode, is_supported_text};
-ghost use Rattle.shape_normalize.specs.PremiseTest.{meets_premises};
+ghost use Rattle.shape_normalize.specs.PremiseTest;
 ghost use Rattle.shape_plan.specs.Rules.{decompositions, has_glyph};
 
 use crate::ot_shape_normalize::decompose::split_of;
@@ -44,7 +42,8 @@ fn with_char<U: hb_unicode_funcs_t, F: hb_font_t>(
     front: Option<Front>,
     c: char,
 ) -> Option<Front>
-    ensures { result ≡ front_with U.unicode.ccc (has_glyph (F.face face.now).nominal_glyph) c front }
+    ensures { result ≡ PremiseTest.front_with U.unicode.ccc
+        (has_glyph (F.face face.now).nominal_glyph) c front }
 {
     let front = front?;
     if !face.has_glyph(c) {
@@ -78,7 +77,7 @@ fn with_full<T: ShapingTypes>(
     c: char,
 ) -> Option<Front>
     ensures { let rules = ⟦<T as Meaning>⟧.rules plan.now face.now in
-        result ≡ front_before T.Unicode.unicode.ccc
+        result ≡ PremiseTest.front_before T.Unicode.unicode.ccc
         (has_glyph (T.Face.face face.now).nominal_glyph) (full (decompositions rules) c) before }
 {
     let mut front = before;
@@ -100,7 +99,7 @@ fn front_of<T: ShapingTypes>(
     infos: &[hb_glyph_info_t],
 ) -> Option<Front>
     ensures { let rules = ⟦<T as Meaning>⟧.rules plan.now face.now in
-        result ≡ front_of_text rules infos.now }
+        result ≡ PremiseTest.front_of rules infos.now }
 {
     let mut front = Front {
         row: 0,
@@ -124,7 +123,7 @@ fn is_supported<T: ShapingTypes>(
     infos: &[hb_glyph_info_t],
 ) -> bool
     ensures { let rules = ⟦<T as Meaning>⟧.rules plan.now face.now in
-        result ≡ is_supported_text rules infos.now }
+        result ≡ PremiseTest.is_supported_text rules infos.now }
 {
     match front_of::<T>(plan, face, infos) {
         Some(front) => has_mark_past_first(infos) || !recomposes::<T>(plan) && front.ordered,
@@ -134,7 +133,7 @@ fn is_supported<T: ShapingTypes>(
 
 /// Whether an item's mark and ccc are those of its character, which is no variation selector.
 fn is_plain<U: hb_unicode_funcs_t>(info: &hb_glyph_info_t) -> bool
-    ensures { result ≡ is_plain_item U.unicode info.now }
+    ensures { result ≡ PremiseTest.is_plain_item U.unicode info.now }
 {
     info._hb_glyph_info_is_unicode_mark() == U::general_category(info.codepoint).is_mark()
         && info._hb_glyph_info_get_modified_combining_class()
@@ -144,7 +143,7 @@ fn is_plain<U: hb_unicode_funcs_t>(info: &hb_glyph_info_t) -> bool
 
 /// Whether all items are plain.
 fn are_plain<U: hb_unicode_funcs_t>(infos: &[hb_glyph_info_t]) -> bool
-    ensures { result ≡ list_all (is_plain_item U.unicode) infos.now }
+    ensures { result ≡ list_all (PremiseTest.is_plain_item U.unicode) infos.now }
 {
     infos.iter().all(|info| is_plain::<U>(info))
 }
@@ -152,7 +151,7 @@ fn are_plain<U: hb_unicode_funcs_t>(infos: &[hb_glyph_info_t]) -> bool
 /// Whether the mode decomposes fully, and no hook reorders marks.
 fn is_full<T: ShapingTypes>(plan: &PlanOf<'_, T>) -> bool
     ensures { (face : T.Face) → let rules = ⟦<T as Meaning>⟧.rules plan.now face in
-        result ≡ is_full_mode rules.short && not (is_some rules.reorder) }
+        result ≡ PremiseTest.is_full_mode rules.short && not (is_some rules.reorder) }
 {
     let short = goes_short::<T>(plan, true) || goes_short::<T>(plan, false);
     let reorders = reorders_marks::<T>(plan);
@@ -191,7 +190,8 @@ fn have_premises<T: ShapingTypes>(
     face: &T::Face,
     infos: &[hb_glyph_info_t],
 ) -> bool
-    ensures { result ≡ meets_premises (⟦<T as Meaning>⟧.rules plan.now face.now) infos.now }
+    ensures { result
+        ≡ PremiseTest.meets_premises (⟦<T as Meaning>⟧.rules plan.now face.now) infos.now }
 {
     is_full::<T>(plan) && are_plain::<T::Unicode>(infos) && is_supported::<T>(plan, face, infos)
 }

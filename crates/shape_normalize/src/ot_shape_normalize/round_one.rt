@@ -10,7 +10,8 @@ ghost use Rattle.std.specs.Prelude.{◌≡◌, ◌<◌, ◌≤◌, ◌++◌, len
 ghost use Rattle.std.specs.Prelude.{Err};
 ghost use Rattle.std.specs.List.{flat_map};
 ghost use Rattle.shape_items.specs.Buffer.{cleared, limit_of};
-ghost use Rattle.shape_normalize.specs.RoundOne.{expanded, expanded_item, ExpandsPastLimit, round_one, seen_expanded};
+ghost use Rattle.shape_normalize.specs.RoundOne.{emitted_for, expanded, round_one, seen_emitted};
+ghost use Rattle.shape_normalize.specs.RoundOne.{ExpandsPastLimit};
 ghost use Rattle.shape_normalize.specs.RoundOne.{seen_sequence, sequence_items, sequences};
 
 mod selectors;
@@ -43,16 +44,16 @@ impl Emitted {
     ) -> Result<(), ShapeError>
         requires { vec_len self.old.infos ≤ self.old.limit }
         ensures infos { OnOk result (self.new.infos.items
-            ≡ self.old.infos.items ++ flat_map (expanded_item
+            ≡ self.old.infos.items ++ flat_map (emitted_for
             (⟦<T as Meaning>⟧.rules plan.now face.now) buffer.now.invisible_glyph shortest)
             sequence.now) }
-        ensures flags { OnOk result (self.new.scratch_flags ≡ fold (seen_expanded
+        ensures flags { OnOk result (self.new.scratch_flags ≡ fold (seen_emitted
             (⟦<T as Meaning>⟧.rules plan.now face.now) buffer.now.invisible_glyph shortest)
             self.old.scratch_flags sequence.now) }
         ensures within { OnOk result (vec_len self.new.infos ≤ self.new.limit) }
         ensures limit { OnOk result (self.new.limit ≡ self.old.limit) }
         ensures length { result ≡ Err ShapeError.Length
-            → self.old.limit < length (self.old.infos.items ++ flat_map (expanded_item
+            → self.old.limit < length (self.old.infos.items ++ flat_map (emitted_for
             (⟦<T as Meaning>⟧.rules plan.now face.now) buffer.now.invisible_glyph shortest)
             sequence.now) }
     {

@@ -19,14 +19,14 @@ ghost use Rattle.shape_items.specs.Buffer.{cleared};
 ghost use Rattle.shape_items.specs.Items.{Item};
 ghost use Rattle.shape_items.specs.Spans.{AreSpansInOrder, spans_merged_out};
 ghost use Rattle.shape_items.specs.UnicodeProps.{with_scratch_of};
-ghost use Rattle.shape_normalize.specs.Part.{part_item, seen_chars};
+ghost use Rattle.shape_normalize.specs.Recast.{recast_to, seen_chars};
 ghost use Rattle.shape_normalize.specs.RoundThree.{recomposed_items, chained_spans, composed_chars};
 ghost use Rattle.shape_normalize.specs.RoundThree.{is_blocked_after, composed_char};
 ghost use Rattle.shape_normalize.specs.RoundThree.{AreComposedInPlace, ends_at, ends_taken_out};
 ghost use Rattle.shape_normalize.specs.RoundThree.{round_three};
 ghost use Rattle.shape_plan.specs.Rules.{has_glyph};
 
-use crate::ot_shape_normalize::part::part_of;
+use crate::ot_shape_normalize::recast::recast_to;
 use shape_buffer::buffer::{ScratchFlags, ShapeError, hb_buffer_t, hb_glyph_info_t};
 use shape_buffer::interfaces::{hb_font_t, hb_ot_layout_t, hb_unicode_funcs_t};
 use shape_plan::ot_shaper::hb_ot_shaper_t;
@@ -101,12 +101,12 @@ fn put_composed<U: hb_unicode_funcs_t, F: hb_font_t>(
     ensures { (item : Item) → item ≡ slice_index_or buffer.old.items starter item
         → buffer.new ≡ record buffer.old {
           items = set buffer.old.items starter
-              (part_item U.unicode (F.face face.now).nominal_glyph item c);
+              (recast_to U.unicode (F.face face.now).nominal_glyph item c);
           scratch_flags = with_scratch_of U.unicode c buffer.old.scratch_flags;
         } }
 {
     let mut scratch_flags = buffer.scratch_flags();
-    let item = part_of::<U, F>(face, &buffer.infos()[starter], c, &mut scratch_flags);
+    let item = recast_to::<U, F>(face, &buffer.infos()[starter], c, &mut scratch_flags);
     buffer.set_info(starter, item);
     buffer.set_scratch_flags(scratch_flags);
 }

@@ -3,9 +3,7 @@ ghost use Rattle.std.specs.Prelude.{◌≡◌, ◌≤◌, [], length, MatchOptio
 ghost use Rattle.std.specs.List.{list_any, prefix_len};
 ghost use Rattle.canonical_form.specs.Divided.{IsFirstPart};
 ghost use Rattle.shape_items.specs.Items.{is_mark_item};
-ghost use Rattle.shape_normalize.specs.RoundOne.{is_selector_sequence as is_selector_sequence_of};
-ghost use Rattle.shape_normalize.specs.RoundOne.{is_selector_item};
-ghost use Rattle.shape_normalize.specs.RoundOne.{is_with_marks as is_with_marks_of};
+ghost use Rattle.shape_normalize.specs.RoundOne;
 
 use shape_buffer::buffer::hb_glyph_info_t;
 use shape_buffer::interfaces::hb_unicode_funcs_t;
@@ -23,7 +21,7 @@ fn count_marks(infos: &[hb_glyph_info_t]) -> usize
 
 /// How many variation selectors stand at the beginning.
 fn count_selectors<U: hb_unicode_funcs_t>(infos: &[hb_glyph_info_t]) -> usize
-    ensures value { result ≡ prefix_len (is_selector_item U.unicode) infos.now }
+    ensures value { result ≡ prefix_len (RoundOne.is_selector_item U.unicode) infos.now }
     ensures within { result ≤ length infos.now }
 {
     infos
@@ -50,7 +48,7 @@ pub(super) fn first_variant<U: hb_unicode_funcs_t>(
     infos: &[hb_glyph_info_t],
 ) -> Option<(&[hb_glyph_info_t], &[hb_glyph_info_t])>
     ensures { MatchOption result (infos.now ≡ [])
-        (λ p. IsFirstPart (is_selector_item U.unicode) infos.now p.0.now p.1.now) }
+        (λ p. IsFirstPart (RoundOne.is_selector_item U.unicode) infos.now p.0.now p.1.now) }
 {
     let (_, after) = infos.split_first()?;
     Some(infos.split_at(1 + count_selectors::<U>(after)))
@@ -58,14 +56,14 @@ pub(super) fn first_variant<U: hb_unicode_funcs_t>(
 
 /// Whether an item of a sequence stands with marks.
 pub(super) fn is_with_marks(sequence: &[hb_glyph_info_t]) -> bool
-    ensures { result ≡ is_with_marks_of sequence.now }
+    ensures { result ≡ RoundOne.is_with_marks sequence.now }
 {
     sequence.len() > 1
 }
 
 /// Whether one of these items is a variation selector.
 pub(crate) fn holds_selector<U: hb_unicode_funcs_t>(infos: &[hb_glyph_info_t]) -> bool
-    ensures { result ≡ list_any (is_selector_item U.unicode) infos.now }
+    ensures { result ≡ list_any (RoundOne.is_selector_item U.unicode) infos.now }
 {
     infos
         .iter()
@@ -74,7 +72,7 @@ pub(crate) fn holds_selector<U: hb_unicode_funcs_t>(infos: &[hb_glyph_info_t]) -
 
 /// Whether a sequence isn't expanded: it has marks and holds a variation selector.
 pub(super) fn is_selector_sequence<U: hb_unicode_funcs_t>(sequence: &[hb_glyph_info_t]) -> bool
-    ensures { result ≡ is_selector_sequence_of U.unicode sequence.now }
+    ensures { result ≡ RoundOne.is_selector_sequence U.unicode sequence.now }
 {
     is_with_marks(sequence) && holds_selector::<U>(sequence)
 }

@@ -5,9 +5,7 @@
 //! item.
 ghost use Rattle.std.specs.Prelude.{◌≡◌, ◌+◌, ◌<◌, ◌^◌, ◌++◌, length, IfOk, OnOk, OnErr};
 ghost use Rattle.shape_items.specs.Spans.{all_merged};
-ghost use Rattle.shape_normalize.specs.RoundOne.{sequences, variants, variation_sequences_from};
-ghost use Rattle.shape_normalize.specs.RoundOne.{variation_sequence_spans};
-ghost use Rattle.shape_normalize.specs.RoundOne.{variation_sequence_glyph as variation_sequence_glyph_of};
+ghost use Rattle.shape_normalize.specs.RoundOne;
 
 use crate::ot_shape_normalize::round_one::sequences::{
     first_sequence, first_variant, is_selector_sequence,
@@ -18,7 +16,7 @@ use std::alloc::{AllocError, Global};
 
 /// The glyph of the first two of these items, if the face has one for the two.
 fn variation_sequence_glyph<F: hb_font_t>(face: &F, part: &[hb_glyph_info_t]) -> Option<GlyphId>
-    ensures { result ≡ variation_sequence_glyph_of (F.face face.now) part.now }
+    ensures { result ≡ RoundOne.variation_sequence_glyph (F.face face.now) part.now }
 {
     let (info, after) = part.split_first()?;
     let (selector, _) = after.split_first()?;
@@ -34,7 +32,8 @@ fn push_variation_sequences<U: hb_unicode_funcs_t, F: hb_font_t>(
 ) -> Result<(), AllocError>
     requires { start + length sequence.now < 2 ^ 64 }
     ensures { OnOk result (spans.new.items ≡ spans.old.items
-        ++ variation_sequence_spans (F.face face.now) start (variants U.unicode sequence.now)) }
+        ++ RoundOne.variation_sequence_spans (F.face face.now) start
+        (RoundOne.variants U.unicode sequence.now)) }
 {
     let mut place = start;
     let mut rest = sequence;
@@ -56,7 +55,8 @@ fn variation_sequences<U: hb_unicode_funcs_t, F: hb_font_t>(
     infos: &[hb_glyph_info_t],
 ) -> Result<Vec<(usize, usize)>, AllocError>
     ensures { IfOk result (λ spans. spans.items
-        ≡ variation_sequences_from U.unicode (F.face face.now) 0 (sequences infos.now)) }
+        ≡ RoundOne.variation_sequences_from U.unicode (F.face face.now) 0
+        (RoundOne.sequences infos.now)) }
 {
     let mut spans = Vec::new(alloc);
     let mut place = 0;
@@ -78,8 +78,8 @@ pub(super) fn merge_variation_sequences<U: hb_unicode_funcs_t, F: hb_font_t>(
     buffer: &mut hb_buffer_t,
 ) -> Result<(), AllocError>
     ensures merged { OnOk result (buffer.new
-        ≡ all_merged (variation_sequences_from U.unicode (F.face face.now) 0
-        (sequences buffer.old.items)) buffer.old) }
+        ≡ all_merged (RoundOne.variation_sequences_from U.unicode (F.face face.now) 0
+        (RoundOne.sequences buffer.old.items)) buffer.old) }
     ensures err { OnErr result (buffer.new ≡ buffer.old) }
 {
     let spans = variation_sequences::<U, F>(alloc, face, buffer.infos())?;

@@ -4,7 +4,7 @@ use Rattle.canonical_form.proofs.Expanding.ShortestWalkLemmas.{sought}
 use Rattle.canonical_form.proofs.Expanding.WalkLemmas.{found_parts, walked}
 use Rattle.shape_plan.specs.Plan.{hooks_of}
 use Rattle.shape_plan.specs.Rules.{used_height, used_decompositions, has_glyph}
-use Rattle.shape_normalize.specs.Part.{part_of_char}
+use Rattle.shape_normalize.specs.Recast.{mapped_char}
 use Rattle.shape_normalize.proofs.RoundOne.ChainPartLemmas.{chars_of, found_chars}
 use Rattle.shape_normalize.proofs.ot_shape_normalize.decompose.walk_chain.Given as goal
 
@@ -22,8 +22,8 @@ invariant-chain g l =
       walk : chosen_expansion D test l.shortest l.fn.c
           ≡ walked (found_parts (found_chars l.found) chars) chars (sought D.split test l.shortest (D.height l.point) l.point);
       within : IfSome l.found (λ f. f.1 ≤ length l.seconds.items);
-      seconds : l.seconds.items ≡ map (part_of_char glyph) chars;
-      found : IfSome l.found (λ f. f.0 ≡ part_of_char glyph f.0.c);
+      seconds : l.seconds.items ≡ map (mapped_char glyph) chars;
+      found : IfSome l.found (λ f. f.0 ≡ mapped_char glyph f.0.c);
     }
 
 abbrev pub decreases-chain : goal.decreases-chain

@@ -4,7 +4,7 @@ use Rattle.std.proofs.lemmas.List.{take-set}
 use Rattle.shape_items.specs.Buffer.{Buffer}
 use Rattle.shape_items.specs.Items.{Item, ccc_of_item}
 use Rattle.shape_plan.specs.Rules.{rules_of}
-use Rattle.shape_normalize.specs.RoundOne.{expanded_item, seen_expanded}
+use Rattle.shape_normalize.specs.RoundOne.{emitted_for, seen_emitted}
 use Rattle.shape_normalize.specs.OneWalk.{stands_with_marks, FollowsRuns}
 use Rattle.shape_normalize.proofs.RoundOne.OneWalkLemmas.{placed_more, seen_more}
 use Rattle.shape_normalize.proofs.ot_shape_normalize.one_walk.place_glyphs.Goals as goal
@@ -24,10 +24,10 @@ loop-i-preserved g c =
     let short : c.is_asked-is_short.result ≡ planned.short (stands_with_marks (i == 0) (drop i items)) =
     c.is_asked-is_short.ensures planned.short c.of-shortest.ensures
     ∙ ap planned.short (c.stands_with_marks_at.ensures ∙ ap (λ xs. stands_with_marks (i == 0) (drop i xs)) infos_are) in
-    let becomes : expanded_item planned invisible c.is_asked-is_short.result item ≡ whole ∷ [] = search (rules, c.in_ok-found.ensures.item) in
-    let stays : expanded_item planned invisible (planned.short (stands_with_marks (i == 0) (drop i items))) item ≡ whole ∷ [] =
+    let becomes : emitted_for planned invisible c.is_asked-is_short.result item ≡ whole ∷ [] = search (rules, c.in_ok-found.ensures.item) in
+    let stays : emitted_for planned invisible (planned.short (stands_with_marks (i == 0) (drop i items))) item ≡ whole ∷ [] =
     rw short at becomes in
-    let flags : c.keep_or_expand.new.self.scratch_flags ≡ seen_expanded planned invisible c.is_asked-is_short.result c.loop-i.out.scratch_flags item =
+    let flags : c.keep_or_expand.new.self.scratch_flags ≡ seen_emitted planned invisible c.is_asked-is_short.result c.loop-i.out.scratch_flags item =
     search (rules, c.in_ok-found.ensures.flags) in
     let written : c.set_info.new.self.items ≡ set items i whole = ap (λ (b : Buffer). b.items) c.set_info.ensures in
     record {

@@ -5,7 +5,7 @@ use Rattle.shape_items.specs.Items.{Item, ccc_of_item}
 use Rattle.shape_items.specs.UnicodeProps.{with_scratch_of}
 use Rattle.shape_common.specs.declared.flags.ScratchFlags.{ScratchFlags}
 use Rattle.shape_plan.specs.Rules.{rules_of}
-use Rattle.shape_normalize.specs.Part.{part_item}
+use Rattle.shape_normalize.specs.Recast.{recast_to}
 use Rattle.shape_normalize.proofs.RoundThree.RoundThreeWalkLemmas.{some_items, IsRecomposedTo-first, IsRecomposedTo-absorbed, IsRecomposedTo-starter, IsRecomposedTo-mark, walked_items}
 use Rattle.shape_normalize.proofs.ot_shape_normalize.round_three.compose_in_place.Goals as goal
 use Rattle.shape_normalize.proofs.ot_shape_normalize.round_three.compose_in_place.Goals.{then-ccc-eq0, else-ccc-eq0}
@@ -34,7 +34,7 @@ loop-place-preserved-in-Some g c =
     let lt : l.place < length l.buffer.items = omega (arith, c.loop-place-test.true, c.len-place-end.ensures.items, l.invariant.size) in
     let is_x : x ≡ get_or l.buffer.items l.place x = c.index-infos-place.is ∙ ap (λ xs. get_or xs l.place x) c.infos-infos.ensures in
     let is_s : s ≡ get_or l.buffer.items l.starter s = c.index-infos-starter.is ∙ ap (λ xs. get_or xs l.starter s) c.infos-infos.ensures in
-    let composed : Item = part_item rules.unicode rules.face.nominal_glyph s c.in-Some.c in
+    let composed : Item = recast_to rules.unicode rules.face.nominal_glyph s c.in-Some.c in
     let items : List Item = set l.buffer.items l.starter composed in
     let flags : ScratchFlags = with_scratch_of rules.unicode c.in-Some.c l.buffer.scratch_flags in
     let put : c.put_composed.new.buffer ≡ record l.buffer { items = items; scratch_flags = flags } = c.put_composed.ensures s is_s in

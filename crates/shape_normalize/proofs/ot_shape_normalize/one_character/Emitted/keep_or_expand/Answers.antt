@@ -1,10 +1,10 @@
 use Rattle.std.proofs.Common.{◌≡◌, Bool, true, false, if◌then◌else◌, List, [], ◌∷◌, map, reverse, Some, None, sym, ap, ◌∙◌}
 use Rattle.std.specs.Option.{option_map}
 use Rattle.shape_plan.specs.Rules.{rules_of}
-use Rattle.shape_normalize.specs.Part.{part_of_char}
-use Rattle.shape_normalize.specs.RoundOne.{expansion_of, expanded_item, seen_expanded, whole_item, remembers_space, with_space_fallback}
-use Rattle.shape_normalize.specs.declared.ot_shape_normalize.part.Part.{Part}
-use Rattle.shape_normalize.proofs.RoundOne.ChainPartLemmas.{parts_put, parts_seen}
+use Rattle.shape_normalize.specs.Recast.{mapped_char}
+use Rattle.shape_normalize.specs.RoundOne.{expansion_of, emitted_for, seen_emitted, whole_item, remembers_space, with_space_fallback}
+use Rattle.shape_normalize.specs.declared.ot_shape_normalize.recast.MappedChar.{MappedChar}
+use Rattle.shape_normalize.proofs.RoundOne.ChainPartLemmas.{expansion_put, expansion_seen}
 use Rattle.shape_normalize.proofs.ot_shape_normalize.one_character.Emitted.keep_or_expand.Goals as goal
 
 pub returns-then-branch-clause-parts : goal.returns-then-branch-clause-parts
@@ -13,11 +13,11 @@ returns-then-branch-clause-parts g c =
     let planned = rules_of g.T.Unicode.hb_unicode_funcs_t.unicode shaper.constants shaper.hooks g.T.Face.hb_font_t.face c.args.plan.now c.args.face.now in
     let item = c.args.info.now in
     let flags = c.args.self.now.scratch_flags in
-    let parts : List Part = c.decompose.new.expansion.first ∷ reverse c.decompose.new.expansion.seconds.items in
-    let kept : Some parts ≡ option_map (map (part_of_char planned.face.nominal_glyph)) (expansion_of planned false item) =
+    let parts : List MappedChar = c.decompose.new.expansion.first ∷ reverse c.decompose.new.expansion.seconds.items in
+    let kept : Some parts ≡ option_map (map (mapped_char planned.face.nominal_glyph)) (expansion_of planned false item) =
     ap (λ (t : Bool). if t then Some parts else None) (sym c.if-branch.true) ∙ c.in_ok-decompose.ensures in
-    ap (λ short. expanded_item planned c.args.invisible short item) c.if-not-shortest.true
-    ∙ parts_put planned.face.nominal_glyph planned.unicode item (expansion_of planned false item)
+    ap (λ short. emitted_for planned c.args.invisible short item) c.if-not-shortest.true
+    ∙ expansion_put planned.face.nominal_glyph planned.unicode item (expansion_of planned false item)
     (whole_item planned c.args.invisible item ∷ []) parts kept
 
 pub returns-then-branch-clause-seen : goal.returns-then-branch-clause-seen
@@ -26,11 +26,11 @@ returns-then-branch-clause-seen g c =
     let planned = rules_of g.T.Unicode.hb_unicode_funcs_t.unicode shaper.constants shaper.hooks g.T.Face.hb_font_t.face c.args.plan.now c.args.face.now in
     let item = c.args.info.now in
     let flags = c.args.self.now.scratch_flags in
-    let parts : List Part = c.decompose.new.expansion.first ∷ reverse c.decompose.new.expansion.seconds.items in
-    let kept : Some parts ≡ option_map (map (part_of_char planned.face.nominal_glyph)) (expansion_of planned false item) =
+    let parts : List MappedChar = c.decompose.new.expansion.first ∷ reverse c.decompose.new.expansion.seconds.items in
+    let kept : Some parts ≡ option_map (map (mapped_char planned.face.nominal_glyph)) (expansion_of planned false item) =
     ap (λ (t : Bool). if t then Some parts else None) (sym c.if-branch.true) ∙ c.in_ok-decompose.ensures in
-    ap (λ short. seen_expanded planned c.args.invisible short flags item) c.if-not-shortest.true
-    ∙ parts_seen planned.face.nominal_glyph planned.unicode item (expansion_of planned false item) flags
+    ap (λ short. seen_emitted planned c.args.invisible short flags item) c.if-not-shortest.true
+    ∙ expansion_seen planned.face.nominal_glyph planned.unicode item (expansion_of planned false item) flags
     (if remembers_space planned c.args.invisible item then with_space_fallback flags else flags) parts kept
 
 pub returns-then-branch-2-clause-parts : goal.returns-then-branch-2-clause-parts
@@ -39,11 +39,11 @@ returns-then-branch-2-clause-parts g c =
     let planned = rules_of g.T.Unicode.hb_unicode_funcs_t.unicode shaper.constants shaper.hooks g.T.Face.hb_font_t.face c.args.plan.now c.args.face.now in
     let item = c.args.info.now in
     let flags = c.args.self.now.scratch_flags in
-    let parts : List Part = c.decompose-2.new.expansion.first ∷ reverse c.decompose-2.new.expansion.seconds.items in
-    let kept : Some parts ≡ option_map (map (part_of_char planned.face.nominal_glyph)) (expansion_of planned true item) =
+    let parts : List MappedChar = c.decompose-2.new.expansion.first ∷ reverse c.decompose-2.new.expansion.seconds.items in
+    let kept : Some parts ≡ option_map (map (mapped_char planned.face.nominal_glyph)) (expansion_of planned true item) =
     ap (λ (t : Bool). if t then Some parts else None) (sym c.if-branch-2.true) ∙ c.in_ok-decompose-2.ensures in
-    ap (λ short. expanded_item planned c.args.invisible short item) c.if-not-shortest.false
-    ∙ parts_put planned.face.nominal_glyph planned.unicode item (expansion_of planned true item)
+    ap (λ short. emitted_for planned c.args.invisible short item) c.if-not-shortest.false
+    ∙ expansion_put planned.face.nominal_glyph planned.unicode item (expansion_of planned true item)
     (whole_item planned c.args.invisible item ∷ []) parts kept
 
 pub returns-then-branch-2-clause-seen : goal.returns-then-branch-2-clause-seen
@@ -52,9 +52,9 @@ returns-then-branch-2-clause-seen g c =
     let planned = rules_of g.T.Unicode.hb_unicode_funcs_t.unicode shaper.constants shaper.hooks g.T.Face.hb_font_t.face c.args.plan.now c.args.face.now in
     let item = c.args.info.now in
     let flags = c.args.self.now.scratch_flags in
-    let parts : List Part = c.decompose-2.new.expansion.first ∷ reverse c.decompose-2.new.expansion.seconds.items in
-    let kept : Some parts ≡ option_map (map (part_of_char planned.face.nominal_glyph)) (expansion_of planned true item) =
+    let parts : List MappedChar = c.decompose-2.new.expansion.first ∷ reverse c.decompose-2.new.expansion.seconds.items in
+    let kept : Some parts ≡ option_map (map (mapped_char planned.face.nominal_glyph)) (expansion_of planned true item) =
     ap (λ (t : Bool). if t then Some parts else None) (sym c.if-branch-2.true) ∙ c.in_ok-decompose-2.ensures in
-    ap (λ short. seen_expanded planned c.args.invisible short flags item) c.if-not-shortest.false
-    ∙ parts_seen planned.face.nominal_glyph planned.unicode item (expansion_of planned true item) flags
+    ap (λ short. seen_emitted planned c.args.invisible short flags item) c.if-not-shortest.false
+    ∙ expansion_seen planned.face.nominal_glyph planned.unicode item (expansion_of planned true item) flags
     (if remembers_space planned c.args.invisible item then with_space_fallback flags else flags) parts kept
