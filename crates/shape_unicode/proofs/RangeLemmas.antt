@@ -10,7 +10,7 @@ use Rattle.ucd_derived.specs.Binary.{is_default_ignorable_code_point}
 use Rattle.ucd_derived.specs.DefaultIgnorableCodePointRanges.{default_ignorable_code_point_ranges}
 use Rattle.ucd_props.specs.Binary.{is_variation_selector}
 use Rattle.ucd_props.specs.Ranges.{variation_selector_ranges}
-use Rattle.shape_unicode.specs.Hidden.{is_seen_early, is_unseen_early, is_seen_though_ignorable, is_ignorable, is_mongolian}
+use Rattle.shape_unicode.specs.Hidden.{is_seen_early, is_seen_between, is_unseen_early, is_seen_though_ignorable, is_ignorable, is_mongolian}
 use Rattle.shape_unicode.specs.Mirror.{is_between_brackets, is_before_angles}
 
 -- no range has a code point from a to b, except for x and y
@@ -50,6 +50,12 @@ unfolding tables none_between is_default_ignorable_code_point default_ignorable_
 seen_early c early =
     in_ranges-none 0 0x61B 0xAD 0x34F default_ignorable_code_point_ranges c refl (grind arith)
     (grind (arith, nat_tests, early)) (grind (arith, nat_tests, early)) (grind (arith, nat_tests, early))
+
+pub seen_between : (c : ℕ) → is_seen_between c ≡ true → is_default_ignorable_code_point c ≡ false
+unfolding tables none_between is_default_ignorable_code_point default_ignorable_code_point_ranges
+seen_between c between =
+    in_ranges-none 0x1810 0x200A 0 0 default_ignorable_code_point_ranges c refl (grind (arith, nat_tests, between))
+    (grind (arith, nat_tests, between)) (grind (arith, nat_tests, between)) (grind (arith, nat_tests, between))
 
 pub unseen_early : (c : ℕ) → is_unseen_early c ≡ true → is_ignorable c ≡ true
 unfolding tables has_all is_default_ignorable_code_point default_ignorable_code_point_ranges

@@ -12,6 +12,10 @@ is_seen_though_ignorable c =
 abbrev pub is_seen_early : ℕ → Bool
 is_seen_early c = nat_lt c 0x61C && (not (c == 0xAD) && not (c == 0x34F))
 
+-- between U+180F and U+200B there are none
+abbrev pub is_seen_between : ℕ → Bool
+is_seen_between c = nat_lt 0x180F c && nat_lt c 0x200B
+
 -- the spaces and joiners without a width, and the marks of direction
 abbrev pub is_unseen_early : ℕ → Bool
 is_unseen_early c = nat_lt 0x200A c && nat_lt c 0x2010

@@ -1,6 +1,6 @@
 //! Characters that are unseen, and those that pick a variant of the one before them.
 ghost use Rattle.std.specs.Prelude.{◌≡◌};
-ghost use Rattle.shape_unicode.specs.Hidden.{is_seen_though_ignorable, is_seen_early, is_unseen_early, is_ignorable, is_selector};
+ghost use Rattle.shape_unicode.specs.Hidden.{is_seen_though_ignorable, is_seen_early, is_seen_between, is_unseen_early, is_ignorable, is_selector};
 
 /// Whether `c` is shown though the database has it as ignorable (HarfBuzz, `hb-unicode.hh`): the four
 /// fillers of Hangul take the place of a jamo, U+180F is left to the shaper of Mongolian, and the
@@ -22,6 +22,14 @@ fn is_seen_early(c: char) -> bool
     c < '\u{61C}' && c != '\u{AD}' && c != '\u{34F}'
 }
 
+/// Whether `c` stands between U+180F and U+200B, where no character is ignorable: letters of Asia, Latin letters with
+/// accents, and Greek ones.
+fn is_seen_between(c: char) -> bool
+    ensures { result ≡ is_seen_between c }
+{
+    '\u{180F}' < c && c < '\u{200B}'
+}
+
 /// Whether `c` is one of U+200B to U+200F, which are unseen: the spaces and joiners without a width, and the marks
 /// of direction.
 fn is_unseen_early(c: char) -> bool
@@ -35,6 +43,9 @@ pub(crate) fn is_ignorable(c: char) -> bool
     ensures { result ≡ is_ignorable c }
 {
     if is_seen_early(c) {
+        return false;
+    }
+    if is_seen_between(c) {
         return false;
     }
     if is_unseen_early(c) {
