@@ -3,7 +3,7 @@ ghost use Rattle.std.specs.Prelude.{◌≡◌};
 
 use crate::runs::{Text, shape_fresh, shape_kept};
 use kern_table::KernTable;
-use opened_face::{OpenedFace, OverOpened};
+use opened_face::{OpenedFace, OpenedKernTable};
 use opentype_layout::{OpenTypeFace, OpenTypeLayout, OpenedOpenTypeFace};
 use shape_buffer::buffer::BufferClusterLevel;
 use shape_buffer::interfaces::{NoLookups, hb_font_t, hb_ot_layout_t};
@@ -50,7 +50,7 @@ fn shape_opened(alloc: Global, face: FontFace<'_>, text: &str, how: How, times: 
         return 0;
     };
     if how.kerned {
-        shape_by::<OpenedFace<'_>, OverOpened<KernTable>>(alloc, &opened, text, how.kept, times)
+        shape_by::<OpenedFace<'_>, OpenedKernTable>(alloc, &opened, text, how.kept, times)
     } else {
         shape_by::<OpenedFace<'_>, NoLookups>(alloc, &opened, text, how.kept, times)
     }

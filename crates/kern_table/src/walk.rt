@@ -149,9 +149,7 @@ fn kern_at(
     Some(j)
 }
 
-/// Kerns a buffer from left to right by a subtable whose head was read: each glyph for which kerning
-/// is on with the next one for which it is, if only glyphs that are skipped stand between them. Takes no
-/// memory, and a step for each glyph.
+/// Kerns a buffer from left to right by a subtable whose head was read, as [`kern_all`] by its place.
 #[tactic(auto, using(crate::specs::CountLaws::length_concat, crate::specs::CountLaws::limit_concat, crate::proofs::SubtableLemmas::kerned_to_next_buffer, crate::proofs::SubtableLemmas::kerned_to_next_left))]
 pub(crate) fn kern_each(subtable: Subtable<'_>, mask: hb_mask_t, buffer: &mut hb_buffer_t)
     requires { IsRead subtable }
@@ -166,7 +164,9 @@ pub(crate) fn kern_each(subtable: Subtable<'_>, mask: hb_mask_t, buffer: &mut hb
     }
 }
 
-/// Kerns a buffer from left to right by the subtable of the table that begins at `start`, of which nothing is stored.
+/// Kerns a buffer from left to right by the subtable of the table that begins at `start`: each glyph for which kerning
+/// is on with the next one for which it is, if only glyphs that are skipped stand between them. Takes no
+/// memory, and a step for each glyph.
 pub fn kern_all(kern: &[u8], start: usize, mask: hb_mask_t, buffer: &mut hb_buffer_t)
     requires { start < 2 ^ 34 }
     ensures made { buffer.new ≡ kerned_of kern.now start mask buffer.old }

@@ -1,10 +1,12 @@
 //! The face that is opened once, for the engine.
 ghost use Rattle.std.specs.Prelude.{◌≡◌, true, false, IfOk, IsOkUnless};
+ghost use Rattle.kern_table.specs.Pairs.{HoldSides};
 ghost use Rattle.layout_digests.specs.Lookups.{AreDigests};
 ghost use Rattle.opentype_layout.specs.Face.{opentype_face};
 
 use crate::classes::{GlyphClasses, props_of};
 use crate::face::OpenTypeFace;
+use kern_table::Sides;
 use layout_digests::Digest;
 use layout_digests::lookups::{Lookups, digests};
 use opened_face::OpenedFace;
@@ -68,6 +70,13 @@ impl<'a> OpenedOpenTypeFace<'a> {
         ensures { result.now ≡ self.now }
     {
         &self.face
+    }
+
+    /// Which glyphs stand in pairs of the first subtable of `kern`.
+    pub(crate) fn pair_sides(&self) -> Sides<'_>
+        ensures { HoldSides self.now.font.kern.now 4 result.lefts.now result.rights.now }
+    {
+        self.font.pair_sides()
     }
 
     /// What `GDEF` says of glyphs.

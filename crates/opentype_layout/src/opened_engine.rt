@@ -14,7 +14,7 @@ use crate::engine::{
     OpenTypeLayout, compiled, gpos_tables, gsub_tables, position_by, substitute_by, table_of,
 };
 use crate::opened::OpenedOpenTypeFace;
-use kern_table::tables::{kern_table, subtable_count};
+use kern_table::tables::{kern_table_by, subtable_count};
 use layout_map::map::hb_ot_map_t;
 use layout_positions::attachment::finish_offsets;
 use layout_positions::walk;
@@ -184,7 +184,8 @@ impl<'a> hb_ot_layout_t<OpenedOpenTypeFace<'a>> for OpenTypeLayout {
         face: &OpenedOpenTypeFace<'a>,
         buffer: &mut hb_buffer_t,
     ) -> Result<(), ShapeError> {
-        kern_table(face.face().kern(), kern_mask, buffer);
+        let kern = face.face().kern();
+        kern_table_by(kern, face.pair_sides(), kern_mask, buffer);
         Ok(())
     }
 

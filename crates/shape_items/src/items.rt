@@ -5,7 +5,7 @@
 //!
 //! The ccc keeps rustybuzz's name in accessors, `modified_combining_class`; elsewhere "class" is
 //! a glyph's.
-ghost use Rattle.std.specs.Prelude.{◌≡◌};
+ghost use Rattle.std.specs.Prelude.{◌≡◌, ◌==◌, ◌||◌, ◌&&◌, nat_le};
 ghost use Rattle.bit_fields.specs.Fields.{fields};
 ghost use Rattle.shape_items.specs.UnicodeProps.{is_hidden_char};
 
@@ -19,8 +19,11 @@ use shape_common::{ScratchFlags, hb_unicode_funcs_t, hb_unicode_general_category
 /// U+034F, which keeps apart the marks around it.
 const COMBINING_GRAPHEME_JOINER: char = '\u{34F}';
 
-/// U+180B. Below it CGJ alone is hidden, and there are no joiners.
+/// U+180B. Before it CGJ alone is hidden, and there are no joiners.
 const FIRST_MONGOLIAN_SELECTOR: char = '\u{180B}';
+
+/// U+180F. From it up to U+200C no character is hidden.
+const LAST_MONGOLIAN_SELECTOR: char = '\u{180F}';
 
 const ZERO_WIDTH_NON_JOINER: char = '\u{200C}';
 
@@ -106,20 +109,20 @@ impl hb_glyph_info_t {
             self.properties.set_for_plain(category, 0, false, false);
             return;
         }
-        let mark = category.is_mark();
-        let modified_ccc = if mark {
-            U::modified_combining_class(c)
-        } else {
-            0
-        };
-        let ignorable = U::is_default_ignorable(c);
         scratch_flags.insert(ScratchFlags::HAS_NON_ASCII);
+        let ignorable = U::is_default_ignorable(c);
         if ignorable {
             scratch_flags.insert(ScratchFlags::HAS_DEFAULT_IGNORABLES);
         }
-        self.properties
-            .set_for_plain(category, modified_ccc, ignorable, mark);
-        if c == COMBINING_GRAPHEME_JOINER || FIRST_MONGOLIAN_SELECTOR <= c {
+        if category.is_mark() {
+            self.properties
+                .set_for_plain(category, U::modified_combining_class(c), ignorable, true);
+        } else if ignorable {
+            self.properties.set_for_plain(category, 0, true, false);
+        } else {
+            self.properties.set_for_plain(category, 0, false, false);
+        }
+        if may_be_hidden(c) {
             self.properties.set_hidden(is_hidden(c));
             self.properties.set_zwj(c == ZERO_WIDTH_JOINER);
             self.properties.set_zwnj(c == ZERO_WIDTH_NON_JOINER);
@@ -304,6 +307,16 @@ impl hb_glyph_info_t {
     {
         self.properties.set_selector_mark(selector_mark);
     }
+}
+
+/// Whether a character stands where some are hidden, or joiners: at CGJ, among the Mongolian selectors, or from
+/// ZWNJ on.
+fn may_be_hidden(c: char) -> bool
+    ensures { result ≡ (c == 0x34F || (nat_le 0x180B c && (nat_le c 0x180F || nat_le 0x200C c))) }
+{
+    c == COMBINING_GRAPHEME_JOINER
+        || FIRST_MONGOLIAN_SELECTOR <= c
+            && (c <= LAST_MONGOLIAN_SELECTOR || ZERO_WIDTH_NON_JOINER <= c)
 }
 
 /// Whether lookups see a character though it is ignorable: Mongolian variation selectors, tags, and CGJ.

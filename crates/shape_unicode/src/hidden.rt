@@ -1,6 +1,6 @@
 //! Characters that are unseen, and those that pick a variant of the one before them.
 ghost use Rattle.std.specs.Prelude.{◌≡◌};
-ghost use Rattle.shape_unicode.specs.Hidden.{is_seen_though_ignorable, is_seen_early, is_unseen_early, is_ignorable, is_selector};
+ghost use Rattle.shape_unicode.specs.Hidden.{is_seen_though_ignorable, is_seen_early, is_seen_between, is_seen_late, is_unseen_early, is_ignorable, is_between_selectors, is_selector};
 
 /// Whether `c` is shown though the database has it as ignorable (HarfBuzz, `hb-unicode.hh`): the four
 /// fillers of Hangul take the place of a jamo, U+180F is left to the shaper of Mongolian, and the
@@ -22,6 +22,22 @@ fn is_seen_early(c: char) -> bool
     c < '\u{61C}' && c != '\u{AD}' && c != '\u{34F}'
 }
 
+/// Whether `c` stands between U+180F and U+200B, where no character is ignorable: letters of Asia, Latin letters with
+/// accents, and Greek ones.
+fn is_seen_between(c: char) -> bool
+    ensures { result ≡ is_seen_between c }
+{
+    '\u{180F}' < c && c < '\u{200B}'
+}
+
+/// Whether `c` stands between U+1D17A and U+E0000, where no character is ignorable: emoji, and ideographs past the
+/// basic plane.
+fn is_seen_late(c: char) -> bool
+    ensures { result ≡ is_seen_late c }
+{
+    '\u{1D17A}' < c && c < '\u{E0000}'
+}
+
 /// Whether `c` is one of U+200B to U+200F, which are unseen: the spaces and joiners without a width, and the marks
 /// of direction.
 fn is_unseen_early(c: char) -> bool
@@ -37,10 +53,23 @@ pub(crate) fn is_ignorable(c: char) -> bool
     if is_seen_early(c) {
         return false;
     }
+    if is_seen_between(c) {
+        return false;
+    }
     if is_unseen_early(c) {
         return true;
     }
+    if is_seen_late(c) {
+        return false;
+    }
     ucd_derived::is_default_ignorable_code_point(c) && !is_seen_though_ignorable(c)
+}
+
+/// Whether `c` stands between U+FE0F and U+E0100, where no character is a variation selector.
+fn is_between_selectors(c: char) -> bool
+    ensures { result ≡ is_between_selectors c }
+{
+    '\u{FE0F}' < c && c < '\u{E0100}'
 }
 
 /// Whether `c` is a variation selector of all scripts: U+FE00 to U+FE0F or U+E0100 to U+E01EF. Those before
@@ -49,6 +78,9 @@ pub(crate) fn is_selector(c: char) -> bool
     ensures { result ≡ is_selector c }
 {
     if c < '\u{FE00}' {
+        return false;
+    }
+    if is_between_selectors(c) {
         return false;
     }
     ucd_props::is_variation_selector(c)

@@ -127,7 +127,6 @@ pub record WorkedValues : Type 0 where
   -- 256 pairs are stated, and the table has room for one
   pub many_pairs : value_of (0 ∷ 0 ∷ 0 ∷ 1 ∷ 0 ∷ 0 ∷ 0 ∷ 20 ∷ 0 ∷ 1 ∷ 1 ∷ 0 ∷ 0 ∷ 0 ∷ 0 ∷ 0 ∷ 0 ∷ 0
       ∷ 0 ∷ 2 ∷ 0 ∷ 3 ∷ 0xFF ∷ 0xCE ∷ []) 4 2 3 ≡ negsuc 49
-
   pub at_the_left : glyph_of_pair (table 1 1) 4 true 0 ≡ 2
   pub at_the_right : glyph_of_pair (table 1 1) 4 false 0 ≡ 3
   pub at_the_left_of_the_second : glyph_of_pair (table 1 1) 4 true 1 ≡ 3
