@@ -104,9 +104,9 @@ class Whole:
         return place == len(self.starts) or self.text[self.starts[place] - 1] == "\n"
 
     def may_end(self, place):
-        """Whether a line may end before a cluster: after spaces too."""
+        """Whether a line may end before a cluster: after spaces too, but before a line feed."""
         return self.must_end(place) or (self.text[self.starts[place] - 1] == " "
-                                        and self.text[self.starts[place]] != " ")
+                                        and self.text[self.starts[place]] not in " \n")
 
     def width(self, start, end):
         """The width of the clusters between two places without the spaces that stand last."""

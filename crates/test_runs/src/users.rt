@@ -1,5 +1,5 @@
 //! Tests of the users of the layer, through their public calls: texts in Hebrew, in Arabic and by script, ligatures,
-//! lines and their pieces, spans, plain glyphs, words, carets.
+//! lines and their pieces, spans, plain glyphs, words, a cache of words, carets.
 
 mod arabic;
 mod breaking;
@@ -10,6 +10,7 @@ mod carets;
 mod cuts;
 mod every_form;
 mod hebrew;
+mod kept_words;
 mod ligatures;
 mod lines;
 mod paragraph;

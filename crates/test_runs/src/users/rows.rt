@@ -1,5 +1,6 @@
 //! Cases as rows of text, and what is asked of them.
 use crate::users::broken_rows::{Known, print_lines};
+use crate::users::kept_words::print_cached;
 use crate::users::paragraph::print_spans;
 use crate::users::plain_glyphs::print_string;
 use crate::users::shaping::{Shaper, assert_that, print_shaped};
@@ -20,6 +21,8 @@ pub enum Asked {
     Spans(Direction),
     /// Two spellings: whether they are equivalent.
     Decided,
+    /// The bytes that a cache may take, and words: which of them are found.
+    Cached,
     /// A text and a width: the lines of the text.
     Lines(Known, Direction, BufferClusterLevel),
 }
@@ -42,6 +45,7 @@ fn print_answer(
         Asked::OfString => print_string(rt, alloc, printed, first, second),
         Asked::Spans(direction) => print_spans(rt, alloc, printed, direction, first, second),
         Asked::Decided => print_decided(rt, alloc, printed, first, second),
+        Asked::Cached => print_cached(rt, alloc, printed, first, second),
         Asked::Lines(known, direction, level) => {
             print_lines(rt, alloc, printed, (known, direction, level), first, second);
         }

@@ -22,6 +22,7 @@ pub record WorkedFronts (a b c : Entry) : Type 0 where
   pub one_less : IsFront 109 (a ∷ b ∷ c ∷ []) (a ∷ b ∷ [])
   pub none_after_one_that_goes : IsFront 60 (a ∷ b ∷ c ∷ []) (a ∷ [])
   pub first_alone : IsFront 7 (a ∷ b ∷ c ∷ []) (a ∷ [])
+  pub not_none : IsFront 7 (a ∷ b ∷ []) [] → ⊥
   pub not_too_few : IsFront 100 (a ∷ b ∷ []) (a ∷ []) → ⊥
   pub not_too_many : IsFront 99 (a ∷ b ∷ []) (a ∷ b ∷ []) → ⊥
 
