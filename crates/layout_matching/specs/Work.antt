@@ -177,8 +177,14 @@ abbrev pub lookup_charged : Lookup → List Item → ℕ → ℕ → Option ℕ
 lookup_charged l items at left = if is_plain l then Some left else subtables_charged l items at left
 
 -- what each of the subtables costs at each item of a list, whether it begins there or not
+abbrev pub STEP_WORK : ℕ
+STEP_WORK = 8
+
+abbrev pub PLAIN_WORK : ℕ
+PLAIN_WORK = 16
+
 abbrev pub step_work : Lookup → ℕ
-step_work l = if is_plain l then SUBTABLE_WORK else 1
+step_work l = if is_plain l then PLAIN_WORK else STEP_WORK
 
 abbrev pub NESTED_WORK : ℕ
 NESTED_WORK = 32

@@ -20,8 +20,14 @@ use layout_buffer::ItemList;
 use layout_tables::lookups::{LookupSubtable, lookup_type, subtable_count};
 use shape_font::bytes::{records, u16_at};
 
-/// What a subtable costs that begins with the glyph at the place, and at each item one of a plain lookup.
+/// What a subtable costs that begins with the glyph at the place.
 const SUBTABLE_WORK: usize = 8;
+
+/// What a subtable costs at each item of a list, whether it begins there or not.
+const STEP_WORK: usize = 8;
+
+/// The same if the lookup is plain, which is paid by that alone.
+const PLAIN_WORK: usize = 16;
 
 /// What a lookup costs that a rule names.
 const NESTED_WORK: usize = 32;
@@ -385,13 +391,13 @@ pub fn lookup_charged(
 fn step_work(lookup: &Lookup<'_>) -> usize
     requires { lookup.now.place < 2 ^ 17 }
     ensures value { result ≡ subtable_count_of lookup.now.table.now lookup.now.place * step_work_of lookup.now }
-    ensures near { result < 2 ^ 20 }
+    ensures near { result < 2 ^ 21 }
 {
     let count = subtable_count(lookup.table, lookup.place) as usize;
     if is_plain(lookup) {
-        count * SUBTABLE_WORK
+        count * PLAIN_WORK
     } else {
-        count
+        count * STEP_WORK
     }
 }
 

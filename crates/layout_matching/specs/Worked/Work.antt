@@ -91,11 +91,11 @@ pub record WorkedWork : Type 0 where
   pub far_context : (l : Lookup) → l.table.now ≡ extended_context → is_plain (of_positions l) ≡ false
   -- 8, and 3 for the ligature, for each of two subtables
   pub each_subtable : Leaves two_of_ligatures (plain 5 ∷ []) 0 78
-  -- 1 for each subtable and 32, and what they cost at the place; 8 for each of a plain one
-  pub nested : (l : Lookup) → l.table.now ≡ two_of_ligatures → nested_charged (over_marks l) (plain 5 ∷ []) 0 100 ≡ Some 44
-  pub nested_singles : (l : Lookup) → l.table.now ≡ two_subtables → nested_charged (over_marks l) (plain 5 ∷ []) 0 100 ≡ Some 52
-  pub walk : (l : Lookup) → l.table.now ≡ two_of_ligatures → walk_work (over_marks l) 3 ≡ 6
-  pub walk_of_singles : (l : Lookup) → l.table.now ≡ two_subtables → walk_work (over_marks l) 3 ≡ 48
+  -- 8 for each subtable and 32, and what they cost at the place; 16 for each of a plain one
+  pub nested : (l : Lookup) → l.table.now ≡ two_of_ligatures → nested_charged (over_marks l) (plain 5 ∷ []) 0 100 ≡ Some 30
+  pub nested_singles : (l : Lookup) → l.table.now ≡ two_subtables → nested_charged (over_marks l) (plain 5 ∷ []) 0 100 ≡ Some 36
+  pub walk : (l : Lookup) → l.table.now ≡ two_of_ligatures → walk_work (over_marks l) 3 ≡ 48
+  pub walk_of_singles : (l : Lookup) → l.table.now ≡ two_subtables → walk_work (over_marks l) 3 ≡ 96
   pub at_least : most_work 32 ≡ 1048576
   pub for_each_item : most_work 33 ≡ 1081344
   pub countable : most_work 18446744073709551615 ≡ 18446744073709551615
