@@ -1,5 +1,5 @@
-"""Tables of fonts that ask for much work. Their glyphs are letters, 1 to 26, and marks, 27 to
-42."""
+"""Tables of fonts that ask for much work. Their glyphs are letters, 1 to 26, marks, 27 to 42, and
+ZWNJ, 43."""
 import struct
 
 
@@ -144,11 +144,12 @@ def cursive():
     return words(1, head, 42, *[head + len(EVERY)] * 84) + EVERY + words(1, 5, 7)
 
 
-def pairs(count):
-    """Pairs of which one list is shared by all glyphs, and has `count` records of glyph 42."""
-    head = 10 + 2 * 42
+def pairs(count, glyphs=42):
+    """Pairs of which one list is shared by so many glyphs, and has `count` records of glyph 42."""
+    head = 10 + 2 * glyphs
+    covered = words(2, 1, 1, glyphs, 0)
     pair_set = words(count, *[42, 9] * count)
-    return words(1, head, 4, 0, 42, *[head + len(EVERY)] * 42) + EVERY + pair_set
+    return words(1, head, 4, 0, glyphs, *[head + len(covered)] * glyphs) + covered + pair_set
 
 
 def kern(count, length):

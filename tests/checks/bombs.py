@@ -21,6 +21,7 @@ WORST = TESTS / "hostile" / "worst.txt"
 GATE_SECONDS = 3 * SECONDS
 LETTERS = range(0x61, 0x7B)
 MARKS = range(0x300, 0x310)
+ZWNJ = 0x200C
 
 AT_ONCE = [lookup(1, [words(1, 6, 0) + EVERY])]
 IN_VAIN = [lookup(5, [(30000, vain())])]
@@ -41,7 +42,7 @@ def marks(lookups, shared=0):
 
 
 GROWS_IN_ITSELF = [lookup(5, [context(1, [(0, 1), (0, 0)])]), lookup(2, [grows(9)])]
-# the tables of each, and what its text is of: letters, marks, or letters and marks
+# the tables of each, and what its text is of: letters, marks, letters and marks, or ZWNJ
 BOMBS = {
     "calls itself": (calls(1, [(0, 0)]), "a"),
     "calls itself twice": (calls(1, [(0, 0), (0, 0)]), "a"),
@@ -72,6 +73,8 @@ BOMBS = {
         {"GSUB": layout([lookup(3, [alternates()])], b"rand", shared=1000)}, "a"),
     "pairs, 1,000 lookups": (
         {"GPOS": layout([lookup(2, [(20, pairs(100))])], b"kern", shared=1000)}, "a"),
+    "pairs over the rest of the text, 50 lookups": (
+        {"GPOS": layout([lookup(2, [(20, pairs(1, 43))])], b"kern", shared=50)}, "z"),
     "positions that call themselves twice": (
         {"GPOS": layout([lookup(7, [context(1, [(0, 0), (0, 0)])])], b"kern")}, "a"),
     "variations without end": ({"GSUB": variations(0xFFFFFFFF)}, "a"),
@@ -101,13 +104,14 @@ SPENT = {
     "32,000 rules at one place", "32,000 rules, 100 lookups", "32,000 ligatures at one place",
     "skips half of the text, nested", "rows of 10,000 glyphs, backwards", "30,000 NULL subtables",
     "records that name nothing", "pairs, 1,000 lookups", "positions that call themselves twice",
+    "pairs over the rest of the text, 50 lookups",
 }
 
 
 def bomb_font(tables):
-    """The bytes of a font of letters a to z, glyphs 1 to 26, and of marks U+0300 to U+030F, glyphs
-    27 to 42, with these tables."""
-    characters = {c: f"u{c:04X}" for c in [*LETTERS, *MARKS]}
+    """The bytes of a font of letters a to z, glyphs 1 to 26, of marks U+0300 to U+030F, glyphs 27
+    to 42, and of ZWNJ, with these tables."""
+    characters = {c: f"u{c:04X}" for c in [*LETTERS, *MARKS, ZWNJ]}
     advances = {name: 500 for name in [".notdef", *characters.values()]}
     font = new_font(characters, advances, glyph_names=False)
     for tag, data in tables.items():
@@ -116,9 +120,9 @@ def bomb_font(tables):
 
 
 def bomb_text(kind, length):
-    """Letters, marks, or one half of each, letters first."""
+    """Letters, marks, or one half of each, letters first; or ZWNJ, after one letter."""
     half = length // 2
-    texts = {"a": "a" * length, "m": "\u0301" * length,
+    texts = {"a": "a" * length, "m": "\u0301" * length, "z": "a" + chr(ZWNJ) * (length - 1),
              "am": "a" * half + "\u0301" * (length - half)}
     return texts[kind]
 

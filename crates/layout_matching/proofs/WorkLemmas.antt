@@ -9,7 +9,7 @@ use Rattle.layout_tables.specs.declared.lookups.LookupSubtable.{LookupSubtable}
 use Rattle.layout_matching.specs.Found.{is_chained, is_context_subtable, whole_rule, is_first, number_of}
 use Rattle.layout_matching.specs.Loops.{steps}
 use Rattle.layout_matching.specs.Skipping.{nth}
-use Rattle.layout_matching.specs.Work.{is_whole, whole_charged, numbered_charged, subtable_charged, charged_at_subtable, is_plain, subtables_charged, lookup_charged}
+use Rattle.layout_matching.specs.Work.{is_whole, whole_charged, numbered_charged, subtable_charged, charged_at_subtable, is_paid, subtables_charged, lookup_charged}
 use Rattle.layout_matching.specs.declared.lookup.Lookup.{Lookup}
 
 pub steps_still : {S : Type 0} (f : ℕ → S → Option S) (s : S) (n k : ℕ) → ((i : ℕ) → k ≤ i → i < k + n → f i s ≡ Some s)
@@ -60,6 +60,6 @@ pub lookup_free : (l : Lookup) (items : List Item) (at left : ℕ)
     → ((i : ℕ) → i < subtable_count_of l.table.now l.place → charged_at_subtable l items at i left ≡ Some left)
     → lookup_charged l items at left ≡ Some left
 lookup_free l items at left each =
-    plain_free l items at left (is_plain l)
+    plain_free l items at left (is_paid l (nth items at))
     (steps_still (charged_at_subtable l items at) left (subtable_count_of l.table.now l.place) 0
     (λ i from below. each i (omega (arith, below))))

@@ -132,11 +132,15 @@ whole_list l items subtable = if not l.positioning && nat_eq subtable.kind 3 && 
 abbrev pub begun_charged : Lookup → List Item → LookupSubtable → ℕ → Option ℕ
 begun_charged l items subtable left = option_and_then (charged SUBTABLE_WORK) (charged (whole_list l items subtable) left)
 
+-- a subtable without them looks for the glyph before and the one after
+abbrev pub beside : ℕ → Tally
+beside left = record { left = left; before = 1; after = 1; tries = 1 }
+
 abbrev pub parts_charged : Lookup → List Item → ℕ → LookupSubtable → ℕ → ℕ → Option ℕ
 parts_charged l items at subtable number left = if is_backward l subtable
     then rule_charged l items at (backward_rule l.table.now subtable.start) left
     else option_map_or (set_charged l items at subtable left)
-    (parts_for l subtable (nth items at).glyph_id number) (Some left)
+    (parts_for l subtable (nth items at).glyph_id number) (passed_charged l items at (beside left))
 
 abbrev pub numbered_charged : Lookup → List Item → ℕ → LookupSubtable → ℕ → ℕ → Option ℕ
 numbered_charged l items at subtable left number =
@@ -172,21 +176,33 @@ is_plain l = let type = lookup_type_of l.table.now l.place in
 abbrev pub subtables_charged : Lookup → List Item → ℕ → ℕ → Option ℕ
 subtables_charged l items at left = steps (charged_at_subtable l items at) (subtable_count_of l.table.now l.place) 0 left
 
--- a plain lookup is paid by the walk over a list, or where a rule names it
+-- A plain lookup is paid by the walk over a list, or where a rule names it: a glyph that isn't passed over ends the searches of
+-- the glyphs beside it, so that all of them together look at each glyph twice. One that is passed over, but where the lookup
+-- may begin, ends none.
+abbrev pub is_paid : Lookup → Item → Bool
+is_paid l item = is_plain l && not (is_transparent l false item)
+
 abbrev pub lookup_charged : Lookup → List Item → ℕ → ℕ → Option ℕ
-lookup_charged l items at left = if is_plain l then Some left else subtables_charged l items at left
+lookup_charged l items at left = if is_paid l (nth items at) then Some left else subtables_charged l items at left
 
 -- what each of the subtables costs at each item of a list, whether it begins there or not
+abbrev pub STEP_WORK : ℕ
+STEP_WORK = 8
+
+abbrev pub PLAIN_WORK : ℕ
+PLAIN_WORK = 16
+
 abbrev pub step_work : Lookup → ℕ
-step_work l = if is_plain l then SUBTABLE_WORK else 1
+step_work l = if is_plain l then PLAIN_WORK else STEP_WORK
 
 abbrev pub NESTED_WORK : ℕ
 NESTED_WORK = 32
 
--- a lookup that a rule names is charged for all of its subtables
+-- a lookup that a rule names is charged for all of its subtables, and for what it may look at beside the place, since many may be
+-- named at one
 abbrev pub nested_charged : Lookup → List Item → ℕ → ℕ → Option ℕ
 nested_charged l items at left =
-    option_and_then (lookup_charged l items at) (charged (subtable_count_of l.table.now l.place * step_work l + NESTED_WORK) left)
+    option_and_then (subtables_charged l items at) (charged (subtable_count_of l.table.now l.place * step_work l + NESTED_WORK) left)
 
 -- one that goes over a list, for each of its subtables at each item
 abbrev pub walk_work : Lookup → ℕ → ℕ

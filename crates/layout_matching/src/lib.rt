@@ -3,7 +3,7 @@
 //! [`skipping`] says which glyphs a lookup sees, [`seeking`] finds the next glyph that is looked for, [`input`] what a rule or
 //! a ligature matches, [`spans`] what stands around that, [`rules`] reads the rules of context, [`found`] has the first rule
 //! that matches, and [`nesting`] the lookups that it names. [`tried`] and [`reaching`] say how far searches in vain looked.
-//! [`work`] says what a lookup is charged for, by [`tally`] of its rules and by [`passing`] of glyphs beside a place.
+//! [`work`] says what a lookup is charged for, by [`sets`] of rules, [`tally`] of each rule and [`passing`] of glyphs beside a place.
 //! All are functions of the bytes of the font and of the list of items: nothing is changed. Any bytes are taken.
 #![tactic(auto)]
 #![allow(non_camel_case_types)]
@@ -16,6 +16,7 @@ pub mod passing;
 pub mod reaching;
 pub mod rules;
 pub mod seeking;
+pub mod sets;
 pub mod skipping;
 pub mod spans;
 pub mod tally;

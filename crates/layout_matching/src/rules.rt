@@ -41,6 +41,7 @@ pub struct Rule {
 }
 
 /// Whether a glyph is the one that a value names.
+#[inline(always)]
 fn is_named(table: &[u8], from: usize, value: u16, glyph: u32, test: Test) -> bool
     requires { from < 2 ^ 39 }
     ensures { result ≡ is_named_of table.now from value glyph test }
@@ -54,6 +55,7 @@ fn is_named(table: &[u8], from: usize, value: u16, glyph: u32, test: Test) -> bo
 }
 
 /// Whether a glyph is number `k` of a row.
+#[inline(always)]
 pub fn fits_row(table: &[u8], row: &Row, k: u32, glyph: u32) -> bool
     ensures { result ≡ fits_row_of table.now row.now k glyph }
 {

@@ -34,6 +34,7 @@ fn mask(lookup: &Lookup<'_>, seek: &Seek) -> u32
 }
 
 /// Whether a glyph is number `k` of the row, where the lookup may match it.
+#[inline(always)]
 pub fn fits(lookup: &Lookup<'_>, seek: &Seek, k: u32, there: &hb_glyph_info_t) -> bool
     ensures { result ≡ fits_of lookup.now seek.now k there.now }
 {
@@ -43,6 +44,7 @@ pub fn fits(lookup: &Lookup<'_>, seek: &Seek, k: u32, there: &hb_glyph_info_t) -
 }
 
 /// Whether a glyph may stand before the one that is looked for.
+#[inline(always)]
 pub fn is_between(lookup: &Lookup<'_>, seek: &Seek, k: u32, there: &hb_glyph_info_t) -> bool
     ensures { result ≡ is_between_of lookup.now seek.now k there.now }
 {
@@ -51,6 +53,7 @@ pub fn is_between(lookup: &Lookup<'_>, seek: &Seek, k: u32, there: &hb_glyph_inf
 }
 
 /// The place, if its glyph is the one that is looked for.
+#[inline(always)]
 fn if_fits(
     lookup: &Lookup<'_>,
     seek: &Seek,
@@ -72,6 +75,7 @@ fn if_fits(
 
 /// The first place from `from` on whose glyph may not stand between.
 #[tactic(auto, using(shape_font::proofs::SearchLemmas::first_at_next, shape_font::proofs::SearchLemmas::first_at_found, shape_font::proofs::SearchLemmas::first_at_end, crate::proofs::LoopLemmas::not_true, crate::proofs::LoopLemmas::not_false))]
+#[inline(always)]
 pub(crate) fn place_from(
     lookup: &Lookup<'_>,
     seek: &Seek,
@@ -93,6 +97,7 @@ pub(crate) fn place_from(
 }
 
 /// Where glyph `k` of the row stands after place `i`.
+#[inline(always)]
 pub fn next(
     lookup: &Lookup<'_>,
     seek: &Seek,

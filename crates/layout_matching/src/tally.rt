@@ -1,9 +1,8 @@
 //! Rules counted: each costs one for each glyph and each lookup that it names.
 ghost use Rattle.std.specs.Prelude.{◌≡◌, ◌<◌, ◌^◌};
-ghost use Rattle.layout_matching.specs.Work.{rule_work as rule_work_of, uncounted as uncounted_of, rule_counted as rule_counted_of, null_counted as null_counted_of, ligature_rule as ligature_rule_of, backward_rule as backward_rule_of};
+ghost use Rattle.layout_matching.specs.Work.{charged as charged_of, rule_work as rule_work_of, uncounted as uncounted_of, beside as beside_of, rule_counted as rule_counted_of, null_counted as null_counted_of, ligature_rule as ligature_rule_of, backward_rule as backward_rule_of};
 
 use crate::rules::{Row, Rule, Test};
-use crate::work::charged;
 use shape_font::bytes::u16_at;
 
 /// What is left after some rules, the most glyphs that one of them has before the place and after it, and how often glyphs are
@@ -16,6 +15,13 @@ pub struct Tally {
     pub tries: usize,
 }
 
+/// What is left after so much, if it suffices.
+pub(crate) fn charged(work: usize, left: usize) -> Option<usize>
+    ensures { result ≡ charged_of work left }
+{
+    if left < work { None } else { Some(left - work) }
+}
+
 /// Before the first rule.
 pub(crate) fn uncounted(left: usize) -> Tally
     ensures { result ≡ uncounted_of left }
@@ -25,6 +31,18 @@ pub(crate) fn uncounted(left: usize) -> Tally
         before: 0,
         after: 0,
         tries: 0,
+    }
+}
+
+/// A search of the glyph before a place and of the one after.
+pub(crate) fn beside(left: usize) -> Tally
+    ensures { result ≡ beside_of left }
+{
+    Tally {
+        left,
+        before: 1,
+        after: 1,
+        tries: 1,
     }
 }
 

@@ -6,22 +6,30 @@
 ghost use Rattle.std.specs.Prelude.{◌≡◌, ◌<◌, ◌*◌, ◌^◌, length};
 ghost use Rattle.std.specs.Option.{IfSome};
 ghost use Rattle.layout_tables.specs.Lookups.{subtable_count_of};
-ghost use Rattle.layout_matching.specs.Work.{charged as charged_of, passed_charged as passed_charged_of, rule_charged as rule_charged_of, part_rule as part_rule_of, part_counted as part_counted_of, set_counted as set_counted_of, set_charged as set_charged_of, is_backward as is_backward_of, is_ligature as is_ligature_of, parts_for as parts_for_of, whole_list as whole_list_of, begun_charged as begun_charged_of, parts_charged as parts_charged_of, numbered_charged as numbered_charged_of, whole_charged as whole_charged_of, is_whole as is_whole_of, subtable_charged as subtable_charged_of, charged_at_subtable as charged_at_subtable_of, is_plain as is_plain_of, subtables_charged as subtables_charged_of, lookup_charged as lookup_charged_of, step_work as step_work_of, nested_charged as nested_charged_of, walk_work as walk_work_of, most_work as most_work_of};
+ghost use Rattle.layout_matching.specs.Work.{is_backward as is_backward_of, is_ligature as is_ligature_of, parts_for as parts_for_of, whole_list as whole_list_of, begun_charged as begun_charged_of, parts_charged as parts_charged_of, numbered_charged as numbered_charged_of, whole_charged as whole_charged_of, is_whole as is_whole_of, subtable_charged as subtable_charged_of, charged_at_subtable as charged_at_subtable_of, is_plain as is_plain_of, is_paid as is_paid_of, subtables_charged as subtables_charged_of, lookup_charged as lookup_charged_of, step_work as step_work_of, nested_charged as nested_charged_of, walk_work as walk_work_of, most_work as most_work_of};
 
 use crate::found::{
-    is_chained, is_context, is_context_subtable, is_first, number_in, rule_by, set_for,
-    subtable_at, whole_rule,
+    is_chained, is_context, is_context_subtable, is_first, number_in, set_for, subtable_at,
+    whole_rule,
 };
 use crate::lookup::Lookup;
-use crate::passing::{passed_after, passed_before};
-use crate::rules::{Rule, rule_at, rules};
-use crate::tally::{Tally, backward_rule, ligature_rule, null_counted, rule_counted, uncounted};
+use crate::rules::rules;
+use crate::sets::{passed_charged, rule_charged, set_charged};
+use crate::skipping::is_transparent;
+use crate::tally::{backward_rule, beside, charged};
 use layout_buffer::ItemList;
 use layout_tables::lookups::{LookupSubtable, lookup_type, subtable_count};
-use shape_font::bytes::{records, u16_at};
+use shape_buffer::hb_glyph_info_t;
+use shape_font::bytes::u16_at;
 
-/// What a subtable costs that begins with the glyph at the place, and at each item one of a plain lookup.
+/// What a subtable costs that begins with the glyph at the place.
 const SUBTABLE_WORK: usize = 8;
+
+/// What a subtable costs at each item of a list, whether it begins there or not.
+const STEP_WORK: usize = 8;
+
+/// The same if the lookup is plain, which is paid by that alone.
+const PLAIN_WORK: usize = 16;
 
 /// What a lookup costs that a rule names.
 const NESTED_WORK: usize = 32;
@@ -31,125 +39,6 @@ const WORK_FACTOR: usize = 32768;
 
 /// How much may be, however few items there are.
 const WORK_MIN: usize = 1_048_576;
-
-/// What is left after so much, if it suffices.
-pub(crate) fn charged(work: usize, left: usize) -> Option<usize>
-    ensures { result ≡ charged_of work left }
-{
-    if left < work { None } else { Some(left - work) }
-}
-
-/// What is left after what a rule or a set passes over, which is looked at each time.
-fn passed_charged(
-    lookup: &Lookup<'_>,
-    items: &ItemList<'_>,
-    at: usize,
-    count: Tally,
-) -> Option<usize>
-    requires { at < length items.now }
-    ensures { result ≡ passed_charged_of lookup.now items.now at count }
-{
-    let before = passed_before(lookup, items, at, count.before);
-    let passed = passed_after(lookup, items, at, count.after).saturating_add(before);
-    charged(count.tries.saturating_mul(passed), count.left)
-}
-
-/// What is left after one rule.
-fn rule_charged(
-    lookup: &Lookup<'_>,
-    items: &ItemList<'_>,
-    at: usize,
-    rule: &Rule,
-    left: usize,
-) -> Option<usize>
-    requires { at < length items.now }
-    ensures { result ≡ rule_charged_of lookup.now items.now at rule.now left }
-{
-    match rule_counted(rule, uncounted(left)) {
-        Some(count) => passed_charged(lookup, items, at, count),
-        None => None,
-    }
-}
-
-/// The rule, or the ligature, at a place of the table.
-fn part_rule(lookup: &Lookup<'_>, subtable: LookupSubtable, place: usize) -> Rule
-    requires near { subtable.start < 2 ^ 35 }
-    requires place { place < 2 ^ 37 }
-    ensures { result ≡ part_rule_of lookup.now subtable place }
-{
-    if is_context_subtable(lookup, subtable) {
-        let is_chain = is_chained(lookup, subtable);
-        rule_by(lookup.table, is_chain, subtable.start, place)
-    } else {
-        ligature_rule(lookup.table, place)
-    }
-}
-
-/// Number `r` of the rules, or ligatures, at `set`.
-fn part_counted(
-    lookup: &Lookup<'_>,
-    subtable: LookupSubtable,
-    set: usize,
-    r: u32,
-    count: Tally,
-) -> Option<Tally>
-    requires near { subtable.start < 2 ^ 35 }
-    requires set { set < 2 ^ 36 }
-    requires few { r < 2 ^ 16 }
-    ensures { result ≡ part_counted_of lookup.now subtable set r count }
-{
-    match rule_at(lookup.table, set, r) {
-        Some(place) => rule_counted(&part_rule(lookup, subtable, place), count),
-        None => null_counted(count),
-    }
-}
-
-/// All rules, or ligatures, at `set`.
-#[tactic(auto, using(crate::proofs::LoopLemmas::steps_next, crate::proofs::LoopLemmas::steps_none, crate::proofs::LoopLemmas::steps_end))]
-fn set_counted(
-    lookup: &Lookup<'_>,
-    subtable: LookupSubtable,
-    left: usize,
-    set: usize,
-) -> Option<Tally>
-    requires near { subtable.start < 2 ^ 35 }
-    requires set { set < 2 ^ 36 }
-    ensures { result ≡ set_counted_of lookup.now subtable left set }
-{
-    let mut count = uncounted(left);
-    for r in 0..records(
-        lookup.table,
-        u32::from(u16_at(lookup.table, set)),
-        set + 2,
-        2,
-    ) {
-        match part_counted(lookup, subtable, set, r, count) {
-            Some(more) => count = more,
-            None => return None,
-        }
-    }
-    Some(count)
-}
-
-/// What is left after all rules, or ligatures, at `set`.
-fn set_charged(
-    lookup: &Lookup<'_>,
-    items: &ItemList<'_>,
-    at: usize,
-    subtable: LookupSubtable,
-    left: usize,
-    set: usize,
-) -> Option<usize>
-    requires near { subtable.start < 2 ^ 35 }
-    requires set { set < 2 ^ 36 }
-    requires inside { at < length items.now }
-    ensures { result ≡ set_charged_of lookup.now items.now at subtable left set }
-{
-    match set_counted(lookup, subtable, left, set) {
-        Some(count) => passed_charged(lookup, items, at, count),
-        None => None,
-    }
-}
 
 fn is_ligature(lookup: &Lookup<'_>, subtable: LookupSubtable) -> bool
     ensures { result ≡ is_ligature_of lookup.now subtable }
@@ -210,7 +99,7 @@ fn is_backward(lookup: &Lookup<'_>, subtable: LookupSubtable) -> bool
     !lookup.positioning && subtable.kind == 8
 }
 
-/// What is left after the rules, or the ligatures, for the glyph at a place.
+/// What is left after the rules, or the ligatures, for the glyph at a place, or after the glyphs beside it.
 fn parts_charged(
     lookup: &Lookup<'_>,
     items: &ItemList<'_>,
@@ -230,7 +119,7 @@ fn parts_charged(
     let glyph = items.item(at).glyph_id;
     match parts_for(lookup, subtable, glyph, number) {
         Some(set) => set_charged(lookup, items, at, subtable, left, set),
-        None => Some(left),
+        None => passed_charged(lookup, items, at, beside(left)),
     }
 }
 
@@ -362,6 +251,14 @@ fn subtables_charged(
     Some(left)
 }
 
+/// Whether the walk over the list has paid for the lookup at a glyph, or the rule that names it.
+fn is_paid(lookup: &Lookup<'_>, item: &hb_glyph_info_t) -> bool
+    requires { lookup.now.place < 2 ^ 17 }
+    ensures { result ≡ is_paid_of lookup.now item.now }
+{
+    is_plain(lookup) && !is_transparent(lookup, false, item)
+}
+
 /// What is left after the lookup was charged for the subtables that begin with the glyph at a place; none if it doesn't suffice.
 /// One without rules and ligatures is paid by the walk over the list, or where a rule names it.
 pub fn lookup_charged(
@@ -374,7 +271,7 @@ pub fn lookup_charged(
     requires inside { at < length items.now }
     ensures { result ≡ lookup_charged_of lookup.now items.now at left }
 {
-    if is_plain(lookup) {
+    if is_paid(lookup, items.at(at)) {
         Some(left)
     } else {
         subtables_charged(lookup, items, at, left)
@@ -385,13 +282,13 @@ pub fn lookup_charged(
 fn step_work(lookup: &Lookup<'_>) -> usize
     requires { lookup.now.place < 2 ^ 17 }
     ensures value { result ≡ subtable_count_of lookup.now.table.now lookup.now.place * step_work_of lookup.now }
-    ensures near { result < 2 ^ 20 }
+    ensures near { result < 2 ^ 21 }
 {
     let count = subtable_count(lookup.table, lookup.place) as usize;
     if is_plain(lookup) {
-        count * SUBTABLE_WORK
+        count * PLAIN_WORK
     } else {
-        count
+        count * STEP_WORK
     }
 }
 
@@ -407,7 +304,7 @@ pub fn nested_charged(
     ensures { result ≡ nested_charged_of lookup.now items.now at left }
 {
     match charged(step_work(lookup) + NESTED_WORK, left) {
-        Some(left) => lookup_charged(lookup, items, at, left),
+        Some(left) => subtables_charged(lookup, items, at, left),
         None => None,
     }
 }

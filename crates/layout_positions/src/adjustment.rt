@@ -160,7 +160,9 @@ fn has_pairs(table: &[u8], start: usize) -> bool
 }
 
 /// Applies pair adjustment to the glyph at place `i` and the next one that the lookup sees. Returns
-/// the place where the lookup goes on.
+/// the place where the lookup goes on. A call of its own: inlined, its sums are made at each glyph,
+/// whatever the lookup is.
+#[inline(never)]
 pub fn apply_pair(
     lookup: &Lookup<'_>,
     start: usize,

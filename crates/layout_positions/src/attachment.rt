@@ -3,7 +3,7 @@ ghost use Rattle.std.specs.Prelude.{◌≡◌, ◌<◌, length, nat_lt, pos, if�
 ghost use Rattle.std.specs.Option.{IfSome};
 ghost use Rattle.shape_buffer.specs.Outcome.{Made};
 ghost use Rattle.layout_positions.specs.Ways.{IsMeasured};
-ghost use Rattle.layout_positions.specs.Attachment.{chain_to, place_at as place_at_of, parent_of, freed, hung as hung_of, carried, followed, settled, offsets_finished};
+ghost use Rattle.layout_positions.specs.Attachment.{chain_to, place_at as place_at_of, parent_of, freed, hung as hung_of, carried, followed, settled, MOST_LINKS as most_links, offsets_finished};
 
 use crate::edits::{position, put};
 use crate::ways::{Measured, Pen, way_between};
@@ -150,6 +150,22 @@ fn settle(buffer: &mut hb_buffer_t, level: u32, i: usize, last: Measured) -> Mea
     }
 }
 
+/// The same over all links. A glyph that isn't attached, as most, takes no call.
+#[tactic(auto, using(crate::proofs::SettleLemmas::settled_still))]
+#[inline(always)]
+fn settle_at(buffer: &mut hb_buffer_t, i: usize, last: Measured) -> Measured
+    requires inside { i < length buffer.old.items }
+    requires last { IsMeasured buffer.old last }
+    ensures made { buffer.new ≡ settled most_links i buffer.old }
+    ensures items { buffer.new.items ≡ buffer.old.items }
+    ensures measured { IsMeasured buffer.new result }
+{
+    if position(buffer, i).attach_chain == 0 {
+        return last;
+    }
+    settle(buffer, MOST_LINKS, i, last)
+}
+
 /// Each glyph follows the one that it is attached to. A run of marks on one base takes a step for
 /// each mark.
 #[tactic(auto, using(crate::proofs::SettleLemmas::each_step, crate::proofs::WayLemmas::measured_none))]
@@ -159,7 +175,7 @@ fn settle_each(buffer: &mut hb_buffer_t)
 {
     let mut last = Measured::none();
     for i in 0..buffer.len() {
-        last = settle(buffer, MOST_LINKS, i, last);
+        last = settle_at(buffer, i, last);
     }
 }
 

@@ -171,7 +171,7 @@ pub record WorkedBounds : Type 0 where
   pub distance_wraps : HoldsOf one_back [] (λ l. glyphs (after (on l 0 0) (glyph 5 0 ∷ [])) ≡ 4 ∷ [])
   -- so many nested lookups for each item, at least so many, and no more than can be counted
   pub at_least : most_work 16 ≡ 1048576
-  pub for_each_item : most_work 17 ≡ 1114112
+  pub for_each_item : most_work 33 ≡ 1081344
   pub countable : most_work 18446744073709551615 ≡ 18446744073709551615
   -- a lookup of the plan and 64 levels below it
   pub levels : (ls : List Lookup) (b : Buffer) → substituted ls b ≡ stage_made 65 ls b

@@ -56,6 +56,10 @@ a_mark = record (plain 9) { properties = record new_properties { glyph_class = r
 abbrev pub of_positions : Lookup → Lookup
 of_positions l = record l { place = 0; flags = 8; positioning = true; random = false }
 
+-- ZWNJ, by glyph 5
+abbrev pub a_zwnj : Item
+a_zwnj = record (plain 5) { properties = record new_properties { ignorable = true; zwnj = true } }
+
 -- what is left of 100 at a place
 abbrev pub Leaves : List ℕ → List Item → ℕ → ℕ → Type 0
 Leaves table items at left = (l : Lookup) → l.table.now ≡ table → lookup_charged (over_marks l) items at 100 ≡ Some left
@@ -89,13 +93,18 @@ pub record WorkedWork : Type 0 where
   pub positions : (l : Lookup) → l.table.now ≡ two_subtables → lookup_charged (of_positions l) (plain 5 ∷ []) 0 100 ≡ Some 100
   pub context : (l : Lookup) → l.table.now ≡ context_of_positions → is_plain (of_positions l) ≡ false
   pub far_context : (l : Lookup) → l.table.now ≡ extended_context → is_plain (of_positions l) ≡ false
+  -- but where it begins at a glyph that is passed over: 8 for each of two subtables, and what it passes over beside the glyph
+  pub at_zwnj : (l : Lookup) → l.table.now ≡ two_subtables
+      → lookup_charged (of_positions l) (a_zwnj ∷ a_zwnj ∷ a_zwnj ∷ []) 1 100 ≡ Some 80
+  pub another_zwnj : (l : Lookup) → l.table.now ≡ two_subtables
+      → lookup_charged (of_positions l) (a_zwnj ∷ record a_zwnj { glyph_id = 6 } ∷ a_zwnj ∷ []) 1 100 ≡ Some 100
   -- 8, and 3 for the ligature, for each of two subtables
   pub each_subtable : Leaves two_of_ligatures (plain 5 ∷ []) 0 78
-  -- 1 for each subtable and 32, and what they cost at the place; 8 for each of a plain one
-  pub nested : (l : Lookup) → l.table.now ≡ two_of_ligatures → nested_charged (over_marks l) (plain 5 ∷ []) 0 100 ≡ Some 44
-  pub nested_singles : (l : Lookup) → l.table.now ≡ two_subtables → nested_charged (over_marks l) (plain 5 ∷ []) 0 100 ≡ Some 52
-  pub walk : (l : Lookup) → l.table.now ≡ two_of_ligatures → walk_work (over_marks l) 3 ≡ 6
-  pub walk_of_singles : (l : Lookup) → l.table.now ≡ two_subtables → walk_work (over_marks l) 3 ≡ 48
+  -- 8 for each subtable and 32, and what they cost at the place; 16 for each of a plain one
+  pub nested : (l : Lookup) → l.table.now ≡ two_of_ligatures → nested_charged (over_marks l) (plain 5 ∷ []) 0 100 ≡ Some 30
+  pub nested_singles : (l : Lookup) → l.table.now ≡ two_subtables → nested_charged (over_marks l) (plain 5 ∷ []) 0 100 ≡ Some 20
+  pub walk : (l : Lookup) → l.table.now ≡ two_of_ligatures → walk_work (over_marks l) 3 ≡ 48
+  pub walk_of_singles : (l : Lookup) → l.table.now ≡ two_subtables → walk_work (over_marks l) 3 ≡ 96
   pub at_least : most_work 32 ≡ 1048576
   pub for_each_item : most_work 33 ≡ 1081344
   pub countable : most_work 18446744073709551615 ≡ 18446744073709551615
@@ -123,6 +132,8 @@ worked_work = record {
   positions = λ l t. rw t refl;
   context = λ l t. rw t refl;
   far_context = λ l t. rw t refl;
+  at_zwnj = λ l t. rw t refl;
+  another_zwnj = λ l t. rw t refl;
   each_subtable = λ l t. rw t refl;
   nested = λ l t. rw t refl;
   nested_singles = λ l t. rw t refl;

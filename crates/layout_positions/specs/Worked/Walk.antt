@@ -57,7 +57,7 @@ pub record WorkedBounds : Type 0 where
   pub levels : LEVELS ≡ 65
   pub links : MOST_LINKS ≡ 64
   pub at_least : most_work 16 ≡ 1048576
-  pub for_each_glyph : most_work 17 ≡ 1114112
+  pub for_each_glyph : most_work 33 ≡ 1081344
   pub countable : most_work 18446744073709551615 ≡ 18446744073709551615
 
 pub worked_bounds : WorkedBounds
@@ -102,14 +102,14 @@ pub record WorkedWalk : Type 0 where
       (λ l. masks (over l (base 2 0 ∷ base 7 1 ∷ base 7 2 ∷ base 3 3 ∷ [])) ≡ 16 ∷ 16 ∷ 16 ∷ 16 ∷ [])
   pub out_of_context : Over in_context 0 16
       (λ l. offsets (over l (base 2 0 ∷ base 7 1 ∷ base 3 2 ∷ [])) ≡ still ∷ still ∷ still ∷ [])
-  pub one_is_named : Over in_context 0 16 (λ l. (named l 50).left ≡ 9)
+  pub one_is_named : Over in_context 0 16 (λ l. (named l 60).left ≡ 4)
   pub none_may_be_named : Over in_context 0 16 (λ l. offsets (named l 0).buffer ≡ still ∷ still ∷ [])
-  -- 33 for a lookup of one subtable that is named, and 8 for its subtable, which begins with the glyph
-  pub too_little_is_left : Over in_context 0 16 (λ l. offsets (named l 40).buffer ≡ still ∷ still ∷ [])
-  pub nothing_is_left_then : Over in_context 0 16 (λ l. (named l 40).left ≡ 0)
-  pub just_enough_is_left : Over in_context 0 16 (λ l. offsets (named l 41).buffer ≡ still ∷ (pos 10, pos 0) ∷ [])
-  pub goes_on_after_the_rule : Over in_context 0 16 (λ l. (named l 50).next ≡ Some 2)
-  pub unsafe_in_the_rule : Over in_context 0 16 (λ l. masks (named l 50).buffer ≡ 16 ∷ 19 ∷ [])
+  -- 32 for a lookup that is named, 16 for its one subtable, since it is plain, and 8 since that begins with the glyph
+  pub too_little_is_left : Over in_context 0 16 (λ l. offsets (named l 55).buffer ≡ still ∷ still ∷ [])
+  pub nothing_is_left_then : Over in_context 0 16 (λ l. (named l 55).left ≡ 0)
+  pub just_enough_is_left : Over in_context 0 16 (λ l. offsets (named l 56).buffer ≡ still ∷ (pos 10, pos 0) ∷ [])
+  pub goes_on_after_the_rule : Over in_context 0 16 (λ l. (named l 60).next ≡ Some 2)
+  pub unsafe_in_the_rule : Over in_context 0 16 (λ l. masks (named l 60).buffer ≡ 16 ∷ 19 ∷ [])
   -- a subtable has a list of its glyphs, a rule of format 3 one of its first glyph
   pub listed : (l : Lookup) → IsLookup l (one_subtable 1 single_one) 0 → subtable_lists l (record { kind = 1; start = 8 }) 2 ≡ true
   pub not_listed : (l : Lookup) → IsLookup l (one_subtable 1 single_one) 0 → subtable_lists l (record { kind = 1; start = 8 }) 7 ≡ false

@@ -5,8 +5,8 @@ use Rattle.layout_positions.proofs.attachment.settle_each.Goals as goal
 
 pub loop-i-preserved : goal.loop-i-preserved
 loop-i-preserved c = record {
-  made = each_step (settled MOST_LINKS) c.loop-i.i c.args.buffer.now c.loop-i.buffer c.settle-last.new.buffer
-      c.loop-i.invariant.made c.settle-last.ensures.made;
-  items = c.settle-last.ensures.items ∙ c.loop-i.invariant.items;
-  measured = c.settle-last.ensures.measured;
+  made = each_step (settled MOST_LINKS) c.loop-i.i c.args.buffer.now c.loop-i.buffer c.settle_at-last.new.buffer
+      c.loop-i.invariant.made c.settle_at-last.ensures.made;
+  items = c.settle_at-last.ensures.items ∙ c.loop-i.invariant.items;
+  measured = c.settle_at-last.ensures.measured;
 }

@@ -1,0 +1,124 @@
+//! What a set of rules, or of ligatures, costs at a place: its rules, and what they pass over.
+ghost use Rattle.std.specs.Prelude.{◌≡◌, ◌<◌, ◌^◌, length};
+ghost use Rattle.layout_matching.specs.Work.{passed_charged as passed_charged_of, rule_charged as rule_charged_of, part_rule as part_rule_of, part_counted as part_counted_of, set_counted as set_counted_of, set_charged as set_charged_of};
+
+use crate::found::{is_chained, is_context_subtable, rule_by};
+use crate::lookup::Lookup;
+use crate::passing::{passed_after, passed_before};
+use crate::rules::{Rule, rule_at};
+use crate::tally::{Tally, charged, ligature_rule, null_counted, rule_counted, uncounted};
+use layout_buffer::ItemList;
+use layout_tables::lookups::LookupSubtable;
+use shape_font::bytes::{records, u16_at};
+
+/// What is left after what a rule or a set passes over, which is looked at each time.
+pub(crate) fn passed_charged(
+    lookup: &Lookup<'_>,
+    items: &ItemList<'_>,
+    at: usize,
+    count: Tally,
+) -> Option<usize>
+    requires { at < length items.now }
+    ensures { result ≡ passed_charged_of lookup.now items.now at count }
+{
+    let before = passed_before(lookup, items, at, count.before);
+    let passed = passed_after(lookup, items, at, count.after).saturating_add(before);
+    charged(count.tries.saturating_mul(passed), count.left)
+}
+
+/// What is left after one rule.
+pub(crate) fn rule_charged(
+    lookup: &Lookup<'_>,
+    items: &ItemList<'_>,
+    at: usize,
+    rule: &Rule,
+    left: usize,
+) -> Option<usize>
+    requires { at < length items.now }
+    ensures { result ≡ rule_charged_of lookup.now items.now at rule.now left }
+{
+    match rule_counted(rule, uncounted(left)) {
+        Some(count) => passed_charged(lookup, items, at, count),
+        None => None,
+    }
+}
+
+/// The rule, or the ligature, at a place of the table.
+fn part_rule(lookup: &Lookup<'_>, subtable: LookupSubtable, place: usize) -> Rule
+    requires near { subtable.start < 2 ^ 35 }
+    requires place { place < 2 ^ 37 }
+    ensures { result ≡ part_rule_of lookup.now subtable place }
+{
+    if is_context_subtable(lookup, subtable) {
+        let is_chain = is_chained(lookup, subtable);
+        rule_by(lookup.table, is_chain, subtable.start, place)
+    } else {
+        ligature_rule(lookup.table, place)
+    }
+}
+
+/// Number `r` of the rules, or ligatures, at `set`.
+fn part_counted(
+    lookup: &Lookup<'_>,
+    subtable: LookupSubtable,
+    set: usize,
+    r: u32,
+    count: Tally,
+) -> Option<Tally>
+    requires near { subtable.start < 2 ^ 35 }
+    requires set { set < 2 ^ 36 }
+    requires few { r < 2 ^ 16 }
+    ensures { result ≡ part_counted_of lookup.now subtable set r count }
+{
+    match rule_at(lookup.table, set, r) {
+        Some(place) => rule_counted(&part_rule(lookup, subtable, place), count),
+        None => null_counted(count),
+    }
+}
+
+/// All rules, or ligatures, at `set`.
+#[tactic(auto, using(crate::proofs::LoopLemmas::steps_next, crate::proofs::LoopLemmas::steps_none, crate::proofs::LoopLemmas::steps_end))]
+fn set_counted(
+    lookup: &Lookup<'_>,
+    subtable: LookupSubtable,
+    left: usize,
+    set: usize,
+) -> Option<Tally>
+    requires near { subtable.start < 2 ^ 35 }
+    requires set { set < 2 ^ 36 }
+    ensures { result ≡ set_counted_of lookup.now subtable left set }
+{
+    let mut count = uncounted(left);
+    for r in 0..records(
+        lookup.table,
+        u32::from(u16_at(lookup.table, set)),
+        set + 2,
+        2,
+    ) {
+        match part_counted(lookup, subtable, set, r, count) {
+            Some(more) => count = more,
+            None => return None,
+        }
+    }
+    Some(count)
+}
+
+/// What is left after all rules, or ligatures, at `set`.
+pub(crate) fn set_charged(
+    lookup: &Lookup<'_>,
+    items: &ItemList<'_>,
+    at: usize,
+    subtable: LookupSubtable,
+    left: usize,
+    set: usize,
+) -> Option<usize>
+    requires near { subtable.start < 2 ^ 35 }
+    requires set { set < 2 ^ 36 }
+    requires inside { at < length items.now }
+    ensures { result ≡ set_charged_of lookup.now items.now at subtable left set }
+{
+    match set_counted(lookup, subtable, left, set) {
+        Some(count) => passed_charged(lookup, items, at, count),
+        None => None,
+    }
+}
