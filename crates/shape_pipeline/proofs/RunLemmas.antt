@@ -1,6 +1,6 @@
 -- What is known of a run from its outcome, and normalising as a step.
 use Rattle.std.proofs.Common.{◌≡◌, ◌≢◌, ◌<◌, ◌≤◌, ◌&&◌, Bool, true, false, List, [], ◌∷◌, length, inl, refl, ap, sym, subst, ◌∙◌, arith, if◌then◌else◌, Result, Ok, Err}
-use Rattle.std.specs.Prelude.{OnOk, IfOk}
+use Rattle.std.specs.Prelude.{OnOk}
 use Rattle.shape_items.specs.Buffer.{Buffer, limit_of, run_limit}
 use Rattle.shape_buffer.specs.Guess.{guessed}
 use Rattle.shape_items.specs.Items.{Item}
@@ -163,8 +163,3 @@ normal_form rules lawful unicode b = record {
   canonical_form = NormalizesCanonically-normalized rules unicode b (normalized rules b) refl;
   recomposed = normalized_recomposes rules b (normalized rules b) refl;
 }
-
--- what holds always holds of a result
-pub if_ok_always : {T E : Type 0} {P : Type 0} (result : Result T E) → P → IfOk result (λ _. P)
-if_ok_always (Ok value) holds = holds
-if_ok_always (Err error) holds = tt
