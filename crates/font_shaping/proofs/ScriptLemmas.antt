@@ -19,8 +19,8 @@ run_of_category-has P is.Hebrew default arabic hangul hebrew thai = hebrew
 run_of_category-has P is.Thai default arabic hangul hebrew thai = thai
 
 -- clusters come in the order of a text that is guessed by the Unicode functions of the run, by another name
-pub comes-by : {run : Run} {functions : UnicodeMeaning} {text glyphs : Buffer} → run.unicode ≡ functions
+pub comes-by : {run : Run} {functions : UnicodeMeaning} {glyphs : Buffer} (text : Buffer) → run.unicode ≡ functions
     → ComesInOrder run (target_of run text) (guessed run.unicode text) glyphs
     → ComesInOrder run (guessed_direction functions text) (guessed functions text) glyphs
-comes-by {run} {functions} {text} {glyphs} is come =
+comes-by {run} {functions} {glyphs} text is come =
     subst (λ (u : UnicodeMeaning). ComesInOrder run (guessed_direction u text) (guessed u text) glyphs) is come

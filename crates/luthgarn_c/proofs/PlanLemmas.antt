@@ -130,8 +130,8 @@ module _ {P : Type 0} (unicode : UnicodeMeaning) (made : Direction → Option Sc
       it ∙ sym (same-plan kept key)
 
 -- a text that passes the limit in a run does so in an equal one, by the Unicode functions of the run
-pub passes-by : {run other : Run} {functions : UnicodeMeaning} {text : Buffer} → run.unicode ≡ functions → run ≡ other
+pub passes-by : {run other : Run} {functions : UnicodeMeaning} (text : Buffer) → run.unicode ≡ functions → run ≡ other
     → TextPasses run text → ShapingPasses other (target_of other text) (guessed functions text)
-passes-by {run} {other} {functions} {text} unicode same passes =
+passes-by {run} {other} {functions} text unicode same passes =
     subst (λ (r : Run). ShapingPasses r (target_of r text) (guessed functions text)) same
     (subst (λ (u : UnicodeMeaning). ShapingPasses run (target_of run text) (guessed u text)) unicode passes)

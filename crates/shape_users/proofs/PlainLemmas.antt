@@ -42,9 +42,9 @@ limit-many n many = omega arith
 
 -- ---- from what is promised of the glyphs of a text
 
-pub plain-glyphs : {run : Run} {text : Buffer} {E : Type 0} (result : Result Buffer E) → RunPreservesFlags run
+pub plain-glyphs : {run : Run} {E : Type 0} (text : Buffer) (result : Result Buffer E) → RunPreservesFlags run
     → IfOk result (AreGlyphsOf run text) → IfOk result (ArePlainGlyphs text)
-plain-glyphs {run} {text} result preserves ok =
+plain-glyphs {run} text result preserves ok =
     IfOk-weaker result (AreGlyphsOf run text) (ArePlainGlyphs text)
     (λ glyphs are. record {
       direction = λ known. are.direction ∙ direction-known text.direction _ known;
@@ -55,10 +55,10 @@ plain-glyphs {run} {text} result preserves ok =
     })
     ok
 
-pub stand-in_order : {run : Run} {text : Buffer} {E : Type 0} (result : Result Buffer E) → RunPreservesClusters run
+pub stand-in_order : {run : Run} {E : Type 0} (text : Buffer) (result : Result Buffer E) → RunPreservesClusters run
     → IsMonotoneLevel text.cluster_level → IsNonDecreasing (clusters text.items)
     → IfOk result (AreGlyphsOf run text) → IfOk result (StandInOrder run text)
-stand-in_order {run} {text} result preserves level rising ok =
+stand-in_order {run} text result preserves level rising ok =
     IfOk-weaker result (AreGlyphsOf run text) (StandInOrder run text)
     (λ glyphs are.
     let come = are.clusters preserves level rising in
@@ -69,9 +69,9 @@ stand-in_order {run} {text} result preserves level rising ok =
     })
     ok
 
-pub plain-form : {run : Run} {text : Buffer} {E : Type 0} (result : Result Buffer E) → RunPreservesEquivalence run
+pub plain-form : {run : Run} {E : Type 0} (text : Buffer) (result : Result Buffer E) → RunPreservesEquivalence run
     → IfOk result (AreGlyphsOf run text) → IfOk result (λ _. HasPlainForm run text)
-plain-form {run} {text} result preserves ok =
+plain-form {run} text result preserves ok =
     IfOk-weaker result (AreGlyphsOf run text) (λ _. HasPlainForm run text)
     (λ glyphs are. record {
       brought_in = are.form.brought_in;

@@ -11,7 +11,7 @@ returns-clause-canonical_by_default g c = λ is.
 pub returns-clause-clusters : goal.returns-clause-clusters
 returns-clause-clusters g c = λ level rising.
     IfOk-weaker c.shape_by_script.result _ _
-    (λ glyphs are. comes-by c.shape_by_script.ensures.unicode
+    (λ glyphs are. comes-by c.args.text c.shape_by_script.ensures.unicode
     (are.clusters (c.script_runs_preserve.ensures.clusters c.args.face.now c.args.features.now c.args.text) level rising))
     c.shape_by_script.ensures.ok
 

@@ -25,4 +25,4 @@ returns-in-Err-clause-length g c = λ is.
     let found = found-plan g.U.hb_unicode_funcs_t.unicode _ c.args.features.now c.args.text _ _ c.index-kept.result.now
     c.in_ok-place.ensures.made c.in_ok-place.ensures.place c.index-kept.ensures in
     let same = c.planned_for_text.ensures.runs c.args.face.now c.args.features.now c.args.text c.index-kept.result.now.plan found in
-    passes-by c.in-Err.ensures.shaped.unicode same (c.in-Err.ensures.shaped.length is)
+    passes-by c.args.text c.in-Err.ensures.shaped.unicode same (c.in-Err.ensures.shaped.length is)

@@ -6,7 +6,7 @@ pub returns-clause-order : goal.returns-clause-order
 returns-clause-order g c =
     let plan = c.args.plan.now in
     let face = c.args.face.now in
-    stand-in_order c.shape_with_plan.result
+    stand-in_order c.args.text c.shape_with_plan.result
     (c.arabic_runs_preserve.ensures.clusters plan face (c.ligatures_preserve.ensures.clusters plan.ot_map face))
     c.requires.monotone c.requires.rising c.shape_with_plan.ensures.ok
 

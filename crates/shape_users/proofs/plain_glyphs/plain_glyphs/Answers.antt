@@ -4,7 +4,7 @@ use Rattle.shape_users.proofs.plain_glyphs.plain_glyphs.Goals as goal
 
 pub returns-clause-ok : goal.returns-clause-ok
 returns-clause-ok g c =
-    plain-glyphs c.shape_with_plan.result (c.plain_runs_have_no_obligations.ensures c.args.plan.now c.args.face.now).flags c.shape_with_plan.ensures.ok
+    plain-glyphs c.args.text c.shape_with_plan.result (c.plain_runs_have_no_obligations.ensures c.args.plan.now c.args.face.now).flags c.shape_with_plan.ensures.ok
 
 pub returns-clause-refused : goal.returns-clause-refused
 returns-clause-refused g c =
