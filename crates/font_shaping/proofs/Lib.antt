@@ -1,3 +1,1 @@
-mod PlanLemmas
 mod ScriptLemmas
-mod StringLemmas

@@ -16,13 +16,14 @@ ghost use Rattle.shape_plan.specs.declared.ot_shaper.shapers.hb_default_shaper_t
 use opentype_layout::laws::opentype_layout_preserves;
 use opentype_layout::{OpenTypeFace, OpenTypeLayout};
 use script_shapers::arabic::{ArabicShaper, arabic_runs_preserve};
-use script_shapers::choice::{Category, ScriptRuns, TextRuns, by_script};
+use script_shapers::choice::{Category, ScriptRuns, by_script};
 use script_shapers::hangul::{HangulShaper, hangul_runs_preserve};
 use script_shapers::hebrew::{HebrewShaper, hebrew_runs_preserve};
 use script_shapers::thai::{ThaiShaper, thai_runs_preserve};
 use shape_buffer::interfaces::{hb_font_t, hb_ot_layout_t, hb_unicode_funcs_t};
 use shape_pipeline::laws::runs_without_hooks_have_no_obligations;
 use shape_pipeline::ot_shaper::{Runs, hb_default_shaper_t, hb_ot_shaper_t};
+use shape_pipeline::shaping::TextRuns;
 
 /// A run of the default shaper with the tables of a font file has no obligations, whatever the bytes of the file are
 /// and whatever the plan: every premise of the promises about a run holds of it.

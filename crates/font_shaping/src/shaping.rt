@@ -1,25 +1,20 @@
 //! A text shaped with a font file.
-ghost use Rattle.std.specs.Prelude.{◌≡◌, ◌≤◌, length, IfOk, IfErr};
+ghost use Rattle.std.specs.Prelude.{◌≡◌, IfOk};
 ghost use Rattle.std.specs.List.Sorted.{IsNonDecreasing};
 ghost use Rattle.opentype_layout.specs.Engine.{opentype_layout};
 ghost use Rattle.script_shapers.specs.Choice.{category_for};
-ghost use Rattle.shape_items.specs.Buffer.{cleared, run_limit};
+ghost use Rattle.script_shapers.specs.Promises.{IsShapedBy};
 ghost use Rattle.shape_items.specs.ClusterOrder.{IsMonotoneLevel};
 ghost use Rattle.shape_items.specs.Clusters.{clusters};
 ghost use Rattle.shape_buffer.specs.Guess.{guessed, guessed_direction};
-ghost use Rattle.shape_pipeline.specs.Canonical.{HasCanonicalList, ListIsCanonical};
-ghost use Rattle.shape_pipeline.specs.Headline.{target_of, prepared_text, normalised_list};
-ghost use Rattle.shape_pipeline.specs.Headline.{IsMadeOfNormalisedList, NormalForm};
+ghost use Rattle.shape_pipeline.specs.Canonical.{HasCanonicalList};
 ghost use Rattle.shape_pipeline.specs.Headline.{HasFlagsByCluster};
 ghost use Rattle.shape_pipeline.specs.Order.{ComesInOrder};
-ghost use Rattle.shape_pipeline.specs.Shaped.{shaped, Shapes, ShapingPasses};
 
 use crate::laws::script_runs_preserve;
 use opentype_layout::{OpenTypeFace, OpenTypeLayout};
 use script_shapers::choice::{Category, ScriptRuns, by_script, shape_by_script};
-use shape_pipeline::{
-    Feature, GlyphBuffer, ShapeError, ShapeFault, UnicodeBuffer, hb_unicode_funcs_t,
-};
+use shape_pipeline::{Feature, GlyphBuffer, ShapeFault, UnicodeBuffer, hb_unicode_funcs_t};
 use std::alloc::Global;
 
 /// The glyphs of a text with a font file, by its tables `GDEF`, `GSUB`, `GPOS` and `kern` and by the shaper that the text's
@@ -34,19 +29,9 @@ pub fn shape_with_font<'a, U: hb_unicode_funcs_t>(
     features: &[Feature],
     text: UnicodeBuffer,
 ) -> Result<GlyphBuffer, ShapeFault>
-    ensures glyphs { let run = ⟦<by_script as ScriptRuns<U, OpenTypeFace<'a>, OpenTypeLayout>>⟧.text_run
-        face.now features.now text in
-        IfOk result (λ glyphs. glyphs ≡ shaped run text) }
-    ensures direction { IfOk result (λ glyphs. glyphs.direction ≡ guessed_direction U.unicode text) }
-    ensures made { let run = ⟦<by_script as ScriptRuns<U, OpenTypeFace<'a>, OpenTypeLayout>>⟧.text_run
-        face.now features.now text in
-        IfOk result (λ glyphs. IsMadeOfNormalisedList run text glyphs) }
-    ensures form { let run = ⟦<by_script as ScriptRuns<U, OpenTypeFace<'a>, OpenTypeLayout>>⟧.text_run
-        face.now features.now text in
-        IfOk result (λ _. NormalForm run.rules (prepared_text run text) (normalised_list run text)) }
-    ensures canonical { let run = ⟦<by_script as ScriptRuns<U, OpenTypeFace<'a>, OpenTypeLayout>>⟧.text_run
-        face.now features.now text in
-        IfOk result (λ _. ListIsCanonical run text) }
+    ensures shaped { let run =
+        ⟦<by_script as ScriptRuns<U, OpenTypeFace<'a>, OpenTypeLayout>>⟧.text_run
+        face.now features.now text in IsShapedBy U.unicode run text result }
     ensures canonical_by_default { let run = ⟦<by_script as ScriptRuns<U, OpenTypeFace<'a>, OpenTypeLayout>>⟧.text_run
         face.now features.now text in
         category_for U.unicode (opentype_layout face.now) text ≡ Category.Default
@@ -57,15 +42,6 @@ pub fn shape_with_font<'a, U: hb_unicode_funcs_t>(
         → IfOk result (λ glyphs. ComesInOrder run (guessed_direction U.unicode text)
         (guessed U.unicode text) glyphs) }
     ensures flags { IfOk result (λ glyphs. HasFlagsByCluster text glyphs) }
-    ensures within { IfOk result (λ glyphs. length glyphs.items ≤ run_limit (length text.items)) }
-    ensures counted { let run = ⟦<by_script as ScriptRuns<U, OpenTypeFace<'a>, OpenTypeLayout>>⟧.text_run
-        face.now features.now text in
-        IfOk result (λ glyphs. Shapes run (target_of run text) (guessed U.unicode text) glyphs) }
-    ensures length { let run = ⟦<by_script as ScriptRuns<U, OpenTypeFace<'a>, OpenTypeLayout>>⟧.text_run
-        face.now features.now text in
-        IfErr result (λ fault. fault.cause ≡ ShapeError.Length
-        → ShapingPasses run (target_of run text) (guessed U.unicode text)) }
-    ensures cleared { IfErr result (λ fault. fault.buffer ≡ cleared text) }
 {
     script_runs_preserve::<U>();
     shape_by_script::<U, OpenTypeFace, OpenTypeLayout>(alloc, face, features, text)

@@ -1,21 +1,16 @@
 //! A string shaped with a font file.
-ghost use Rattle.std.specs.Prelude.{◌≡◌, ◌<◌, ◌≤◌, ◌*◌, ◌^◌, ◌⊎◌, ◌↔◌, ℕ, false, length, is_some, Contains, Err, IfOk, IfErr, OnOk, OnErr, MatchResult};
-ghost use Rattle.std.specs.Str.{chars};
+ghost use Rattle.std.specs.Prelude.{◌≡◌, ◌≤◌, ◌^◌, ◌⊎◌, ◌↔◌, length, Err, IfOk, IfErr, MatchResult};
 ghost use Rattle.shape_items.specs.Buffer.{new_buffer};
-ghost use Rattle.shape_items.specs.ClusterOrder.{IsOrderedFor};
-ghost use Rattle.shape_items.specs.Clusters.{clusters};
-ghost use Rattle.shape_items.specs.Flags.{HasOneSetOfFlags};
-ghost use Rattle.shape_items.specs.PreservesFlags.{some_has};
-ghost use Rattle.shape_common.specs.Direction.{is_backward};
-ghost use Rattle.shape_common.specs.FlagNames.{UNSAFE_TO_CONCAT};
-ghost use Rattle.shape_buffer.specs.Guess.{first_script, script_or_ltr};
-ghost use Rattle.shape_buffer.specs.Text.{text_items};
 ghost use Rattle.opentype_layout.specs.Fonts.{units_of};
-ghost use Rattle.font_shaping.specs.Strings.{AreGlyphsOf, IsPlaceIn, IsTextOf, TextPasses, WithFaceOf, WithTextOf, string_text};
+ghost use Rattle.shape_pipeline.specs.GlyphsOf.{AreGlyphsOf, TextPasses};
+ghost use Rattle.shape_pipeline.specs.Strings.{AreGlyphsOfString};
+ghost use Rattle.font_shaping.specs.Strings.{WithFaceOf, WithTextOf};
 
+use crate::laws::script_runs_preserve;
 use crate::shaping::shape_with_font;
 use opentype_layout::{OpenTypeFace, OpenTypeLayout};
 use script_shapers::choice::{ScriptRuns, by_script};
+use shape_pipeline::strings::{strings_keep_promises, text_of_str};
 use shape_pipeline::{
     Feature, GlyphBuffer, ShapeError, ShapeFault, UnicodeBuffer, hb_unicode_funcs_t,
 };
@@ -45,47 +40,14 @@ impl FontError {
     }
 }
 
-/// The text of a string: its characters in the clusters of their first bytes, by the settings of a
-/// new buffer. Refuses with `Length` a string of 2^32 bytes and more, since clusters are 32 bits, and
-/// with `Memory` if a growth was refused; the buffer that comes back is new.
-fn text_of_str(alloc: Global, string: &str) -> Result<UnicodeBuffer, ShapeFault>
-    ensures ok { IfOk result (λ text. IsTextOf string.now text) }
-    ensures text { IfOk result (λ text. text ≡ string_text string.now) }
-    ensures length { IfErr result (λ fault. fault.cause ≡ ShapeError.Length
-        → 2 ^ 32 ≤ length string.now) }
-    ensures bytes { 2 ^ 32 ≤ length string.now
-        → MatchResult result (λ _. ⊥) (λ fault. fault.cause ≡ ShapeError.Length) }
-    ensures refused { IfErr result (λ fault. fault.buffer ≡ new_buffer) }
-{
-    let mut buffer = UnicodeBuffer::new(alloc);
-    let appended = append(&mut buffer, string);
-    match appended {
-        Ok(()) => Ok(buffer),
-        Err(cause) => Err(ShapeFault { cause, buffer }),
-    }
-}
-
-/// Appends a string to a new buffer, if it has fewer than 2^32 bytes.
-#[tactic(auto, unfolding(crate::specs::Strings::string_text))]
-fn append(buffer: &mut UnicodeBuffer, string: &str) -> Result<(), ShapeError>
-    requires { buffer.old ≡ new_buffer }
-    ensures ok { OnOk result (IsTextOf string.now buffer.new) }
-    ensures text { OnOk result (buffer.new ≡ string_text string.now) }
-    ensures length { (result ≡ Err ShapeError.Length) ↔ (2 ^ 32 ≤ length string.now) }
-    ensures refused { OnErr result (buffer.new ≡ new_buffer) }
-{
-    if string.len() > u32::MAX as usize {
-        return Err(ShapeError::Length);
-    }
-    buffer.push_str(string)
-}
-
-/// The glyphs of a string with a font file, in the direction of its script and by the shaper that this asks for: those that
-/// `shape_by_script` makes of its text with these features and nothing else set. Nothing is asked of the string or the font: each cluster is the place of a
-/// character's first byte in the string, clusters stand in the order in which the glyphs run, neighbours in one cluster
-/// have the same flags, no glyph is unsafe to concat, and a string of at most 256 characters has at most 16384 glyphs,
-/// a longer one at most 64 for each. Refuses with `Length` a string of 2^32 bytes and more, or one of which a step
-/// would leave a list past the run's limit, and with `Memory` if a growth was refused; a new buffer comes back then.
+/// The glyphs of a string with a font file, in the direction of its script and by the shaper that
+/// this asks for: those that `shape_by_script` makes of its text with these features and nothing
+/// else set. Nothing is asked of the string or the font: each cluster is the place of a
+/// character's first byte in the string, clusters stand in the order in which the glyphs run,
+/// neighbours in one cluster have the same flags, no glyph is unsafe to concat, and a string of at
+/// most 256 characters has at most 16384 glyphs, a longer one at most 64 for each. Refuses with
+/// `Length` a string of 2^32 bytes and more, or one of which a step would leave a list past the
+/// run's limit, and with `Memory` if a growth was refused; a new buffer comes back then.
 pub fn shape_str<'a, U: hb_unicode_funcs_t>(
     alloc: Global,
     face: &OpenTypeFace<'a>,
@@ -94,27 +56,18 @@ pub fn shape_str<'a, U: hb_unicode_funcs_t>(
 ) -> Result<GlyphBuffer, ShapeFault>
     ensures glyphs { IfOk result (λ glyphs. WithTextOf string.now (λ text.
         let run = ⟦<by_script as ScriptRuns<U, OpenTypeFace<'a>, OpenTypeLayout>>⟧.text_run
-        face.now features.now text in AreGlyphsOf U.unicode run text glyphs)) }
+        face.now features.now text in AreGlyphsOf run text glyphs)) }
     ensures length { IfErr result (λ fault. fault.cause ≡ ShapeError.Length
         → (2 ^ 32 ≤ length string.now) ⊎ WithTextOf string.now (λ text.
         let run = ⟦<by_script as ScriptRuns<U, OpenTypeFace<'a>, OpenTypeLayout>>⟧.text_run
-        face.now features.now text in TextPasses U.unicode run text)) }
+        face.now features.now text in TextPasses run text)) }
     ensures bytes { 2 ^ 32 ≤ length string.now
         → MatchResult result (λ _. ⊥) (λ fault. fault.cause ≡ ShapeError.Length) }
-    ensures direction { IfOk result (λ glyphs. glyphs.direction
-        ≡ script_or_ltr U.unicode (first_script U.unicode (text_items string.now))) }
-    ensures places { IfOk result (λ glyphs. (k : ℕ) → Contains (clusters glyphs.items) k
-        → IsPlaceIn string.now k) }
-    ensures ordered { IfOk result (λ glyphs.
-        IsOrderedFor (is_backward glyphs.direction) (clusters glyphs.items)) }
-    ensures one_set { IfOk result (λ glyphs. HasOneSetOfFlags glyphs.items) }
-    ensures concat { IfOk result (λ glyphs. some_has UNSAFE_TO_CONCAT glyphs.items ≡ false) }
-    ensures few { length (chars string.now) ≤ 256
-        → IfOk result (λ glyphs. length glyphs.items ≤ 16384) }
-    ensures many { 256 ≤ length (chars string.now)
-        → IfOk result (λ glyphs. length glyphs.items ≤ length (chars string.now) * 64) }
+    ensures of_string { IfOk result (AreGlyphsOfString U.unicode string.now) }
     ensures refused { IfErr result (λ fault. fault.buffer ≡ new_buffer) }
 {
+    script_runs_preserve::<U>();
+    strings_keep_promises();
     match text_of_str(alloc, string) {
         Ok(text) => shape_with_font::<U>(alloc, face, features, text),
         Err(fault) => Err(fault),
@@ -135,23 +88,12 @@ pub fn shape_with_bytes<U: hb_unicode_funcs_t>(
         ↔ (units_of bytes.now index ≡ 0) }
     ensures glyphs { IfOk result (λ glyphs. WithFaceOf bytes.now index (λ face. WithTextOf string.now (λ text.
         let run = ⟦<by_script as ScriptRuns<U, OpenTypeFace<'static>, OpenTypeLayout>>⟧.text_run
-        face features.now text in AreGlyphsOf U.unicode run text glyphs))) }
+        face features.now text in AreGlyphsOf run text glyphs))) }
     ensures length { IfErr result (λ error. error ≡ FontError.Length
         → (2 ^ 32 ≤ length string.now) ⊎ WithFaceOf bytes.now index (λ face. WithTextOf string.now (λ text.
         let run = ⟦<by_script as ScriptRuns<U, OpenTypeFace<'static>, OpenTypeLayout>>⟧.text_run
-        face features.now text in TextPasses U.unicode run text))) }
-    ensures direction { IfOk result (λ glyphs. glyphs.direction
-        ≡ script_or_ltr U.unicode (first_script U.unicode (text_items string.now))) }
-    ensures places { IfOk result (λ glyphs. (k : ℕ) → Contains (clusters glyphs.items) k
-        → IsPlaceIn string.now k) }
-    ensures ordered { IfOk result (λ glyphs.
-        IsOrderedFor (is_backward glyphs.direction) (clusters glyphs.items)) }
-    ensures one_set { IfOk result (λ glyphs. HasOneSetOfFlags glyphs.items) }
-    ensures concat { IfOk result (λ glyphs. some_has UNSAFE_TO_CONCAT glyphs.items ≡ false) }
-    ensures few { length (chars string.now) ≤ 256
-        → IfOk result (λ glyphs. length glyphs.items ≤ 16384) }
-    ensures many { 256 ≤ length (chars string.now)
-        → IfOk result (λ glyphs. length glyphs.items ≤ length (chars string.now) * 64) }
+        face features.now text in TextPasses run text))) }
+    ensures of_string { IfOk result (AreGlyphsOfString U.unicode string.now) }
 {
     match OpenTypeFace::from_slice(bytes, index) {
         Some(face) => match shape_str::<U>(alloc, &face, features, string) {

@@ -15,13 +15,16 @@ use Rattle.script_shapers.specs.declared.hangul.HangulShaper.{HangulShaper}
 use Rattle.script_shapers.specs.declared.hebrew.HebrewShaper.{HebrewShaper}
 use Rattle.script_shapers.specs.declared.plans.ScriptPlan.{ScriptPlan}
 use Rattle.script_shapers.specs.declared.thai.ThaiShaper.{ThaiShaper}
-use Rattle.shape_buffer.specs.Guess.{guessed_direction, guessed_script}
+use Rattle.shape_buffer.specs.Guess.{guessed, guessed_direction, guessed_script}
 use Rattle.shape_buffer.specs.declared.buffer.error.ShapeError.{ShapeError}
 use Rattle.shape_common.specs.Unicode.{UnicodeMeaning}
 use Rattle.shape_common.specs.declared.text_types.Direction.{Direction}
 use Rattle.shape_common.specs.declared.text_types.Feature.{Feature}
 use Rattle.shape_common.specs.declared.text_types.Script.{Script}
 use Rattle.shape_items.specs.Buffer.{Buffer}
+use Rattle.shape_pipeline.specs.GlyphsOf.{TextPasses}
+use Rattle.shape_pipeline.specs.Headline.{target_of}
+use Rattle.shape_pipeline.specs.Shaped.{ShapingPasses}
 use Rattle.shape_plan.proofs.PlannedLemmas.{direction-planned, script-planned}
 use Rattle.shape_plan.specs.Plan.{Plan, Fits, known_script}
 use Rattle.shape_plan.specs.Planner.{Planning, planned}
@@ -125,3 +128,10 @@ module _ {P : Type 0} (unicode : UnicodeMeaning) (made : Direction → Option Sc
       let key : IsFor unicode kept.key 0 features text = subst (λ (k : KeptPlan P). IsFor unicode k.key 0 features text) (sym is) (at.1 kept) in
       let it : IsMadeBy made kept = subst (IsMadeBy made) (sym is) (all.each place kept at.0) in
       it ∙ sym (same-plan kept key)
+
+-- a text that passes the limit in a run does so in an equal one, by the Unicode functions of the run
+pub passes-by : {run other : Run} {functions : UnicodeMeaning} (text : Buffer) → run.unicode ≡ functions → run ≡ other
+    → TextPasses run text → ShapingPasses other (target_of other text) (guessed functions text)
+passes-by {run} {other} {functions} text unicode same passes =
+    subst (λ (r : Run). ShapingPasses r (target_of r text) (guessed functions text)) same
+    (subst (λ (u : UnicodeMeaning). ShapingPasses run (target_of run text) (guessed u text)) unicode passes)

@@ -4,5 +4,6 @@ mod OrderLemmas
 mod PhaseLemmas
 mod PremiseLemmas
 mod RunLemmas
+mod StringLemmas
 mod WorkedObligationLemmas
 mod PassRows

@@ -1,6 +1,6 @@
 -- What is known of a run from its outcome, and normalising as a step.
-use Rattle.std.proofs.Common.{◌≡◌, ◌≢◌, ◌≤◌, ◌&&◌, Bool, true, false, List, [], ◌∷◌, length, inl, refl, ap, sym, subst, ◌∙◌, arith, if◌then◌else◌, Result, Ok, Err}
-use Rattle.std.specs.Prelude.{OnOk, IfOk}
+use Rattle.std.proofs.Common.{◌≡◌, ◌≢◌, ◌<◌, ◌≤◌, ◌&&◌, Bool, true, false, List, [], ◌∷◌, length, inl, refl, ap, sym, subst, ◌∙◌, arith, if◌then◌else◌, Result, Ok, Err}
+use Rattle.std.specs.Prelude.{OnOk}
 use Rattle.shape_items.specs.Buffer.{Buffer, limit_of, run_limit}
 use Rattle.shape_buffer.specs.Guess.{guessed}
 use Rattle.shape_items.specs.Items.{Item}
@@ -148,8 +148,3 @@ direction-made run target b is = direction_from run target b is b.items
 pub normal_form : (rules : Rules) → LawfulReorder rules.reorder → LawfulUnicode rules.unicode → (b : Buffer)
     → NormalForm rules b (normalized rules b)
 normal_form rules lawful unicode b = NormalForm-normalized rules lawful unicode b (normalized rules b) refl
-
--- what holds always holds of a result
-pub if_ok_always : {T E : Type 0} {P : Type 0} (result : Result T E) → P → IfOk result (λ _. P)
-if_ok_always (Ok value) holds = holds
-if_ok_always (Err error) holds = tt

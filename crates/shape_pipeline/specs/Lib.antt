@@ -1,8 +1,10 @@
 pub mod SettingsPutBack
 pub mod Shaped
+pub mod Strings
 pub mod Order
 pub mod Headline
 pub mod Canonical
+pub mod GlyphsOf
 pub mod Planned
 pub mod Premises
 pub mod Worked

@@ -133,10 +133,10 @@ where
         RunPreservesEquivalence run → SpellingsMeet run }
 {}
 
-/// What `shape` and `shape_with_plan` return can be cut into lines, by their clauses `clusters` and `flags`: at a
-/// monotone level, if the text's clusters never fall, lookups and hooks preserve clusters and flags, and each
-/// cluster of the text is below its end. If `push_str` brought the text in, that is its length in bytes:
-/// the clauses `clusters` of `push_str` say both.
+/// What `shape` and `shape_with_plan` return can be cut into lines, by `ok.clusters` and
+/// `ok.flags`: at a monotone level, if the text's clusters never fall, lookups and hooks preserve
+/// clusters and flags, and each cluster of the text is below its end. If `push_str` brought the
+/// text in, that is its length in bytes: the clauses `clusters` of `push_str` say both.
 pub fn glyphs_can_be_cut()
     ensures { (run : Run) (target : Direction) (text glyphs : Buffer) (text_end : ℕ)
         → ClustersComeInOrder run target (guessed run.unicode text) glyphs

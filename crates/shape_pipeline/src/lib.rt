@@ -12,6 +12,7 @@ pub mod lines;
 mod normalised;
 pub mod ot_shape;
 pub mod shaping;
+pub mod strings;
 pub mod worked;
 
 pub use normalised::normalised_characters;

@@ -5,7 +5,7 @@ ghost use Rattle.shape_buffer.specs.Guess.{guessed};
 ghost use Rattle.shape_items.specs.Items.{char_of};
 ghost use Rattle.shape_normalize.specs.CanonicalForm.{text_of};
 ghost use Rattle.shape_normalize.specs.Normalized.{normalized};
-ghost use Rattle.shape_pipeline.specs.Canonical.{normalised_characters as characters_by, ListIsCanonical};
+ghost use Rattle.shape_pipeline.specs.Canonical;
 ghost use Rattle.shape_pipeline.specs.Headline.{target_of};
 ghost use Rattle.shape_pipeline.specs.Shaped.{text_made, NormalisingPasses};
 
@@ -41,9 +41,9 @@ where
     M: hb_ot_layout_t<F>,
     S: hb_ot_shaper_t<U, F, M>,
     ensures characters { let run = ⟦<S as Runs<U, F, M>>⟧.run plan.now face.now in
-        IfOk result (λ characters. characters.items ≡ characters_by run buffer) }
+        IfOk result (λ characters. characters.items ≡ Canonical.normalised_characters run buffer) }
     ensures canonical { let run = ⟦<S as Runs<U, F, M>>⟧.run plan.now face.now in
-        IfOk result (λ _. ListIsCanonical run buffer) }
+        IfOk result (λ _. Canonical.ListIsCanonical run buffer) }
     ensures length { let run = ⟦<S as Runs<U, F, M>>⟧.run plan.now face.now in
         IfErr result (λ fault. fault.cause ≡ ShapeError.Length
         → NormalisingPasses run (target_of run buffer) (guessed U.unicode buffer)) }

@@ -3,17 +3,13 @@
 //! `form` is a law of every buffer that is normalised, so it has "prepared" among its premises; a
 //! run prepares each text by itself, so `canonical` has not. Clusters at MONOTONE_GRAPHEMES are
 //! those of graphemes found before a dotted circle was inserted, which has its mark's.
-ghost use Rattle.std.specs.Prelude.{◌≡◌, ◌≤◌, [], length, IsOk, IfOk, IfErr};
-ghost use Rattle.shape_items.specs.Buffer.{cleared, run_limit};
-ghost use Rattle.shape_buffer.specs.Guess.{guessed, guessed_direction};
-ghost use Rattle.shape_pipeline.specs.Headline.{target_of, prepared_text, normalised_list};
-ghost use Rattle.shape_pipeline.specs.Headline.{IsMadeOfNormalisedList, NormalForm};
-ghost use Rattle.shape_pipeline.specs.Headline.{FlagsAreByCluster};
-ghost use Rattle.shape_pipeline.specs.Canonical.{ListIsCanonical};
-ghost use Rattle.shape_pipeline.specs.Order.{ClustersComeInOrder};
-ghost use Rattle.shape_pipeline.specs.Shaped.{shaped, Shapes, ShapingPasses};
+ghost use Rattle.std.specs.Prelude.{◌≡◌, [], List, IsOk, IfOk, IfErr};
+ghost use Rattle.shape_items.specs.Buffer.{Buffer, cleared};
+ghost use Rattle.shape_common.specs.declared.text_types.Feature.{Feature as AnyFeature};
+ghost use Rattle.shape_pipeline.specs.GlyphsOf.{AreGlyphsOf, TextPasses};
 ghost use Rattle.shape_pipeline.specs.Planned.{planned_for, data_for_text};
 ghost use Rattle.shape_plan.specs.Plan.{Fits};
+ghost use Rattle.shape_plan.specs.Run.{Run};
 
 use crate::ot_shape::{hb_ot_shape_context_t, shape_internal};
 use shape_buffer::buffer::{Feature, GlyphBuffer, ShapeError, ShapeFault, UnicodeBuffer};
@@ -22,6 +18,25 @@ use shape_plan::ot_shape_plan::hb_ot_shape_plan_t;
 use shape_plan::ot_shaper::{Runs, hb_ot_shaper_t};
 use shape_plan::planner::Plans;
 use std::alloc::Global;
+
+/// The run that [`shape`] makes of a text by a shaper. Every shaper has it, and none writes it.
+pub trait TextRuns<U: hb_unicode_funcs_t, F: hb_font_t, M: hb_ot_layout_t<F>>: hb_ot_shaper_t<
+    U,
+    F,
+    M,
+> {
+    ghost text_run: { F → Self → List AnyFeature → Buffer → Run };
+}
+
+impl<
+    U: hb_unicode_funcs_t,
+    F: hb_font_t,
+    M: hb_ot_layout_t<F>,
+    S: hb_ot_shaper_t<U, F, M>,
+> TextRuns<U, F, M> for S {
+    ghost text_run = { λ face shaper features text. ⟦<S as Runs<U, F, M>>⟧.run
+        (planned_for U.unicode ⟦<S as Plans<U, F, M>>⟧.planning face shaper features text) face };
+}
 
 /// The glyphs of a text by a plan that fits it, with positions in units of the face and clusters that lead
 /// back to the text. Script and direction are guessed if they aren't set. Refuses with `Length` if a
@@ -41,29 +56,10 @@ where
     M: hb_ot_layout_t<F>,
     S: hb_ot_shaper_t<U, F, M>,
     requires { Fits U.unicode plan.now buffer }
-    ensures glyphs { IfOk result (λ glyphs. glyphs
-        ≡ shaped (⟦<S as Runs<U, F, M>>⟧.run plan.now face.now) buffer) }
-    ensures direction { IfOk result (λ glyphs. glyphs.direction
-        ≡ guessed_direction U.unicode buffer) }
-    ensures made { let run = ⟦<S as Runs<U, F, M>>⟧.run plan.now face.now in
-        IfOk result (λ glyphs. IsMadeOfNormalisedList run buffer glyphs) }
-    ensures form { let run = ⟦<S as Runs<U, F, M>>⟧.run plan.now face.now in
-        IfOk result (λ _. NormalForm run.rules (prepared_text run buffer)
-        (normalised_list run buffer)) }
-    ensures canonical { let run = ⟦<S as Runs<U, F, M>>⟧.run plan.now face.now in
-        IfOk result (λ _. ListIsCanonical run buffer) }
-    ensures clusters { let run = ⟦<S as Runs<U, F, M>>⟧.run plan.now face.now in
-        IfOk result (λ glyphs. ClustersComeInOrder run (target_of run buffer)
-        (guessed U.unicode buffer) glyphs) }
-    ensures flags { let run = ⟦<S as Runs<U, F, M>>⟧.run plan.now face.now in
-        IfOk result (λ glyphs. FlagsAreByCluster run buffer glyphs) }
-    ensures within { IfOk result (λ glyphs. length glyphs.items ≤ run_limit (length buffer.items)) }
-    ensures counted { let run = ⟦<S as Runs<U, F, M>>⟧.run plan.now face.now in
-        IfOk result (λ glyphs. Shapes run (target_of run buffer)
-        (guessed U.unicode buffer) glyphs) }
+    ensures ok { let run = ⟦<S as Runs<U, F, M>>⟧.run plan.now face.now in
+        IfOk result (AreGlyphsOf run buffer) }
     ensures length { let run = ⟦<S as Runs<U, F, M>>⟧.run plan.now face.now in
-        IfErr result (λ fault. fault.cause ≡ ShapeError.Length
-        → ShapingPasses run (target_of run buffer) (guessed U.unicode buffer)) }
+        IfErr result (λ fault. fault.cause ≡ ShapeError.Length → TextPasses run buffer) }
     ensures cleared { IfErr result (λ fault. fault.buffer ≡ cleared buffer) }
     ensures empty { buffer.items ≡ [] → IsOk result }
 {
@@ -109,44 +105,12 @@ where
         let plan = planned_for U.unicode planning face.now shaper.now features.now buffer in
         plan.shaper_data
         ≡ data_for_text U.unicode planning face.now shaper.now features.now buffer }
-    ensures glyphs { IfOk result (λ glyphs. glyphs ≡ shaped (⟦<S as Runs<U, F, M>>⟧.run
-        (planned_for U.unicode ⟦<S as Plans<U, F, M>>⟧.planning
-        face.now shaper.now features.now buffer) face.now) buffer) }
-    ensures direction { IfOk result (λ glyphs. glyphs.direction
-        ≡ guessed_direction U.unicode buffer) }
-    ensures made { let run = ⟦<S as Runs<U, F, M>>⟧.run
-        (planned_for U.unicode ⟦<S as Plans<U, F, M>>⟧.planning
-        face.now shaper.now features.now buffer) face.now in
-        IfOk result (λ glyphs. IsMadeOfNormalisedList run buffer glyphs) }
-    ensures form { let run = ⟦<S as Runs<U, F, M>>⟧.run
-        (planned_for U.unicode ⟦<S as Plans<U, F, M>>⟧.planning
-        face.now shaper.now features.now buffer) face.now in
-        IfOk result (λ _. NormalForm run.rules (prepared_text run buffer)
-        (normalised_list run buffer)) }
-    ensures canonical { let run = ⟦<S as Runs<U, F, M>>⟧.run
-        (planned_for U.unicode ⟦<S as Plans<U, F, M>>⟧.planning
-        face.now shaper.now features.now buffer) face.now in
-        IfOk result (λ _. ListIsCanonical run buffer) }
-    ensures clusters { let run = ⟦<S as Runs<U, F, M>>⟧.run
-        (planned_for U.unicode ⟦<S as Plans<U, F, M>>⟧.planning
-        face.now shaper.now features.now buffer) face.now in
-        IfOk result (λ glyphs. ClustersComeInOrder run (target_of run buffer)
-        (guessed U.unicode buffer) glyphs) }
-    ensures flags { let run = ⟦<S as Runs<U, F, M>>⟧.run
-        (planned_for U.unicode ⟦<S as Plans<U, F, M>>⟧.planning
-        face.now shaper.now features.now buffer) face.now in
-        IfOk result (λ glyphs. FlagsAreByCluster run buffer glyphs) }
-    ensures within { IfOk result (λ glyphs. length glyphs.items ≤ run_limit (length buffer.items)) }
-    ensures counted { let run = ⟦<S as Runs<U, F, M>>⟧.run
-        (planned_for U.unicode ⟦<S as Plans<U, F, M>>⟧.planning
-        face.now shaper.now features.now buffer) face.now in
-        IfOk result (λ glyphs. Shapes run (target_of run buffer)
-        (guessed U.unicode buffer) glyphs) }
-    ensures length { let run = ⟦<S as Runs<U, F, M>>⟧.run
-        (planned_for U.unicode ⟦<S as Plans<U, F, M>>⟧.planning
-        face.now shaper.now features.now buffer) face.now in
-        IfErr result (λ fault. fault.cause ≡ ShapeError.Length
-        → ShapingPasses run (target_of run buffer) (guessed U.unicode buffer)) }
+    ensures ok { let run =
+        ⟦<S as TextRuns<U, F, M>>⟧.text_run face.now shaper.now features.now buffer in
+        IfOk result (AreGlyphsOf run buffer) }
+    ensures length { let run =
+        ⟦<S as TextRuns<U, F, M>>⟧.text_run face.now shaper.now features.now buffer in
+        IfErr result (λ fault. fault.cause ≡ ShapeError.Length → TextPasses run buffer) }
     ensures cleared { IfErr result (λ fault. fault.buffer ≡ cleared buffer) }
 {
     let text = buffer.as_inner();

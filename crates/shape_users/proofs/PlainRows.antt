@@ -7,14 +7,17 @@ use Rattle.shape_items.specs.Buffer.{Buffer, limit_of}
 use Rattle.shape_items.specs.Clusters.{clusters}
 use Rattle.shape_items.specs.Items.{Item, new_item}
 use Rattle.shape_buffer.specs.Outcome.{Step, run_steps}
+use Rattle.shape_common.specs.Unicode.{UnicodeMeaning}
+use Rattle.shape_common.specs.declared.text_types.Direction.TheVariants.{Invalid, LeftToRight}
 use Rattle.shape_common.specs.Face.{FaceMeaning}
 use Rattle.shape_common.specs.declared.flags.BufferFlags.{BufferFlags}
 use Rattle.shape_common.specs.declared.text_types.GlyphId.{GlyphId}
 use Rattle.shape_lines.specs.Worked.CanCut.{in_clusters}
 use Rattle.shape_plan.specs.Rules.{has_glyph}
 use Rattle.shape_plan.specs.Run.{Run}
-use Rattle.shape_users.specs.PlainGlyphs.{AreOfText, HaveGlyphs, OneStep, SomeStepPasses, IsPlaceIn, IsTextOf, string_text}
-use Rattle.shape_users.specs.Worked.Plain.{ClustersOfTexts, HasOneOfTwo, CharactersWithGlyphs, begun_text, HasSteps, FirstPasses, SecondPasses, FirstKeeps, SecondKeeps, StepsOfRuns, WhatIsLeft, euro_string, euro_text, PlacesOfStrings, TextsOfStrings, RunsOfStrings, WorkedPlain}
+use Rattle.shape_users.specs.PlainGlyphs.{AreOfText, HaveGlyphs, OneStep, SomeStepPasses}
+use Rattle.shape_pipeline.specs.Strings.{IsPlaceIn, IsTextOf, string_text}
+use Rattle.shape_users.specs.Worked.Plain.{ClustersOfTexts, HasOneOfTwo, CharactersWithGlyphs, begun_text, HasSteps, FirstPasses, SecondPasses, FirstKeeps, SecondKeeps, StepsOfRuns, WhatIsLeft, euro_string, euro_text, PlacesOfStrings, TextsOfStrings, RunsOfStrings, GlyphsOfStrings, WorkedPlain}
 
 -- ---- clusters and characters
 
@@ -260,10 +263,28 @@ runs_of_strings : (run : Run) → RunsOfStrings run
 unfolding chars string_text
 runs_of_strings run = record {
   text = refl;
-  shaped = λ glyphs is. is;
-  nothing_else = λ glyphs is. is;
+  shaped = λ glyphs are. are.counted;
+  one_list = λ first second are too. are.glyphs ∙ sym too.glyphs;
+  other_direction = λ glyphs other are. other are.direction;
   passes = λ passes. passes;
   passes_alone = λ passes. passes;
+}
+
+glyphs_of_strings : (unicode : UnicodeMeaning) → GlyphsOfStrings unicode
+unfolding chars
+glyphs_of_strings unicode = record {
+  none = record {
+    direction = refl;
+    places = λ k there. absurd (omega (arith, there.1));
+    ordered = λ i j d le lt. absurd (omega arith);
+    one_set = tt;
+    concat = refl;
+    few = λ few. omega arith;
+    many = λ many. omega arith;
+  };
+  other_direction = λ are. let e : Invalid ≡ LeftToRight = are.direction in absurd cc;
+  second_byte = λ glyphs items are. places_of_strings.second_byte
+      (are.places 2 (subst (λ (items : List Item). Contains (clusters items) 2) (sym items) (0, omega arith, refl)));
 }
 
 pub worked_plain : WorkedPlain
@@ -275,4 +296,5 @@ worked_plain = record {
   places = places_of_strings;
   texts = texts_of_strings;
   runs = runs_of_strings;
+  glyphs = glyphs_of_strings;
 }

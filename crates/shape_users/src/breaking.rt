@@ -7,17 +7,16 @@
 //! and two script shapers, in both directions.
 ghost use Rattle.std.specs.Prelude.{◌≡◌, ◌<◌, ◌^◌, pos, [], length, Err, IfOk};
 ghost use Rattle.shape_lines.specs.RightLines.{AreRightLines};
-ghost use Rattle.shape_pipeline.specs.Planned.{planned_for};
-ghost use Rattle.shape_users.specs.PlainGlyphs.{AreGlyphsOf, StringPasses, string_text};
+ghost use Rattle.shape_pipeline.specs.GlyphsOf.{AreGlyphsOf, TextPasses};
+ghost use Rattle.shape_pipeline.specs.Strings.{string_text};
 
 use crate::plain_glyphs::glyphs_of_str;
 use shape_pipeline::lines::{Line, cut_lines};
-use shape_pipeline::ot_shaper::Runs;
+use shape_pipeline::shaping::TextRuns;
 use shape_pipeline::{
     DEFAULT_SHAPER, GlyphBuffer, NoLookups, ShapeError, hb_default_shaper_t, hb_font_t,
     hb_unicode_funcs_t,
 };
-use shape_plan::planner::Plans;
 use std::alloc::Global;
 
 /// The glyphs of a text, and the lines that they are cut into.
@@ -42,16 +41,16 @@ where
     U: hb_unicode_funcs_t,
     F: hb_font_t,
     requires { length text.now < 2 ^ 32 }
-    ensures glyphs { let run = ⟦<hb_default_shaper_t as Runs<U, F, NoLookups>>⟧.run
-        (planned_for U.unicode ⟦<hb_default_shaper_t as Plans<U, F, NoLookups>>⟧.planning
-        face.now DEFAULT_SHAPER [] (string_text text.now)) face.now in
-        IfOk result (λ shaped. AreGlyphsOf run text.now shaped.glyphs) }
+    ensures glyphs { let whole = string_text text.now in
+        let run = ⟦<hb_default_shaper_t as TextRuns<U, F, NoLookups>>⟧.text_run
+        face.now DEFAULT_SHAPER [] whole in
+        IfOk result (λ shaped. AreGlyphsOf run whole shaped.glyphs) }
     ensures lines { IfOk result (λ shaped.
         AreRightLines shaped.glyphs (length text.now) (pos width) shaped.lines.items) }
-    ensures length { let run = ⟦<hb_default_shaper_t as Runs<U, F, NoLookups>>⟧.run
-        (planned_for U.unicode ⟦<hb_default_shaper_t as Plans<U, F, NoLookups>>⟧.planning
-        face.now DEFAULT_SHAPER [] (string_text text.now)) face.now in
-        result ≡ Err ShapeError.Length → StringPasses run text.now }
+    ensures length { let whole = string_text text.now in
+        let run = ⟦<hb_default_shaper_t as TextRuns<U, F, NoLookups>>⟧.text_run
+        face.now DEFAULT_SHAPER [] whole in
+        result ≡ Err ShapeError.Length → TextPasses run whole }
 {
     let text_end = text.len() as u32;
     match glyphs_of_str::<U, F>(alloc, face, text) {

@@ -6,8 +6,7 @@
 //! than that, and may use any mode; the one that decomposes fully finds most spellings.
 ghost use Rattle.std.specs.Prelude.{◌≡◌, [], length, Err, IsOk, IsErr, IfOk, OnErr, IfSome, IfNone};
 ghost use Rattle.shape_plan.specs.Plan.{Fits};
-ghost use Rattle.shape_users.specs.Words.{spelled as text_spelled, FitsAt, IsPlaceOf, IsNowhere};
-ghost use Rattle.shape_users.specs.Words.{NoneFits, KeepsWords, FindsTooLong, KeepsTooLong};
+ghost use Rattle.shape_users.specs.Words;
 ghost use Rattle.shape_users.specs.Worked.Found.{WorkedFound};
 ghost use Rattle.shape_users.specs.Worked.Words.{WorkedWords};
 
@@ -33,8 +32,9 @@ pub fn find_plan<U: hb_unicode_funcs_t, S, P, D>(
     plans: &[hb_ot_shape_plan_t<'_, S, P, D>],
     text: &UnicodeBuffer,
 ) -> Option<usize>
-    ensures found { IfSome result (λ place. FitsAt U.unicode plans.now place text.now) }
-    ensures nowhere { IfNone result (NoneFits U.unicode plans.now (length plans.now) text.now) }
+    ensures found { IfSome result (λ place. Words.FitsAt U.unicode plans.now place text.now) }
+    ensures nowhere { IfNone result (Words.NoneFits U.unicode plans.now
+        (length plans.now) text.now) }
 {
     for place in 0..plans.len() {
         if plans[place].fits::<U>(text) {
@@ -60,14 +60,14 @@ where
     M: hb_ot_layout_t<F>,
     S: hb_ot_shaper_t<U, F, M>,
     ensures found { let run = ⟦<S as Runs<U, F, M>>⟧.run plan.now face.now in
-        IfOk result (λ place. IfSome place (λ k. IsPlaceOf run words.now k spelling.now)) }
+        IfOk result (λ place. IfSome place (λ k. Words.IsPlaceOf run words.now k spelling.now)) }
     ensures nowhere { let run = ⟦<S as Runs<U, F, M>>⟧.run plan.now face.now in
         IfOk result (λ place. IfNone place
-        (IsNowhere run words.now (length words.now) spelling.now)) }
+        (Words.IsNowhere run words.now (length words.now) spelling.now)) }
     ensures length { let run = ⟦<S as Runs<U, F, M>>⟧.run plan.now face.now in
-        result ≡ Err ShapeError.Length → FindsTooLong run words.now spelling.now }
+        result ≡ Err ShapeError.Length → Words.FindsTooLong run words.now spelling.now }
     ensures too_long { let run = ⟦<S as Runs<U, F, M>>⟧.run plan.now face.now in
-        FindsTooLong run words.now spelling.now → IsErr result }
+        Words.FindsTooLong run words.now spelling.now → IsErr result }
     ensures no_words { words.now ≡ [] → IsOk result }
 {
     for place in 0..words.len() {
@@ -96,16 +96,17 @@ where
     F: hb_font_t,
     M: hb_ot_layout_t<F>,
     S: hb_ot_shaper_t<U, F, M>,
-    requires { Fits U.unicode plan.now (text_spelled spelling.now) }
+    requires { Fits U.unicode plan.now (Words.spelled spelling.now) }
     ensures place { let run = ⟦<S as Runs<U, F, M>>⟧.run plan.now face.now in
-        IfOk result (λ place. IsPlaceOf run words.new.items place spelling.now) }
+        IfOk result (λ place. Words.IsPlaceOf run words.new.items place spelling.now) }
     ensures kept { let run = ⟦<S as Runs<U, F, M>>⟧.run plan.now face.now in
-        IfOk result (λ place. KeepsWords run words.old.items words.new.items place spelling.now) }
+        IfOk result (λ place. Words.KeepsWords run words.old.items words.new.items place
+        spelling.now) }
     ensures refused { OnErr result (words.new.items ≡ words.old.items) }
     ensures length { let run = ⟦<S as Runs<U, F, M>>⟧.run plan.now face.now in
-        result ≡ Err ShapeError.Length → KeepsTooLong run words.old.items spelling.now }
+        result ≡ Err ShapeError.Length → Words.KeepsTooLong run words.old.items spelling.now }
     ensures too_long { let run = ⟦<S as Runs<U, F, M>>⟧.run plan.now face.now in
-        KeepsTooLong run words.old.items spelling.now → IsErr result }
+        Words.KeepsTooLong run words.old.items spelling.now → IsErr result }
 {
     if let Some(place) = find_word::<U, F, M, S>(alloc, face, plan, words.as_slice(), spelling)? {
         return Ok(place);

@@ -1,7 +1,7 @@
 //! Words shaped once, and then found.
 ghost use Rattle.std.specs.Prelude.{◌≡◌, ◌↔◌, ◌≤◌, ◌^◌, false, length, string_bytes, IsTrue, IsErr, IfOk, OnErr, Err};
 ghost use Rattle.shape_plan.specs.Plan.{Fits};
-ghost use Rattle.word_cache.specs.Keys.{key_of, spelled as text_spelled};
+ghost use Rattle.word_cache.specs.Keys;
 ghost use Rattle.word_cache.specs.Shaping.{IsFresh, IsShapedTo, IsTooLong, IsTooLongToShape};
 ghost use Rattle.word_cache.specs.Words.{made, brought_first, HasKey};
 
@@ -34,12 +34,12 @@ where
     F: hb_font_t,
     M: hb_ot_layout_t<F>,
     S: hb_ot_shaper_t<U, F, M>,
-    requires { Fits U.unicode plan.now (text_spelled spelling.now) }
+    requires { Fits U.unicode plan.now (Keys.spelled spelling.now) }
     ensures found { let run = ⟦<S as Runs<U, F, M>>⟧.run plan.now face.now in
-        let key = key_of run number (text_spelled spelling.now) in
+        let key = Keys.key_of run number (Keys.spelled spelling.now) in
         IfOk result (λ found. IsTrue found ↔ HasKey key cache.old.entries) }
     ensures known { let run = ⟦<S as Runs<U, F, M>>⟧.run plan.now face.now in
-        let key = key_of run number (text_spelled spelling.now) in
+        let key = Keys.key_of run number (Keys.spelled spelling.now) in
         IfOk result (λ found. IsTrue found
         → cache.new ≡ made (brought_first key cache.old.entries) cache.old.limit) }
     ensures fresh { let run = ⟦<S as Runs<U, F, M>>⟧.run plan.now face.now in
@@ -69,7 +69,7 @@ fn shaped<T: ShapingTypes>(
     plan: &PlanOf<'_, T>,
     spelling: &str,
 ) -> Result<Word, ShapeError>
-    requires { Fits T.Unicode.unicode plan.now (text_spelled spelling.now) }
+    requires { Fits T.Unicode.unicode plan.now (Keys.spelled spelling.now) }
     ensures word { IfOk result (λ word. IsShapedTo (⟦<T as Meaning>⟧.run plan.now face.now)
         spelling.now word) }
     ensures length { result ≡ Err ShapeError.Length
@@ -96,7 +96,7 @@ fn word_of(alloc: Global, spelling: &str, glyphs: GlyphBuffer) -> Result<Word, A
 /// The text of a spelling, with nothing else set. Refuses with `Memory` if a growth was refused, and with `Length` if
 /// the spelling has 4 GiB or more.
 fn spelled(alloc: Global, spelling: &str) -> Result<UnicodeBuffer, ShapeError>
-    ensures ok { IfOk result (λ text. text ≡ text_spelled spelling.now) }
+    ensures ok { IfOk result (λ text. text ≡ Keys.spelled spelling.now) }
     ensures length { (result ≡ Err ShapeError.Length) ↔ (2 ^ 32 ≤ length spelling.now) }
 {
     if spelling.len() > u32::MAX as usize {

@@ -3,8 +3,8 @@
 ghost use Rattle.std.specs.Prelude.{◌≡◌};
 ghost use Rattle.shape_buffer.specs.Outcome.{IsWithinLimit, Made, Outcome, step};
 ghost use Rattle.arabic_fallback.specs.Classes.{class_by};
-ghost use Rattle.script_shapers.specs.ArabicPauses.{lacks as lacks_tag, lacks_forms, masks_of};
-ghost use Rattle.script_shapers.specs.ArabicPauses.{tiles_noted, forms_made, made_by_pause};
+ghost use Rattle.script_shapers.specs.ArabicPauses;
+ghost use Rattle.script_shapers.specs.ArabicPauses.{masks_of};
 
 use crate::arabic::requests::{FALLBACK, FINA, INIT, ISOL, MEDI, RLIG, STCH, STRETCH};
 use arabic_fallback::{FallbackMasks, shape_fallback};
@@ -15,7 +15,7 @@ use std::alloc::Global;
 
 /// Whether a feature that is on is in neither table.
 fn lacks<F, M: hb_ot_layout_t<F>>(map: &M::Map, tag: hb_tag_t) -> bool
-    ensures { result ≡ lacks_tag (M.masks map.now) tag }
+    ensures { result ≡ ArabicPauses.lacks (M.masks map.now) tag }
 {
     M::get_1_mask(map, tag) != 0
         && M::get_feature_index(map, TableIndex::GSUB, tag).is_none()
@@ -24,7 +24,7 @@ fn lacks<F, M: hb_ot_layout_t<F>>(map: &M::Map, tag: hb_tag_t) -> bool
 
 /// Whether each of the four features of forms is on and in neither table.
 fn lacks_forms<F, M: hb_ot_layout_t<F>>(map: &M::Map) -> bool
-    ensures { result ≡ lacks_forms (M.masks map.now) }
+    ensures { result ≡ ArabicPauses.lacks_forms (M.masks map.now) }
 {
     lacks::<F, M>(map, ISOL)
         && lacks::<F, M>(map, FINA)
@@ -47,7 +47,7 @@ fn masks_of<F, M: hb_ot_layout_t<F>>(map: &M::Map) -> FallbackMasks
 
 /// Notes the tiles of signs that stretch, if the font has their feature.
 fn note_tiles<F, M: hb_ot_layout_t<F>>(map: &M::Map, buffer: &mut hb_buffer_t)
-    ensures { Made (tiles_noted (M.masks map.now)) buffer.old buffer.new }
+    ensures { Made (ArabicPauses.tiles_noted (M.masks map.now)) buffer.old buffer.new }
 {
     if M::get_1_mask(map, STCH) != 0 {
         record_tiles(buffer);
@@ -62,8 +62,9 @@ fn make_forms<F: hb_font_t, M: hb_ot_layout_t<F>>(
     buffer: &mut hb_buffer_t,
 ) -> Result<(), ShapeError>
     requires { IsWithinLimit buffer.old }
-    ensures { Outcome (step (forms_made (M.masks map.now) (F.face face.now)
-        (class_by (M.layout face.now).has_glyph_classes (M.lookups map.now face.now).substitute_start)))
+    ensures { Outcome (step (ArabicPauses.forms_made (M.masks map.now) (F.face face.now)
+        (class_by (M.layout face.now).has_glyph_classes
+        (M.lookups map.now face.now).substitute_start)))
         buffer.old buffer.new result }
 {
     if !lacks_forms::<F, M>(map) {
@@ -81,8 +82,9 @@ pub fn pause_at<F: hb_font_t, M: hb_ot_layout_t<F>>(
     buffer: &mut hb_buffer_t,
 ) -> Result<(), ShapeError>
     requires { IsWithinLimit buffer.old }
-    ensures { Outcome (step (made_by_pause n (M.masks map.now) (F.face face.now)
-        (class_by (M.layout face.now).has_glyph_classes (M.lookups map.now face.now).substitute_start)))
+    ensures { Outcome (step (ArabicPauses.made_by_pause n (M.masks map.now) (F.face face.now)
+        (class_by (M.layout face.now).has_glyph_classes
+        (M.lookups map.now face.now).substitute_start)))
         buffer.old buffer.new result }
 {
     match n {

@@ -5,18 +5,21 @@ use Rattle.std.specs.List.Sorted.{IsNonDecreasing}
 use Rattle.shape_items.specs.Buffer.{Buffer, limit_of, new_buffer}
 use Rattle.shape_items.specs.Clusters.{clusters}
 use Rattle.shape_items.specs.Items.{new_item}
-use Rattle.shape_buffer.specs.Guess.{guessed}
+use Rattle.shape_buffer.specs.Guess.{guessed, script_or_ltr}
 use Rattle.shape_buffer.specs.Outcome.{Step}
 use Rattle.shape_common.specs.Face.{FaceMeaning}
+use Rattle.shape_common.specs.Unicode.{UnicodeMeaning}
 use Rattle.shape_common.specs.Positions.{zero_position}
 use Rattle.shape_common.specs.declared.text_types.BufferClusterLevel.TheVariants.{MonotoneGraphemes, Characters}
 use Rattle.shape_common.specs.declared.text_types.Direction.TheVariants.{RightToLeft}
 use Rattle.shape_common.specs.declared.text_types.GlyphId.{GlyphId}
 use Rattle.shape_lines.specs.Worked.CanCut.{in_clusters}
+use Rattle.shape_pipeline.specs.GlyphsOf.{AreGlyphsOf, TextPasses}
 use Rattle.shape_pipeline.specs.Headline.{target_of}
 use Rattle.shape_pipeline.specs.Shaped.{all_steps, entered, Shapes, ShapingPasses}
+use Rattle.shape_pipeline.specs.Strings.{AreGlyphsOfString, IsPlaceIn, IsTextOf, string_text}
 use Rattle.shape_plan.specs.Run.{Run}
-use Rattle.shape_users.specs.PlainGlyphs.{AreOfText, HaveGlyphs, IsGivenBackEmpty, NoStepPasses, SomeStepPasses, IsPlaceIn, IsTextOf, string_text, AreGlyphsOf, StringPasses}
+use Rattle.shape_users.specs.PlainGlyphs.{AreOfText, HaveGlyphs, IsGivenBackEmpty, NoStepPasses, SomeStepPasses}
 
 -- ---- clusters and characters
 
@@ -168,12 +171,18 @@ pub record TextsOfStrings : Type 0 where
 -- what a run makes of a string: of its text with what is guessed for it
 pub record RunsOfStrings (run : Run) : Type 0 where
   pub text : string_text euro_string ≡ euro_text
-  pub shaped : (glyphs : Buffer) → Shapes run (target_of run euro_text) (guessed run.unicode euro_text) glyphs
-      → AreGlyphsOf run euro_string glyphs
-  pub nothing_else : (glyphs : Buffer) → AreGlyphsOf run euro_string glyphs
+  pub shaped : (glyphs : Buffer) → AreGlyphsOf run euro_text glyphs
       → Shapes run (target_of run euro_text) (guessed run.unicode euro_text) glyphs
-  pub passes : ShapingPasses run (target_of run euro_text) (guessed run.unicode euro_text) → StringPasses run euro_string
-  pub passes_alone : StringPasses run euro_string → ShapingPasses run (target_of run euro_text) (guessed run.unicode euro_text)
+  pub one_list : (first second : Buffer) → AreGlyphsOf run euro_text first → AreGlyphsOf run euro_text second → first ≡ second
+  pub other_direction : (glyphs : Buffer) → (glyphs.direction ≡ target_of run euro_text → ⊥) → AreGlyphsOf run euro_text glyphs → ⊥
+  pub passes : ShapingPasses run (target_of run euro_text) (guessed run.unicode euro_text) → TextPasses run euro_text
+  pub passes_alone : TextPasses run euro_text → ShapingPasses run (target_of run euro_text) (guessed run.unicode euro_text)
+
+-- what is known of the glyphs of a string: none for no characters, and no cluster inside a character
+pub record GlyphsOfStrings (unicode : UnicodeMeaning) : Type 0 where
+  pub none : AreGlyphsOfString unicode [] (record new_buffer { direction = script_or_ltr unicode None })
+  pub other_direction : AreGlyphsOfString unicode [] new_buffer → ⊥
+  pub second_byte : (glyphs : Buffer) → glyphs.items ≡ new_item 0x61 2 ∷ [] → AreGlyphsOfString unicode euro_string glyphs → ⊥
 
 pub record WorkedPlain : Type 0 where
   pub clusters : ClustersOfTexts
@@ -183,3 +192,4 @@ pub record WorkedPlain : Type 0 where
   pub places : PlacesOfStrings
   pub texts : TextsOfStrings
   pub runs : (run : Run) → RunsOfStrings run
+  pub glyphs : (unicode : UnicodeMeaning) → GlyphsOfStrings unicode

@@ -1,22 +1,15 @@
 //! What `shape`, which plans for the text itself, says of what it counts and of the normalised list: the clauses in
 //! plain words, as [`plain_glyphs_counted`](super::plain_glyphs_counted) and
 //! [`plain_glyphs_formed`](super::plain_glyphs_formed) have those of `shape_with_plan`. Nothing is asked of the text.
-ghost use Rattle.std.specs.Prelude.{◌≡◌, ◌≢◌, [], All, IfOk, IfErr};
-ghost use Rattle.shape_normalize.specs.CanonicalForm.{AreEquivalent};
-ghost use Rattle.shape_normalize.specs.Normalized.{HasItemGlyph, PreservesFeatures, Recomposes};
-ghost use Rattle.shape_normalize.specs.Origins.{ComesByPlace};
-ghost use Rattle.shape_pipeline.specs.Canonical.{prepared_characters, normalised_characters};
-ghost use Rattle.shape_pipeline.specs.Canonical.{HasPlainText};
-ghost use Rattle.shape_pipeline.specs.Headline.{prepared_text, normalised_list};
-ghost use Rattle.shape_pipeline.specs.Planned.{planned_for};
-ghost use Rattle.shape_users.specs.PlainGlyphs.{HaveGlyphs, NoStepPasses, SomeStepPasses};
+ghost use Rattle.std.specs.Prelude.{◌≡◌, ◌≢◌, [], IfOk, IfErr};
+ghost use Rattle.shape_users.specs.PlainGlyphs.{HasPlainForm, NoStepPasses, SomeStepPasses};
 
 use shape_buffer::buffer::{GlyphBuffer, ShapeError, ShapeFault, UnicodeBuffer};
 use shape_buffer::interfaces::{NoLookups, hb_font_t, hb_unicode_funcs_t};
 use shape_pipeline::laws::plain_runs_have_no_obligations;
-use shape_pipeline::ot_shaper::{Runs, hb_default_shaper_t};
+use shape_pipeline::ot_shaper::hb_default_shaper_t;
 use shape_pipeline::shape;
-use shape_plan::planner::Plans;
+use shape_pipeline::shaping::TextRuns;
 use std::alloc::Global;
 
 /// The glyphs of a text: no step of the run made a list past the limit that it found, and a text is refused
@@ -30,22 +23,21 @@ pub fn glyphs_counted<U, F>(
 where
     U: hb_unicode_funcs_t,
     F: hb_font_t,
-    ensures counted { let run = ⟦<hb_default_shaper_t as Runs<U, F, NoLookups>>⟧.run
-        (planned_for U.unicode ⟦<hb_default_shaper_t as Plans<U, F, NoLookups>>⟧.planning
-        face.now shaper.now [] text) face.now in
+    ensures counted { let run =
+        ⟦<hb_default_shaper_t as TextRuns<U, F, NoLookups>>⟧.text_run face.now shaper.now [] text in
         text.items ≢ [] → IfOk result (λ _. NoStepPasses run text) }
-    ensures length { let run = ⟦<hb_default_shaper_t as Runs<U, F, NoLookups>>⟧.run
-        (planned_for U.unicode ⟦<hb_default_shaper_t as Plans<U, F, NoLookups>>⟧.planning
-        face.now shaper.now [] text) face.now in
+    ensures length { let run =
+        ⟦<hb_default_shaper_t as TextRuns<U, F, NoLookups>>⟧.text_run face.now shaper.now [] text in
         IfErr result (λ fault. fault.cause ≡ ShapeError.Length → SomeStepPasses run text) }
 {
     shape::<U, F, NoLookups, hb_default_shaper_t>(alloc, face, shaper, &[], text)
 }
 
-/// The glyphs of a text: each character of their normalised list that the prepared text lacks has a glyph, each
-/// item has the glyph of its character or of what replaces it, feature bits and places are those of the
-/// prepared text's items, and marks were composed by the standard's rule. Without a variation selector the list is
-/// equivalent to the text.
+/// The glyphs of a text: each character of their normalised list that the prepared text lacks has
+/// a glyph, each item has the glyph of its character or of what replaces it, feature bits and
+/// places are those of the prepared text's items, and marks were composed by the standard's rule.
+/// Without a variation selector the list is equivalent to the text, and lists tell equivalent
+/// texts from others if canonical form is asked of both.
 pub fn glyphs_formed<U, F>(
     alloc: Global,
     face: &F,
@@ -55,35 +47,9 @@ pub fn glyphs_formed<U, F>(
 where
     U: hb_unicode_funcs_t,
     F: hb_font_t,
-    ensures brought_in { let run = ⟦<hb_default_shaper_t as Runs<U, F, NoLookups>>⟧.run
-        (planned_for U.unicode ⟦<hb_default_shaper_t as Plans<U, F, NoLookups>>⟧.planning
-        face.now shaper.now [] text) face.now in
-        IfOk result (λ _. HaveGlyphs (F.face face.now)
-        (prepared_characters run text) (normalised_characters run text)) }
-    ensures item_glyphs { let run = ⟦<hb_default_shaper_t as Runs<U, F, NoLookups>>⟧.run
-        (planned_for U.unicode ⟦<hb_default_shaper_t as Plans<U, F, NoLookups>>⟧.planning
-        face.now shaper.now [] text) face.now in
-        IfOk result (λ _. All (HasItemGlyph run.rules (prepared_text run text))
-        (normalised_list run text).items) }
-    ensures features { let run = ⟦<hb_default_shaper_t as Runs<U, F, NoLookups>>⟧.run
-        (planned_for U.unicode ⟦<hb_default_shaper_t as Plans<U, F, NoLookups>>⟧.planning
-        face.now shaper.now [] text) face.now in
-        IfOk result (λ _. PreservesFeatures (prepared_text run text) (normalised_list run text)) }
-    ensures places { let run = ⟦<hb_default_shaper_t as Runs<U, F, NoLookups>>⟧.run
-        (planned_for U.unicode ⟦<hb_default_shaper_t as Plans<U, F, NoLookups>>⟧.planning
-        face.now shaper.now [] text) face.now in
-        IfOk result (λ _. ComesByPlace run.rules
-        (prepared_text run text) (normalised_list run text)) }
-    ensures recomposed { let run = ⟦<hb_default_shaper_t as Runs<U, F, NoLookups>>⟧.run
-        (planned_for U.unicode ⟦<hb_default_shaper_t as Plans<U, F, NoLookups>>⟧.planning
-        face.now shaper.now [] text) face.now in
-        IfOk result (λ _. Recomposes run.rules
-        (prepared_text run text) (normalised_list run text)) }
-    ensures equivalent { let run = ⟦<hb_default_shaper_t as Runs<U, F, NoLookups>>⟧.run
-        (planned_for U.unicode ⟦<hb_default_shaper_t as Plans<U, F, NoLookups>>⟧.planning
-        face.now shaper.now [] text) face.now in
-        HasPlainText run text → IfOk result (λ _. AreEquivalent run.rules
-        (prepared_characters run text) (normalised_characters run text)) }
+    ensures { let run =
+        ⟦<hb_default_shaper_t as TextRuns<U, F, NoLookups>>⟧.text_run face.now shaper.now [] text in
+        IfOk result (λ _. HasPlainForm run text) }
 {
     plain_runs_have_no_obligations::<U, F>();
     shape::<U, F, NoLookups, hb_default_shaper_t>(alloc, face, shaper, &[], text)

@@ -4,8 +4,7 @@ ghost use Rattle.std.specs.Prelude.{IsTrue, IsSome, IsErr, IfOk, IfSome};
 ghost use Rattle.shape_normalize.specs.CanonicalForm.{text_of, AreEquivalent};
 ghost use Rattle.shape_normalize.specs.CanonicalForm.{CanonicalFormPremises, HasLawfulHooks};
 ghost use Rattle.shape_pipeline.specs.Headline.{prepared_text};
-ghost use Rattle.shape_users.specs.Words.{spelled as text_spelled, AreSpelledAlike};
-ghost use Rattle.shape_users.specs.Words.{IsTooLongToPrepare, IsTooLong};
+ghost use Rattle.shape_users.specs.Words;
 
 use shape_buffer::buffer::{ShapeError, UnicodeBuffer, hb_buffer_t};
 use shape_buffer::interfaces::{hb_font_t, hb_ot_layout_t, hb_unicode_funcs_t};
@@ -19,7 +18,7 @@ use std::alloc::Global;
 /// The text of a spelling, with nothing else set. Refuses with `Memory` if a growth was refused, and with
 /// `Length` if the spelling has 4 GiB or more.
 pub fn spelled(alloc: Global, spelling: &str) -> Result<UnicodeBuffer, ShapeError>
-    ensures ok { IfOk result (λ text. text ≡ text_spelled spelling.now) }
+    ensures ok { IfOk result (λ text. text ≡ Words.spelled spelling.now) }
     ensures length { (result ≡ Err ShapeError.Length) ↔ (2 ^ 32 ≤ length spelling.now) }
 {
     if spelling.len() > u32::MAX as usize {
@@ -40,10 +39,11 @@ fn prepared<T: ShapingTypes>(
     spelling: &str,
 ) -> Result<hb_buffer_t, ShapeError>
     ensures ok { IfOk result (λ buffer. buffer
-        ≡ prepared_text (⟦<T as Meaning>⟧.run plan.now face.now) (text_spelled spelling.now)) }
+        ≡ prepared_text (⟦<T as Meaning>⟧.run plan.now face.now) (Words.spelled spelling.now)) }
     ensures length { result ≡ Err ShapeError.Length
-        → IsTooLongToPrepare (⟦<T as Meaning>⟧.run plan.now face.now) spelling.now }
-    ensures too_long { IsTooLongToPrepare (⟦<T as Meaning>⟧.run plan.now face.now) spelling.now
+        → Words.IsTooLongToPrepare (⟦<T as Meaning>⟧.run plan.now face.now) spelling.now }
+    ensures too_long { Words.IsTooLongToPrepare
+        (⟦<T as Meaning>⟧.run plan.now face.now) spelling.now
         → IsErr result }
     ensures bytes { 2 ^ 32 ≤ length spelling.now → result ≡ Err ShapeError.Length }
 {
@@ -79,16 +79,17 @@ where
     M: hb_ot_layout_t<F>,
     S: hb_ot_shaper_t<U, F, M>,
     ensures alike { let run = ⟦<S as Runs<U, F, M>>⟧.run plan.now face.now in
-        IfOk result (λ same. IsTrue same ↔ AreSpelledAlike run first.now second.now) }
+        IfOk result (λ same. IsTrue same ↔ Words.AreSpelledAlike run first.now second.now) }
     ensures equivalent { let run = ⟦<S as Runs<U, F, M>>⟧.run plan.now face.now in
-        let a = prepared_text run (text_spelled first.now) in
-        let b = prepared_text run (text_spelled second.now) in
+        let a = prepared_text run (Words.spelled first.now) in
+        let b = prepared_text run (Words.spelled second.now) in
         IfOk result (λ same. CanonicalFormPremises run.rules a → CanonicalFormPremises run.rules b
         → IsTrue same ↔ AreEquivalent run.rules (text_of a) (text_of b)) }
     ensures length { let run = ⟦<S as Runs<U, F, M>>⟧.run plan.now face.now in
-        result ≡ Err ShapeError.Length → IsTooLong run first.now ⊎ IsTooLong run second.now }
+        result ≡ Err ShapeError.Length
+        → Words.IsTooLong run first.now ⊎ Words.IsTooLong run second.now }
     ensures too_long { let run = ⟦<S as Runs<U, F, M>>⟧.run plan.now face.now in
-        IsTooLong run first.now ⊎ IsTooLong run second.now → IsErr result }
+        Words.IsTooLong run first.now ⊎ Words.IsTooLong run second.now → IsErr result }
     ensures bytes { 2 ^ 32 ≤ length first.now → result ≡ Err ShapeError.Length }
 {
     let mut a = prepared::<TypesOf<U, F, M, S>>(alloc, face, plan, first)?;
@@ -115,21 +116,24 @@ where
     M: hb_ot_layout_t<F>,
     S: hb_ot_shaper_t<U, F, M>,
     ensures decided { let run = ⟦<S as Runs<U, F, M>>⟧.run plan.now face.now in
-        let a = prepared_text run (text_spelled first.now) in
-        let b = prepared_text run (text_spelled second.now) in
+        let a = prepared_text run (Words.spelled first.now) in
+        let b = prepared_text run (Words.spelled second.now) in
         HasLawfulHooks run.rules → IfOk result (λ decided. IsSome decided
         ↔ (CanonicalFormPremises run.rules a × CanonicalFormPremises run.rules b)) }
     ensures equivalent { let run = ⟦<S as Runs<U, F, M>>⟧.run plan.now face.now in
-        let a = text_of (prepared_text run (text_spelled first.now)) in
-        let b = text_of (prepared_text run (text_spelled second.now)) in
+        let a = text_of (prepared_text run (Words.spelled first.now)) in
+        let b = text_of (prepared_text run (Words.spelled second.now)) in
         HasLawfulHooks run.rules → IfOk result (λ decided.
         IfSome decided (λ same. IsTrue same ↔ AreEquivalent run.rules a b)) }
     ensures length { let run = ⟦<S as Runs<U, F, M>>⟧.run plan.now face.now in
-        result ≡ Err ShapeError.Length → IsTooLong run first.now ⊎ IsTooLong run second.now }
+        result ≡ Err ShapeError.Length
+        → Words.IsTooLong run first.now ⊎ Words.IsTooLong run second.now }
     ensures too_long { let run = ⟦<S as Runs<U, F, M>>⟧.run plan.now face.now in
-        IsTooLongToPrepare run first.now ⊎ IsTooLongToPrepare run second.now → IsErr result }
+        Words.IsTooLongToPrepare run first.now ⊎ Words.IsTooLongToPrepare run second.now
+        → IsErr result }
     ensures counted { let run = ⟦<S as Runs<U, F, M>>⟧.run plan.now face.now in
-        IfOk result (λ decided. IsSome decided → IsTooLong run first.now ⊎ IsTooLong run second.now → ⊥) }
+        IfOk result (λ decided. IsSome decided
+        → Words.IsTooLong run first.now ⊎ Words.IsTooLong run second.now → ⊥) }
     ensures bytes { 2 ^ 32 ≤ length first.now → result ≡ Err ShapeError.Length }
 {
     let mut a = prepared::<TypesOf<U, F, M, S>>(alloc, face, plan, first)?;

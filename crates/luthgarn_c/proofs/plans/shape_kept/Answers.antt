@@ -1,9 +1,7 @@
-use Rattle.std.proofs.Common.{◌∙◌, ap, subst}
-use Rattle.shape_buffer.specs.Guess.{guessed}
-use Rattle.shape_pipeline.specs.Headline.{target_of}
-use Rattle.shape_pipeline.specs.Shaped.{shaped, ShapingPasses}
+use Rattle.std.proofs.Common.{◌∙◌, ap}
+use Rattle.shape_pipeline.specs.Shaped.{shaped}
 use Rattle.shape_plan.specs.Run.{Run}
-use Rattle.luthgarn_c.proofs.PlanLemmas.{found-plan}
+use Rattle.luthgarn_c.proofs.PlanLemmas.{found-plan, passes-by}
 use Rattle.luthgarn_c.proofs.plans.shape_kept.Goals as goal
 
 pub shape_with_script_plan-requires : goal.shape_with_script_plan-requires
@@ -17,13 +15,14 @@ returns-in-Ok-clause-glyphs g c =
     let found = found-plan g.U.hb_unicode_funcs_t.unicode _ c.args.features.now c.args.text _ _ c.index-kept.result.now
     c.in_ok-place.ensures.made c.in_ok-place.ensures.place c.index-kept.ensures in
     let same = c.planned_for_text.ensures.runs c.args.face.now c.args.features.now c.args.text c.index-kept.result.now.plan found in
-    c.in-Ok.ensures.shaped.glyphs ∙ ap (λ (run : Run). shaped run c.args.text) same
+    c.in-Ok.ensures.shaped.ok.glyphs ∙ ap (λ (run : Run). shaped run c.args.text) same
+
+pub returns-in-Ok-clause-within : goal.returns-in-Ok-clause-within
+returns-in-Ok-clause-within g c = c.in-Ok.ensures.shaped.ok.within
 
 pub returns-in-Err-clause-length : goal.returns-in-Err-clause-length
 returns-in-Err-clause-length g c = λ is.
-    let unicode = g.U.hb_unicode_funcs_t.unicode in
-    let found = found-plan unicode _ c.args.features.now c.args.text _ _ c.index-kept.result.now
+    let found = found-plan g.U.hb_unicode_funcs_t.unicode _ c.args.features.now c.args.text _ _ c.index-kept.result.now
     c.in_ok-place.ensures.made c.in_ok-place.ensures.place c.index-kept.ensures in
     let same = c.planned_for_text.ensures.runs c.args.face.now c.args.features.now c.args.text c.index-kept.result.now.plan found in
-    subst (λ (run : Run). ShapingPasses run (target_of run c.args.text) (guessed unicode c.args.text)) same
-    (c.in-Err.ensures.shaped.refused is)
+    passes-by c.args.text c.in-Err.ensures.shaped.unicode same (c.in-Err.ensures.shaped.length is)

@@ -1,6 +1,5 @@
 use Rattle.std.proofs.Common.{refl}
 use Rattle.shape_normalize.proofs.Hooks.RulesLemmas.{used_reorder-lawful}
-use Rattle.shape_plan.specs.Run.{run_of}
 use Rattle.shape_pipeline.proofs.CanonicalLemmas.{list_is_canonical}
 use Rattle.shape_pipeline.proofs.FlagRunLemmas.{flags-run_made}
 use Rattle.shape_pipeline.proofs.OrderLemmas.{clusters-run_made}
@@ -11,16 +10,14 @@ pub returns-clause-clusters : goal.returns-clause-clusters
 returns-clause-clusters g c = λ text known.
     let shaper = g.S.hb_ot_shaper_t in
     let lawful = used_reorder-lawful shaper.hooks g.met.S.hb_ot_shaper_t.lawful_hooks shaper.constants.has_reorder_marks c.args.plan.now c.args.face.now in
-    let run = run_of g.U.hb_unicode_funcs_t.unicode g.M.hb_ot_layout_t.masks g.M.hb_ot_layout_t.lookups g.S.hb_ot_shaper_t.constants g.S.hb_ot_shaper_t.hooks g.F.hb_font_t.face c.args.plan.now c.args.face.now in
-    clusters-run_made run text.direction known lawful text refl
+    clusters-run_made _ text.direction known lawful text refl
 
 pub returns-clause-flags : goal.returns-clause-flags
 returns-clause-flags g c = λ target text preserves.
     let shaper = g.S.hb_ot_shaper_t in
     let lawful = used_reorder-lawful shaper.hooks g.met.S.hb_ot_shaper_t.lawful_hooks shaper.constants.has_reorder_marks c.args.plan.now c.args.face.now in
-    let run = run_of g.U.hb_unicode_funcs_t.unicode g.M.hb_ot_layout_t.masks g.M.hb_ot_layout_t.lookups g.S.hb_ot_shaper_t.constants g.S.hb_ot_shaper_t.hooks g.F.hb_font_t.face c.args.plan.now c.args.face.now in
     let masks = g.met.M.hb_ot_layout_t.lawful_masks c.args.plan.now.ot_map in
-    flags-run_made run target lawful masks c.masks_are_features.ensures preserves text text refl
+    flags-run_made _ target lawful masks c.masks_are_features.ensures preserves text text refl
 
 pub returns-clause-form : goal.returns-clause-form
 returns-clause-form g c = λ text.

@@ -15,9 +15,9 @@ pub cut_lines-requires : goal.cut_lines-requires
 cut_lines-requires g c =
     let glyphs = c.in-Ok.glyphs in
     record {
-      monotone = monotone (is_backward glyphs.direction) (clusters glyphs.items) c.in-Ok.ensures.ordered;
-      one_set = c.in-Ok.ensures.one_set;
-      below = λ i d lt. (c.in-Ok.ensures.places _ (Contains-get_or (clusters glyphs.items) i d lt)).within;
+      monotone = monotone (is_backward glyphs.direction) (clusters glyphs.items) c.in-Ok.ensures.of_string.ordered;
+      one_set = c.in-Ok.ensures.of_string.one_set;
+      below = λ i d lt. (c.in-Ok.ensures.of_string.places _ (Contains-get_or (clusters glyphs.items) i d lt)).within;
     }
 
 pub returns-in-Err-clause-length : goal.returns-in-Err-clause-length

@@ -16,7 +16,7 @@ returns-in_ok-word_of-in-Ok-clause-too_long g c = λ long.
     let layout = g.T.Engine.hb_ot_layout_t in
     let run = run_of unicode layout.masks layout.lookups shaper.constants shaper.hooks g.T.Face.hb_font_t.face c.args.plan.now c.args.face.now in
     let counted : Shapes run (target_of run (spelled c.args.spelling.now)) (guessed unicode (spelled c.args.spelling.now)) c.in-Ok.glyphs
-    = subst (λ (b : Buffer). Shapes run (target_of run b) (guessed unicode b) c.in-Ok.glyphs) c.in_ok-text.ensures.ok c.in-Ok.ensures.counted in
+    = subst (λ (b : Buffer). Shapes run (target_of run b) (guessed unicode b) c.in-Ok.glyphs) c.in_ok-text.ensures.ok c.in-Ok.ensures.ok.counted in
     absurd (shaped_fine run c.args.spelling.now c.in-Ok.glyphs
     (λ bytes. absurd (let e : Ok c.in_ok-text.text ≡ Err Length = c.in_ok-text.ensures.length.1 bytes in cc)) counted long)
 

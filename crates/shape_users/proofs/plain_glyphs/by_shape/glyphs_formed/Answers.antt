@@ -1,22 +1,6 @@
-use Rattle.shape_users.proofs.PlainLemmas.{if_ok-then, plan_of}
+use Rattle.shape_users.proofs.PlainLemmas.{plain-form, plan_of}
 use Rattle.shape_users.proofs.plain_glyphs.by_shape.glyphs_formed.Goals as goal
 
-pub returns-clause-brought_in : goal.returns-clause-brought_in
-returns-clause-brought_in g c = if_ok-then c.shape.result (λ glyphs form. form.brought_in) c.shape.ensures.form
-
-pub returns-clause-item_glyphs : goal.returns-clause-item_glyphs
-returns-clause-item_glyphs g c = if_ok-then c.shape.result (λ glyphs form. form.item_glyphs) c.shape.ensures.form
-
-pub returns-clause-features : goal.returns-clause-features
-returns-clause-features g c = if_ok-then c.shape.result (λ glyphs form. form.features) c.shape.ensures.form
-
-pub returns-clause-places : goal.returns-clause-places
-returns-clause-places g c = if_ok-then c.shape.result (λ glyphs form. form.by_place) c.shape.ensures.form
-
-pub returns-clause-recomposed : goal.returns-clause-recomposed
-returns-clause-recomposed g c = if_ok-then c.shape.result (λ glyphs form. form.recomposed) c.shape.ensures.form
-
-pub returns-clause-equivalent : goal.returns-clause-equivalent
-returns-clause-equivalent g c = λ plain.
-    let obligations = c.plain_runs_have_no_obligations.ensures (plan_of _ _ _ _ _) c.args.face.now in
-    if_ok-then c.shape.result (λ glyphs canonical. (canonical obligations.canonical).equivalent plain) c.shape.ensures.canonical
+pub returns : goal.returns
+returns g c =
+    plain-form c.args.text c.shape.result (c.plain_runs_have_no_obligations.ensures (plan_of _ _ _ _ _) c.args.face.now).canonical c.shape.ensures.ok
