@@ -51,7 +51,7 @@ where
 fn numbered(alloc: Global, number: u32, characters: &[char]) -> Result<WordKey, AllocError>
     ensures { IfOk result (λ key. key.items ≡ number ∷ characters.now) }
 {
-    let mut key = Vec::new(alloc);
+    let mut key = Vec::with_capacity(alloc, characters.len() + 1)?;
     key.push(number)?;
     for c in characters {
         key.push(u32::from(*c))?;
