@@ -3,7 +3,7 @@
 Each runs with a text of 10,000 characters: no run ends by a signal, takes more than six seconds of
 processor time (the gate's machine may be slow), or more than 200 MB. The bombs are lookups that
 apply themselves, substitutions that grow, parts of tables that are shared, kerning of 65,535
-parts. Those that use up what a stage may ask for take more than two seconds, in step with the text
+parts. Those that use up what a stage may ask for take up to five seconds, in step with the text
 (docs/SAFE_AND_TOTAL.md): they stand in SPENT, and run over a fifth of it.
 
 The worst fonts of earlier searches are named in tests/hostile/worst.txt (`search`).
