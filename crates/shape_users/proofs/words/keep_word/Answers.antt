@@ -12,18 +12,27 @@ use Rattle.shape_users.proofs.words.keep_word.Goals as goal
 
 pub returns-in-Some-clause-place : goal.returns-in-Some-clause-place
 returns-in-Some-clause-place g c =
-    place_of _ c.as_slice.result.now c.args.words.now.items c.as_slice.ensures.value c.in_ok-place.field-0 c.in-Some.place c.args.spelling.now c.in-Some.is c.in_ok-place.ensures.found
+    let shaper = g.S.hb_ot_shaper_t in
+    let layout = g.M.hb_ot_layout_t in
+    let run = run_of g.U.hb_unicode_funcs_t.unicode layout.masks layout.lookups shaper.constants shaper.hooks g.F.hb_font_t.face c.args.plan.now c.args.face.now in
+    place_of run c.as_slice.result.now c.args.words.now.items c.as_slice.ensures.value c.in_ok-place.field-0 c.in-Some.place c.args.spelling.now c.in-Some.is c.in_ok-place.ensures.found
 
 pub returns-in-Some-clause-kept : goal.returns-in-Some-clause-kept
 returns-in-Some-clause-kept g c =
-    let found = place_of _ c.as_slice.result.now c.args.words.now.items c.as_slice.ensures.value c.in_ok-place.field-0 c.in-Some.place c.args.spelling.now c.in-Some.is c.in_ok-place.ensures.found in
+    let shaper = g.S.hb_ot_shaper_t in
+    let layout = g.M.hb_ot_layout_t in
+    let run = run_of g.U.hb_unicode_funcs_t.unicode layout.masks layout.lookups shaper.constants shaper.hooks g.F.hb_font_t.face c.args.plan.now c.args.face.now in
+    let found = place_of run c.as_slice.result.now c.args.words.now.items c.as_slice.ensures.value c.in_ok-place.field-0 c.in-Some.place c.args.spelling.now c.in-Some.is c.in_ok-place.ensures.found in
     inl (found.0, refl)
 
 pub returns-clause-place : goal.returns-clause-place
 returns-clause-place g c =
+    let shaper = g.S.hb_ot_shaper_t in
+    let layout = g.M.hb_ot_layout_t in
+    let run = run_of g.U.hb_unicode_funcs_t.unicode layout.masks layout.lookups shaper.constants shaper.hooks g.F.hb_font_t.face c.args.plan.now c.args.face.now in
     let last : c.len-place.result
     ≡ length c.args.words.now.items = omega (arith, c.len-place.ensures, c.as_slice.ensures.len, ap length c.as_slice.ensures.value) in
-    place_pushed _ c.args.words.now.items c.push.new.self.items _ c.len-place.result c.args.spelling.now c.in_ok-push.ensures.items last c.in_ok-spelling.ensures.ok
+    place_pushed run c.args.words.now.items c.push.new.self.items _ c.len-place.result c.args.spelling.now c.in_ok-push.ensures.items last c.in_ok-spelling.ensures.ok
 
 pub returns-clause-kept : goal.returns-clause-kept
 returns-clause-kept g c =
@@ -55,16 +64,24 @@ returns-in_err-place-clause-length g c = λ is.
 
 pub returns-in-Some-clause-too_long : goal.returns-in-Some-clause-too_long
 returns-in-Some-clause-too_long g c = λ long.
-    absurd (found_fine _ c.as_slice.result.now c.args.words.now.items c.as_slice.ensures.value c.args.spelling.now
+    let unicode = g.U.hb_unicode_funcs_t.unicode in
+    let shaper = g.S.hb_ot_shaper_t in
+    let layout = g.M.hb_ot_layout_t in
+    let run = run_of unicode layout.masks layout.lookups shaper.constants shaper.hooks g.F.hb_font_t.face c.args.plan.now c.args.face.now in
+    absurd (found_fine run c.as_slice.result.now c.args.words.now.items c.as_slice.ensures.value c.args.spelling.now
     (λ finds. absurd (let e : false ≡ true = c.in_ok-place.ensures.too_long finds in cc))
     c.in_ok-place.field-0 c.in-Some.place c.in-Some.is c.in_ok-place.ensures.found long)
 
 pub returns-in_err-text-clause-length : goal.returns-in_err-text-clause-length
 returns-in_err-text-clause-length g c = λ is.
+    let unicode = g.U.hb_unicode_funcs_t.unicode in
+    let shaper = g.S.hb_ot_shaper_t in
+    let layout = g.M.hb_ot_layout_t in
+    let run = run_of unicode layout.masks layout.lookups shaper.constants shaper.hooks g.F.hb_font_t.face c.args.plan.now c.args.face.now in
     let residual = c.from_residual-in_err-text in
     let cause = refused_for residual.result c.in_err-text.field-0.0 residual.ensures.1 is in
     inr (
-      none_of _ c.as_slice.result.now c.args.words.now.items c.as_slice.ensures.value c.in_ok-place.field-0 c.args.spelling.now c.in_default.is c.in_ok-place.ensures.nowhere,
+      none_of run c.as_slice.result.now c.args.words.now.items c.as_slice.ensures.value c.in_ok-place.field-0 c.args.spelling.now c.in_default.is c.in_ok-place.ensures.nowhere,
       inl (c.in_err-text.ensures.length.0 (ap Err cause)),
     )
 
