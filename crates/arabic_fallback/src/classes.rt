@@ -4,7 +4,7 @@
 //! that glyph alone.
 ghost use Rattle.std.specs.Prelude.{◌≡◌, IfOk, IsOkUnless, slice_get};
 ghost use Rattle.std.specs.Option.{option_map};
-ghost use Rattle.arabic_fallback.specs.Classes.{class_of_item, alone as alone_of, class_by};
+ghost use Rattle.arabic_fallback.specs.Classes;
 
 use shape_buffer::buffer::{ShapeError, hb_buffer_t, hb_glyph_info_t};
 use shape_buffer::interfaces::hb_ot_layout_t;
@@ -19,7 +19,7 @@ pub struct GlyphClass {
 }
 
 fn class_of_item(info: &hb_glyph_info_t) -> GlyphClass
-    ensures { result ≡ class_of_item info.now }
+    ensures { result ≡ Classes.class_of_item info.now }
 {
     GlyphClass {
         class: info._hb_glyph_info_get_glyph_class(),
@@ -29,14 +29,14 @@ fn class_of_item(info: &hb_glyph_info_t) -> GlyphClass
 
 /// The class of the first item, if there is one.
 fn first_class(infos: &[hb_glyph_info_t]) -> Option<GlyphClass>
-    ensures { result ≡ option_map class_of_item (slice_get infos.now 0) }
+    ensures { result ≡ option_map Classes.class_of_item (slice_get infos.now 0) }
 {
     infos.get(0).map(|info| class_of_item(info))
 }
 
 /// A text of one glyph.
 fn alone(alloc: Global, glyph: u32) -> Result<hb_buffer_t, ShapeError>
-    ensures ok { IfOk result (λ b. b ≡ alone_of glyph) }
+    ensures ok { IfOk result (λ b. b ≡ Classes.alone glyph) }
     ensures memory { IsOkUnless result ShapeError.Memory }
 {
     let mut text = hb_buffer_t::new(alloc);
@@ -55,7 +55,7 @@ pub fn class_of<F, M: hb_ot_layout_t<F>>(
     _map: &M::Map,
     glyph: u32,
 ) -> Result<Option<GlyphClass>, ShapeError>
-    ensures ok { IfOk result (λ c. c ≡ class_by (M.layout face.now).has_glyph_classes
+    ensures ok { IfOk result (λ c. c ≡ Classes.class_by (M.layout face.now).has_glyph_classes
         (M.lookups _map.now face.now).substitute_start glyph) }
     ensures memory { IsOkUnless result ShapeError.Memory }
 {

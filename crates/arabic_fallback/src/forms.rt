@@ -4,8 +4,7 @@ ghost use Rattle.std.specs.List.{find};
 ghost use Rattle.std.specs.Option.{option_map};
 ghost use Rattle.shape_buffer.specs.Outcome.{Made};
 ghost use Rattle.arabic_fallback.specs.Classes.{class_by};
-ghost use Rattle.arabic_fallback.specs.Forms.{form_in as form_in_of, glyph_of as glyph_of_char, both_of, pair_of};
-ghost use Rattle.arabic_fallback.specs.Forms.{with_form, form_rows, listed as listed_in, formed as formed_of, put_forms as put_forms_of, formed_by};
+ghost use Rattle.arabic_fallback.specs.Forms as form_rules;
 
 use crate::classes::class_of;
 use crate::replaced::{NewGlyph, replaced};
@@ -33,7 +32,7 @@ pub struct FormGlyphs {
 }
 
 fn form_in(forms: Forms, form: Form) -> char
-    ensures { result ≡ form_in_of forms form }
+    ensures { result ≡ form_rules.form_in forms form }
 {
     match form {
         Form::Init => forms.1,
@@ -45,7 +44,7 @@ fn form_in(forms: Forms, form: Form) -> char
 
 /// The glyph of a character; U+0000 stands for none.
 pub fn glyph_of<F: hb_font_t>(face: &F, c: char) -> Option<u32>
-    ensures { result ≡ glyph_of_char (F.face face.now) c }
+    ensures { result ≡ form_rules.glyph_of (F.face face.now) c }
 {
     if c == '\0' {
         return None;
@@ -55,7 +54,7 @@ pub fn glyph_of<F: hb_font_t>(face: &F, c: char) -> Option<u32>
 
 /// Two glyphs that differ, of numbers of 16 bits.
 fn both_of(letter: u32, form: u32) -> Option<(u32, u32)>
-    ensures { result ≡ both_of letter form }
+    ensures { result ≡ form_rules.both_of letter form }
 {
     if letter != form && letter <= 0xFFFF && form <= 0xFFFF {
         Some((letter, form))
@@ -66,7 +65,7 @@ fn both_of(letter: u32, form: u32) -> Option<(u32, u32)>
 
 /// The glyphs of a letter and of its form, if the face has both.
 fn pair_of<F: hb_font_t>(face: &F, form: Form, forms: Forms) -> Option<(u32, u32)>
-    ensures { result ≡ pair_of (F.face face.now) form forms }
+    ensures { result ≡ form_rules.pair_of (F.face face.now) form forms }
 {
     match (
         glyph_of(face, forms.0),
@@ -86,8 +85,9 @@ fn append<F: hb_font_t, M: hb_ot_layout_t<F>>(
     rows: &mut Vec<FormGlyphs>,
     forms: Forms,
 ) -> Result<(), ShapeError>
-    ensures ok { OnOk result (rows.new.items ≡ with_form (F.face face.now)
-        (class_by (M.layout face.now).has_glyph_classes (M.lookups map.now face.now).substitute_start)
+    ensures ok { OnOk result (rows.new.items ≡ form_rules.with_form (F.face face.now)
+        (class_by (M.layout face.now).has_glyph_classes
+        (M.lookups map.now face.now).substitute_start)
         form rows.old.items forms) }
     ensures memory { IsOkUnless result ShapeError.Memory }
 {
@@ -109,8 +109,9 @@ fn form_rows<F: hb_font_t, M: hb_ot_layout_t<F>>(
     form: Form,
     table: &[Forms],
 ) -> Result<Vec<FormGlyphs>, ShapeError>
-    ensures ok { IfOk result (λ rows. rows.items ≡ form_rows (F.face face.now)
-        (class_by (M.layout face.now).has_glyph_classes (M.lookups map.now face.now).substitute_start)
+    ensures ok { IfOk result (λ rows. rows.items ≡ form_rules.form_rows (F.face face.now)
+        (class_by (M.layout face.now).has_glyph_classes
+        (M.lookups map.now face.now).substitute_start)
         form table.now) }
     ensures memory { IsOkUnless result ShapeError.Memory }
 {
@@ -122,7 +123,7 @@ fn form_rows<F: hb_font_t, M: hb_ot_layout_t<F>>(
 }
 
 fn listed(rows: &[FormGlyphs], glyph: u32) -> Option<NewGlyph>
-    ensures { result ≡ listed_in rows.now glyph }
+    ensures { result ≡ form_rules.listed rows.now glyph }
 {
     rows.iter()
         .find(|row| row.letter == glyph)
@@ -131,7 +132,7 @@ fn listed(rows: &[FormGlyphs], glyph: u32) -> Option<NewGlyph>
 
 /// An item with its form, if the lookup is on for it.
 fn formed(rule: Rule, rows: &[FormGlyphs], info: &hb_glyph_info_t) -> hb_glyph_info_t
-    ensures { result ≡ formed_of rule rows.now info.now }
+    ensures { result ≡ form_rules.formed rule rows.now info.now }
 {
     if !is_on(rule, info) {
         return *info;
@@ -144,7 +145,7 @@ fn formed(rule: Rule, rows: &[FormGlyphs], info: &hb_glyph_info_t) -> hb_glyph_i
 
 /// Puts the form in place of each letter that has one.
 fn put_listed(rule: Rule, rows: &[FormGlyphs], buffer: &mut hb_buffer_t)
-    ensures { Made (put_forms_of rule rows.now) buffer.old buffer.new }
+    ensures { Made (form_rules.put_forms rule rows.now) buffer.old buffer.new }
 {
     update_items(buffer, |info| formed(rule, rows, info));
 }
@@ -158,8 +159,9 @@ pub fn put_forms<F: hb_font_t, M: hb_ot_layout_t<F>>(
     form: Form,
     buffer: &mut hb_buffer_t,
 ) -> Result<(), ShapeError>
-    ensures ok { OnOk result (Made (formed_by (F.face face.now)
-        (class_by (M.layout face.now).has_glyph_classes (M.lookups map.now face.now).substitute_start)
+    ensures ok { OnOk result (Made (form_rules.formed_by (F.face face.now)
+        (class_by (M.layout face.now).has_glyph_classes
+        (M.lookups map.now face.now).substitute_start)
         form mask) buffer.old buffer.new) }
     ensures memory { IsOkUnless result ShapeError.Memory }
 {

@@ -4,14 +4,9 @@ ghost use Rattle.std.specs.List.{prefix_len};
 ghost use Rattle.shape_items.specs.Buffer.{limit_of};
 ghost use Rattle.shape_buffer.specs.Outcome.{Made};
 ghost use Rattle.arabic_fallback.specs.Seeking.{nth};
-ghost use Rattle.arabic_fallback.specs.Ligating.{all_marks, counts_of, id_of, id_given, ligation_of};
-ghost use Rattle.arabic_fallback.specs.Ligating.{before_of, count_at, component_among, is_component};
-ghost use Rattle.arabic_fallback.specs.Ligating.{joined_item, put_at, merged, follows, followers};
-ghost use Rattle.arabic_fallback.specs.Ligating.{joined_at, joined_to, total_of, put_over, ligature_made};
-ghost use Rattle.arabic_fallback.specs.Ligating.{ligature_put, tried_at, ligated_at, each_ligated, ligated};
+ghost use Rattle.arabic_fallback.specs.Ligating;
 ghost use Rattle.arabic_fallback.specs.Ligatures.{found_in};
 ghost use Rattle.arabic_fallback.specs.Vain.{vain_marked};
-ghost use Rattle.arabic_fallback.specs.Ligating.{kept as kept_of, cleared_away};
 
 use crate::ligatures::{Found, LigatureGlyphs, found_in};
 use crate::replaced::{NewGlyph, as_component, as_ligature, components_of, gone, is_gone};
@@ -54,7 +49,7 @@ fn item(infos: &[hb_glyph_info_t], i: usize) -> hb_glyph_info_t
 
 /// Whether all components after the first one are marks.
 fn all_marks(infos: &[hb_glyph_info_t], found: Found) -> bool
-    ensures { result ≡ all_marks infos.now found }
+    ensures { result ≡ Ligating.all_marks infos.now found }
 {
     is_mark(&item(infos, found.second))
         && match found.third {
@@ -64,7 +59,7 @@ fn all_marks(infos: &[hb_glyph_info_t], found: Found) -> bool
 }
 
 fn counts_of(infos: &[hb_glyph_info_t], at: usize, found: Found) -> Counts
-    ensures { result ≡ counts_of infos.now at found }
+    ensures { result ≡ Ligating.counts_of infos.now at found }
 {
     Counts {
         first: components_of(&item(infos, at)),
@@ -78,8 +73,8 @@ fn counts_of(infos: &[hb_glyph_info_t], at: usize, found: Found) -> Counts
 
 /// Gives the ligature an id if it has one of its own. Returns the id, 0 for none.
 fn give_id(buffer: &mut hb_buffer_t, own: bool) -> u8
-    ensures id { result ≡ id_of own buffer.old }
-    ensures given { buffer.new ≡ id_given own buffer.old }
+    ensures id { result ≡ Ligating.id_of own buffer.old }
+    ensures given { buffer.new ≡ Ligating.id_given own buffer.old }
     ensures as_many { length buffer.new.items ≡ length buffer.old.items }
     ensures limit { limit_of buffer.new ≡ limit_of buffer.old }
 {
@@ -88,8 +83,8 @@ fn give_id(buffer: &mut hb_buffer_t, own: bool) -> u8
 
 /// How the ligature is made; it is given its id.
 fn ligation_of(buffer: &mut hb_buffer_t, at: usize, found: Found) -> Ligation
-    ensures how { result ≡ ligation_of at found buffer.old }
-    ensures given { buffer.new ≡ id_given result.own buffer.old }
+    ensures how { result ≡ Ligating.ligation_of at found buffer.old }
+    ensures given { buffer.new ≡ Ligating.id_given result.own buffer.old }
     ensures as_many { length buffer.new.items ≡ length buffer.old.items }
     ensures limit { limit_of buffer.new ≡ limit_of buffer.old }
 {
@@ -111,7 +106,7 @@ fn ligation_of(buffer: &mut hb_buffer_t, at: usize, found: Found) -> Ligation
 
 /// How many components come before those of the component that stands last before a place.
 fn before_of(made: &Ligation, k: usize) -> u32
-    ensures value { result ≡ before_of made.now k }
+    ensures value { result ≡ Ligating.before_of made.now k }
     ensures few { result ≤ 510 }
 {
     if k <= made.found.second {
@@ -125,7 +120,7 @@ fn before_of(made: &Ligation, k: usize) -> u32
 
 /// How many components the component has that stands last before a place.
 fn count_at(made: &Ligation, k: usize) -> u8
-    ensures { result ≡ count_at made.now k }
+    ensures { result ≡ Ligating.count_at made.now k }
 {
     if k <= made.found.second {
         return made.counts.first;
@@ -138,7 +133,7 @@ fn count_at(made: &Ligation, k: usize) -> u8
 
 /// The component of the new ligature that a mark at a place stands on.
 fn component_among(made: &Ligation, k: usize, there: &hb_glyph_info_t) -> u32
-    ensures { result ≡ component_among made.now k there.now }
+    ensures { result ≡ Ligating.component_among made.now k there.now }
 {
     let component = there._hb_glyph_info_get_ligature_component();
     let count = count_at(made, k);
@@ -151,7 +146,7 @@ fn component_among(made: &Ligation, k: usize, there: &hb_glyph_info_t) -> u32
 }
 
 fn is_component(found: Found, k: usize) -> bool
-    ensures { result ≡ is_component found k }
+    ensures { result ≡ Ligating.is_component found k }
 {
     k == found.second || found.third == Some(k)
 }
@@ -159,7 +154,7 @@ fn is_component(found: Found, k: usize) -> bool
 /// What an item after the first component becomes: a component is to go, and what stands between them, or follows, is a mark on
 /// the ligature.
 fn joined_item(made: &Ligation, k: usize, there: hb_glyph_info_t) -> hb_glyph_info_t
-    ensures { result ≡ joined_item made.now k there }
+    ensures { result ≡ Ligating.joined_item made.now k there }
 {
     if is_component(made.found, k) {
         return gone(there);
@@ -173,7 +168,7 @@ fn joined_item(made: &Ligation, k: usize, there: hb_glyph_info_t) -> hb_glyph_in
 
 /// Replaces the item at a place; past the end nothing changes.
 fn put(buffer: &mut hb_buffer_t, i: usize, item: hb_glyph_info_t)
-    ensures made { buffer.new ≡ put_at i item buffer.old }
+    ensures made { buffer.new ≡ Ligating.put_at i item buffer.old }
     ensures as_many { length buffer.new.items ≡ length buffer.old.items }
     ensures limit { limit_of buffer.new ≡ limit_of buffer.old }
 {
@@ -184,7 +179,7 @@ fn put(buffer: &mut hb_buffer_t, i: usize, item: hb_glyph_info_t)
 
 /// Merges the clusters of a span.
 fn merge(buffer: &mut hb_buffer_t, start: usize, end: usize)
-    ensures made { buffer.new ≡ merged start end buffer.old }
+    ensures made { buffer.new ≡ Ligating.merged start end buffer.old }
     ensures as_many { length buffer.new.items ≡ length buffer.old.items }
     ensures limit { limit_of buffer.new ≡ limit_of buffer.old }
 {
@@ -195,7 +190,7 @@ fn merge(buffer: &mut hb_buffer_t, start: usize, end: usize)
 
 /// Whether a mark stands on a component of the ligature that the last component was.
 fn follows(id: u8, there: &hb_glyph_info_t) -> bool
-    ensures { result ≡ follows id there.now }
+    ensures { result ≡ Ligating.follows id there.now }
 {
     there._hb_glyph_info_get_ligature_id() == id
         && 0 < there._hb_glyph_info_get_ligature_component()
@@ -203,7 +198,7 @@ fn follows(id: u8, there: &hb_glyph_info_t) -> bool
 
 /// How many marks at the beginning of a list follow.
 fn count_following(id: u8, rest: &[hb_glyph_info_t]) -> usize
-    ensures value { result ≡ prefix_len (follows id) rest.now }
+    ensures value { result ≡ prefix_len (Ligating.follows id) rest.now }
     ensures within { result ≤ length rest.now }
 {
     rest.iter().take_while(|there| follows(id, there)).count()
@@ -212,7 +207,7 @@ fn count_following(id: u8, rest: &[hb_glyph_info_t]) -> usize
 /// How many marks after the last component follow it. None follow a ligature of marks, or a component that was no ligature.
 fn followers(made: &Ligation, infos: &[hb_glyph_info_t]) -> usize
     requires { made.now.found.last < length infos.now }
-    ensures value { result ≡ followers made.now infos.now }
+    ensures value { result ≡ Ligating.followers made.now infos.now }
     ensures within { made.now.found.last + 1 + result ≤ length infos.now }
 {
     if made.marks || made.last_id == 0 {
@@ -223,7 +218,7 @@ fn followers(made: &Ligation, infos: &[hb_glyph_info_t]) -> usize
 
 /// What becomes of the item at a place after the first component.
 fn join_at(buffer: &mut hb_buffer_t, made: &Ligation, k: usize)
-    ensures made { buffer.new ≡ joined_at made.now k buffer.old }
+    ensures made { buffer.new ≡ Ligating.joined_at made.now k buffer.old }
     ensures as_many { length buffer.new.items ≡ length buffer.old.items }
     ensures limit { limit_of buffer.new ≡ limit_of buffer.old }
 {
@@ -234,7 +229,7 @@ fn join_at(buffer: &mut hb_buffer_t, made: &Ligation, k: usize)
 /// Joins so many items after the first component.
 fn join_to(buffer: &mut hb_buffer_t, made: &Ligation, count: usize)
     requires { made.now.at + 1 + count ≤ length buffer.old.items }
-    ensures made { buffer.new ≡ joined_to made.now count buffer.old }
+    ensures made { buffer.new ≡ Ligating.joined_to made.now count buffer.old }
     ensures as_many { length buffer.new.items ≡ length buffer.old.items }
     ensures limit { limit_of buffer.new ≡ limit_of buffer.old }
 {
@@ -245,14 +240,14 @@ fn join_to(buffer: &mut hb_buffer_t, made: &Ligation, count: usize)
 }
 
 fn total_of(counts: Counts) -> u32
-    ensures { result ≡ total_of counts }
+    ensures { result ≡ Ligating.total_of counts }
 {
     u32::from(counts.first) + u32::from(counts.second) + u32::from(counts.third)
 }
 
 /// Puts a ligature in place of its first component.
 fn put_over(buffer: &mut hb_buffer_t, made: &Ligation)
-    ensures made { buffer.new ≡ put_over made.now buffer.old }
+    ensures made { buffer.new ≡ Ligating.put_over made.now buffer.old }
     ensures as_many { length buffer.new.items ≡ length buffer.old.items }
     ensures limit { limit_of buffer.new ≡ limit_of buffer.old }
 {
@@ -269,7 +264,7 @@ fn put_over(buffer: &mut hb_buffer_t, made: &Ligation)
 fn ligate(buffer: &mut hb_buffer_t, made: &Ligation)
     requires ordered { made.now.at < made.now.found.last }
     requires within { made.now.found.last < length buffer.old.items }
-    ensures made { buffer.new ≡ ligature_made made.now buffer.old }
+    ensures made { buffer.new ≡ Ligating.ligature_made made.now buffer.old }
     ensures as_many { length buffer.new.items ≡ length buffer.old.items }
     ensures limit { limit_of buffer.new ≡ limit_of buffer.old }
 {
@@ -283,7 +278,7 @@ fn ligate(buffer: &mut hb_buffer_t, made: &Ligation)
 fn put_ligature(buffer: &mut hb_buffer_t, at: usize, found: Found)
     requires ordered { at < found.last }
     requires within { found.last < length buffer.old.items }
-    ensures made { buffer.new ≡ ligature_put at found buffer.old }
+    ensures made { buffer.new ≡ Ligating.ligature_put at found buffer.old }
     ensures as_many { length buffer.new.items ≡ length buffer.old.items }
     ensures limit { limit_of buffer.new ≡ limit_of buffer.old }
 {
@@ -295,7 +290,8 @@ fn put_ligature(buffer: &mut hb_buffer_t, at: usize, found: Found)
 fn try_found(buffer: &mut hb_buffer_t, rule: Rule, rows: &[LigatureGlyphs], at: usize) -> usize
     requires { at < length buffer.old.items }
     ensures made { record { buffer = buffer.new; next = result }
-        ≡ tried_at at (found_in rule rows.now buffer.old.items at) (vain_marked rule rows.now at buffer.old) }
+        ≡ Ligating.tried_at at (found_in rule rows.now buffer.old.items at)
+        (vain_marked rule rows.now at buffer.old) }
     ensures as_many { length buffer.new.items ≡ length buffer.old.items }
     ensures limit { limit_of buffer.new ≡ limit_of buffer.old }
 {
@@ -320,7 +316,7 @@ fn ligate_at(
 ) -> usize
     requires { at < length buffer.old.items }
     ensures made { record { buffer = buffer.new; next = result }
-        ≡ ligated_at rule rows.now at (record { buffer = buffer.old; next = next }) }
+        ≡ Ligating.ligated_at rule rows.now at (record { buffer = buffer.old; next = next }) }
     ensures as_many { length buffer.new.items ≡ length buffer.old.items }
     ensures limit { limit_of buffer.new ≡ limit_of buffer.old }
 {
@@ -333,7 +329,7 @@ fn ligate_at(
 
 /// Marks and makes all ligatures, from left to right.
 fn ligate_each(buffer: &mut hb_buffer_t, rule: Rule, rows: &[LigatureGlyphs])
-    ensures { Made (each_ligated rule rows.now) buffer.old buffer.new }
+    ensures { Made (Ligating.each_ligated rule rows.now) buffer.old buffer.new }
 {
     let mut next = 0;
     for at in 0..buffer.len() {
@@ -343,7 +339,7 @@ fn ligate_each(buffer: &mut hb_buffer_t, rule: Rule, rows: &[LigatureGlyphs])
 
 /// The items that stay.
 fn kept(alloc: Global, infos: &[hb_glyph_info_t]) -> Result<Vec<hb_glyph_info_t>, ShapeError>
-    ensures ok { IfOk result (λ items. items.items ≡ kept_of infos.now) }
+    ensures ok { IfOk result (λ items. items.items ≡ Ligating.kept infos.now) }
     ensures memory { IsOkUnless result ShapeError.Memory }
 {
     let mut items = Vec::new(alloc);
@@ -358,7 +354,7 @@ fn kept(alloc: Global, infos: &[hb_glyph_info_t]) -> Result<Vec<hb_glyph_info_t>
 /// Takes out all components that are to go. Refuses with `Memory` alone.
 #[tactic(auto, using(crate::proofs::KeptLemmas::length_kept))]
 fn clear_away(alloc: Global, buffer: &mut hb_buffer_t) -> Result<(), ShapeError>
-    ensures ok { OnOk result (Made cleared_away buffer.old buffer.new) }
+    ensures ok { OnOk result (Made Ligating.cleared_away buffer.old buffer.new) }
     ensures memory { IsOkUnless result ShapeError.Memory }
 {
     let items = kept(alloc, buffer.infos())?;
@@ -375,7 +371,7 @@ pub fn ligate_all(
     rule: Rule,
     rows: &[LigatureGlyphs],
 ) -> Result<(), ShapeError>
-    ensures ok { OnOk result (Made (ligated rule rows.now) buffer.old buffer.new) }
+    ensures ok { OnOk result (Made (Ligating.ligated rule rows.now) buffer.old buffer.new) }
     ensures memory { IsOkUnless result ShapeError.Memory }
 {
     ligate_each(buffer, rule, rows);

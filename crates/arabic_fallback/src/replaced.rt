@@ -1,8 +1,6 @@
 //! Glyphs put in place of others, as substitution puts them.
 ghost use Rattle.std.specs.Prelude.{◌≡◌};
-ghost use Rattle.arabic_fallback.specs.Replaced.{classed, replaced as replaced_of, components_of as components_of_item};
-ghost use Rattle.arabic_fallback.specs.Replaced.{as_component as as_component_of, with_components as with_components_of};
-ghost use Rattle.arabic_fallback.specs.Replaced.{as_ligature as as_ligature_of, LIGATURE_CLASS, is_gone as is_gone_of, gone as gone_of};
+ghost use Rattle.arabic_fallback.specs.Replaced;
 
 use crate::classes::GlyphClass;
 use shape_buffer::buffer::hb_glyph_info_t;
@@ -19,7 +17,7 @@ pub struct NewGlyph {
 const GONE: u8 = 1;
 
 fn classed(class: GlyphClass, item: hb_glyph_info_t) -> hb_glyph_info_t
-    ensures { result ≡ classed class item }
+    ensures { result ≡ Replaced.classed class item }
 {
     let mut item = item;
     item._hb_glyph_info_set_glyph_class(class.class);
@@ -29,7 +27,7 @@ fn classed(class: GlyphClass, item: hb_glyph_info_t) -> hb_glyph_info_t
 
 /// Another glyph, of the class that the face says, or else of the one that is guessed, if one is.
 pub fn replaced(new: NewGlyph, guess: Option<GlyphClass>, item: hb_glyph_info_t) -> hb_glyph_info_t
-    ensures { result ≡ replaced_of new guess item }
+    ensures { result ≡ Replaced.replaced new guess item }
 {
     let mut item = item;
     item.glyph_id = new.glyph;
@@ -43,7 +41,7 @@ pub fn replaced(new: NewGlyph, guess: Option<GlyphClass>, item: hb_glyph_info_t)
 
 /// How many components a glyph has: more than one only if its class is that of ligatures.
 pub fn components_of(item: &hb_glyph_info_t) -> u8
-    ensures { result ≡ components_of_item item.now }
+    ensures { result ≡ Replaced.components_of item.now }
 {
     if item._hb_glyph_info_get_glyph_class().0 & 4 != 0 {
         item._hb_glyph_info_get_number_of_components()
@@ -54,7 +52,7 @@ pub fn components_of(item: &hb_glyph_info_t) -> u8
 
 /// A mark on a component of a ligature.
 pub fn as_component(id: u8, component: u32, item: hb_glyph_info_t) -> hb_glyph_info_t
-    ensures { result ≡ as_component_of id component item }
+    ensures { result ≡ Replaced.as_component id component item }
 {
     let mut item = item;
     item._hb_glyph_info_set_ligature_id(id);
@@ -65,7 +63,7 @@ pub fn as_component(id: u8, component: u32, item: hb_glyph_info_t) -> hb_glyph_i
 
 /// A ligature with its id, of so many components, which isn't a mark any more.
 fn with_components(id: u8, components: u32, item: hb_glyph_info_t) -> hb_glyph_info_t
-    ensures { result ≡ with_components_of id components item }
+    ensures { result ≡ Replaced.with_components id components item }
 {
     let mut item = item;
     item._hb_glyph_info_set_ligature_id(id);
@@ -88,7 +86,7 @@ pub fn as_ligature(
     new: NewGlyph,
     item: hb_glyph_info_t,
 ) -> hb_glyph_info_t
-    ensures { result ≡ as_ligature_of own id components new item }
+    ensures { result ≡ Replaced.as_ligature own id components new item }
 {
     let guess = GlyphClass {
         class: GlyphPropsFlags(4),
@@ -108,14 +106,14 @@ pub fn as_ligature(
 
 /// Whether an item is to go.
 pub fn is_gone(item: &hb_glyph_info_t) -> bool
-    ensures { result ≡ is_gone_of item.now }
+    ensures { result ≡ Replaced.is_gone item.now }
 {
     item._hb_glyph_info_get_shaper_auxiliary() == GONE
 }
 
 /// An item that is to go.
 pub fn gone(item: hb_glyph_info_t) -> hb_glyph_info_t
-    ensures { result ≡ gone_of item }
+    ensures { result ≡ Replaced.gone item }
 {
     let mut item = item;
     item._hb_glyph_info_set_shaper_auxiliary(GONE);

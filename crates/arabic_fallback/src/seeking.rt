@@ -3,8 +3,7 @@ ghost use Rattle.std.specs.Prelude.{◌≡◌, ◌<◌, ◌≤◌, length};
 ghost use Rattle.std.specs.List.{prefix_len};
 ghost use Rattle.std.specs.Option.{IfSome};
 ghost use Rattle.arabic_fallback.specs.Replaced.{shares};
-ghost use Rattle.arabic_fallback.specs.Seeking.{is_mark as is_mark_of, is_skipped as is_skipped_of, is_on as is_on_of, fits as fits_of};
-ghost use Rattle.arabic_fallback.specs.Seeking.{passes as passes_of, is_between as is_between_of, place_in, place_of, stop_of, joins as joins_of};
+ghost use Rattle.arabic_fallback.specs.Seeking;
 
 use shape_buffer::buffer::{hb_glyph_info_t, hb_mask_t};
 
@@ -17,21 +16,21 @@ pub struct Rule {
 
 /// Whether the class of a glyph is that of marks.
 pub fn is_mark(info: &hb_glyph_info_t) -> bool
-    ensures { result ≡ is_mark_of info.now }
+    ensures { result ≡ Seeking.is_mark info.now }
 {
     info._hb_glyph_info_get_glyph_class().0 & 8 != 0
 }
 
 /// Whether the lookup passes over a glyph.
 pub fn is_skipped(rule: Rule, info: &hb_glyph_info_t) -> bool
-    ensures { result ≡ is_skipped_of rule info.now }
+    ensures { result ≡ Seeking.is_skipped rule info.now }
 {
     rule.ignores_marks && is_mark(info)
 }
 
 /// Whether the lookup may begin at the glyph.
 pub fn is_on(rule: Rule, info: &hb_glyph_info_t) -> bool
-    ensures { result ≡ is_on_of rule info.now }
+    ensures { result ≡ Seeking.is_on rule info.now }
 {
     info.mask & rule.mask != 0 && !is_skipped(rule, info)
 }
@@ -44,14 +43,14 @@ pub fn has_mask(rule: Rule, info: &hb_glyph_info_t) -> bool
 }
 
 fn fits(rule: Rule, glyph: u32, info: &hb_glyph_info_t) -> bool
-    ensures { result ≡ fits_of rule glyph info.now }
+    ensures { result ≡ Seeking.fits rule glyph info.now }
 {
     info.mask & rule.mask != 0 && info.glyph_id == glyph
 }
 
 /// Whether a default ignorable is passed over: all but ZWNJ and those that are hidden.
 pub fn passes(info: &hb_glyph_info_t) -> bool
-    ensures { result ≡ passes_of info.now }
+    ensures { result ≡ Seeking.passes info.now }
 {
     info._hb_glyph_info_is_default_ignorable()
         && !info._hb_glyph_info_get_zwnj()
@@ -60,14 +59,14 @@ pub fn passes(info: &hb_glyph_info_t) -> bool
 
 /// Whether a glyph may stand before the one that is looked for.
 fn is_between(rule: Rule, glyph: u32, info: &hb_glyph_info_t) -> bool
-    ensures { result ≡ is_between_of rule glyph info.now }
+    ensures { result ≡ Seeking.is_between rule glyph info.now }
 {
     is_skipped(rule, info) || (passes(info) && !fits(rule, glyph, info))
 }
 
 /// How many glyphs at the beginning of a list may stand before the one that is looked for.
 fn count_between(rule: Rule, glyph: u32, rest: &[hb_glyph_info_t]) -> usize
-    ensures value { result ≡ prefix_len (is_between_of rule glyph) rest.now }
+    ensures value { result ≡ prefix_len (Seeking.is_between rule glyph) rest.now }
     ensures within { result ≤ length rest.now }
 {
     rest.iter()
@@ -77,7 +76,7 @@ fn count_between(rule: Rule, glyph: u32, rest: &[hb_glyph_info_t]) -> usize
 
 /// The place of the first glyph of a list that may not stand between, if it is the one that is looked for.
 fn place_in(rule: Rule, glyph: u32, rest: &[hb_glyph_info_t]) -> Option<usize>
-    ensures value { result ≡ place_in rule glyph rest.now }
+    ensures value { result ≡ Seeking.place_in rule glyph rest.now }
     ensures inside { IfSome result (λ j. j < length rest.now) }
 {
     let passed = count_between(rule, glyph, rest);
@@ -91,7 +90,7 @@ fn place_in(rule: Rule, glyph: u32, rest: &[hb_glyph_info_t]) -> Option<usize>
 /// The same from a place of a text on.
 pub fn place_from(rule: Rule, glyph: u32, infos: &[hb_glyph_info_t], from: usize) -> Option<usize>
     requires { from ≤ length infos.now }
-    ensures value { result ≡ place_of rule glyph infos.now from }
+    ensures value { result ≡ Seeking.place_of rule glyph infos.now from }
     ensures inside { IfSome result (λ j. j < length infos.now) }
     ensures after { IfSome result (λ j. from ≤ j) }
 {
@@ -104,7 +103,7 @@ pub fn place_from(rule: Rule, glyph: u32, infos: &[hb_glyph_info_t], from: usize
 /// Where the search from a place of a text on ended that didn't find the glyph.
 pub fn stop_from(rule: Rule, glyph: u32, infos: &[hb_glyph_info_t], from: usize) -> usize
     requires { from ≤ length infos.now }
-    ensures value { result ≡ stop_of rule glyph infos.now from }
+    ensures value { result ≡ Seeking.stop_of rule glyph infos.now from }
     ensures inside { result ≤ length infos.now }
 {
     let passed = count_between(rule, glyph, &infos[from..]);
@@ -117,7 +116,7 @@ pub fn stop_from(rule: Rule, glyph: u32, infos: &[hb_glyph_info_t], from: usize)
 
 /// Whether a glyph may be a component together with the first one, by the ligatures that they belong to.
 pub fn joins(first: &hb_glyph_info_t, there: &hb_glyph_info_t) -> bool
-    ensures { result ≡ joins_of first.now there.now }
+    ensures { result ≡ Seeking.joins first.now there.now }
 {
     let (id, component) = (
         first._hb_glyph_info_get_ligature_id(),

@@ -5,11 +5,7 @@
 ghost use Rattle.std.specs.Prelude.{◌≡◌, ◌<◌, ◌≤◌, length};
 ghost use Rattle.std.specs.List.{prefix_len};
 ghost use Rattle.shape_items.specs.Buffer.{limit_of};
-ghost use Rattle.arabic_fallback.specs.Vain.{component_stop as component_stop_of, component_end as component_end_of, third_end as third_end_of};
-ghost use Rattle.arabic_fallback.specs.Vain.{row_end as row_end_of, is_left_out as is_left_out_of, with_row as with_row_of};
-ghost use Rattle.arabic_fallback.specs.Vain.{rows_end as rows_end_of, count_of as count_of_rows, is_unseen as is_unseen_of};
-ghost use Rattle.arabic_fallback.specs.Vain.{seen_glyph as seen_glyph_of, only_of as only_of_rows, vain_end as vain_end_of};
-ghost use Rattle.arabic_fallback.specs.Vain.{concat_marked, vain_marked};
+ghost use Rattle.arabic_fallback.specs.Vain;
 
 use crate::ligatures::{LigatureGlyphs, component_at, found_by, found_in};
 use crate::seeking::{Rule, has_mask, is_skipped, passes, place_from, stop_from};
@@ -25,7 +21,7 @@ pub struct Tried {
 /// Where the search for a component after a place ended in vain.
 fn component_stop(rule: Rule, glyph: u32, infos: &[hb_glyph_info_t], after: usize) -> usize
     requires { after < length infos.now }
-    ensures { result ≡ component_stop_of rule glyph infos.now after }
+    ensures { result ≡ Vain.component_stop rule glyph infos.now after }
 {
     if place_from(rule, glyph, infos, after + 1).is_some() {
         return 0;
@@ -43,7 +39,7 @@ fn component_end(
 ) -> usize
     requires first { at < length infos.now }
     requires within { after < length infos.now }
-    ensures { result ≡ component_end_of rule glyph infos.now at after }
+    ensures { result ≡ Vain.component_end rule glyph infos.now at after }
 {
     if component_at(rule, glyph, infos, at, after).is_some() {
         return 0;
@@ -61,7 +57,7 @@ fn third_end(
 ) -> usize
     requires first { at < length infos.now }
     requires within { second < length infos.now }
-    ensures { result ≡ third_end_of rule row.now infos.now at second }
+    ensures { result ≡ Vain.third_end rule row.now infos.now at second }
 {
     match row.components.third {
         Some(glyph) => component_end(rule, glyph, infos, at, second),
@@ -72,7 +68,7 @@ fn third_end(
 /// The same for the components of a ligature.
 fn row_end(rule: Rule, row: &LigatureGlyphs, infos: &[hb_glyph_info_t], at: usize) -> usize
     requires { at < length infos.now }
-    ensures { result ≡ row_end_of rule row.now infos.now at }
+    ensures { result ≡ Vain.row_end rule row.now infos.now at }
 {
     if infos[at].glyph_id != row.components.first {
         return 0;
@@ -85,7 +81,7 @@ fn row_end(rule: Rule, row: &LigatureGlyphs, infos: &[hb_glyph_info_t], at: usiz
 
 /// Whether a ligature has another second component than `only`.
 fn is_left_out(only: Option<u32>, row: &LigatureGlyphs) -> bool
-    ensures { result ≡ is_left_out_of only row.now }
+    ensures { result ≡ Vain.is_left_out only row.now }
 {
     match only {
         Some(glyph) => row.components.second != glyph,
@@ -103,7 +99,7 @@ fn with_row(
     row: &LigatureGlyphs,
 ) -> Tried
     requires { at < length infos.now }
-    ensures { result ≡ with_row_of rule only infos.now at tried row.now }
+    ensures { result ≡ Vain.with_row rule only infos.now at tried row.now }
 {
     if tried.matched || is_left_out(only, row) {
         return tried;
@@ -123,7 +119,7 @@ fn rows_end(
     at: usize,
 ) -> usize
     requires { at < length infos.now }
-    ensures { result ≡ rows_end_of rule only rows.now infos.now at }
+    ensures { result ≡ Vain.rows_end rule only rows.now infos.now at }
 {
     let mut tried = Tried {
         end: 0,
@@ -137,7 +133,7 @@ fn rows_end(
 
 /// How many ligatures begin with a glyph.
 fn count_of(rows: &[LigatureGlyphs], glyph: u32) -> usize
-    ensures value { result ≡ count_of_rows rows.now glyph }
+    ensures value { result ≡ Vain.count_of rows.now glyph }
     ensures few { result ≤ length rows.now }
 {
     let mut count = 0;
@@ -150,14 +146,14 @@ fn count_of(rows: &[LigatureGlyphs], glyph: u32) -> usize
 }
 
 fn is_unseen(rule: Rule, info: &hb_glyph_info_t) -> bool
-    ensures { result ≡ is_unseen_of rule info.now }
+    ensures { result ≡ Vain.is_unseen rule info.now }
 {
     is_skipped(rule, info) || (passes(info) && !has_mask(rule, info))
 }
 
 /// How many glyphs at the beginning of a list the lookup doesn't see.
 fn count_unseen(rule: Rule, rest: &[hb_glyph_info_t]) -> usize
-    ensures value { result ≡ prefix_len (is_unseen_of rule) rest.now }
+    ensures value { result ≡ prefix_len (Vain.is_unseen rule) rest.now }
     ensures within { result ≤ length rest.now }
 {
     rest.iter().take_while(|info| is_unseen(rule, info)).count()
@@ -165,7 +161,7 @@ fn count_unseen(rule: Rule, rest: &[hb_glyph_info_t]) -> usize
 
 /// The first glyph of a list that the lookup sees, unless it may be passed over.
 fn seen_glyph(rule: Rule, rest: &[hb_glyph_info_t]) -> Option<u32>
-    ensures { result ≡ seen_glyph_of rule rest.now }
+    ensures { result ≡ Vain.seen_glyph rule rest.now }
 {
     let unseen = count_unseen(rule, rest);
     if unseen < rest.len() && has_mask(rule, &rest[unseen]) && !passes(&rest[unseen]) {
@@ -178,7 +174,7 @@ fn seen_glyph(rule: Rule, rest: &[hb_glyph_info_t]) -> Option<u32>
 /// The second component that alone counts, if one does.
 fn only_of(rule: Rule, rows: &[LigatureGlyphs], infos: &[hb_glyph_info_t], at: usize) -> Option<u32>
     requires { at < length infos.now }
-    ensures { result ≡ only_of_rows rule rows.now infos.now at }
+    ensures { result ≡ Vain.only_of rule rows.now infos.now at }
 {
     if 4 < count_of(rows, infos[at].glyph_id) && found_in(rule, rows, infos, at).is_some() {
         seen_glyph(rule, &infos[at + 1..])
@@ -190,7 +186,7 @@ fn only_of(rule: Rule, rows: &[LigatureGlyphs], infos: &[hb_glyph_info_t], at: u
 /// How far the ligatures that are tried at a place look in vain.
 fn vain_end(rule: Rule, rows: &[LigatureGlyphs], infos: &[hb_glyph_info_t], at: usize) -> usize
     requires { at < length infos.now }
-    ensures { result ≡ vain_end_of rule rows.now infos.now at }
+    ensures { result ≡ Vain.vain_end rule rows.now infos.now at }
 {
     let only = only_of(rule, rows, infos, at);
     rows_end(rule, only, rows, infos, at)
@@ -198,7 +194,7 @@ fn vain_end(rule: Rule, rows: &[LigatureGlyphs], infos: &[hb_glyph_info_t], at: 
 
 /// Marks a span unsafe to concat, if the buffer asks for that.
 fn mark_concat(buffer: &mut hb_buffer_t, at: usize, end: usize)
-    ensures made { buffer.new ≡ concat_marked at end buffer.old }
+    ensures made { buffer.new ≡ Vain.concat_marked at end buffer.old }
     ensures as_many { length buffer.new.items ≡ length buffer.old.items }
     ensures limit { limit_of buffer.new ≡ limit_of buffer.old }
 {
@@ -210,7 +206,7 @@ fn mark_concat(buffer: &mut hb_buffer_t, at: usize, end: usize)
 /// Marks what ligatures look at in vain from a place on.
 pub fn mark_vain(buffer: &mut hb_buffer_t, rule: Rule, rows: &[LigatureGlyphs], at: usize)
     requires { at < length buffer.old.items }
-    ensures made { buffer.new ≡ vain_marked rule rows.now at buffer.old }
+    ensures made { buffer.new ≡ Vain.vain_marked rule rows.now at buffer.old }
     ensures as_many { length buffer.new.items ≡ length buffer.old.items }
     ensures limit { limit_of buffer.new ≡ limit_of buffer.old }
 {

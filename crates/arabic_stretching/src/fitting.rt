@@ -5,8 +5,7 @@
 //! they overlap. Else it is moved by half of what the fixed ones leave, as HarfBuzz does, which doesn't take off what copies fill.
 ghost use Rattle.std.specs.Prelude.{◌≡◌, ◌≤◌, length, fold};
 ghost use Rattle.std.specs.List.{prefix_len};
-ghost use Rattle.arabic_stretching.specs.Fitting.{is_tile_glyph, is_word_glyph, advance_of as advance_of_glyph, with_tile, no_widths, widths_of};
-ghost use Rattle.arabic_stretching.specs.Fitting.{with_advance, word_width, whole_copies, shortfall, overlap_of, apart, squeezed, fit_by, word_at, fit_over, fit_at};
+ghost use Rattle.arabic_stretching.specs.Fitting;
 
 use crate::tiles::{is_tile, is_word, repeats};
 use shape_buffer::buffer::{GlyphId, GlyphPosition, hb_glyph_info_t};
@@ -38,13 +37,13 @@ pub struct Fit {
 
 /// The advance of a glyph by the face, in units of the face; that of its position may be another.
 pub fn advance_of<F: hb_font_t>(face: &F, glyph: &Glyph) -> i32
-    ensures { result ≡ advance_of_glyph (F.face face.now) glyph.now }
+    ensures { result ≡ Fitting.advance_of (F.face face.now) glyph.now }
 {
     face.glyph_h_advance(GlyphId(glyph.info.glyph_id))
 }
 
 fn with_tile<F: hb_font_t>(face: &F, widths: Widths, tile: &Glyph) -> Widths
-    ensures { result ≡ with_tile (F.face face.now) widths tile.now }
+    ensures { result ≡ Fitting.with_tile (F.face face.now) widths tile.now }
 {
     let advance = advance_of(face, tile);
     if repeats(&tile.info) {
@@ -62,7 +61,7 @@ fn with_tile<F: hb_font_t>(face: &F, widths: Widths, tile: &Glyph) -> Widths
 }
 
 fn widths_of<F: hb_font_t>(face: &F, tiles: &[Glyph]) -> Widths
-    ensures { result ≡ widths_of (F.face face.now) tiles.now }
+    ensures { result ≡ Fitting.widths_of (F.face face.now) tiles.now }
 {
     let mut widths = Widths {
         fixed: 0,
@@ -76,13 +75,13 @@ fn widths_of<F: hb_font_t>(face: &F, tiles: &[Glyph]) -> Widths
 }
 
 fn with_advance(width: i32, glyph: &Glyph) -> i32
-    ensures { result ≡ with_advance width glyph.now }
+    ensures { result ≡ Fitting.with_advance width glyph.now }
 {
     sum(width, glyph.position.x_advance)
 }
 
 fn word_width(word: &[Glyph]) -> i32
-    ensures { result ≡ word_width word.now }
+    ensures { result ≡ Fitting.word_width word.now }
 {
     let mut width = 0;
     for glyph in word {
@@ -93,7 +92,7 @@ fn word_width(word: &[Glyph]) -> i32
 
 /// How often tiles can be repeated without passing what is left.
 fn whole_copies(left: i32, repeating: i32) -> i32
-    ensures { result ≡ whole_copies left repeating }
+    ensures { result ≡ Fitting.whole_copies left repeating }
 {
     if 0 < repeating && repeating < left {
         difference(quotient(left, repeating), 1)
@@ -104,14 +103,14 @@ fn whole_copies(left: i32, repeating: i32) -> i32
 
 /// What is left then.
 fn shortfall(left: i32, repeating: i32, copies: i32) -> i32
-    ensures { result ≡ shortfall left repeating copies }
+    ensures { result ≡ Fitting.shortfall left repeating copies }
 {
     difference(left, product(repeating, sum(copies, 1)))
 }
 
 /// How far each of so many copies overlaps the one before it.
 fn overlap_of(excess: i32, copies: i32) -> i32
-    ensures { result ≡ overlap_of excess copies }
+    ensures { result ≡ Fitting.overlap_of excess copies }
 {
     if 0 < copies {
         quotient(excess, copies)
@@ -122,7 +121,7 @@ fn overlap_of(excess: i32, copies: i32) -> i32
 
 /// Copies that don't overlap.
 fn apart(left: i32, copies: i32) -> Fit
-    ensures { result ≡ apart left copies }
+    ensures { result ≡ Fitting.apart left copies }
 {
     Fit {
         copies: copies.unsigned_abs() as usize,
@@ -133,7 +132,7 @@ fn apart(left: i32, copies: i32) -> Fit
 
 /// Copies that are one more than go in whole.
 fn squeezed(left: i32, widths: Widths, copies: i32) -> Fit
-    ensures { result ≡ squeezed left widths copies }
+    ensures { result ≡ Fitting.squeezed left widths copies }
 {
     let excess = difference(product(widths.repeating, sum(copies, 1)), left);
     if excess <= 0 {
@@ -149,7 +148,7 @@ fn squeezed(left: i32, widths: Widths, copies: i32) -> Fit
 /// How tiles fill what their fixed ones leave.
 #[tactic(auto, unfolding(crate::specs::Fitting::fit_by))]
 fn fit_by(left: i32, widths: Widths) -> Fit
-    ensures { result ≡ fit_by left widths }
+    ensures { result ≡ Fitting.fit_by left widths }
 {
     let copies = whole_copies(left, widths.repeating);
     if 0 < shortfall(left, widths.repeating, copies) && 0 < widths.count {
@@ -160,7 +159,7 @@ fn fit_by(left: i32, widths: Widths) -> Fit
 }
 
 fn tiles_len(glyphs: &[Glyph]) -> usize
-    ensures value { result ≡ prefix_len is_tile_glyph glyphs.now }
+    ensures value { result ≡ prefix_len Fitting.is_tile_glyph glyphs.now }
     ensures within { result ≤ length glyphs.now }
 {
     glyphs
@@ -170,7 +169,7 @@ fn tiles_len(glyphs: &[Glyph]) -> usize
 }
 
 fn word_len(glyphs: &[Glyph]) -> usize
-    ensures value { result ≡ prefix_len is_word_glyph glyphs.now }
+    ensures value { result ≡ prefix_len Fitting.is_word_glyph glyphs.now }
     ensures within { result ≤ length glyphs.now }
 {
     glyphs
@@ -181,7 +180,7 @@ fn word_len(glyphs: &[Glyph]) -> usize
 
 /// How wide the word at the beginning of a list is.
 fn word_at(glyphs: &[Glyph]) -> i32
-    ensures { result ≡ word_at glyphs.now }
+    ensures { result ≡ Fitting.word_at glyphs.now }
 {
     word_width(&glyphs[..word_len(glyphs)])
 }
@@ -189,7 +188,7 @@ fn word_at(glyphs: &[Glyph]) -> i32
 /// How tiles fill the width of the word at the beginning of the rest.
 #[tactic(auto, unfolding(crate::specs::Fitting::fit_over))]
 fn fit_over<F: hb_font_t>(face: &F, tiles: &[Glyph], rest: &[Glyph]) -> Fit
-    ensures { result ≡ fit_over (F.face face.now) tiles.now rest.now }
+    ensures { result ≡ Fitting.fit_over (F.face face.now) tiles.now rest.now }
 {
     let widths = widths_of(face, tiles);
     fit_by(difference(word_at(rest), widths.fixed), widths)
@@ -197,7 +196,7 @@ fn fit_over<F: hb_font_t>(face: &F, tiles: &[Glyph], rest: &[Glyph]) -> Fit
 
 /// How the tiles at the beginning of a list, in the order of the text, fill the width of the word after them.
 pub fn fit_at<F: hb_font_t>(face: &F, glyphs: &[Glyph]) -> Fit
-    ensures { result ≡ fit_at (F.face face.now) glyphs.now }
+    ensures { result ≡ Fitting.fit_at (F.face face.now) glyphs.now }
 {
     let tiles = tiles_len(glyphs);
     fit_over(face, &glyphs[..tiles], &glyphs[tiles..])

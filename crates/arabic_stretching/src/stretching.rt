@@ -4,7 +4,7 @@ ghost use Rattle.std.specs.List.{list_any};
 ghost use Rattle.shape_items.specs.Buffer.{limit_of};
 ghost use Rattle.shape_buffer.specs.Outcome.{IsWithinLimit, Made, Outcome, step};
 ghost use Rattle.shape_buffer.specs.declared.buffer.error.ShapeError.TheVariants.{Length};
-ghost use Rattle.arabic_stretching.specs.Tiles.{is_tile as is_tile_of};
+ghost use Rattle.arabic_stretching.specs.Tiles;
 ghost use Rattle.arabic_stretching.specs.Stretching.{glyphs_from, glyph_info, glyph_position, is_leftward, turned, laid, laid_out, stretched};
 
 use crate::copying::stretch;
@@ -16,7 +16,8 @@ use std::alloc::Global;
 
 /// The glyphs of a buffer with their positions.
 fn glyphs_of(alloc: Global, buffer: &hb_buffer_t) -> Result<Vec<Glyph>, ShapeError>
-    ensures ok { IfOk result (λ out. out.items ≡ glyphs_from buffer.now.items buffer.now.positions) }
+    ensures ok { IfOk result (λ out. out.items
+        ≡ glyphs_from buffer.now.items buffer.now.positions) }
     ensures memory { IsOkUnless result ShapeError.Memory }
 {
     let mut out = Vec::new(alloc);
@@ -69,7 +70,8 @@ fn lay_out<F: hb_font_t>(
     buffer: &mut hb_buffer_t,
 ) -> Result<(), ShapeError>
     ensures ok { OnOk result (buffer.new ≡ laid_out (F.face face.now) right_to_left buffer.old) }
-    ensures within { OnOk result (length (laid_out (F.face face.now) right_to_left buffer.old).items ≤ limit_of buffer.old) }
+    ensures within { OnOk result (length (laid_out
+        (F.face face.now) right_to_left buffer.old).items ≤ limit_of buffer.old) }
     ensures past { IsErrOf result Length
         → limit_of buffer.old < length (laid_out (F.face face.now) right_to_left buffer.old).items }
 {
@@ -99,7 +101,7 @@ fn turn(right_to_left: bool, buffer: &mut hb_buffer_t)
 }
 
 fn has_tiles(infos: &[hb_glyph_info_t]) -> bool
-    ensures { result ≡ list_any is_tile_of infos.now }
+    ensures { result ≡ list_any Tiles.is_tile infos.now }
 {
     infos.iter().any(|info| is_tile(info))
 }

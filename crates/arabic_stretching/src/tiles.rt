@@ -3,9 +3,7 @@ ghost use Rattle.std.specs.Prelude.{◌≡◌, ◌<◌, ◌≤◌, ◌+◌, leng
 ghost use Rattle.std.specs.List.{prefix_len};
 ghost use Rattle.shape_items.specs.Buffer.{limit_of};
 ghost use Rattle.shape_buffer.specs.Outcome.{Made};
-ghost use Rattle.arabic_stretching.specs.Tiles.{tile_of as tile_of_component, recorded as recorded_of, tiles_recorded};
-ghost use Rattle.arabic_stretching.specs.Tiles.{is_tile as is_tile_of, repeats as repeats_of, is_word_category, is_word as is_word_of};
-ghost use Rattle.arabic_stretching.specs.Tiles.{span_len, begins_at, span_marked_at, spans_marked_to, spans_marked};
+ghost use Rattle.arabic_stretching.specs.Tiles;
 
 use shape_buffer::buffer::{hb_buffer_t, hb_glyph_info_t, hb_unicode_general_category_t};
 use shape_buffer::walks::update_items;
@@ -18,13 +16,13 @@ pub const REPEATING: u8 = 3;
 
 /// The first of the glyphs that one is taken apart into is fixed, the second repeats, and so on.
 fn tile_of(component: u8) -> u8
-    ensures { result ≡ tile_of_component component }
+    ensures { result ≡ Tiles.tile_of component }
 {
     if component % 2 == 0 { FIXED } else { REPEATING }
 }
 
 fn recorded(info: &hb_glyph_info_t) -> hb_glyph_info_t
-    ensures { result ≡ recorded_of info.now }
+    ensures { result ≡ Tiles.recorded info.now }
 {
     let mut item = *info;
     if item._hb_glyph_info_get_multiplied() {
@@ -37,13 +35,13 @@ fn recorded(info: &hb_glyph_info_t) -> hb_glyph_info_t
 /// Notes what a lookup has taken apart so far as tiles. It belongs into a pause right after the feature `stch`, if the font
 /// has that. Takes no memory.
 pub fn record_tiles(buffer: &mut hb_buffer_t)
-    ensures { Made tiles_recorded buffer.old buffer.new }
+    ensures { Made Tiles.tiles_recorded buffer.old buffer.new }
 {
     update_items(buffer, |info| recorded(info));
 }
 
 pub fn is_tile(info: &hb_glyph_info_t) -> bool
-    ensures { result ≡ is_tile_of info.now }
+    ensures { result ≡ Tiles.is_tile info.now }
 {
     let kind = info._hb_glyph_info_get_shaper_auxiliary();
     kind == FIXED || kind == REPEATING
@@ -51,14 +49,14 @@ pub fn is_tile(info: &hb_glyph_info_t) -> bool
 
 /// Whether a tile may be repeated.
 pub fn repeats(info: &hb_glyph_info_t) -> bool
-    ensures { result ≡ repeats_of info.now }
+    ensures { result ≡ Tiles.repeats info.now }
 {
     info._hb_glyph_info_get_shaper_auxiliary() == REPEATING
 }
 
 /// Whether characters of a category stand in words.
 fn is_word_category(category: hb_unicode_general_category_t) -> bool
-    ensures { result ≡ is_word_category category }
+    ensures { result ≡ Tiles.is_word_category category }
 {
     match category {
         hb_unicode_general_category_t::Unassigned
@@ -81,7 +79,7 @@ fn is_word_category(category: hb_unicode_general_category_t) -> bool
 
 /// Whether a glyph is one of the word that tiles stretch over.
 pub fn is_word(info: &hb_glyph_info_t) -> bool
-    ensures { result ≡ is_word_of info.now }
+    ensures { result ≡ Tiles.is_word info.now }
 {
     !is_tile(info)
         && (info._hb_glyph_info_is_default_ignorable()
@@ -89,14 +87,14 @@ pub fn is_word(info: &hb_glyph_info_t) -> bool
 }
 
 fn tiles_len(infos: &[hb_glyph_info_t]) -> usize
-    ensures value { result ≡ prefix_len is_tile_of infos.now }
+    ensures value { result ≡ prefix_len Tiles.is_tile infos.now }
     ensures within { result ≤ length infos.now }
 {
     infos.iter().take_while(|info| is_tile(info)).count()
 }
 
 fn word_len(infos: &[hb_glyph_info_t]) -> usize
-    ensures value { result ≡ prefix_len is_word_of infos.now }
+    ensures value { result ≡ prefix_len Tiles.is_word infos.now }
     ensures within { result ≤ length infos.now }
 {
     infos.iter().take_while(|info| is_word(info)).count()
@@ -104,7 +102,7 @@ fn word_len(infos: &[hb_glyph_info_t]) -> usize
 
 /// How many glyphs the tiles at the beginning of a list are, and the word after them.
 fn span_at(infos: &[hb_glyph_info_t]) -> usize
-    ensures value { result ≡ span_len infos.now }
+    ensures value { result ≡ Tiles.span_len infos.now }
     ensures within { result ≤ length infos.now }
 {
     let tiles = tiles_len(infos);
@@ -114,7 +112,7 @@ fn span_at(infos: &[hb_glyph_info_t]) -> usize
 /// Whether tiles begin at a place.
 fn begins_at(infos: &[hb_glyph_info_t], i: usize) -> bool
     requires { i < length infos.now }
-    ensures { result ≡ begins_at infos.now i }
+    ensures { result ≡ Tiles.begins_at infos.now i }
 {
     is_tile(&infos[i]) && (i == 0 || !is_tile(&infos[i - 1]))
 }
@@ -122,7 +120,7 @@ fn begins_at(infos: &[hb_glyph_info_t], i: usize) -> bool
 /// Marks the tiles that begin at a place and their word unsafe to break.
 fn mark_at(buffer: &mut hb_buffer_t, i: usize)
     requires { i < length buffer.old.items }
-    ensures made { buffer.new ≡ span_marked_at i buffer.old }
+    ensures made { buffer.new ≡ Tiles.span_marked_at i buffer.old }
     ensures len { length buffer.new.items ≡ length buffer.old.items }
     ensures limit { limit_of buffer.new ≡ limit_of buffer.old }
 {
@@ -135,7 +133,7 @@ fn mark_at(buffer: &mut hb_buffer_t, i: usize)
 
 /// Marks all tiles unsafe to break, each run of them with its word.
 pub fn mark_spans(buffer: &mut hb_buffer_t)
-    ensures { Made spans_marked buffer.old buffer.new }
+    ensures { Made Tiles.spans_marked buffer.old buffer.new }
 {
     for i in 0..buffer.len() {
         mark_at(buffer, i);

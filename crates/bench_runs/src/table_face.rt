@@ -1,14 +1,13 @@
 //! A face that is tables: glyphs by characters, 0 for none, advances by glyphs, and boxes by glyphs;
 //! U+0061 with U+FE00 after it has glyph 7. It has no tables of lookups.
 ghost use Rattle.std.specs.Prelude.{◌≡◌};
-ghost use Rattle.bench_runs.specs.Face.{advance_of as advance_of_glyph, extents_of as extents_of_glyph};
-ghost use Rattle.bench_runs.specs.Face.{glyph_of as glyph_of_number, table_face};
+ghost use Rattle.bench_runs.specs.Face;
 
 use shape_buffer::buffer::GlyphId;
 use shape_buffer::interfaces::{hb_font_t, hb_glyph_extents_t, hb_tables_t};
 
 fn glyph_of(number: u32) -> Option<GlyphId>
-    ensures { result ≡ glyph_of_number number }
+    ensures { result ≡ Face.glyph_of number }
 {
     if number == 0 {
         None
@@ -18,13 +17,13 @@ fn glyph_of(number: u32) -> Option<GlyphId>
 }
 
 fn advance_of(advances: &[i32], glyph: GlyphId) -> i32
-    ensures { result ≡ advance_of_glyph advances.now glyph }
+    ensures { result ≡ Face.advance_of advances.now glyph }
 {
     advances.get(glyph.0 as usize).copied().unwrap_or(0)
 }
 
 fn extents_of(boxes: &[hb_glyph_extents_t], glyph: GlyphId) -> Option<hb_glyph_extents_t>
-    ensures { result ≡ extents_of_glyph boxes.now glyph }
+    ensures { result ≡ Face.extents_of boxes.now glyph }
 {
     boxes.get(glyph.0 as usize).copied()
 }
@@ -38,7 +37,7 @@ pub struct TableFace<'a> {
 }
 
 impl hb_font_t for TableFace<'_> {
-    ghost face = { λ face. table_face face.glyphs.now face.advances.now face.boxes.now };
+    ghost face = { λ face. Face.table_face face.glyphs.now face.advances.now face.boxes.now };
 
     fn get_nominal_glyph(&self, c: char) -> Option<GlyphId> {
         let index = u32::from(c) as usize;

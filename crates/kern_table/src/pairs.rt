@@ -1,6 +1,6 @@
 //! Values of pairs of glyphs: formats 0 and 2 of the table `kern`.
 ghost use Rattle.std.specs.Prelude.{◌≡◌, ◌+◌, ◌*◌, ◌<◌, ◌^◌, ◌≤ℤ◌, pos, negsuc, length, not, ◌||◌, false, nat_lt, slice_index_or};
-ghost use Rattle.kern_table.specs.Pairs.{side_of_pair, pair_of, listed_value as listed_value_of, is_classed as is_classed_of, class_of, value_at as value_at_of, classed_value as classed_value_of, value_of, HoldSides, IsRead};
+ghost use Rattle.kern_table.specs.Pairs;
 ghost use Rattle.std.specs.Option.{IfSome};
 
 use crate::sides::Sides;
@@ -22,8 +22,8 @@ pub(crate) struct Subtable<'a> {
 /// Reads the head of the subtable that begins at `start`.
 pub(crate) fn read_subtable<'a>(kern: &'a [u8], start: usize, sides: Sides<'a>) -> Subtable<'a>
     requires near { start < 2 ^ 34 }
-    requires sides { HoldSides kern.now start sides.lefts.now sides.rights.now }
-    ensures so { IsRead result }
+    requires sides { Pairs.HoldSides kern.now start sides.lefts.now sides.rights.now }
+    ensures so { Pairs.IsRead result }
     ensures kern { result.kern.now ≡ kern.now }
     ensures start { result.start ≡ start }
 {
@@ -38,9 +38,9 @@ pub(crate) fn read_subtable<'a>(kern: &'a [u8], start: usize, sides: Sides<'a>) 
 
 /// Where two glyphs, as one number, stand to pair `i` of a subtable. It is read behind no test.
 fn pair_side(subtable: Subtable<'_>, glyphs: u32, i: u32) -> Ordering
-    requires read { IsRead subtable }
+    requires read { Pairs.IsRead subtable }
     requires listed { i < subtable.count }
-    ensures { result ≡ side_of_pair subtable.entry.kern.now subtable.entry.start glyphs i }
+    ensures { result ≡ Pairs.side_of_pair subtable.entry.kern.now subtable.entry.start glyphs i }
 {
     let there = long(subtable.kern, subtable.start + 14 + 6 * i as usize);
     side(glyphs, there, there)
@@ -48,14 +48,14 @@ fn pair_side(subtable: Subtable<'_>, glyphs: u32, i: u32) -> Ordering
 
 /// The pair of two glyphs, as one number, in a subtable.
 fn pair(subtable: Subtable<'_>, glyphs: u32) -> Option<u32>
-    requires { IsRead subtable }
-    ensures found { result ≡ pair_of subtable.entry.kern.now subtable.entry.start glyphs }
+    requires { Pairs.IsRead subtable }
+    ensures found { result ≡ Pairs.pair_of subtable.entry.kern.now subtable.entry.start glyphs }
     ensures within { IfSome result (λ i. i < subtable.entry.count) }
 {
     found_within(
         subtable.count,
         |i|
-            requires read { IsRead subtable }
+            requires read { Pairs.IsRead subtable }
             requires listed { i < subtable.count }
         { pair_side(subtable, glyphs, i) },
     )
@@ -63,8 +63,9 @@ fn pair(subtable: Subtable<'_>, glyphs: u32) -> Option<u32>
 
 /// The value of two glyphs in a subtable of format 0.
 fn listed_value(subtable: Subtable<'_>, left: u32, right: u32) -> i32
-    requires { IsRead subtable }
-    ensures value { result ≡ listed_value_of subtable.entry.kern.now subtable.entry.start left right }
+    requires { Pairs.IsRead subtable }
+    ensures value { result ≡ Pairs.listed_value subtable.entry.kern.now subtable.entry.start left
+        right }
     ensures low { negsuc 32767 ≤ℤ result }
     ensures high { result ≤ℤ pos 32767 }
 {
@@ -80,7 +81,7 @@ fn listed_value(subtable: Subtable<'_>, left: u32, right: u32) -> i32
 /// Whether the classes at `classes` have the glyph. Class 1 stands for a glyph out of bounds.
 fn is_classed(kern: &[u8], classes: usize, glyph: u32) -> bool
     requires { classes < 2 ^ 35 }
-    ensures { result ≡ is_classed_of kern.now classes glyph }
+    ensures { result ≡ Pairs.is_classed kern.now classes glyph }
 {
     let first = u32::from(u16_at(kern, classes));
     let said = u32::from(u16_at(kern, classes + 2));
@@ -92,7 +93,7 @@ fn is_classed(kern: &[u8], classes: usize, glyph: u32) -> bool
 /// The class of a glyph that the classes at `classes` have.
 fn class(kern: &[u8], classes: usize, glyph: u32) -> u32
     requires { classes < 2 ^ 35 }
-    ensures value { result ≡ class_of kern.now classes glyph }
+    ensures value { result ≡ Pairs.class_of kern.now classes glyph }
     ensures small { result < 65536 }
 {
     let i = glyph.saturating_sub(u32::from(u16_at(kern, classes)));
@@ -103,7 +104,7 @@ fn class(kern: &[u8], classes: usize, glyph: u32) -> u32
 fn value_at(kern: &[u8], start: usize, place: u32) -> i32
     requires subtable { start < 2 ^ 34 }
     requires near { place < 131072 }
-    ensures value { result ≡ value_at_of kern.now start place }
+    ensures value { result ≡ Pairs.value_at kern.now start place }
     ensures low { negsuc 32767 ≤ℤ result }
     ensures high { result ≤ℤ pos 32767 }
 {
@@ -120,7 +121,7 @@ fn value_at(kern: &[u8], start: usize, place: u32) -> i32
 /// The value of two glyphs in the subtable of format 2 that begins at `start`, by their classes; 0 if one has none.
 fn classed_value(kern: &[u8], start: usize, left: u32, right: u32) -> i32
     requires { start < 2 ^ 34 }
-    ensures value { result ≡ classed_value_of kern.now start left right }
+    ensures value { result ≡ Pairs.classed_value kern.now start left right }
     ensures low { negsuc 32767 ≤ℤ result }
     ensures high { result ≤ℤ pos 32767 }
 {
@@ -138,7 +139,8 @@ fn classed_value(kern: &[u8], start: usize, left: u32, right: u32) -> i32
 
 /// Whether a glyph is marked, or has no mark.
 fn may_stand(marks: &[bool], glyph: u32) -> bool
-    ensures { result ≡ (not (nat_lt glyph (length marks.now)) || slice_index_or marks.now glyph false) }
+    ensures { result ≡ (not (nat_lt glyph
+        (length marks.now)) || slice_index_or marks.now glyph false) }
 {
     let at = glyph as usize;
     marks.len() <= at || marks[at]
@@ -146,8 +148,8 @@ fn may_stand(marks: &[bool], glyph: u32) -> bool
 
 /// The value of two glyphs, sought among all pairs.
 fn sought_value(subtable: Subtable<'_>, left: u32, right: u32) -> i32
-    requires { IsRead subtable }
-    ensures value { result ≡ value_of subtable.entry.kern.now subtable.entry.start left right }
+    requires { Pairs.IsRead subtable }
+    ensures value { result ≡ Pairs.value_of subtable.entry.kern.now subtable.entry.start left right }
     ensures low { negsuc 32767 ≤ℤ result }
     ensures high { result ≤ℤ pos 32767 }
 {
@@ -161,8 +163,8 @@ fn sought_value(subtable: Subtable<'_>, left: u32, right: u32) -> i32
 /// How far two glyphs are moved apart by a subtable whose head was read. Nothing is sought for two of which one stands in
 /// no pair.
 pub(crate) fn pair_value(subtable: Subtable<'_>, left: u32, right: u32) -> i32
-    requires { IsRead subtable }
-    ensures value { result ≡ value_of subtable.entry.kern.now subtable.entry.start left right }
+    requires { Pairs.IsRead subtable }
+    ensures value { result ≡ Pairs.value_of subtable.entry.kern.now subtable.entry.start left right }
     ensures low { negsuc 32767 ≤ℤ result }
     ensures high { result ≤ℤ pos 32767 }
 {
@@ -178,7 +180,7 @@ pub(crate) fn pair_value(subtable: Subtable<'_>, left: u32, right: u32) -> i32
 /// other one is read as format 0.
 pub fn value(kern: &[u8], start: usize, left: u32, right: u32) -> i32
     requires { start < 2 ^ 34 }
-    ensures value { result ≡ value_of kern.now start left right }
+    ensures value { result ≡ Pairs.value_of kern.now start left right }
     ensures low { negsuc 32767 ≤ℤ result }
     ensures high { result ≤ℤ pos 32767 }
 {

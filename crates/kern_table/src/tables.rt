@@ -2,7 +2,7 @@
 ghost use Rattle.std.specs.Prelude.{◌≡◌, ℕ, List, ◌<◌, ◌≤◌, ◌^◌, length};
 ghost use Rattle.shape_items.specs.Buffer.{limit_of};
 ghost use Rattle.kern_table.specs.Pairs.{HoldSides, IsRead};
-ghost use Rattle.kern_table.specs.Tables.{subtable_count_of, is_read as is_read_of, subtable_kerned, table_kerned};
+ghost use Rattle.kern_table.specs.Tables;
 
 use crate::pairs::{Subtable, read_subtable};
 use crate::sides::Sides;
@@ -12,7 +12,7 @@ use shape_font::bytes::{u8_at, u16_at};
 
 /// How many subtables the table says that it has; none if its version isn't 0.
 pub fn subtable_count(kern: &[u8]) -> u32
-    ensures value { result ≡ subtable_count_of kern.now }
+    ensures value { result ≡ Tables.subtable_count_of kern.now }
     ensures small { result ≤ 65535 }
 {
     if u16_at(kern, 0) == 0 {
@@ -26,7 +26,7 @@ pub fn subtable_count(kern: &[u8]) -> u32
 /// kind, and doesn't move glyphs across the line.
 fn is_read(kern: &[u8], start: usize, horizontal: bool) -> bool
     requires { start < 2 ^ 34 }
-    ensures { result ≡ is_read_of kern.now start horizontal }
+    ensures { result ≡ Tables.is_read kern.now start horizontal }
 {
     let coverage = u8_at(kern, start + 5);
     let line = if horizontal { 1 } else { 0 };
@@ -37,7 +37,7 @@ fn is_read(kern: &[u8], start: usize, horizontal: bool) -> bool
 fn kern_subtable(subtable: Subtable<'_>, mask: hb_mask_t, buffer: &mut hb_buffer_t)
     requires { IsRead subtable }
     ensures made { buffer.new
-        ≡ subtable_kerned subtable.entry.kern.now subtable.entry.start mask buffer.old }
+        ≡ Tables.subtable_kerned subtable.entry.kern.now subtable.entry.start mask buffer.old }
     ensures len { length buffer.new.items ≡ length buffer.old.items }
     ensures limit { limit_of buffer.new ≡ limit_of buffer.old }
 {
@@ -65,7 +65,7 @@ fn sides_at(start: usize, first: Sides<'_>) -> Sides<'_>
 /// Kerns a buffer by all subtables of the table that are read, in order, if the mask isn't 0. A subtable that
 /// says that it is shorter than its header ends the table. Takes no memory.
 pub fn kern_table(kern: &[u8], mask: hb_mask_t, buffer: &mut hb_buffer_t)
-    ensures made { buffer.new ≡ table_kerned kern.now mask buffer.old }
+    ensures made { buffer.new ≡ Tables.table_kerned kern.now mask buffer.old }
     ensures len { length buffer.new.items ≡ length buffer.old.items }
     ensures limit { limit_of buffer.new ≡ limit_of buffer.old }
 {
@@ -77,7 +77,7 @@ pub fn kern_table(kern: &[u8], mask: hb_mask_t, buffer: &mut hb_buffer_t)
 #[tactic(auto, using(crate::proofs::SubtableLemmas::kerned_from_next, crate::proofs::SubtableLemmas::kerned_from_short, crate::proofs::SubtableLemmas::kerned_from_end))]
 pub fn kern_table_by(kern: &[u8], first: Sides<'_>, mask: hb_mask_t, buffer: &mut hb_buffer_t)
     requires { HoldSides kern.now 4 first.lefts.now first.rights.now }
-    ensures made { buffer.new ≡ table_kerned kern.now mask buffer.old }
+    ensures made { buffer.new ≡ Tables.table_kerned kern.now mask buffer.old }
     ensures len { length buffer.new.items ≡ length buffer.old.items }
     ensures limit { limit_of buffer.new ≡ limit_of buffer.old }
 {

@@ -7,7 +7,7 @@ ghost use Rattle.std.specs.Option.{IfSome};
 ghost use Rattle.std.specs.Int.RustNames.{bit_and};
 ghost use Rattle.shape_items.specs.Buffer.{limit_of};
 ghost use Rattle.kern_table.specs.Pairs.{IsRead};
-ghost use Rattle.kern_table.specs.Walk.{is_skipped as is_skipped_of, moved_on as moved_on_of, moved as moved_of, position_at, position_put, pair_moved, pair_kerned, kerned_at, left_after, kerned as kerned_of};
+ghost use Rattle.kern_table.specs.Walk;
 
 use crate::pairs::{Subtable, pair_value, read_subtable};
 use crate::sides::Sides;
@@ -20,7 +20,7 @@ use shape_font::metrics::half_below;
 
 /// Whether a glyph between two others doesn't part them: a mark, or one of a default ignorable.
 fn is_skipped(item: &hb_glyph_info_t) -> bool
-    ensures { result ≡ is_skipped_of item.now }
+    ensures { result ≡ Walk.is_skipped item.now }
 {
     item._hb_glyph_info_get_glyph_class()
         .contains(GlyphPropsFlags::MARK)
@@ -29,7 +29,7 @@ fn is_skipped(item: &hb_glyph_info_t) -> bool
 
 /// A position with a longer advance along the line.
 fn moved_on(horizontal: bool, by: i32, position: GlyphPosition) -> GlyphPosition
-    ensures { result ≡ moved_on_of horizontal by position }
+    ensures { result ≡ Walk.moved_on horizontal by position }
 {
     let mut position = position;
     if horizontal {
@@ -42,7 +42,7 @@ fn moved_on(horizontal: bool, by: i32, position: GlyphPosition) -> GlyphPosition
 
 /// A position moved along the line.
 fn moved(horizontal: bool, by: i32, position: GlyphPosition) -> GlyphPosition
-    ensures { result ≡ moved_of horizontal by position }
+    ensures { result ≡ Walk.moved horizontal by position }
 {
     let mut position = position;
     if horizontal {
@@ -57,7 +57,7 @@ fn moved(horizontal: bool, by: i32, position: GlyphPosition) -> GlyphPosition
 fn move_on(buffer: &mut hb_buffer_t, i: usize, along: bool, by: i32)
     requires { i < length buffer.old.items }
     ensures { buffer.new
-        ≡ position_put i (moved_on_of along by (position_at buffer.old i)) buffer.old }
+        ≡ Walk.position_put i (Walk.moved_on along by (Walk.position_at buffer.old i)) buffer.old }
 {
     let position = moved_on(along, by, buffer.positions()[i]);
     buffer.set_position(i, position);
@@ -66,8 +66,8 @@ fn move_on(buffer: &mut hb_buffer_t, i: usize, along: bool, by: i32)
 /// The same, and moves the glyph along the line.
 fn move_both(buffer: &mut hb_buffer_t, j: usize, along: bool, by: i32)
     requires { j < length buffer.old.items }
-    ensures { buffer.new ≡ position_put j
-        (moved_of along by (moved_on_of along by (position_at buffer.old j))) buffer.old }
+    ensures { buffer.new ≡ Walk.position_put j
+        (Walk.moved along by (Walk.moved_on along by (Walk.position_at buffer.old j))) buffer.old }
 {
     let position = moved_on(along, by, buffer.positions()[j]);
     buffer.set_position(j, moved(along, by, position));
@@ -79,7 +79,7 @@ fn put_pair(buffer: &mut hb_buffer_t, i: usize, j: usize, by: i32)
     requires after { i < j }
     requires inside { j < length buffer.old.items }
     requires low { negsuc 32767 ≤ℤ by }
-    ensures { buffer.new ≡ pair_moved i j by buffer.old }
+    ensures { buffer.new ≡ Walk.pair_moved i j by buffer.old }
 {
     let count = buffer.len();
     if by == 0 || count <= j {
@@ -98,7 +98,7 @@ fn move_pair(buffer: &mut hb_buffer_t, i: usize, j: usize, by: i32)
     requires after { i < j }
     requires inside { j < length buffer.old.items }
     requires low { negsuc 32767 ≤ℤ by }
-    ensures made { buffer.new ≡ pair_moved i j by buffer.old }
+    ensures made { buffer.new ≡ Walk.pair_moved i j by buffer.old }
     ensures len { length buffer.new.items ≡ length buffer.old.items }
     ensures limit { limit_of buffer.new ≡ limit_of buffer.old }
 {
@@ -110,7 +110,8 @@ fn kern_pair(subtable: Subtable<'_>, buffer: &mut hb_buffer_t, i: usize, j: usiz
     requires read { IsRead subtable }
     requires after { i < j }
     requires inside { j < length buffer.old.items }
-    ensures made { buffer.new ≡ pair_kerned subtable.entry.kern.now subtable.entry.start i j buffer.old }
+    ensures made { buffer.new
+        ≡ Walk.pair_kerned subtable.entry.kern.now subtable.entry.start i j buffer.old }
     ensures len { length buffer.new.items ≡ length buffer.old.items }
     ensures limit { limit_of buffer.new ≡ limit_of buffer.old }
 {
@@ -130,8 +131,9 @@ fn kern_at(
     requires read { IsRead subtable }
     requires inside { j < length buffer.old.items }
     requires after { IfSome left (λ i. i < j) }
-    ensures made { buffer.new ≡ kerned_at subtable.entry.kern.now subtable.entry.start mask j left buffer.old }
-    ensures waits { result ≡ left_after mask j left buffer.old.items }
+    ensures made { buffer.new
+        ≡ Walk.kerned_at subtable.entry.kern.now subtable.entry.start mask j left buffer.old }
+    ensures waits { result ≡ Walk.left_after mask j left buffer.old.items }
     ensures before { IfSome result (λ i. i < j + 1) }
     ensures len { length buffer.new.items ≡ length buffer.old.items }
     ensures limit { limit_of buffer.new ≡ limit_of buffer.old }
@@ -153,7 +155,8 @@ fn kern_at(
 #[tactic(auto, using(crate::specs::CountLaws::length_concat, crate::specs::CountLaws::limit_concat, crate::proofs::SubtableLemmas::kerned_to_next_buffer, crate::proofs::SubtableLemmas::kerned_to_next_left))]
 pub(crate) fn kern_each(subtable: Subtable<'_>, mask: hb_mask_t, buffer: &mut hb_buffer_t)
     requires { IsRead subtable }
-    ensures made { buffer.new ≡ kerned_of subtable.entry.kern.now subtable.entry.start mask buffer.old }
+    ensures made { buffer.new
+        ≡ Walk.kerned subtable.entry.kern.now subtable.entry.start mask buffer.old }
     ensures len { length buffer.new.items ≡ length buffer.old.items }
     ensures limit { limit_of buffer.new ≡ limit_of buffer.old }
 {
@@ -169,7 +172,7 @@ pub(crate) fn kern_each(subtable: Subtable<'_>, mask: hb_mask_t, buffer: &mut hb
 /// memory, and a step for each glyph.
 pub fn kern_all(kern: &[u8], start: usize, mask: hb_mask_t, buffer: &mut hb_buffer_t)
     requires { start < 2 ^ 34 }
-    ensures made { buffer.new ≡ kerned_of kern.now start mask buffer.old }
+    ensures made { buffer.new ≡ Walk.kerned kern.now start mask buffer.old }
     ensures len { length buffer.new.items ≡ length buffer.old.items }
     ensures limit { limit_of buffer.new ≡ limit_of buffer.old }
 {

@@ -2,9 +2,7 @@
 ghost use Rattle.std.specs.Prelude.{◌≡◌, ◌<◌, ◌≤◌, ◌↔◌, ◌+◌, [], length, insert, remove, slice_set};
 ghost use Rattle.std.specs.Prelude.{IsErrOf, IsOkUnless, OnOk, OnErr};
 ghost use Rattle.shape_items.specs.Buffer.{limit_of, new_buffer, next_ligature_id};
-ghost use Rattle.shape_items.specs.BufferClusters.{merge_clusters as merge_clusters_of};
-ghost use Rattle.shape_items.specs.BufferClusters.{unsafe_to_break as unsafe_to_break_of};
-ghost use Rattle.shape_items.specs.BufferClusters.{unsafe_to_concat as unsafe_to_concat_of};
+ghost use Rattle.shape_items.specs.BufferClusters;
 ghost use Rattle.shape_common.specs.Positions.{zero_position};
 ghost use Rattle.shape_buffer.specs.declared.buffer.error.ShapeError.TheVariants.{Length};
 
@@ -149,7 +147,7 @@ impl GapBuffer {
     pub fn merge_clusters(&mut self, start: usize, end: usize)
         requires ordered { start ≤ end }
         requires within { end ≤ length self.old.items }
-        ensures merged { self.new ≡ merge_clusters_of start end self.old }
+        ensures merged { self.new ≡ BufferClusters.merge_clusters start end self.old }
         ensures len { length self.new.items ≡ length self.old.items }
     {
         if self.settings.cluster_level() == BufferClusterLevel::Characters {
@@ -164,7 +162,7 @@ impl GapBuffer {
     pub fn unsafe_to_break(&mut self, start: usize, end: usize)
         requires ordered { start ≤ end }
         requires within { end ≤ length self.old.items }
-        ensures marked { self.new ≡ unsafe_to_break_of start end self.old }
+        ensures marked { self.new ≡ BufferClusters.unsafe_to_break start end self.old }
     {
         if end - start < 2 {
             return;
@@ -180,7 +178,7 @@ impl GapBuffer {
     pub fn unsafe_to_concat(&mut self, start: usize, end: usize)
         requires ordered { start ≤ end }
         requires within { end ≤ length self.old.items }
-        ensures marked { self.new ≡ unsafe_to_concat_of start end self.old }
+        ensures marked { self.new ≡ BufferClusters.unsafe_to_concat start end self.old }
     {
         let asked = BufferFlags::PRODUCE_UNSAFE_TO_CONCAT.0;
         if self.settings.flags().0 & asked != asked {

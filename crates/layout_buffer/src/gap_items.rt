@@ -1,10 +1,8 @@
 //! Marking and merging of items round a gap. The gap goes after what changes, so that it stands in one slice.
 ghost use Rattle.std.specs.Prelude.{◌≡◌, ◌+◌, ◌-◌, ◌≤◌, ◌<◌, length, slice_range};
-ghost use Rattle.shape_items.specs.Clusters.{growth_right, least_cluster as least_cluster_of};
-ghost use Rattle.shape_items.specs.Clusters.{mark_break as mark_break_of, mark_concat as mark_concat_of};
-ghost use Rattle.shape_items.specs.Clusters.{map_range, merge};
+ghost use Rattle.shape_items.specs.Clusters;
 ghost use Rattle.layout_buffer.specs.Gap.{around};
-ghost use Rattle.layout_buffer.specs.GapMerging.{growth_after as growth_after_of};
+ghost use Rattle.layout_buffer.specs.GapMerging;
 
 use crate::gap::move_gap;
 use shape_buffer::hb_glyph_info_t;
@@ -13,7 +11,7 @@ use shape_items::clusters::{count_at_start, least_cluster, mark_break, mark_conc
 /// How far the merge of a span that ends `front` grows over the items after it.
 fn growth_after(front: &[hb_glyph_info_t], after: &[hb_glyph_info_t], start: usize) -> usize
     requires { start < length front.now }
-    ensures value { result ≡ growth_after_of start front.now after.now }
+    ensures value { result ≡ GapMerging.growth_after start front.now after.now }
     ensures within { result ≤ length after.now }
 {
     let least = least_cluster(&front[start..]);
@@ -29,8 +27,8 @@ fn growth_after(front: &[hb_glyph_info_t], after: &[hb_glyph_info_t], start: usi
 fn reach(stored: &[hb_glyph_info_t], room: usize, start: usize, end: usize) -> usize
     requires ordered { start < end }
     requires gap { end + room ≤ length stored.now }
-    ensures value { result ≡ end + growth_right (around end room stored.now) (end - 1)
-        (least_cluster_of (slice_range (around end room stored.now) start end)) }
+    ensures value { result ≡ end + Clusters.growth_right (around end room stored.now) (end - 1)
+        (Clusters.least_cluster (slice_range (around end room stored.now) start end)) }
     ensures within { result + room ≤ length stored.now }
 {
     end + growth_after(&stored[..end], &stored[end + room..], start)
@@ -42,10 +40,11 @@ fn merge_before(stored: &mut [hb_glyph_info_t], at: usize, room: usize, start: u
     requires ordered { start + 1 < end }
     requires within { end ≤ at }
     requires gap { at + room ≤ length stored.old }
-    requires holds { end + growth_right (around at room stored.old) (end - 1)
-        (least_cluster_of (slice_range (around at room stored.old) start end)) ≤ at }
+    requires holds { end + Clusters.growth_right (around at room stored.old) (end - 1)
+        (Clusters.least_cluster (slice_range (around at room stored.old) start end)) ≤ at }
     ensures len { length stored.new ≡ length stored.old }
-    ensures merged { around at room stored.new ≡ merge start end (around at room stored.old) }
+    ensures merged { around at room stored.new
+        ≡ Clusters.merge start end (around at room stored.old) }
 {
     merge_items(&mut stored[..at], start, end);
 }
@@ -65,7 +64,8 @@ pub(crate) fn merge_around(
     requires within { end + room ≤ length stored.old }
     ensures len { length stored.new ≡ length stored.old }
     ensures gap { result + room ≤ length stored.new }
-    ensures merged { around result room stored.new ≡ merge start end (around at room stored.old) }
+    ensures merged { around result room stored.new
+        ≡ Clusters.merge start end (around at room stored.old) }
 {
     if end - start < 2 {
         return at;
@@ -101,8 +101,8 @@ fn break_before(stored: &mut [hb_glyph_info_t], at: usize, room: usize, start: u
     requires gap { at + room ≤ length stored.old }
     ensures len { length stored.new ≡ length stored.old }
     ensures marked { around at room stored.new
-        ≡ map_range (mark_break_of
-        (least_cluster_of (slice_range (around at room stored.old) start end)))
+        ≡ Clusters.map_range (Clusters.mark_break
+        (Clusters.least_cluster (slice_range (around at room stored.old) start end)))
         start end (around at room stored.old) }
 {
     mark_break(&mut stored[..at], start, end);
@@ -122,8 +122,8 @@ pub(crate) fn break_around(
     ensures len { length stored.new ≡ length stored.old }
     ensures gap { result + room ≤ length stored.new }
     ensures marked { around result room stored.new
-        ≡ map_range (mark_break_of
-        (least_cluster_of (slice_range (around at room stored.old) start end)))
+        ≡ Clusters.map_range (Clusters.mark_break
+        (Clusters.least_cluster (slice_range (around at room stored.old) start end)))
         start end (around at room stored.old) }
 {
     let place = gap_after(stored, at, room, end);
@@ -139,7 +139,7 @@ fn concat_before(stored: &mut [hb_glyph_info_t], at: usize, room: usize, start: 
     requires gap { at + room ≤ length stored.old }
     ensures len { length stored.new ≡ length stored.old }
     ensures marked { around at room stored.new
-        ≡ map_range mark_concat_of start end (around at room stored.old) }
+        ≡ Clusters.map_range Clusters.mark_concat start end (around at room stored.old) }
 {
     mark_concat(&mut stored[..at], start, end);
 }
@@ -158,7 +158,7 @@ pub(crate) fn concat_around(
     ensures len { length stored.new ≡ length stored.old }
     ensures gap { result + room ≤ length stored.new }
     ensures marked { around result room stored.new
-        ≡ map_range mark_concat_of start end (around at room stored.old) }
+        ≡ Clusters.map_range Clusters.mark_concat start end (around at room stored.old) }
 {
     let place = gap_after(stored, at, room, end);
     concat_before(stored, place, room, start, end);

@@ -10,8 +10,8 @@ ghost use Rattle.shape_buffer.specs.Outcome.{IsWithinLimit};
 ghost use Rattle.shape_buffer.specs.declared.buffer.error.ShapeError.TheVariants.{Length};
 ghost use Rattle.layout_matching.specs.Loops.{times};
 ghost use Rattle.layout_substitution.specs.Edits.{is_past};
-ghost use Rattle.layout_context.specs.Places.{renumbered, is_too_long as is_too_long_of};
-ghost use Rattle.layout_context.specs.Nested.{Nest, passed_record as passed_record_of, stopped_record as stopped_record_of, settled, nest_after, nested_spot as nested_spot_of, target_applied, record_step, first_nest, rule_applied, origin_of, tried_marked, level_applied, nested_applied};
+ghost use Rattle.layout_context.specs.Places;
+ghost use Rattle.layout_context.specs.Nested;
 
 use crate::places::{is_too_long, moved_end, renumber};
 use layout_buffer::GapBuffer;
@@ -47,7 +47,7 @@ pub struct Progress {
 
 fn passed_record(progress: Progress) -> Progress
     requires { progress.r < 2 ^ 16 }
-    ensures { result ≡ passed_record_of progress }
+    ensures { result ≡ Nested.passed_record progress }
 {
     let mut next = progress;
     next.r += 1;
@@ -56,7 +56,7 @@ fn passed_record(progress: Progress) -> Progress
 
 fn stopped_record(progress: Progress) -> Progress
     requires { progress.r < 2 ^ 16 }
-    ensures { result ≡ stopped_record_of progress }
+    ensures { result ≡ Nested.stopped_record progress }
 {
     let mut next = progress;
     next.spot.left = 0;
@@ -66,7 +66,7 @@ fn stopped_record(progress: Progress) -> Progress
 }
 
 fn nested_spot(spot: Spot, place: usize, left: usize) -> Spot
-    ensures { result ≡ nested_spot_of spot place left }
+    ensures { result ≡ Nested.nested_spot spot place left }
 {
     let mut next = spot;
     next.at = place;
@@ -86,10 +86,13 @@ fn settle(
     requires index { there.now.index < 2 ^ 16 }
     requires place { there.now.place < before }
     requires r { progress.r < 2 ^ 16 }
-    ensures progress { IfOk result (λ p. p ≡ settled there.now before after places.old.items spot progress) }
-    ensures short { is_too_long_of before after places.old.items ≡ false → OnOk result
-        (places.new.items ≡ renumbered there.now.place there.now.index before after places.old.items) }
-    ensures long { is_too_long_of before after places.old.items ≡ true → places.new.items ≡ places.old.items }
+    ensures progress { IfOk result (λ p. p
+        ≡ Nested.settled there.now before after places.old.items spot progress) }
+    ensures short { Places.is_too_long before after places.old.items ≡ false → OnOk result
+        (places.new.items ≡ Places.renumbered there.now.place there.now.index before after
+        places.old.items) }
+    ensures long { Places.is_too_long before after places.old.items ≡ true
+        → places.new.items ≡ places.old.items }
     ensures memory { IsOkUnless result ShapeError.Memory }
 {
     let mut next = passed_record(progress);
@@ -115,12 +118,18 @@ fn apply_target(
     requires near { there.now.lookup.place < 2 ^ 17 }
     requires index { there.now.index < 2 ^ 16 }
     requires r { progress.r < 2 ^ 16 }
-    ensures ok { IfOk result (λ p. record { buffer = buffer.new; places = places.new.items; progress = p }
-        ≡ target_applied (nested_applied level)
+    ensures ok { IfOk result (λ p. record {
+      buffer = buffer.new;
+      places = places.new.items;
+      progress = p;
+    }
+        ≡ Nested.target_applied (Nested.nested_applied level)
         (record { buffer = buffer.old; places = places.old.items; progress = progress }) there.now) }
     ensures r { IfOk result (λ p. p.r ≡ progress.r + 1) }
-    ensures length { IsErrOf result Length → is_past (target_applied (nested_applied level)
-        (record { buffer = buffer.old; places = places.old.items; progress = progress }) there.now).buffer ≡ true }
+    ensures length { IsErrOf result Length
+        → is_past (Nested.target_applied (Nested.nested_applied level)
+        (record { buffer = buffer.old; places = places.old.items; progress = progress })
+        there.now).buffer ≡ true }
 {
     let before = buffer.len();
     if before <= there.place {
@@ -152,12 +161,18 @@ fn apply_record(
 ) -> Result<Progress, ShapeError>
     requires near { named.now.lookup.place < 2 ^ 17 }
     requires r { progress.r < 2 ^ 16 }
-    ensures ok { IfOk result (λ p. record { buffer = buffer.new; places = places.new.items; progress = p }
-        ≡ record_step (nested_applied level) named.now
+    ensures ok { IfOk result (λ p. record {
+      buffer = buffer.new;
+      places = places.new.items;
+      progress = p;
+    }
+        ≡ Nested.record_step (Nested.nested_applied level) named.now
         (record { buffer = buffer.old; places = places.old.items; progress = progress })) }
     ensures r { IfOk result (λ p. p.r ≡ progress.r + 1) }
-    ensures length { IsErrOf result Length → is_past (record_step (nested_applied level) named.now
-        (record { buffer = buffer.old; places = places.old.items; progress = progress })).buffer ≡ true }
+    ensures length { IsErrOf result Length
+        → is_past (Nested.record_step (Nested.nested_applied level) named.now
+        (record { buffer = buffer.old; places = places.old.items; progress = progress })).buffer
+        ≡ true }
 {
     if progress.stopped {
         return Ok(passed_record(progress));
@@ -181,11 +196,21 @@ fn apply_records(
 ) -> Result<Progress, ShapeError>
     requires near { named.now.lookup.place < 2 ^ 17 }
     requires r { progress.r ≡ 0 }
-    ensures ok { IfOk result (λ p. record { buffer = buffer.new; places = places.new.items; progress = p }
-        ≡ times (record_step (nested_applied level) named.now) named.now.rule.count
+    ensures ok { IfOk result (λ p. record {
+      buffer = buffer.new;
+      places = places.new.items;
+      progress = p;
+    }
+        ≡ times (Nested.record_step (Nested.nested_applied level) named.now) named.now.rule.count
         (record { buffer = buffer.old; places = places.old.items; progress = progress })) }
-    ensures length { IsErrOf result Length → is_past (times (record_step (nested_applied level) named.now)
-        named.now.rule.count (record { buffer = buffer.old; places = places.old.items; progress = progress })).buffer ≡ true }
+    ensures length { IsErrOf result Length
+        → is_past (times (Nested.record_step (Nested.nested_applied level) named.now)
+        named.now.rule.count (record {
+          buffer = buffer.old;
+          places = places.old.items;
+          progress =
+              progress;
+        })).buffer ≡ true }
 {
     let mut progress = progress;
     for _i in 0..named.rule.count {
@@ -211,11 +236,14 @@ fn apply_rule(
     requires inside { spot.at < length buffer.old.items }
     requires last { found.span.last < length buffer.old.items }
     ensures made { OnOk result (buffer.new
-        ≡ (rule_applied (nested_applied level) lookup.now spot buffer.old found).buffer) }
+        ≡ (Nested.rule_applied
+        (Nested.nested_applied level) lookup.now spot buffer.old found).buffer) }
     ensures next { IfOk result (λ next. next
-        ≡ (rule_applied (nested_applied level) lookup.now spot buffer.old found).next) }
+        ≡ (Nested.rule_applied
+        (Nested.nested_applied level) lookup.now spot buffer.old found).next) }
     ensures length { IsErrOf result Length
-        → is_past (rule_applied (nested_applied level) lookup.now spot buffer.old found).buffer ≡ true }
+        → is_past (Nested.rule_applied
+        (Nested.nested_applied level) lookup.now spot buffer.old found).buffer ≡ true }
 {
     let named = LookupRule {
         lookup: *lookup,
@@ -246,7 +274,7 @@ fn at_end(progress: Progress) -> Spot
 
 /// Where a match begins.
 fn origin(spot: Spot, buffer: &GapBuffer) -> Origin
-    ensures { result ≡ origin_of spot buffer.now }
+    ensures { result ≡ Nested.origin_of spot buffer.now }
 {
     Origin {
         at: spot.at,
@@ -259,7 +287,7 @@ fn origin(spot: Spot, buffer: &GapBuffer) -> Origin
 fn mark_tried(lookup: &Lookup<'_>, buffer: &mut GapBuffer, spot: Spot)
     requires near { lookup.now.place < 2 ^ 17 }
     requires inside { spot.at < length buffer.old.items }
-    ensures made { buffer.new ≡ tried_marked lookup.now spot buffer.old }
+    ensures made { buffer.new ≡ Nested.tried_marked lookup.now spot buffer.old }
     ensures as_many { length buffer.new.items ≡ length buffer.old.items }
     ensures limit { limit_of buffer.new ≡ limit_of buffer.old }
 {
@@ -282,10 +310,12 @@ pub fn apply_nested(
     spot: Spot,
 ) -> Result<Option<Spot>, ShapeError>
     requires near { lookup.now.place < 2 ^ 17 }
-    ensures made { OnOk result (buffer.new ≡ (nested_applied level lookup.now spot buffer.old).buffer) }
-    ensures next { IfOk result (λ next. next ≡ (nested_applied level lookup.now spot buffer.old).next) }
+    ensures made { OnOk result (buffer.new
+        ≡ (Nested.nested_applied level lookup.now spot buffer.old).buffer) }
+    ensures next { IfOk result (λ next. next
+        ≡ (Nested.nested_applied level lookup.now spot buffer.old).next) }
     ensures length { IsErrOf result Length
-        → is_past (nested_applied level lookup.now spot buffer.old).buffer ≡ true }
+        → is_past (Nested.nested_applied level lookup.now spot buffer.old).buffer ≡ true }
 {
     if level == 0 || buffer.length_limit() < buffer.len() || buffer.len() <= spot.at {
         return Ok(None);
@@ -306,11 +336,12 @@ fn apply_level(
     requires inside { spot.at < length buffer.old.items }
     requires within { IsWithinLimit buffer.old }
     ensures made { OnOk result (buffer.new
-        ≡ (level_applied (nested_applied level) lookup.now spot buffer.old).buffer) }
+        ≡ (Nested.level_applied (Nested.nested_applied level) lookup.now spot buffer.old).buffer) }
     ensures next { IfOk result (λ next. next
-        ≡ (level_applied (nested_applied level) lookup.now spot buffer.old).next) }
+        ≡ (Nested.level_applied (Nested.nested_applied level) lookup.now spot buffer.old).next) }
     ensures length { IsErrOf result Length
-        → is_past (level_applied (nested_applied level) lookup.now spot buffer.old).buffer ≡ true }
+        → is_past (Nested.level_applied
+        (Nested.nested_applied level) lookup.now spot buffer.old).buffer ≡ true }
 {
     if !is_context(lookup) {
         return apply_lookup(lookup, buffer, spot);

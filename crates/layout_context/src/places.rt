@@ -4,12 +4,12 @@
 //! after it, as HarfBuzz takes them.
 ghost use Rattle.std.specs.Prelude.{◌≡◌, ◌<◌, ◌-◌, ◌^◌, ◌+◌, map, OnOk, IfOk, IsOkUnless};
 ghost use Rattle.layout_matching.specs.Loops.{times};
-ghost use Rattle.layout_context.specs.Places.{shifted as shifted_of, one_dropped, Growing, one_grown, grown, renumbered, moved_end as moved_end_of, is_too_long as is_too_long_of};
+ghost use Rattle.layout_context.specs.Places;
 
 use shape_buffer::ShapeError;
 
 fn shift_one(place: usize, before: usize, after: usize, j: usize) -> usize
-    ensures { result ≡ shifted_of place before after j }
+    ensures { result ≡ Places.shifted place before after j }
 {
     if place < j {
         after.saturating_sub(before.saturating_sub(j))
@@ -19,13 +19,13 @@ fn shift_one(place: usize, before: usize, after: usize, j: usize) -> usize
 }
 
 fn shift_in_place(j: &mut usize, place: usize, before: usize, after: usize)
-    ensures { j.new ≡ shifted_of place before after j.old }
+    ensures { j.new ≡ Places.shifted place before after j.old }
 {
     *j = shift_one(place, before, after, *j);
 }
 
 fn shift_all(places: &mut [usize], place: usize, before: usize, after: usize)
-    ensures { places.new ≡ map (shifted_of place before after) places.old }
+    ensures { places.new ≡ map (Places.shifted place before after) places.old }
 {
     for j in places.iter_mut() {
         shift_in_place(j, place, before, after);
@@ -34,7 +34,7 @@ fn shift_all(places: &mut [usize], place: usize, before: usize, after: usize)
 
 fn drop_one(places: &mut Vec<usize>, index: usize)
     requires { index < 2 ^ 16 }
-    ensures { places.new.items ≡ one_dropped index places.old.items }
+    ensures { places.new.items ≡ Places.one_dropped index places.old.items }
 {
     if index + 1 < places.len() {
         places.remove(index + 1);
@@ -44,7 +44,7 @@ fn drop_one(places: &mut Vec<usize>, index: usize)
 #[tactic(auto, using(layout_matching::proofs::LoopLemmas::times_step))]
 fn drop_some(places: &mut Vec<usize>, index: usize, n: usize)
     requires { index < 2 ^ 16 }
-    ensures { places.new.items ≡ times (one_dropped index) n places.old.items }
+    ensures { places.new.items ≡ times (Places.one_dropped index) n places.old.items }
 {
     for _i in 0..n {
         drop_one(places, index);
@@ -54,7 +54,7 @@ fn drop_some(places: &mut Vec<usize>, index: usize, n: usize)
 fn grow_one(places: &mut Vec<usize>, index: usize, next: usize) -> Result<usize, ShapeError>
     requires { index < 2 ^ 16 }
     ensures ok { IfOk result (λ left. record { places = places.new.items; next = left }
-        ≡ one_grown index (record { places = places.old.items; next = next })) }
+        ≡ Places.one_grown index (record { places = places.old.items; next = next })) }
     ensures memory { IsOkUnless result ShapeError.Memory }
 {
     if index < places.len() {
@@ -67,7 +67,8 @@ fn grow_one(places: &mut Vec<usize>, index: usize, next: usize) -> Result<usize,
 fn grow_some(places: &mut Vec<usize>, index: usize, n: usize, next: usize) -> Result<(), ShapeError>
     requires { index < 2 ^ 16 }
     ensures ok { OnOk result (places.new.items
-        ≡ (times (one_grown index) n (record { places = places.old.items; next = next })).places) }
+        ≡ (times (Places.one_grown index) n
+        (record { places = places.old.items; next = next })).places) }
     ensures memory { IsOkUnless result ShapeError.Memory }
 {
     let mut next = next;
@@ -87,7 +88,8 @@ pub fn renumber(
 ) -> Result<(), ShapeError>
     requires index { index < 2 ^ 16 }
     requires place { place < before }
-    ensures ok { OnOk result (places.new.items ≡ renumbered place index before after places.old.items) }
+    ensures ok { OnOk result (places.new.items
+        ≡ Places.renumbered place index before after places.old.items) }
     ensures memory { IsOkUnless result ShapeError.Memory }
 {
     drop_some(places, index, before.saturating_sub(after));
@@ -110,14 +112,14 @@ fn last_grown(place: usize, before: usize, after: usize) -> usize
 
 /// Where a rule goes on after a nested lookup at `place`: with as many items after it as before, never before `place`.
 pub fn moved_end(place: usize, before: usize, after: usize, end: usize) -> usize
-    ensures { result ≡ moved_end_of place before after end }
+    ensures { result ≡ Places.moved_end place before after end }
 {
     after.saturating_sub(before.saturating_sub(end)).max(place)
 }
 
 /// Whether a rule would hold more than 64 glyphs after a nested lookup.
 pub fn is_too_long(before: usize, after: usize, places: &[usize]) -> bool
-    ensures { result ≡ is_too_long_of before after places.now }
+    ensures { result ≡ Places.is_too_long before after places.now }
 {
     before < after && 64_usize.saturating_sub(after - before) < places.len()
 }

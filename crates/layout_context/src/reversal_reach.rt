@@ -3,8 +3,7 @@
 //! Where what stands before isn't there HarfBuzz marks nothing, else all from there to the glyph after which the search ended.
 ghost use Rattle.std.specs.Prelude.{◌≡◌, ◌<◌, ◌^◌, length};
 ghost use Rattle.layout_substitution.specs.Edits.{concat_marked};
-ghost use Rattle.layout_context.specs.Reverse.{reversal_after_reach, reversal_reach_of, reversal_reach_by};
-ghost use Rattle.layout_context.specs.Reverse.{reversal_reach_in, reversal_reach as reversal_reach_all};
+ghost use Rattle.layout_context.specs.Reverse;
 
 use crate::reverse::reverse_rule;
 use layout_buffer::{GapBuffer, ItemList};
@@ -28,7 +27,7 @@ fn after_reach(
     start: usize,
 ) -> Reach
     requires { at < length items.now }
-    ensures { result ≡ reversal_after_reach lookup.now items.now at rule.now start }
+    ensures { result ≡ Reverse.reversal_after_reach lookup.now items.now at rule.now start }
 {
     let seek = seek_around(lookup, &items.item(at), true, rule.after);
     let n = u32::from(rule.after.count);
@@ -48,7 +47,7 @@ fn reach_of_number(
 ) -> Reach
     requires near { start < 2 ^ 35 }
     requires inside { at < length items.now }
-    ensures { result ≡ reversal_reach_of lookup.now items.now at start i }
+    ensures { result ≡ Reverse.reversal_reach_of lookup.now items.now at start i }
 {
     let rule = reverse_rule(lookup.table, start);
     if count(lookup.table, rule.lookups) <= i {
@@ -69,7 +68,7 @@ fn reach_of_subtable(
 ) -> Reach
     requires near { subtable.start < 2 ^ 35 }
     requires inside { at < length items.now }
-    ensures { result ≡ reversal_reach_by lookup.now items.now at subtable }
+    ensures { result ≡ Reverse.reversal_reach_by lookup.now items.now at subtable }
 {
     if subtable.kind != 8 || u16_at(lookup.table, subtable.start) != 1 {
         return untried(at);
@@ -85,7 +84,7 @@ fn reach_in(lookup: &Lookup<'_>, items: &ItemList<'_>, at: usize, i: u32) -> Rea
     requires near { lookup.now.place < 2 ^ 17 }
     requires few { i < 2 ^ 16 }
     requires inside { at < length items.now }
-    ensures { result ≡ reversal_reach_in lookup.now items.now at i }
+    ensures { result ≡ Reverse.reversal_reach_in lookup.now items.now at i }
 {
     match subtable_at(lookup, i) {
         Some(subtable) => reach_of_subtable(lookup, items, at, subtable),
@@ -98,7 +97,7 @@ fn reach_in(lookup: &Lookup<'_>, items: &ItemList<'_>, at: usize, i: u32) -> Rea
 fn reversal_reach(lookup: &Lookup<'_>, items: &ItemList<'_>, at: usize) -> Reach
     requires near { lookup.now.place < 2 ^ 17 }
     requires inside { at < length items.now }
-    ensures { result ≡ reversal_reach_all lookup.now items.now at }
+    ensures { result ≡ Reverse.reversal_reach lookup.now items.now at }
 {
     let mut reach = untried(at);
     for i in 0..subtable_count(lookup.table, lookup.place) {
@@ -115,7 +114,8 @@ fn reversal_reach(lookup: &Lookup<'_>, items: &ItemList<'_>, at: usize) -> Reach
 pub fn mark_tried(lookup: &Lookup<'_>, buffer: &mut GapBuffer, at: usize)
     requires near { lookup.now.place < 2 ^ 17 }
     requires inside { at < length buffer.old.items }
-    ensures made { buffer.new ≡ concat_marked (reversal_reach_all lookup.now buffer.old.items at) buffer.old }
+    ensures made { buffer.new
+        ≡ concat_marked (Reverse.reversal_reach lookup.now buffer.old.items at) buffer.old }
     ensures as_many { length buffer.new.items ≡ length buffer.old.items }
 {
     if !asks_for_concat(buffer) {

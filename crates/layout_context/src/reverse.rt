@@ -3,7 +3,7 @@
 //! No memory is taken, and no item comes or goes. Such a lookup is applied to a whole buffer alone: no rule applies it.
 ghost use Rattle.std.specs.Prelude.{◌≡◌, ◌<◌, ◌≤◌, ◌-◌, ◌+◌, ◌^◌, length};
 ghost use Rattle.layout_matching.specs.Loops.{times};
-ghost use Rattle.layout_context.specs.Reverse.{reverse_rule as reverse_rule_of, reversal_at as reversal_at_of, reversal_of, reversal_by as reversal_by_of, reversal_in as reversal_in_of, reversal_found, reversed_by, reversed_at, Backwards, reverse_step, reversed, is_reverse as is_reverse_of};
+ghost use Rattle.layout_context.specs.Reverse;
 
 use crate::reversal_reach::mark_tried;
 use layout_buffer::{GapBuffer, ItemList};
@@ -35,7 +35,12 @@ pub struct Backward {
 }
 
 fn lists(start: usize, count: u16, values: usize) -> Row
-    ensures { result ≡ record { test = Test.Coverage; from = start; count = count; values = values } }
+    ensures { result ≡ record {
+      test = Test.Coverage;
+      from = start;
+      count = count;
+      values = values;
+    } }
 {
     Row {
         test: Test::Coverage,
@@ -48,7 +53,7 @@ fn lists(start: usize, count: u16, values: usize) -> Row
 /// What stands before and after the glyph; `lookups` is where the glyphs are listed that replace it.
 pub(crate) fn reverse_rule(table: &[u8], start: usize) -> Rule
     requires { start < 2 ^ 35 }
-    ensures value { result ≡ reverse_rule_of table.now start }
+    ensures value { result ≡ Reverse.reverse_rule table.now start }
     ensures near { result.lookups < 2 ^ 36 }
 {
     let before = lists(start, u16_at(table, start + 4), start + 6);
@@ -65,7 +70,7 @@ pub(crate) fn reverse_rule(table: &[u8], start: usize) -> Rule
 
 fn reversal_at(table: &[u8], rule: &Rule, i: u32, span: Span) -> Option<Reversal>
     requires { rule.now.lookups < 2 ^ 36 }
-    ensures { result ≡ reversal_at_of table.now rule.now i span }
+    ensures { result ≡ Reverse.reversal_at table.now rule.now i span }
 {
     if i < count(table, rule.lookups) {
         Some(Reversal {
@@ -88,7 +93,7 @@ fn reversal_by_number(
 ) -> Option<Reversal>
     requires near { start < 2 ^ 35 }
     requires inside { at < length items.now }
-    ensures { result ≡ reversal_of lookup.now items.now at start i }
+    ensures { result ≡ Reverse.reversal_of lookup.now items.now at start i }
 {
     let rule = reverse_rule(lookup.table, start);
     let origin = Origin {
@@ -109,7 +114,7 @@ fn reversal_by(
 ) -> Option<Reversal>
     requires near { subtable.start < 2 ^ 35 }
     requires inside { at < length items.now }
-    ensures { result ≡ reversal_by_of lookup.now items.now at subtable }
+    ensures { result ≡ Reverse.reversal_by lookup.now items.now at subtable }
 {
     if subtable.kind != 8 || u16_at(lookup.table, subtable.start) != 1 {
         return None;
@@ -124,7 +129,7 @@ fn reversal_in(lookup: &Lookup<'_>, items: &ItemList<'_>, at: usize, i: u32) -> 
     requires near { lookup.now.place < 2 ^ 17 }
     requires few { i < 2 ^ 16 }
     requires inside { at < length items.now }
-    ensures { result ≡ reversal_in_of lookup.now items.now at i }
+    ensures { result ≡ Reverse.reversal_in lookup.now items.now at i }
 {
     match subtable(lookup.table, extension_kind(lookup), lookup.place, i) {
         Some(subtable) => reversal_by(lookup, items, at, subtable),
@@ -137,7 +142,7 @@ fn reversal_in(lookup: &Lookup<'_>, items: &ItemList<'_>, at: usize, i: u32) -> 
 fn find_reversal(lookup: &Lookup<'_>, items: &ItemList<'_>, at: usize) -> Option<Reversal>
     requires near { lookup.now.place < 2 ^ 17 }
     requires inside { at < length items.now }
-    ensures { result ≡ reversal_found lookup.now items.now at }
+    ensures { result ≡ Reverse.reversal_found lookup.now items.now at }
 {
     for i in 0..subtable_count(lookup.table, lookup.place) {
         if let Some(found) = reversal_in(lookup, items, at, i) {
@@ -150,7 +155,7 @@ fn find_reversal(lookup: &Lookup<'_>, items: &ItemList<'_>, at: usize) -> Option
 /// Marks the span that was looked at, and puts the glyph there.
 #[tactic(auto, using(crate::proofs::ReverseLemmas::length_reversed_by))]
 fn put_reversal(lookup: &Lookup<'_>, buffer: &mut GapBuffer, at: usize, found: Reversal)
-    ensures made { buffer.new ≡ reversed_by lookup.now at buffer.old found }
+    ensures made { buffer.new ≡ Reverse.reversed_by lookup.now at buffer.old found }
     ensures as_many { length buffer.new.items ≡ length buffer.old.items }
 {
     break_span(buffer, found.start, found.end);
@@ -162,7 +167,7 @@ fn put_reversal(lookup: &Lookup<'_>, buffer: &mut GapBuffer, at: usize, found: R
 fn reverse_at(lookup: &Lookup<'_>, buffer: &mut GapBuffer, at: usize)
     requires near { lookup.now.place < 2 ^ 17 }
     requires inside { at < length buffer.old.items }
-    ensures made { buffer.new ≡ reversed_at lookup.now at buffer.old }
+    ensures made { buffer.new ≡ Reverse.reversed_at lookup.now at buffer.old }
     ensures as_many { length buffer.new.items ≡ length buffer.old.items }
 {
     if !is_on(lookup, &item(buffer, at)) {
@@ -178,8 +183,8 @@ fn reverse_at(lookup: &Lookup<'_>, buffer: &mut GapBuffer, at: usize)
 #[tactic(auto, using(layout_matching::proofs::LoopLemmas::times_step))]
 pub fn reverse(lookup: &Lookup<'_>, buffer: &mut GapBuffer, left: usize) -> usize
     requires near { lookup.now.place < 2 ^ 17 }
-    ensures made { buffer.new ≡ (reversed lookup.now left buffer.old).buffer }
-    ensures left { result ≡ (reversed lookup.now left buffer.old).left }
+    ensures made { buffer.new ≡ (Reverse.reversed lookup.now left buffer.old).buffer }
+    ensures left { result ≡ (Reverse.reversed lookup.now left buffer.old).left }
 {
     let mut back = Backward {
         at: buffer.len(),
@@ -196,7 +201,8 @@ fn reverse_one(lookup: &Lookup<'_>, buffer: &mut GapBuffer, back: Backward) -> B
     requires near { lookup.now.place < 2 ^ 17 }
     requires inside { back.at ≤ length buffer.old.items }
     ensures step { record { buffer = buffer.new; at = result.at; left = result.left }
-        ≡ reverse_step lookup.now (record { buffer = buffer.old; at = back.at; left = back.left }) }
+        ≡ Reverse.reverse_step lookup.now
+        (record { buffer = buffer.old; at = back.at; left = back.left }) }
     ensures inside { result.at ≤ length buffer.new.items }
 {
     if back.at == 0 {
@@ -215,7 +221,7 @@ fn reverse_one(lookup: &Lookup<'_>, buffer: &mut GapBuffer, back: Backward) -> B
 /// Whether the lookup goes backwards, by its type.
 pub fn is_reverse(lookup: &Lookup<'_>) -> bool
     requires { lookup.now.place < 2 ^ 17 }
-    ensures { result ≡ is_reverse_of lookup.now }
+    ensures { result ≡ Reverse.is_reverse lookup.now }
 {
     match first_subtable(lookup) {
         Some(subtable) => subtable.kind == 8,

@@ -2,10 +2,10 @@
 ghost use Rattle.std.specs.Prelude.{◌≡◌, ◌<◌, ◌-◌, ◌^◌, length, true, false, IfOk, IsErrOf, IsOkUnless, OnOk, All};
 ghost use Rattle.shape_buffer.specs.Outcome.{IsWithinLimit, Outcome, step};
 ghost use Rattle.shape_buffer.specs.declared.buffer.error.ShapeError.TheVariants.{Length};
-ghost use Rattle.layout_matching.specs.Work.{walk_work as walk_work_of};
+ghost use Rattle.layout_matching.specs.Work;
 ghost use Rattle.layout_substitution.specs.Edits.{is_past};
 ghost use Rattle.layout_context.specs.Nested.{nested_applied};
-ghost use Rattle.layout_context.specs.Stages.{next_spot as next_spot_of, tried, lookup_step, walked, gone_over, looked_up, stage_made, substituted, most_levels};
+ghost use Rattle.layout_context.specs.Stages;
 ghost use Rattle.layout_context.specs.Digested.{IsDigested, IsApart, HoldsGlyphs, lookups_in};
 
 use crate::nested::apply_nested;
@@ -22,7 +22,7 @@ use std::alloc::Global;
 
 fn next_spot(spot: Spot, count: usize) -> Spot
     requires { spot.at < count }
-    ensures { result ≡ next_spot_of spot }
+    ensures { result ≡ Stages.next_spot spot }
 {
     let mut next = spot;
     next.at += 1;
@@ -48,8 +48,10 @@ fn try_at(
     requires near { lookup.now.place < 2 ^ 17 }
     requires inside { spot.at < length buffer.old.items }
     ensures ok { IfOk result (λ next. record { buffer = buffer.new; spot = next }
-        ≡ tried (nested_applied levels lookup.now) lookup.now (record { buffer = buffer.old; spot = spot })) }
-    ensures length { IsErrOf result Length → is_past (tried (nested_applied levels lookup.now) lookup.now
+        ≡ Stages.tried (nested_applied levels lookup.now) lookup.now
+        (record { buffer = buffer.old; spot = spot })) }
+    ensures length { IsErrOf result Length
+        → is_past (Stages.tried (nested_applied levels lookup.now) lookup.now
         (record { buffer = buffer.old; spot = spot })).buffer ≡ true }
 {
     let next = next_spot(spot, buffer.len());
@@ -73,8 +75,10 @@ fn step_on(
 ) -> Result<Spot, ShapeError>
     requires said { IsDigested named.now }
     ensures ok { IfOk result (λ next. record { buffer = buffer.new; spot = next }
-        ≡ lookup_step (nested_applied levels named.now.lookup) named.now.lookup (record { buffer = buffer.old; spot = spot })) }
-    ensures length { IsErrOf result Length → is_past (lookup_step (nested_applied levels named.now.lookup) named.now.lookup
+        ≡ Stages.lookup_step (nested_applied levels named.now.lookup) named.now.lookup
+        (record { buffer = buffer.old; spot = spot })) }
+    ensures length { IsErrOf result Length
+        → is_past (Stages.lookup_step (nested_applied levels named.now.lookup) named.now.lookup
         (record { buffer = buffer.old; spot = spot })).buffer ≡ true }
 {
     if buffer.length_limit() < buffer.len() || buffer.len() <= spot.at {
@@ -102,8 +106,10 @@ fn walk(
 ) -> Result<Spot, ShapeError>
     requires said { IsDigested named.now }
     ensures ok { IfOk result (λ next. record { buffer = buffer.new; spot = next }
-        ≡ walked (nested_applied levels named.now.lookup) named.now.lookup (record { buffer = buffer.old; spot = spot })) }
-    ensures length { IsErrOf result Length → is_past (walked (nested_applied levels named.now.lookup) named.now.lookup
+        ≡ Stages.walked (nested_applied levels named.now.lookup) named.now.lookup
+        (record { buffer = buffer.old; spot = spot })) }
+    ensures length { IsErrOf result Length
+        → is_past (Stages.walked (nested_applied levels named.now.lookup) named.now.lookup
         (record { buffer = buffer.old; spot = spot })).buffer ≡ true }
 {
     let mut spot = Spot {
@@ -131,9 +137,10 @@ fn go_over(
 ) -> Result<Spot, ShapeError>
     requires said { IsDigested named.now }
     ensures ok { IfOk result (λ next. record { buffer = buffer.new; spot = next }
-        ≡ gone_over levels named.now.lookup (record { buffer = buffer.old; spot = spot })) }
+        ≡ Stages.gone_over levels named.now.lookup (record { buffer = buffer.old; spot = spot })) }
     ensures length { IsErrOf result Length
-        → is_past (gone_over levels named.now.lookup (record { buffer = buffer.old; spot = spot })).buffer ≡ true }
+        → is_past (Stages.gone_over levels named.now.lookup
+        (record { buffer = buffer.old; spot = spot })).buffer ≡ true }
 {
     if is_reverse(&named.lookup) {
         let left = reverse(&named.lookup, buffer, spot.left);
@@ -145,7 +152,7 @@ fn go_over(
 /// What is left after a walk over so many items was charged for.
 fn charge_walk(lookup: &Lookup<'_>, count: usize, spot: Spot) -> Spot
     requires { lookup.now.place < 2 ^ 17 }
-    ensures { result ≡ record spot { left = spot.left - walk_work_of lookup.now count } }
+    ensures { result ≡ record spot { left = spot.left - Work.walk_work lookup.now count } }
 {
     with_left(spot, spot.left.saturating_sub(walk_work(lookup, count)))
 }
@@ -160,9 +167,10 @@ fn look_up(
 ) -> Result<Spot, ShapeError>
     requires said { IsDigested named.now }
     ensures ok { IfOk result (λ next. record { buffer = buffer.new; spot = next }
-        ≡ looked_up levels named.now.lookup (record { buffer = buffer.old; spot = spot })) }
+        ≡ Stages.looked_up levels named.now.lookup (record { buffer = buffer.old; spot = spot })) }
     ensures length { IsErrOf result Length
-        → is_past (looked_up levels named.now.lookup (record { buffer = buffer.old; spot = spot })).buffer ≡ true }
+        → is_past (Stages.looked_up levels named.now.lookup
+        (record { buffer = buffer.old; spot = spot })).buffer ≡ true }
 {
     let after = charge_walk(&named.lookup, buffer.len(), spot);
     if spot.left < walk_work(&named.lookup, buffer.len()) {
@@ -201,8 +209,10 @@ fn look_all_up(
 ) -> Result<(), ShapeError>
     requires said { All IsDigested lookups.now }
     requires run { HoldsGlyphs run buffer.old.items }
-    ensures ok { OnOk result (buffer.new ≡ stage_made levels (lookups_in lookups.now) buffer.old) }
-    ensures length { IsErrOf result Length → is_past (stage_made levels (lookups_in lookups.now) buffer.old) ≡ true }
+    ensures ok { OnOk result (buffer.new
+        ≡ Stages.stage_made levels (lookups_in lookups.now) buffer.old) }
+    ensures length { IsErrOf result Length
+        → is_past (Stages.stage_made levels (lookups_in lookups.now) buffer.old) ≡ true }
 {
     let mut spot = Spot {
         at: 0,
@@ -254,8 +264,10 @@ fn edit_all(
     buffer: &mut hb_buffer_t,
 ) -> Result<(), ShapeError>
     requires said { All IsDigested lookups.now }
-    ensures ok { OnOk result (buffer.new ≡ stage_made levels (lookups_in lookups.now) buffer.old) }
-    ensures length { IsErrOf result Length → is_past (stage_made levels (lookups_in lookups.now) buffer.old) ≡ true }
+    ensures ok { OnOk result (buffer.new
+        ≡ Stages.stage_made levels (lookups_in lookups.now) buffer.old) }
+    ensures length { IsErrOf result Length
+        → is_past (Stages.stage_made levels (lookups_in lookups.now) buffer.old) ≡ true }
 {
     if lookups.is_empty() {
         return Ok(());
@@ -283,7 +295,8 @@ fn substitute_within(
 ) -> Result<(), ShapeError>
     requires said { All IsDigested lookups.now }
     requires within { IsWithinLimit buffer.old }
-    ensures { Outcome (step (stage_made levels (lookups_in lookups.now))) buffer.old buffer.new result }
+    ensures { Outcome (step (Stages.stage_made levels
+        (lookups_in lookups.now))) buffer.old buffer.new result }
 {
     match edit_all(alloc, levels, lookups, buffer) {
         Err(error) => Err(error),
@@ -293,7 +306,7 @@ fn substitute_within(
 
 /// A lookup over the text, and 64 levels of others that it names.
 fn levels() -> u32
-    ensures { result ≡ most_levels }
+    ensures { result ≡ Stages.most_levels }
 {
     65
 }
@@ -308,7 +321,8 @@ pub fn substitute(
 ) -> Result<(), ShapeError>
     requires said { All IsDigested lookups.now }
     requires within { IsWithinLimit buffer.old }
-    ensures { Outcome (step (substituted (lookups_in lookups.now))) buffer.old buffer.new result }
+    ensures { Outcome (step (Stages.substituted
+        (lookups_in lookups.now))) buffer.old buffer.new result }
 {
     substitute_within(alloc, levels(), lookups, buffer)
 }

@@ -1,7 +1,7 @@
 //! Digests of Coverage tables.
 ghost use Rattle.std.specs.Prelude.{◌≡◌, ◌<◌, ◌^◌};
 ghost use Rattle.shape_font.specs.Bytes.{u16_of};
-ghost use Rattle.layout_digests.specs.Coverages.{HasListed, listed_count as listed_count_of, HasRanges, range_count as range_count_of, HasCovered};
+ghost use Rattle.layout_digests.specs.Coverages;
 ghost use Rattle.layout_digests.specs.Digests.{IsWithin};
 
 use crate::digest::Digest;
@@ -10,7 +10,7 @@ use shape_font::bytes::{records, u16_at};
 /// How many glyphs a list has (format 1).
 fn listed_count(table: &[u8], start: usize) -> u32
     requires { start < 2 ^ 40 }
-    ensures value { result ≡ listed_count_of table.now start }
+    ensures value { result ≡ Coverages.listed_count table.now start }
     ensures few { result < 2 ^ 16 }
 {
     records(table, u32::from(u16_at(table, start + 2)), start + 4, 2)
@@ -19,7 +19,7 @@ fn listed_count(table: &[u8], start: usize) -> u32
 /// How many ranges a list has (format 2).
 fn range_count(table: &[u8], start: usize) -> u32
     requires { start < 2 ^ 40 }
-    ensures value { result ≡ range_count_of table.now start }
+    ensures value { result ≡ Coverages.range_count table.now start }
     ensures few { result < 2 ^ 16 }
 {
     records(table, u32::from(u16_at(table, start + 2)), start + 4, 6)
@@ -41,7 +41,8 @@ pub fn entry_count(table: &[u8], start: usize) -> u32
 #[tactic(auto, using(crate::proofs::CoverageLemmas::one_listed, crate::proofs::CoverageLemmas::within_then))]
 fn with_listed(table: &[u8], start: usize, digest: Digest) -> Digest
     requires { start < 2 ^ 40 }
-    ensures glyphs { HasListed table.now start result (listed_count_of table.now start) }
+    ensures glyphs { Coverages.HasListed table.now start result
+        (Coverages.listed_count table.now start) }
     ensures kept { IsWithin digest result }
 {
     let mut all = digest;
@@ -56,7 +57,8 @@ fn with_listed(table: &[u8], start: usize, digest: Digest) -> Digest
 #[tactic(auto, using(crate::proofs::CoverageLemmas::one_range, crate::proofs::CoverageLemmas::within_then))]
 fn with_ranges(table: &[u8], start: usize, digest: Digest) -> Digest
     requires { start < 2 ^ 40 }
-    ensures ranges { HasRanges table.now start result (range_count_of table.now start) }
+    ensures ranges { Coverages.HasRanges table.now start result
+        (Coverages.range_count table.now start) }
     ensures kept { IsWithin digest result }
 {
     let mut all = digest;
@@ -75,7 +77,7 @@ fn with_ranges(table: &[u8], start: usize, digest: Digest) -> Digest
 #[tactic(auto, using(crate::proofs::CoverageLemmas::covered_listed, crate::proofs::CoverageLemmas::covered_ranges, crate::proofs::CoverageLemmas::covered_none))]
 pub fn with_coverage(table: &[u8], start: usize, digest: Digest) -> Digest
     requires { start < 2 ^ 40 }
-    ensures covered { HasCovered table.now start result }
+    ensures covered { Coverages.HasCovered table.now start result }
     ensures kept { IsWithin digest result }
 {
     match u16_at(table, start) {

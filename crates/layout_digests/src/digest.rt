@@ -1,6 +1,6 @@
 //! Sets of glyphs in three words: of a glyph's number, its sixteenth and its 512th, the last six bits each.
 ghost use Rattle.std.specs.Prelude.{◌≡◌, ◌≤◌, ◌<◌, ◌%◌, ℕ, true, false};
-ghost use Rattle.layout_digests.specs.Digests.{has_bit as has_bit_of, HasBits, KeepsBits, has as has_of, HasGlyphs, IsWithin};
+ghost use Rattle.layout_digests.specs.Digests;
 
 /// A set of glyphs. It may hold glyphs that were not put in.
 #[derive(Clone, Copy, PartialEq, Eq, Debug)]
@@ -13,7 +13,7 @@ pub struct Digest {
 /// Whether the word has the bit for a number.
 #[tactic(auto, using(crate::proofs::WordLemmas::tested))]
 fn has_bit(word: u64, n: u32) -> bool
-    ensures { result ≡ has_bit_of word n }
+    ensures { result ≡ Digests.has_bit word n }
 {
     word >> (n % 64) & 1 == 1
 }
@@ -22,7 +22,7 @@ fn has_bit(word: u64, n: u32) -> bool
 #[tactic(auto, using(crate::proofs::WordLemmas::from_on))]
 fn ones_from(k: u32) -> u64
     requires { k < 64 }
-    ensures { (n : ℕ) → k ≤ n % 64 → has_bit_of result n ≡ true }
+    ensures { (n : ℕ) → k ≤ n % 64 → Digests.has_bit result n ≡ true }
 {
     u64::MAX - ((1 << k) - 1)
 }
@@ -31,7 +31,7 @@ fn ones_from(k: u32) -> u64
 #[tactic(auto, using(crate::proofs::WordLemmas::up_to))]
 fn ones_to(k: u32) -> u64
     requires { k < 64 }
-    ensures { (n : ℕ) → n % 64 ≤ k → has_bit_of result n ≡ true }
+    ensures { (n : ℕ) → n % 64 ≤ k → Digests.has_bit result n ≡ true }
 {
     let bit = 1 << k;
     bit - 1 + bit
@@ -40,7 +40,7 @@ fn ones_to(k: u32) -> u64
 /// The bits for the numbers from one to another.
 #[tactic(auto, using(crate::proofs::WordLemmas::in_block, crate::proofs::WordLemmas::in_two, crate::proofs::WordLemmas::all_set))]
 fn span(first: u32, last: u32) -> u64
-    ensures { HasBits result first last }
+    ensures { Digests.HasBits result first last }
 {
     let from = ones_from(first % 64);
     let to = ones_to(last % 64);
@@ -56,8 +56,8 @@ fn span(first: u32, last: u32) -> u64
 /// A word with the bits for the numbers from one to another, and those that it had.
 #[tactic(auto, using(crate::proofs::WordLemmas::set_before, crate::proofs::WordLemmas::set_after))]
 fn with_span(word: u64, first: u32, last: u32) -> u64
-    ensures set { HasBits result first last }
-    ensures kept { KeepsBits word result }
+    ensures set { Digests.HasBits result first last }
+    ensures kept { Digests.KeepsBits word result }
 {
     word | span(first, last)
 }
@@ -65,8 +65,8 @@ fn with_span(word: u64, first: u32, last: u32) -> u64
 /// A word with the bit for a number, and those that it had.
 #[tactic(auto, using(crate::proofs::WordLemmas::set_before, crate::proofs::WordLemmas::bit_set))]
 fn with_bit(word: u64, n: u32) -> u64
-    ensures set { has_bit_of result n ≡ true }
-    ensures kept { KeepsBits word result }
+    ensures set { Digests.has_bit result n ≡ true }
+    ensures kept { Digests.KeepsBits word result }
 {
     word | 1 << (n % 64)
 }
@@ -74,7 +74,8 @@ fn with_bit(word: u64, n: u32) -> u64
 /// Whether two words share a bit.
 #[tactic(auto, using(crate::proofs::WordLemmas::unshared))]
 fn share(word: u64, other: u64) -> bool
-    ensures { result ≡ false → (n : ℕ) → has_bit_of word n ≡ true → has_bit_of other n ≡ false }
+    ensures { result ≡ false → (n : ℕ) → Digests.has_bit word n ≡ true
+        → Digests.has_bit other n ≡ false }
 {
     word & other != 0
 }
@@ -92,7 +93,7 @@ impl Digest {
     /// The set of all glyphs.
     #[tactic(auto, using(crate::proofs::WordLemmas::all_glyphs))]
     pub fn every() -> Self
-        ensures { (glyph : ℕ) → has_of result glyph ≡ true }
+        ensures { (glyph : ℕ) → Digests.has result glyph ≡ true }
     {
         Digest {
             fine: u64::MAX,
@@ -104,7 +105,7 @@ impl Digest {
     /// Whether the set holds a glyph.
     #[tactic(auto, unfolding(crate::specs::Digests::has))]
     pub fn has(&self, glyph: u32) -> bool
-        ensures { result ≡ has_of self.now glyph }
+        ensures { result ≡ Digests.has self.now glyph }
     {
         has_bit(self.fine, glyph)
             && has_bit(self.middle, glyph / 16)
@@ -114,8 +115,8 @@ impl Digest {
     /// The set with the glyphs from one to another. If the last is before the first, there is none.
     #[tactic(auto, using(crate::proofs::WordLemmas::ranged, crate::proofs::WordLemmas::kept))]
     pub fn with_range(self, first: u32, last: u32) -> Self
-        ensures glyphs { HasGlyphs result first last }
-        ensures kept { IsWithin self result }
+        ensures glyphs { Digests.HasGlyphs result first last }
+        ensures kept { Digests.IsWithin self result }
     {
         Digest {
             fine: with_span(self.fine, first, last),
@@ -127,8 +128,8 @@ impl Digest {
     /// The set with a glyph.
     #[tactic(auto, using(crate::proofs::WordLemmas::glyph_in, crate::proofs::WordLemmas::kept))]
     pub fn with_glyph(self, glyph: u32) -> Self
-        ensures glyph { has_of result glyph ≡ true }
-        ensures kept { IsWithin self result }
+        ensures glyph { Digests.has result glyph ≡ true }
+        ensures kept { Digests.IsWithin self result }
     {
         Digest {
             fine: with_bit(self.fine, glyph),
@@ -140,7 +141,8 @@ impl Digest {
     /// Whether two sets may share a glyph. If not, no glyph of the one is in the other.
     #[tactic(auto, using(crate::proofs::WordLemmas::apart_fine, crate::proofs::WordLemmas::apart_middle, crate::proofs::WordLemmas::apart_coarse))]
     pub fn may_share(&self, other: &Digest) -> bool
-        ensures { result ≡ false → (glyph : ℕ) → has_of self.now glyph ≡ true → has_of other.now glyph ≡ false }
+        ensures { result ≡ false → (glyph : ℕ) → Digests.has self.now glyph ≡ true
+            → Digests.has other.now glyph ≡ false }
     {
         share(self.fine, other.fine)
             && share(self.middle, other.middle)

@@ -10,7 +10,7 @@ ghost use Rattle.layout_tables.specs.Lookups.{lookup_count_of};
 ghost use Rattle.layout_matching.specs.Found.{first_list, whole_rule};
 ghost use Rattle.layout_digests.specs.Coverages.{HasCovered};
 ghost use Rattle.layout_digests.specs.Digests.{IsWithin};
-ghost use Rattle.layout_digests.specs.Lookups.{is_chained_kind as is_chained_kind_of, is_context_kind as is_context_kind_of, extension_kind as extension_kind_of, begins_at, HasFirst, IsDigest, IsDigestAt, AreDigests};
+ghost use Rattle.layout_digests.specs.Lookups as lookup_rules;
 
 use crate::coverage::{entry_count, with_coverage};
 use crate::digest::Digest;
@@ -35,19 +35,19 @@ struct Reading {
 }
 
 fn is_chained_kind(positioning: bool, kind: u16) -> bool
-    ensures { result ≡ is_chained_kind_of positioning kind }
+    ensures { result ≡ lookup_rules.is_chained_kind positioning kind }
 {
     kind == if positioning { 8 } else { 6 }
 }
 
 fn is_context_kind(positioning: bool, kind: u16) -> bool
-    ensures { result ≡ is_context_kind_of positioning kind }
+    ensures { result ≡ lookup_rules.is_context_kind positioning kind }
 {
     kind == if positioning { 7 } else { 5 } || is_chained_kind(positioning, kind)
 }
 
 fn extension_kind(positioning: bool) -> u16
-    ensures { result ≡ extension_kind_of positioning }
+    ensures { result ≡ lookup_rules.extension_kind positioning }
 {
     if positioning { 9 } else { 7 }
 }
@@ -96,7 +96,8 @@ fn first_of_rule(table: &[u8], is_chain: bool, start: usize) -> Option<usize>
 #[tactic(auto, using(crate::proofs::LookupLemmas::numbered, crate::proofs::LookupLemmas::ruled))]
 fn first_coverage(lookups: Lookups<'_>, subtable: LookupSubtable) -> Option<usize>
     requires { subtable.start < 2 ^ 35 }
-    ensures value { (glyph : ℕ) → begins_at lookups.entry.table.now lookups.entry.positioning subtable glyph
+    ensures value { (glyph : ℕ)
+        → lookup_rules.begins_at lookups.entry.table.now lookups.entry.positioning subtable glyph
         ≡ option_map_or (λ list. covers lookups.entry.table.now list glyph) result false }
     ensures near { IfSome result (λ list. list < 2 ^ 40) }
 {
@@ -131,7 +132,8 @@ fn with_list(table: &[u8], list: usize, reading: Reading) -> Reading
 fn with_subtable(lookups: Lookups<'_>, place: usize, i: u32, reading: Reading) -> Reading
     requires place { place < 2 ^ 17 }
     requires few { i < 2 ^ 16 }
-    ensures firsts { HasFirst lookups.entry.table.now lookups.entry.positioning place i result.digest }
+    ensures firsts { lookup_rules.HasFirst lookups.entry.table.now lookups.entry.positioning place
+        i result.digest }
     ensures kept { IsWithin reading.digest result.digest }
 {
     let extension = extension_kind(lookups.positioning);
@@ -148,7 +150,8 @@ fn with_subtable(lookups: Lookups<'_>, place: usize, i: u32, reading: Reading) -
 #[tactic(auto, using(crate::proofs::LookupLemmas::one_more))]
 fn lookup_digest(lookups: Lookups<'_>, place: usize, left: usize) -> Reading
     requires { place < 2 ^ 17 }
-    ensures { IsDigest lookups.entry.table.now lookups.entry.positioning place result.digest }
+    ensures { lookup_rules.IsDigest lookups.entry.table.now lookups.entry.positioning place
+        result.digest }
 {
     let count = subtable_count(lookups.table, place);
     if left < count as usize {
@@ -169,7 +172,8 @@ fn lookup_digest(lookups: Lookups<'_>, place: usize, left: usize) -> Reading
 
 /// The digest of the lookup with this index, of no glyph if the table has no such lookup.
 fn digest_of(lookups: Lookups<'_>, index: u16, left: usize) -> Reading
-    ensures { IsDigestAt lookups.entry.table.now lookups.entry.positioning index result.digest }
+    ensures { lookup_rules.IsDigestAt lookups.entry.table.now lookups.entry.positioning index
+        result.digest }
 {
     match lookup(lookups.table, index) {
         Some(place) => lookup_digest(lookups, place, left),
@@ -183,8 +187,10 @@ fn digest_of(lookups: Lookups<'_>, index: u16, left: usize) -> Reading
 /// A digest for each lookup of a table, by its index, and no more. Refuses with `Memory` if a growth was refused.
 #[tactic(auto, using(crate::proofs::LookupLemmas::one_digest))]
 pub fn digests(alloc: Global, lookups: Lookups<'_>) -> Result<Vec<Digest>, ShapeError>
-    ensures ok { IfOk result (λ digests. AreDigests lookups.entry.table.now lookups.entry.positioning digests.items) }
-    ensures count { IfOk result (λ digests. length digests.items ≡ lookup_count_of lookups.entry.table.now) }
+    ensures ok { IfOk result (λ digests. lookup_rules.AreDigests lookups.entry.table.now
+        lookups.entry.positioning digests.items) }
+    ensures count { IfOk result (λ digests. length digests.items
+        ≡ lookup_count_of lookups.entry.table.now) }
     ensures memory { IsOkUnless result ShapeError.Memory }
 {
     let count = lookup_count(lookups.table);

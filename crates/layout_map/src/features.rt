@@ -6,7 +6,7 @@
 ghost use Rattle.std.specs.Prelude.{◌≡◌, ◌<◌, ◌+◌, ◌^◌, [], true, false, nat_eq, if◌then◌else◌, IfOk, IsOkUnless};
 ghost use Rattle.shape_buffer.specs.Layout.{HasNoDefinedFlag};
 ghost use Rattle.layout_map.specs.Chosen.{required_tag_of};
-ghost use Rattle.layout_map.specs.Features.{is_plain as is_plain_of, bit_storage as bit_storage_of, bits_needed as bits_needed_of, has_room as has_room_of, own_indexes as own_indexes_of, is_found as is_found_of, is_listed as is_listed_of, indexes_of, feature_with as feature_with_of, bits_from as bits_from_of, with_feature, with_indexes, with_setting, allotted, mask_of, shift_of, one_bit_of};
+ghost use Rattle.layout_map.specs.Features;
 
 use crate::chosen::ChosenTable;
 use crate::settings::{Setting, has_flag};
@@ -59,14 +59,14 @@ pub struct Room {
 
 /// Whether the feature is on everywhere with value 1.
 fn is_plain(setting: Setting) -> bool
-    ensures { result ≡ is_plain_of setting }
+    ensures { result ≡ Features.is_plain setting }
 {
     setting.is_global && setting.max_value == 1
 }
 
 /// How many bits hold a value, at most 8.
 fn bit_storage(value: u32) -> u32
-    ensures value { result ≡ bit_storage_of value }
+    ensures value { result ≡ Features.bit_storage value }
     ensures few { result < 9 }
 {
     match value {
@@ -83,7 +83,7 @@ fn bit_storage(value: u32) -> u32
 
 /// How many bits of its own a feature needs.
 fn bits_needed(setting: Setting) -> u32
-    ensures value { result ≡ bits_needed_of setting }
+    ensures value { result ≡ Features.bits_needed setting }
     ensures few { result < 9 }
 {
     if is_plain(setting) {
@@ -96,14 +96,14 @@ fn bits_needed(setting: Setting) -> u32
 /// Whether the feature is on at all, and there are bits for it.
 fn has_room(room: Room, setting: Setting) -> bool
     requires { room.place < 27 }
-    ensures { result ≡ has_room_of room.place setting }
+    ensures { result ≡ Features.has_room room.place setting }
 {
     0 < setting.max_value && room.place + bits_needed(setting) < GLOBAL_PLACE
 }
 
 /// The indexes of a feature that the language systems list.
 fn own_indexes(gsub: &ChosenTable<'_>, gpos: &ChosenTable<'_>, tag: u32) -> Indexes
-    ensures { result ≡ own_indexes_of gsub.now gpos.now tag }
+    ensures { result ≡ Features.own_indexes gsub.now gpos.now tag }
 {
     Indexes {
         gsub: gsub.index(tag),
@@ -113,21 +113,21 @@ fn own_indexes(gsub: &ChosenTable<'_>, gpos: &ChosenTable<'_>, tag: u32) -> Inde
 
 /// Whether a table has the feature.
 fn is_found(indexes: Indexes) -> bool
-    ensures { result ≡ is_found_of indexes }
+    ensures { result ≡ Features.is_found indexes }
 {
     indexes.gsub.is_some() || indexes.gpos.is_some()
 }
 
 /// Whether a language system that is chosen in the tables lists the feature.
 pub fn is_listed(gsub: &ChosenTable<'_>, gpos: &ChosenTable<'_>, tag: u32) -> bool
-    ensures { result ≡ is_listed_of gsub.now gpos.now tag }
+    ensures { result ≡ Features.is_listed gsub.now gpos.now tag }
 {
     is_found(own_indexes(gsub, gpos, tag))
 }
 
 /// The indexes of a feature in the tables, searched in all of them if its request says so.
 fn looked_up(gsub: &ChosenTable<'_>, gpos: &ChosenTable<'_>, setting: Setting) -> Indexes
-    ensures { result ≡ indexes_of gsub.now gpos.now setting }
+    ensures { result ≡ Features.indexes_of gsub.now gpos.now setting }
 {
     let own = own_indexes(gsub, gpos, setting.tag);
     if !is_found(own) && has_flag(setting.flags, F_GLOBAL_SEARCH) {
@@ -141,7 +141,7 @@ fn looked_up(gsub: &ChosenTable<'_>, gpos: &ChosenTable<'_>, setting: Setting) -
 }
 
 fn feature_with(setting: Setting, indexes: Indexes, place: u32, bits: u32) -> FeatureMap
-    ensures { result ≡ feature_with_of setting indexes place bits }
+    ensures { result ≡ Features.feature_with setting indexes place bits }
 {
     FeatureMap {
         tag: setting.tag,
@@ -171,7 +171,7 @@ fn unit(place: u32) -> u32
 #[tactic(auto, using(crate::proofs::BitLemmas::bits_whole, std::proofs::lemmas::Nat::pow_pos))]
 fn bits_from(place: u32, count: u32) -> u32
     requires { place + count < 27 }
-    ensures { result ≡ bits_from_of place count }
+    ensures { result ≡ Features.bits_from place count }
 {
     (unit(count) - 1) << place
 }
@@ -183,14 +183,14 @@ fn give_own(
     setting: Setting,
     indexes: Indexes,
 ) -> Result<Room, ShapeError>
-    requires own { is_plain_of setting ≡ false }
-    requires room { has_room_of room.place setting ≡ true }
+    requires own { Features.is_plain setting ≡ false }
+    requires room { Features.has_room room.place setting ≡ true }
     ensures ok { IfOk result (λ r. record {
       features = features.new.items;
       place = r.place;
       global = r.global;
       required_stage = r.required_stage;
-    } ≡ with_feature (record {
+    } ≡ Features.with_feature (record {
       features = features.old.items;
       place = room.place;
       global = room.global;
@@ -216,13 +216,13 @@ fn give(
     setting: Setting,
     indexes: Indexes,
 ) -> Result<Room, ShapeError>
-    requires { has_room_of room.place setting ≡ true }
+    requires { Features.has_room room.place setting ≡ true }
     ensures ok { IfOk result (λ r. record {
       features = features.new.items;
       place = r.place;
       global = r.global;
       required_stage = r.required_stage;
-    } ≡ with_feature (record {
+    } ≡ Features.with_feature (record {
       features = features.old.items;
       place = room.place;
       global = room.global;
@@ -245,13 +245,13 @@ fn give_found(
     setting: Setting,
     indexes: Indexes,
 ) -> Result<Room, ShapeError>
-    requires { has_room_of room.place setting ≡ true }
+    requires { Features.has_room room.place setting ≡ true }
     ensures ok { IfOk result (λ r. record {
       features = features.new.items;
       place = r.place;
       global = r.global;
       required_stage = r.required_stage;
-    } ≡ with_indexes (record {
+    } ≡ Features.with_indexes (record {
       features = features.old.items;
       place = room.place;
       global = room.global;
@@ -299,7 +299,7 @@ fn add(
       place = r.place;
       global = r.global;
       required_stage = r.required_stage;
-    } ≡ with_setting gsub.now gpos.now (record {
+    } ≡ Features.with_setting gsub.now gpos.now (record {
       features = features.old.items;
       place = room.place;
       global = room.global;
@@ -329,7 +329,7 @@ pub fn allot(
       place = r.place;
       global = r.global;
       required_stage = r.required_stage;
-    } ≡ allotted gsub.now gpos.now settings.now) }
+    } ≡ Features.allotted gsub.now gpos.now settings.now) }
     ensures memory { IsOkUnless result ShapeError.Memory }
 {
     let mut room = Room {
@@ -346,7 +346,7 @@ pub fn allot(
 /// Bits in their place in a mask: none of the four lowest is among them.
 #[tactic(auto, using(crate::proofs::BitLemmas::mask_is_free))]
 pub fn mask(bits: u32) -> u32
-    ensures value { result ≡ mask_of bits }
+    ensures value { result ≡ Features.mask_of bits }
     ensures free { HasNoDefinedFlag result }
 {
     bits << 4
@@ -355,21 +355,21 @@ pub fn mask(bits: u32) -> u32
 impl FeatureMap {
     /// The bits of a mask that hold the feature's value.
     pub fn mask(&self) -> u32
-        ensures { result ≡ mask_of self.now.bits }
+        ensures { result ≡ Features.mask_of self.now.bits }
     {
         mask(self.bits)
     }
 
     /// The mask that sets the feature to 1.
     pub fn one_mask(&self) -> u32
-        ensures { result ≡ mask_of (one_bit_of self.now) }
+        ensures { result ≡ Features.mask_of (Features.one_bit_of self.now) }
     {
         mask(unit(self.place.min(GLOBAL_PLACE)) & self.bits)
     }
 
     /// How far a value is shifted in a mask.
     pub fn shift(&self) -> u32
-        ensures value { result ≡ shift_of self.now }
+        ensures value { result ≡ Features.shift_of self.now }
         ensures small { result < 32 }
     {
         4 + self.place.min(GLOBAL_PLACE)

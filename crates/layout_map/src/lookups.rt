@@ -3,7 +3,7 @@
 //! Each lookup of the table has a slot, in which the features that ask for it are joined; so a feature costs as
 //! many steps as it lists lookups, whatever their order.
 ghost use Rattle.std.specs.Prelude.{◌≡◌, ◌<◌, ◌^◌, ◌++◌, length, fold, replicate, IfOk, OnOk, IsOkUnless};
-ghost use Rattle.layout_map.specs.Lookups.{unused as unused_use, use_joined, use_of as use_of_feature, required_use as required_use_of, with_use, place_used, index_used, gsub_index as gsub_index_of, required_index as required_index_of, required_used, lookup_with as lookup_with_of, used_from, gsub_lookups as gsub_lookups_of, gpos_lookups as gpos_lookups_of};
+ghost use Rattle.layout_map.specs.Lookups;
 
 use crate::chosen::ChosenTable;
 use crate::features::{FeatureMap, GLOBAL_BIT, mask};
@@ -35,7 +35,7 @@ pub struct LookupMap {
 
 /// A lookup that no feature asks for.
 fn unused() -> LookupUse
-    ensures { result ≡ unused_use }
+    ensures { result ≡ Lookups.unused }
 {
     LookupUse {
         mask: 0,
@@ -48,7 +48,7 @@ fn unused() -> LookupUse
 
 /// A lookup that several features ask for.
 fn joined(old: LookupUse, new: LookupUse) -> LookupUse
-    ensures { result ≡ use_joined old new }
+    ensures { result ≡ Lookups.use_joined old new }
 {
     if old.mask == 0 {
         return new;
@@ -64,7 +64,7 @@ fn joined(old: LookupUse, new: LookupUse) -> LookupUse
 
 /// How a feature uses its lookups.
 fn use_of(feature: &FeatureMap) -> LookupUse
-    ensures { result ≡ use_of_feature feature.now }
+    ensures { result ≡ Lookups.use_of feature.now }
 {
     LookupUse {
         mask: feature.mask(),
@@ -77,7 +77,7 @@ fn use_of(feature: &FeatureMap) -> LookupUse
 
 /// How the required feature uses its lookups.
 fn required_use() -> LookupUse
-    ensures { result ≡ required_use_of }
+    ensures { result ≡ Lookups.required_use }
 {
     LookupUse {
         mask: mask(GLOBAL_BIT),
@@ -90,7 +90,7 @@ fn required_use() -> LookupUse
 
 /// Asks for one lookup, if the table has it.
 fn ask(uses: &mut [LookupUse], new: LookupUse, index: u16)
-    ensures { uses.new ≡ with_use new uses.old index }
+    ensures { uses.new ≡ Lookups.with_use new uses.old index }
 {
     let i = usize::from(index);
     if i < uses.len() {
@@ -103,7 +103,7 @@ fn ask(uses: &mut [LookupUse], new: LookupUse, index: u16)
 #[tactic(auto, using(crate::proofs::EachLemmas::each_next, crate::proofs::EachLemmas::each_end))]
 fn ask_each(table: &[u8], uses: &mut [LookupUse], new: LookupUse, feature: usize)
     requires { feature < 2 ^ 35 }
-    ensures { uses.new ≡ place_used table.now new uses.old feature }
+    ensures { uses.new ≡ Lookups.place_used table.now new uses.old feature }
 {
     for j in 0..feature_lookup_count(table, feature) {
         ask(uses, new, feature_lookup(table, feature, j));
@@ -112,7 +112,7 @@ fn ask_each(table: &[u8], uses: &mut [LookupUse], new: LookupUse, feature: usize
 
 /// Asks for the lookups of a feature, if the table has it.
 fn ask_feature(table: &ChosenTable<'_>, uses: &mut [LookupUse], new: LookupUse, index: Option<u16>)
-    ensures { uses.new ≡ index_used table.now new uses.old index }
+    ensures { uses.new ≡ Lookups.index_used table.now new uses.old index }
 {
     if let Some(feature) = table.feature(index) {
         ask_each(table.bytes(), uses, new, feature);
@@ -121,7 +121,7 @@ fn ask_feature(table: &ChosenTable<'_>, uses: &mut [LookupUse], new: LookupUse, 
 
 /// The index of a feature in `GSUB`, if it is of the stage.
 fn gsub_index(stage: usize, feature: &FeatureMap) -> Option<u16>
-    ensures { result ≡ gsub_index_of stage feature.now }
+    ensures { result ≡ Lookups.gsub_index stage feature.now }
 {
     if feature.stage == stage {
         feature.gsub
@@ -132,14 +132,14 @@ fn gsub_index(stage: usize, feature: &FeatureMap) -> Option<u16>
 
 /// The index of the required feature, if this is its stage.
 fn required_index(table: &ChosenTable<'_>, here: bool) -> Option<u16>
-    ensures { result ≡ required_index_of table.now here }
+    ensures { result ≡ Lookups.required_index table.now here }
 {
     if here { table.required() } else { None }
 }
 
 /// So many slots of lookups that no feature asks for. Refuses with `Memory` if a growth was refused.
 fn empty_slots(alloc: Global, count: u32) -> Result<Vec<LookupUse>, ShapeError>
-    ensures ok { IfOk result (λ uses. uses.items ≡ replicate count unused_use) }
+    ensures ok { IfOk result (λ uses. uses.items ≡ replicate count Lookups.unused) }
     ensures count { IfOk result (λ uses. length uses.items ≡ count) }
     ensures memory { IsOkUnless result ShapeError.Memory }
 {
@@ -153,7 +153,7 @@ fn empty_slots(alloc: Global, count: u32) -> Result<Vec<LookupUse>, ShapeError>
 /// A slot for each lookup of the table; the required feature has asked for its own, if this is its stage. Refuses
 /// with `Memory` if a growth was refused.
 fn slots(alloc: Global, table: &ChosenTable<'_>, here: bool) -> Result<Vec<LookupUse>, ShapeError>
-    ensures ok { IfOk result (λ uses. uses.items ≡ required_used table.now here) }
+    ensures ok { IfOk result (λ uses. uses.items ≡ Lookups.required_used table.now here) }
     ensures few { IfOk result (λ uses. length uses.items < 2 ^ 16) }
     ensures memory { IsOkUnless result ShapeError.Memory }
 {
@@ -169,8 +169,8 @@ fn slots(alloc: Global, table: &ChosenTable<'_>, here: bool) -> Result<Vec<Looku
 
 /// The features of a stage ask for their lookups of `GSUB`.
 fn ask_gsub(table: &ChosenTable<'_>, uses: &mut [LookupUse], features: &[FeatureMap], stage: usize)
-    ensures { uses.new ≡ fold (λ uses f. index_used table.now (use_of_feature f) uses
-        (gsub_index_of stage f)) uses.old features.now }
+    ensures { uses.new ≡ fold (λ uses f. Lookups.index_used table.now (Lookups.use_of f) uses
+        (Lookups.gsub_index stage f)) uses.old features.now }
 {
     for feature in features {
         ask_feature(table, uses, use_of(feature), gsub_index(stage, feature));
@@ -179,7 +179,8 @@ fn ask_gsub(table: &ChosenTable<'_>, uses: &mut [LookupUse], features: &[Feature
 
 /// The features ask for their lookups of `GPOS`.
 fn ask_gpos(table: &ChosenTable<'_>, uses: &mut [LookupUse], features: &[FeatureMap])
-    ensures { uses.new ≡ fold (λ uses f. index_used table.now (use_of_feature f) uses f.gpos)
+    ensures { uses.new ≡ fold (λ uses f. Lookups.index_used table.now
+        (Lookups.use_of f) uses f.gpos)
         uses.old features.now }
 {
     for feature in features {
@@ -188,7 +189,7 @@ fn ask_gpos(table: &ChosenTable<'_>, uses: &mut [LookupUse], features: &[Feature
 }
 
 fn lookup_with(index: u16, uses: LookupUse) -> LookupMap
-    ensures { result ≡ lookup_with_of index uses }
+    ensures { result ≡ Lookups.lookup_with index uses }
 {
     LookupMap {
         index,
@@ -203,7 +204,8 @@ fn lookup_with(index: u16, uses: LookupUse) -> LookupMap
 /// Appends the lookups that are asked for. Refuses with `Memory` if a growth was refused.
 fn append_used(lookups: &mut Vec<LookupMap>, uses: &[LookupUse]) -> Result<(), ShapeError>
     requires { length uses.now < 2 ^ 16 }
-    ensures ok { OnOk result (lookups.new.items ≡ lookups.old.items ++ used_from 0 uses.now) }
+    ensures ok { OnOk result (lookups.new.items
+        ≡ lookups.old.items ++ Lookups.used_from 0 uses.now) }
     ensures memory { IsOkUnless result ShapeError.Memory }
 {
     for (i, found) in uses.iter().enumerate() {
@@ -224,7 +226,7 @@ pub fn append_gsub(
     lookups: &mut Vec<LookupMap>,
 ) -> Result<(), ShapeError>
     ensures ok { OnOk result (lookups.new.items ≡ lookups.old.items
-        ++ gsub_lookups_of table.now features.now required_stage stage) }
+        ++ Lookups.gsub_lookups table.now features.now required_stage stage) }
     ensures memory { IsOkUnless result ShapeError.Memory }
 {
     let mut uses = slots(alloc, table, required_stage == stage)?;
@@ -240,7 +242,7 @@ pub fn append_gpos(
     lookups: &mut Vec<LookupMap>,
 ) -> Result<(), ShapeError>
     ensures ok { OnOk result (lookups.new.items ≡ lookups.old.items
-        ++ gpos_lookups_of table.now features.now) }
+        ++ Lookups.gpos_lookups table.now features.now) }
     ensures memory { IsOkUnless result ShapeError.Memory }
 {
     let mut uses = slots(alloc, table, true)?;

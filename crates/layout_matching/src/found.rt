@@ -3,7 +3,7 @@
 //! Rules are asked in the order of the table, and the first that matches is taken. Nothing is changed, and no memory is taken.
 ghost use Rattle.std.specs.Prelude.{◌≡◌, ◌<◌, ◌+◌, ◌^◌, length};
 ghost use Rattle.std.specs.Option.{IfSome};
-ghost use Rattle.layout_matching.specs.Found.{context_kind as context_kind_of, chained_kind as chained_kind_of, extension_kind as extension_kind_of, is_chained as is_chained_of, is_context_subtable as is_context_subtable_of, found_if as found_if_of, whole_rule as whole_rule_of, is_first as is_first_of, found_whole as found_whole_of, class_place as class_place_of, set_by_class as set_by_class_of, set_for as set_for_of, rule_of, found_rule as found_rule_of, found_in_set as found_in_set_of, found_by_number as found_by_number_of, number_of, found_in_sets as found_in_sets_of, found_in_subtable as found_in_subtable_of, found_at_subtable as found_at_subtable_of, found_of, subtable_at as subtable_at_of, first_subtable as first_subtable_of, is_context as is_context_of};
+ghost use Rattle.layout_matching.specs.Found as found_rules;
 
 use crate::lookup::Lookup;
 use crate::rules::{FAR, Rule, Test, chain, is_inside, plain, rule_at, rules};
@@ -24,33 +24,33 @@ pub struct Found {
 
 /// The kind of a lookup of context.
 fn context_kind(lookup: &Lookup<'_>) -> u16
-    ensures { result ≡ context_kind_of lookup.now }
+    ensures { result ≡ found_rules.context_kind lookup.now }
 {
     if lookup.positioning { 7 } else { 5 }
 }
 
 /// The kind of a lookup of chained context.
 fn chained_kind(lookup: &Lookup<'_>) -> u16
-    ensures { result ≡ chained_kind_of lookup.now }
+    ensures { result ≡ found_rules.chained_kind lookup.now }
 {
     if lookup.positioning { 8 } else { 6 }
 }
 
 /// The kind of a lookup whose subtables stand far away.
 pub fn extension_kind(lookup: &Lookup<'_>) -> u16
-    ensures { result ≡ extension_kind_of lookup.now }
+    ensures { result ≡ found_rules.extension_kind lookup.now }
 {
     if lookup.positioning { 9 } else { 7 }
 }
 
 pub(crate) fn is_chained(lookup: &Lookup<'_>, subtable: LookupSubtable) -> bool
-    ensures { result ≡ is_chained_of lookup.now subtable }
+    ensures { result ≡ found_rules.is_chained lookup.now subtable }
 {
     subtable.kind == chained_kind(lookup)
 }
 
 pub(crate) fn is_context_subtable(lookup: &Lookup<'_>, subtable: LookupSubtable) -> bool
-    ensures { result ≡ is_context_subtable_of lookup.now subtable }
+    ensures { result ≡ found_rules.is_context_subtable lookup.now subtable }
 {
     subtable.kind == context_kind(lookup) || is_chained(lookup, subtable)
 }
@@ -58,7 +58,7 @@ pub(crate) fn is_context_subtable(lookup: &Lookup<'_>, subtable: LookupSubtable)
 /// The rule, if the table has all of its bytes, and it matches.
 fn found_if(lookup: &Lookup<'_>, items: &ItemList<'_>, origin: Origin, rule: Rule) -> Option<Found>
     requires { origin.at < length items.now }
-    ensures value { result ≡ found_if_of lookup.now items.now origin rule }
+    ensures value { result ≡ found_rules.found_if lookup.now items.now origin rule }
     ensures last { IfSome result (λ f. f.span.last < length items.now) }
 {
     if !is_inside(lookup.table, &rule) {
@@ -73,7 +73,7 @@ fn found_if(lookup: &Lookup<'_>, items: &ItemList<'_>, origin: Origin, rule: Rul
 /// The one rule of a subtable of format 3.
 pub(crate) fn whole_rule(table: &[u8], is_chain: bool, start: usize) -> Rule
     requires { start < 2 ^ 35 }
-    ensures { result ≡ whole_rule_of table.now is_chain start }
+    ensures { result ≡ found_rules.whole_rule table.now is_chain start }
 {
     if is_chain {
         chain(table, Test::Coverage, start, start, start, 1, start + 2)
@@ -85,7 +85,7 @@ pub(crate) fn whole_rule(table: &[u8], is_chain: bool, start: usize) -> Rule
 /// Whether the list of the rule's first glyph has the glyph.
 pub(crate) fn is_first(table: &[u8], start: usize, rule: &Rule, glyph: u32) -> bool
     requires { start < 2 ^ 35 }
-    ensures { result ≡ is_first_of table.now start rule.now glyph }
+    ensures { result ≡ found_rules.is_first table.now start rule.now glyph }
 {
     if rule.input.count == 0 {
         return false;
@@ -104,7 +104,7 @@ fn found_whole(
 ) -> Option<Found>
     requires near { subtable.start < 2 ^ 35 }
     requires inside { origin.at < length items.now }
-    ensures value { result ≡ found_whole_of lookup.now items.now origin subtable }
+    ensures value { result ≡ found_rules.found_whole lookup.now items.now origin subtable }
     ensures last { IfSome result (λ f. f.span.last < length items.now) }
 {
     let rule = whole_rule(lookup.table, is_chained(lookup, subtable), subtable.start);
@@ -121,7 +121,7 @@ fn found_whole(
 fn class_place(table: &[u8], start: usize, at: usize) -> usize
     requires start { start < 2 ^ 35 }
     requires at { at < 16 }
-    ensures value { result ≡ class_place_of table.now start at }
+    ensures value { result ≡ found_rules.class_place table.now start at }
     ensures near { result < 2 ^ 39 }
 {
     match offset16(table, start, start + at) {
@@ -132,7 +132,7 @@ fn class_place(table: &[u8], start: usize, at: usize) -> usize
 
 fn set_by_class(table: &[u8], is_chain: bool, start: usize, glyph: u32) -> Option<usize>
     requires { start < 2 ^ 35 }
-    ensures value { result ≡ set_by_class_of table.now is_chain start glyph }
+    ensures value { result ≡ found_rules.set_by_class table.now is_chain start glyph }
     ensures near { IfSome result (λ s. s < 2 ^ 36) }
 {
     if is_chain {
@@ -153,7 +153,7 @@ pub(crate) fn set_for(
     number: u32,
 ) -> Option<usize>
     requires { start < 2 ^ 35 }
-    ensures value { result ≡ set_for_of table.now is_chain start glyph number }
+    ensures value { result ≡ found_rules.set_for table.now is_chain start glyph number }
     ensures near { IfSome result (λ s. s < 2 ^ 36) }
 {
     match u16_at(table, start) {
@@ -167,7 +167,7 @@ pub(crate) fn set_for(
 pub(crate) fn rule_by(table: &[u8], is_chain: bool, start: usize, at: usize) -> Rule
     requires start { start < 2 ^ 35 }
     requires at { at < 2 ^ 37 }
-    ensures { result ≡ rule_of table.now is_chain start at }
+    ensures { result ≡ found_rules.rule_of table.now is_chain start at }
 {
     if u16_at(table, start) == 1 {
         if is_chain {
@@ -202,7 +202,7 @@ fn found_rule(
     requires set { set < 2 ^ 36 }
     requires few { r < 2 ^ 16 }
     requires inside { origin.at < length items.now }
-    ensures value { result ≡ found_rule_of lookup.now items.now origin subtable set r }
+    ensures value { result ≡ found_rules.found_rule lookup.now items.now origin subtable set r }
     ensures last { IfSome result (λ f. f.span.last < length items.now) }
 {
     match rule_at(lookup.table, set, r) {
@@ -231,7 +231,7 @@ fn found_in_set(
     requires near { subtable.start < 2 ^ 35 }
     requires set { set < 2 ^ 36 }
     requires inside { origin.at < length items.now }
-    ensures value { result ≡ found_in_set_of lookup.now items.now origin subtable set }
+    ensures value { result ≡ found_rules.found_in_set lookup.now items.now origin subtable set }
     ensures last { IfSome result (λ f. f.span.last < length items.now) }
 {
     for r in 0..records(
@@ -256,7 +256,8 @@ fn found_by_number(
 ) -> Option<Found>
     requires near { subtable.start < 2 ^ 35 }
     requires inside { origin.at < length items.now }
-    ensures value { result ≡ found_by_number_of lookup.now items.now origin subtable number }
+    ensures value { result ≡ found_rules.found_by_number lookup.now items.now origin subtable
+        number }
     ensures last { IfSome result (λ f. f.span.last < length items.now) }
 {
     let glyph = items.item(origin.at).glyph_id;
@@ -270,7 +271,7 @@ fn found_by_number(
 /// The number of a glyph in the list of the subtable at `start`, whose offset stands 2 bytes after `start`.
 pub fn number_in(table: &[u8], start: usize, glyph: u32) -> Option<u32>
     requires { start < 2 ^ 35 }
-    ensures { result ≡ number_of table.now start glyph }
+    ensures { result ≡ found_rules.number_of table.now start glyph }
 {
     let list = offset16(table, start, start + 2)?;
     coverage_index(table, list, glyph)
@@ -284,7 +285,7 @@ fn found_in_sets(
 ) -> Option<Found>
     requires near { subtable.start < 2 ^ 35 }
     requires inside { origin.at < length items.now }
-    ensures value { result ≡ found_in_sets_of lookup.now items.now origin subtable }
+    ensures value { result ≡ found_rules.found_in_sets lookup.now items.now origin subtable }
     ensures last { IfSome result (λ f. f.span.last < length items.now) }
 {
     let glyph = items.item(origin.at).glyph_id;
@@ -302,7 +303,7 @@ fn found_in_subtable(
 ) -> Option<Found>
     requires near { subtable.start < 2 ^ 35 }
     requires inside { origin.at < length items.now }
-    ensures value { result ≡ found_in_subtable_of lookup.now items.now origin subtable }
+    ensures value { result ≡ found_rules.found_in_subtable lookup.now items.now origin subtable }
     ensures last { IfSome result (λ f. f.span.last < length items.now) }
 {
     if !is_context_subtable(lookup, subtable) {
@@ -325,7 +326,7 @@ fn found_at_subtable(
     requires near { lookup.now.place < 2 ^ 17 }
     requires few { i < 2 ^ 16 }
     requires inside { origin.at < length items.now }
-    ensures value { result ≡ found_at_subtable_of lookup.now items.now origin i }
+    ensures value { result ≡ found_rules.found_at_subtable lookup.now items.now origin i }
     ensures last { IfSome result (λ f. f.span.last < length items.now) }
 {
     match subtable(lookup.table, extension_kind(lookup), lookup.place, i) {
@@ -339,7 +340,7 @@ fn found_at_subtable(
 pub fn find(lookup: &Lookup<'_>, items: &ItemList<'_>, origin: Origin) -> Option<Found>
     requires near { lookup.now.place < 2 ^ 17 }
     requires inside { origin.at < length items.now }
-    ensures value { result ≡ found_of lookup.now items.now origin }
+    ensures value { result ≡ found_rules.found_of lookup.now items.now origin }
     ensures last { IfSome result (λ f. f.span.last < length items.now) }
 {
     for i in 0..subtable_count(lookup.table, lookup.place) {
@@ -354,7 +355,7 @@ pub fn find(lookup: &Lookup<'_>, items: &ItemList<'_>, origin: Origin) -> Option
 pub fn subtable_at(lookup: &Lookup<'_>, i: u32) -> Option<LookupSubtable>
     requires near { lookup.now.place < 2 ^ 17 }
     requires few { i < 2 ^ 16 }
-    ensures value { result ≡ subtable_at_of lookup.now i }
+    ensures value { result ≡ found_rules.subtable_at lookup.now i }
     ensures near { IfSome result (λ p. p.start < 2 ^ 35) }
 {
     subtable(lookup.table, extension_kind(lookup), lookup.place, i)
@@ -365,7 +366,7 @@ pub fn subtable_at(lookup: &Lookup<'_>, i: u32) -> Option<LookupSubtable>
 #[tactic(auto, using(crate::proofs::LoopLemmas::first_some_next, crate::proofs::LoopLemmas::first_some_found, crate::proofs::LoopLemmas::first_some_end))]
 pub fn first_subtable(lookup: &Lookup<'_>) -> Option<LookupSubtable>
     requires { lookup.now.place < 2 ^ 17 }
-    ensures { result ≡ first_subtable_of lookup.now }
+    ensures { result ≡ found_rules.first_subtable lookup.now }
 {
     for i in 0..subtable_count(lookup.table, lookup.place) {
         if let Some(subtable) = subtable_at(lookup, i) {
@@ -378,7 +379,7 @@ pub fn first_subtable(lookup: &Lookup<'_>) -> Option<LookupSubtable>
 /// Whether the lookup is one of context, by its type.
 pub fn is_context(lookup: &Lookup<'_>) -> bool
     requires { lookup.now.place < 2 ^ 17 }
-    ensures { result ≡ is_context_of lookup.now }
+    ensures { result ≡ found_rules.is_context lookup.now }
 {
     match first_subtable(lookup) {
         Some(subtable) => is_context_subtable(lookup, subtable),

@@ -6,7 +6,7 @@ ghost use Rattle.std.specs.Prelude.{◌≡◌, ◌<◌, ◌-◌, length, true};
 ghost use Rattle.std.specs.Option.{IfSome};
 ghost use Rattle.layout_matching.specs.Loops.{steps};
 ghost use Rattle.layout_matching.specs.Skipping.{nth};
-ghost use Rattle.layout_matching.specs.Input.{base_of, base_before as base_before_of, base_is_skipped as base_is_skipped_of, joins as joins_of, is_mark_glyph as is_mark_glyph_of, with_glyph_at as with_glyph_at_of, input_step as input_step_of, seek_input as seek_input_of, input_matched as input_matched_of};
+ghost use Rattle.layout_matching.specs.Input;
 
 use crate::lookup::Lookup;
 use crate::rules::Row;
@@ -27,7 +27,7 @@ pub struct Matched {
 
 /// Whether the base of the ligature `id` is skipped, as far as one glyph shows it.
 fn base(lookup: &Lookup<'_>, id: u8, there: &hb_glyph_info_t) -> Option<bool>
-    ensures { result ≡ base_of lookup.now id there.now }
+    ensures { result ≡ Input.base_of lookup.now id there.now }
 {
     if there._hb_glyph_info_get_ligature_id() != id {
         return Some(false);
@@ -41,7 +41,7 @@ fn base(lookup: &Lookup<'_>, id: u8, there: &hb_glyph_info_t) -> Option<bool>
 
 /// The same, by the item at a place.
 fn base_at(lookup: &Lookup<'_>, items: &ItemList<'_>, id: u8, i: usize) -> Option<bool>
-    ensures { result ≡ base_of lookup.now id (nth items.now i) }
+    ensures { result ≡ Input.base_of lookup.now id (nth items.now i) }
 {
     base(lookup, id, &items.item(i))
 }
@@ -49,7 +49,7 @@ fn base_at(lookup: &Lookup<'_>, items: &ItemList<'_>, id: u8, i: usize) -> Optio
 /// The same, by the nearest glyph before `at` that shows it.
 #[tactic(auto, using(crate::proofs::LoopLemmas::first_some_next, crate::proofs::LoopLemmas::first_some_found, crate::proofs::LoopLemmas::first_some_end))]
 fn base_before(lookup: &Lookup<'_>, items: &ItemList<'_>, id: u8, at: usize) -> Option<bool>
-    ensures { result ≡ base_before_of lookup.now items.now id at }
+    ensures { result ≡ Input.base_before lookup.now items.now id at }
 {
     for k in 0..at {
         if let Some(skipped) = base_at(lookup, items, id, at - k - 1) {
@@ -61,7 +61,7 @@ fn base_before(lookup: &Lookup<'_>, items: &ItemList<'_>, id: u8, at: usize) -> 
 
 /// Whether the lookup skips the base of the ligature `id` before `at`.
 fn base_is_skipped(lookup: &Lookup<'_>, items: &ItemList<'_>, id: u8, at: usize) -> bool
-    ensures { result ≡ base_is_skipped_of lookup.now items.now id at }
+    ensures { result ≡ Input.base_is_skipped lookup.now items.now id at }
 {
     !lookup.positioning && base_before(lookup, items, id, at).unwrap_or(false)
 }
@@ -69,7 +69,7 @@ fn base_is_skipped(lookup: &Lookup<'_>, items: &ItemList<'_>, id: u8, at: usize)
 /// Whether a glyph may match together with the one at `at`, by the ligatures that they belong to.
 #[inline(always)]
 fn joins(lookup: &Lookup<'_>, items: &ItemList<'_>, at: usize, there: &hb_glyph_info_t) -> bool
-    ensures { result ≡ joins_of lookup.now items.now at there.now }
+    ensures { result ≡ Input.joins lookup.now items.now at there.now }
 {
     let first = items.item(at);
     let (id, component) = (
@@ -89,7 +89,7 @@ fn joins(lookup: &Lookup<'_>, items: &ItemList<'_>, at: usize, there: &hb_glyph_
 
 /// Whether the class of a glyph is that of marks.
 pub fn is_mark_glyph(there: &hb_glyph_info_t) -> bool
-    ensures { result ≡ is_mark_glyph_of there.now }
+    ensures { result ≡ Input.is_mark_glyph there.now }
 {
     there._hb_glyph_info_get_glyph_class().0 & 8 != 0
 }
@@ -103,7 +103,7 @@ fn with_glyph_at(
     found: Matched,
     j: usize,
 ) -> Option<Matched>
-    ensures value { result ≡ with_glyph_at_of lookup.now items.now at found j }
+    ensures value { result ≡ Input.with_glyph_at lookup.now items.now at found j }
     ensures last { IfSome result (λ m. m.last ≡ j) }
 {
     let there = items.item(j);
@@ -127,7 +127,7 @@ pub(crate) fn input_step(
     found: Matched,
 ) -> Option<Matched>
     requires { found.last < length items.now }
-    ensures value { result ≡ input_step_of lookup.now seek.now items.now at k found }
+    ensures value { result ≡ Input.input_step lookup.now seek.now items.now at k found }
     ensures inside { IfSome result (λ m. m.last < length items.now) }
 {
     match next(lookup, seek, items, k, found.last) {
@@ -146,7 +146,7 @@ fn all_glyphs(
     n: u32,
 ) -> Option<Matched>
     requires { at < length items.now }
-    ensures value { result ≡ steps (input_step_of lookup.now seek.now items.now at) n 0
+    ensures value { result ≡ steps (Input.input_step lookup.now seek.now items.now at) n 0
         (record { last = at; all_marks = true }) }
     ensures inside { IfSome result (λ m. m.last < length items.now) }
 {
@@ -165,7 +165,7 @@ fn all_glyphs(
 
 /// What is looked for within what is matched, from its first glyph on.
 pub fn seek_input(lookup: &Lookup<'_>, first: &hb_glyph_info_t, row: Row) -> Seek
-    ensures { result ≡ seek_input_of lookup.now first.now row }
+    ensures { result ≡ Input.seek_input lookup.now first.now row }
 {
     Seek {
         row,
@@ -183,7 +183,7 @@ pub fn match_input(
     row: Row,
 ) -> Option<Matched>
     requires { at < length items.now }
-    ensures value { result ≡ input_matched_of lookup.now items.now at row }
+    ensures value { result ≡ Input.input_matched lookup.now items.now at row }
     ensures inside { IfSome result (λ m. m.last < length items.now) }
 {
     if MAX_CONTEXT_LENGTH < row.count {

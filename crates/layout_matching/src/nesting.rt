@@ -1,7 +1,7 @@
 //! The lookups that a rule names, and the glyphs that they are applied at.
 ghost use Rattle.std.specs.Prelude.{◌≡◌, ◌<◌, ◌^◌, length, IfOk, IsOkUnless};
 ghost use Rattle.std.specs.Option.{IfSome};
-ghost use Rattle.layout_matching.specs.Nesting.{lookup_with, record_at as record_at_of, target_of, places_of};
+ghost use Rattle.layout_matching.specs.Nesting;
 
 use crate::input::seek_input;
 use crate::lookup::Lookup;
@@ -24,7 +24,7 @@ pub struct Target<'a> {
 /// Another lookup of the table, on for the same glyphs.
 pub fn with_place<'a>(here: &Lookup<'a>, place: usize) -> Lookup<'a>
     requires { place < 2 ^ 17 }
-    ensures { result ≡ lookup_with here.now place }
+    ensures { result ≡ Nesting.lookup_with here.now place }
 {
     Lookup {
         table: here.table,
@@ -44,7 +44,7 @@ pub fn with_place<'a>(here: &Lookup<'a>, place: usize) -> Lookup<'a>
 
 /// Where record `r` of a rule stands in the table, in bytes.
 pub fn record_at(rule: &Rule, r: u32) -> usize
-    ensures value { result ≡ record_at_of rule.now r }
+    ensures value { result ≡ Nesting.record_at rule.now r }
     ensures near { result < 2 ^ 39 }
 {
     rule.lookups.min(FAR) + 4 * r as usize
@@ -52,7 +52,7 @@ pub fn record_at(rule: &Rule, r: u32) -> usize
 
 /// What record `r` of a rule names, if the glyph and the lookup are there. `places` are those of the matched glyphs.
 pub fn target_at<'a>(here: &Lookup<'a>, rule: &Rule, places: &[usize], r: u32) -> Option<Target<'a>>
-    ensures value { result ≡ target_of here.now rule.now places.now r }
+    ensures value { result ≡ Nesting.target_of here.now rule.now places.now r }
     ensures near { IfSome result (λ t. t.lookup.place < 2 ^ 17) }
     ensures few { IfSome result (λ t. t.index < 2 ^ 16) }
     ensures inside { IfSome result (λ t. t.index < length places.now) }
@@ -81,7 +81,7 @@ pub fn places(
     rule: &Rule,
 ) -> Result<Vec<usize>, ShapeError>
     requires { at < length items.now }
-    ensures ok { IfOk result (λ v. v.items ≡ places_of lookup.now items.now at rule.now) }
+    ensures ok { IfOk result (λ v. v.items ≡ Nesting.places_of lookup.now items.now at rule.now) }
     ensures memory { IsOkUnless result ShapeError.Memory }
 {
     let mut all = Vec::new(alloc);

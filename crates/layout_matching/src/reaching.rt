@@ -2,12 +2,7 @@
 //!
 //! Of a chained rule whose own glyphs aren't all there HarfBuzz marks nothing. Nothing is changed here.
 ghost use Rattle.std.specs.Prelude.{◌≡◌, ◌<◌, ◌^◌, length};
-ghost use Rattle.layout_matching.specs.Tried.{before_reach as before_reach_of};
-ghost use Rattle.layout_matching.specs.Tried.{after_reach as after_reach_of, input_reach as input_reach_of};
-ghost use Rattle.layout_matching.specs.Tried.{rule_reach as rule_reach_of, whole_reach as whole_reach_of, rule_reach_in};
-ghost use Rattle.layout_matching.specs.Tried.{set_reach as set_reach_of, number_reach as number_reach_of};
-ghost use Rattle.layout_matching.specs.Tried.{sets_reach as sets_reach_of, subtable_reach as subtable_reach_of};
-ghost use Rattle.layout_matching.specs.Tried.{reach_at_subtable, reach_of};
+ghost use Rattle.layout_matching.specs.Tried;
 
 use crate::found::{
     is_chained, is_context_subtable, is_first, number_in, rule_by, set_for, subtable_at, whole_rule,
@@ -31,7 +26,7 @@ fn before_reach(
     end: usize,
 ) -> Reach
     requires { origin.at < length items.now }
-    ensures { result ≡ before_reach_of lookup.now items.now origin rule.now end }
+    ensures { result ≡ Tried.before_reach lookup.now items.now origin rule.now end }
 {
     let first = items.item(origin.at);
     let seek = seek_around(lookup, &first, origin.is_steady, rule.before);
@@ -55,7 +50,7 @@ fn after_reach(
 ) -> Reach
     requires at { origin.at < length items.now }
     requires last { last < length items.now }
-    ensures { result ≡ after_reach_of lookup.now items.now origin rule.now last }
+    ensures { result ≡ Tried.after_reach lookup.now items.now origin rule.now last }
 {
     // The list can be counted, so the place after one of its own can.
     let _count = items.len();
@@ -81,7 +76,7 @@ fn input_reach(
     rule: &Rule,
 ) -> Reach
     requires { at < length items.now }
-    ensures { result ≡ input_reach_of lookup.now items.now at is_chain rule.now }
+    ensures { result ≡ Tried.input_reach lookup.now items.now at is_chain rule.now }
 {
     if is_chain {
         return untried(at);
@@ -98,7 +93,7 @@ fn rule_reach(
     rule: &Rule,
 ) -> Reach
     requires { origin.at < length items.now }
-    ensures { result ≡ rule_reach_of lookup.now items.now origin is_chain rule.now }
+    ensures { result ≡ Tried.rule_reach lookup.now items.now origin is_chain rule.now }
 {
     if !is_inside(lookup.table, rule) {
         return untried(origin.at);
@@ -118,7 +113,7 @@ fn whole_reach(
 ) -> Reach
     requires near { subtable.start < 2 ^ 35 }
     requires inside { origin.at < length items.now }
-    ensures { result ≡ whole_reach_of lookup.now items.now origin subtable }
+    ensures { result ≡ Tried.whole_reach lookup.now items.now origin subtable }
 {
     let is_chain = is_chained(lookup, subtable);
     let rule = whole_rule(lookup.table, is_chain, subtable.start);
@@ -143,7 +138,7 @@ fn reach_by_rule(
     requires set { set < 2 ^ 36 }
     requires few { r < 2 ^ 16 }
     requires inside { origin.at < length items.now }
-    ensures { result ≡ rule_reach_in lookup.now items.now origin subtable set r }
+    ensures { result ≡ Tried.rule_reach_in lookup.now items.now origin subtable set r }
 {
     match rule_at(lookup.table, set, r) {
         Some(place) => {
@@ -167,7 +162,7 @@ fn set_reach(
     requires near { subtable.start < 2 ^ 35 }
     requires set { set < 2 ^ 36 }
     requires inside { origin.at < length items.now }
-    ensures { result ≡ set_reach_of lookup.now items.now origin subtable set }
+    ensures { result ≡ Tried.set_reach lookup.now items.now origin subtable set }
 {
     let mut reach = untried(origin.at);
     for r in 0..records(
@@ -196,7 +191,7 @@ fn number_reach(
 ) -> Reach
     requires near { subtable.start < 2 ^ 35 }
     requires inside { origin.at < length items.now }
-    ensures { result ≡ number_reach_of lookup.now items.now origin subtable number }
+    ensures { result ≡ Tried.number_reach lookup.now items.now origin subtable number }
 {
     let glyph = items.item(origin.at).glyph_id;
     let is_chain = is_chained(lookup, subtable);
@@ -214,7 +209,7 @@ fn sets_reach(
 ) -> Reach
     requires near { subtable.start < 2 ^ 35 }
     requires inside { origin.at < length items.now }
-    ensures { result ≡ sets_reach_of lookup.now items.now origin subtable }
+    ensures { result ≡ Tried.sets_reach lookup.now items.now origin subtable }
 {
     let glyph = items.item(origin.at).glyph_id;
     match number_in(lookup.table, subtable.start, glyph) {
@@ -231,7 +226,7 @@ fn subtable_reach(
 ) -> Reach
     requires near { subtable.start < 2 ^ 35 }
     requires inside { origin.at < length items.now }
-    ensures { result ≡ subtable_reach_of lookup.now items.now origin subtable }
+    ensures { result ≡ Tried.subtable_reach lookup.now items.now origin subtable }
 {
     if !is_context_subtable(lookup, subtable) {
         return untried(origin.at);
@@ -248,7 +243,7 @@ fn reach_by_subtable(lookup: &Lookup<'_>, items: &ItemList<'_>, origin: Origin, 
     requires near { lookup.now.place < 2 ^ 17 }
     requires few { i < 2 ^ 16 }
     requires inside { origin.at < length items.now }
-    ensures { result ≡ reach_at_subtable lookup.now items.now origin i }
+    ensures { result ≡ Tried.reach_at_subtable lookup.now items.now origin i }
 {
     match subtable_at(lookup, i) {
         Some(subtable) => subtable_reach(lookup, items, origin, subtable),
@@ -261,7 +256,7 @@ fn reach_by_subtable(lookup: &Lookup<'_>, items: &ItemList<'_>, origin: Origin, 
 pub fn reach_at(lookup: &Lookup<'_>, items: &ItemList<'_>, origin: Origin) -> Reach
     requires near { lookup.now.place < 2 ^ 17 }
     requires inside { origin.at < length items.now }
-    ensures { result ≡ reach_of lookup.now items.now origin }
+    ensures { result ≡ Tried.reach_of lookup.now items.now origin }
 {
     let mut reach = untried(origin.at);
     for i in 0..subtable_count(lookup.table, lookup.place) {

@@ -1,7 +1,8 @@
 //! Rules of context: what stands before, what is matched, what stands after, and the lookups that are applied then.
 ghost use Rattle.std.specs.Prelude.{◌≡◌, ◌<◌, ◌^◌};
 ghost use Rattle.std.specs.Option.{IfSome};
-ghost use Rattle.layout_matching.specs.Rules.{is_named as is_named_of, is_inside as is_inside_of, fits_row as fits_row_of, rules_at, row, plain_rule, chained, rule_place};
+ghost use Rattle.layout_matching.specs.Rules;
+ghost use Rattle.layout_matching.specs.Rules.{row};
 
 use layout_tables::classes::class;
 use layout_tables::coverage::covers;
@@ -44,7 +45,7 @@ pub struct Rule {
 #[inline(always)]
 fn is_named(table: &[u8], from: usize, value: u16, glyph: u32, test: Test) -> bool
     requires { from < 2 ^ 39 }
-    ensures { result ≡ is_named_of table.now from value glyph test }
+    ensures { result ≡ Rules.is_named table.now from value glyph test }
 {
     match test {
         Test::Glyph => glyph == u32::from(value),
@@ -57,7 +58,7 @@ fn is_named(table: &[u8], from: usize, value: u16, glyph: u32, test: Test) -> bo
 /// Whether a glyph is number `k` of a row.
 #[inline(always)]
 pub fn fits_row(table: &[u8], row: &Row, k: u32, glyph: u32) -> bool
-    ensures { result ≡ fits_row_of table.now row.now k glyph }
+    ensures { result ≡ Rules.fits_row table.now row.now k glyph }
 {
     let value = u16_at(table, row.values.min(FAR) + 2 * k as usize);
     is_named(table, row.from.min(FAR), value, glyph, row.test)
@@ -67,7 +68,7 @@ pub fn fits_row(table: &[u8], row: &Row, k: u32, glyph: u32) -> bool
 pub fn rules(table: &[u8], start: usize, counted: usize, i: u32) -> Option<usize>
     requires start { start < 2 ^ 35 }
     requires counted { counted < 16 }
-    ensures value { result ≡ rules_at table.now start counted i }
+    ensures value { result ≡ Rules.rules_at table.now start counted i }
     ensures near { IfSome result (λ r. r < 2 ^ 36) }
 {
     let count = records(
@@ -87,7 +88,7 @@ pub fn rules(table: &[u8], start: usize, counted: usize, i: u32) -> Option<usize
 pub fn rule_at(table: &[u8], rules: usize, r: u32) -> Option<usize>
     requires rules { rules < 2 ^ 36 }
     requires r { r < 2 ^ 16 }
-    ensures value { result ≡ rule_place table.now rules r }
+    ensures value { result ≡ Rules.rule_place table.now rules r }
     ensures near { IfSome result (λ r. r < 2 ^ 37) }
 {
     offset16(table, rules, rules + 2 + 2 * r as usize)
@@ -95,7 +96,7 @@ pub fn rule_at(table: &[u8], rules: usize, r: u32) -> Option<usize>
 
 /// Whether the table has all bytes of a rule, of which the records of lookups come last.
 pub fn is_inside(table: &[u8], rule: &Rule) -> bool
-    ensures { result ≡ is_inside_of table.now rule.now }
+    ensures { result ≡ Rules.is_inside table.now rule.now }
 {
     rule.lookups <= table.len() && 4 * usize::from(rule.count) <= table.len() - rule.lookups
 }
@@ -115,7 +116,7 @@ fn row_of(test: Test, from: usize, count: u16, values: usize) -> Row
 pub fn plain(table: &[u8], test: Test, from: usize, at: usize, values: usize) -> Rule
     requires at { at < 2 ^ 38 }
     requires values { values < 2 ^ 38 }
-    ensures { result ≡ plain_rule table.now test from at values }
+    ensures { result ≡ Rules.plain_rule table.now test from at values }
 {
     let count = u16_at(table, at);
     Rule {
@@ -139,7 +140,7 @@ pub fn chain(
 ) -> Rule
     requires at { at < 2 ^ 38 }
     requires whole { whole < 2 }
-    ensures { result ≡ chained table.now test from_before from_input from_after whole at }
+    ensures { result ≡ Rules.chained table.now test from_before from_input from_after whole at }
 {
     let before = row_of(test, from_before, u16_at(table, at), at + 2);
     let middle = at + 2 + 2 * usize::from(before.count);

@@ -6,7 +6,7 @@ ghost use Rattle.std.specs.Prelude.{◌≡◌, ◌<◌, ◌≤◌, ◌-◌, ◌+
 ghost use Rattle.std.specs.Option.{IfSome};
 ghost use Rattle.shape_font.specs.Search.{first_at};
 ghost use Rattle.layout_matching.specs.Skipping.{nth};
-ghost use Rattle.layout_matching.specs.Seeking.{mask_of, fits as fits_of, is_between as is_between_of, if_fits as if_fits_of, next_place as next_place_of, distance_back as distance_back_of, prev_place as prev_place_of, last_after as last_after_of, last_before as last_before_of, places_after};
+ghost use Rattle.layout_matching.specs.Seeking;
 
 use crate::lookup::Lookup;
 use crate::rules::{Row, fits_row};
@@ -24,7 +24,7 @@ pub struct Seek {
 
 /// The bits one of which a glyph has to have.
 fn mask(lookup: &Lookup<'_>, seek: &Seek) -> u32
-    ensures { result ≡ mask_of lookup.now seek.now }
+    ensures { result ≡ Seeking.mask_of lookup.now seek.now }
 {
     if seek.is_input {
         lookup.mask
@@ -36,7 +36,7 @@ fn mask(lookup: &Lookup<'_>, seek: &Seek) -> u32
 /// Whether a glyph is number `k` of the row, where the lookup may match it.
 #[inline(always)]
 pub fn fits(lookup: &Lookup<'_>, seek: &Seek, k: u32, there: &hb_glyph_info_t) -> bool
-    ensures { result ≡ fits_of lookup.now seek.now k there.now }
+    ensures { result ≡ Seeking.fits lookup.now seek.now k there.now }
 {
     there.mask & mask(lookup, seek) != 0
         && (seek.syllable == 0 || there._hb_glyph_info_get_syllable() == seek.syllable)
@@ -46,7 +46,7 @@ pub fn fits(lookup: &Lookup<'_>, seek: &Seek, k: u32, there: &hb_glyph_info_t) -
 /// Whether a glyph may stand before the one that is looked for.
 #[inline(always)]
 pub fn is_between(lookup: &Lookup<'_>, seek: &Seek, k: u32, there: &hb_glyph_info_t) -> bool
-    ensures { result ≡ is_between_of lookup.now seek.now k there.now }
+    ensures { result ≡ Seeking.is_between lookup.now seek.now k there.now }
 {
     is_skipped(lookup, there)
         || (is_transparent(lookup, seek.is_input, there) && !fits(lookup, seek, k, there))
@@ -62,7 +62,7 @@ fn if_fits(
     j: usize,
 ) -> Option<usize>
     requires { j < length items.now }
-    ensures value { result ≡ if_fits_of lookup.now seek.now items.now k j }
+    ensures value { result ≡ Seeking.if_fits lookup.now seek.now items.now k j }
     ensures inside { IfSome result (λ n. n < length items.now) }
     ensures same { IfSome result (λ n. n ≤ j) }
 {
@@ -84,7 +84,7 @@ pub(crate) fn place_from(
     from: usize,
 ) -> Option<usize>
     ensures value { result ≡ first_at
-        (λ j. not (is_between_of lookup.now seek.now k (nth items.now j)))
+        (λ j. not (Seeking.is_between lookup.now seek.now k (nth items.now j)))
         (length items.now - from) from }
     ensures inside { IfSome result (λ j. j < length items.now) }
 {
@@ -106,7 +106,7 @@ pub fn next(
     i: usize,
 ) -> Option<usize>
     requires { i < length items.now }
-    ensures value { result ≡ next_place_of lookup.now seek.now items.now k i }
+    ensures value { result ≡ Seeking.next_place lookup.now seek.now items.now k i }
     ensures inside { IfSome result (λ j. j < length items.now) }
 {
     // The list can be counted, so the place after one of its own can.
@@ -120,7 +120,7 @@ pub fn next(
 /// Whether the glyph at `j` may not stand between.
 fn ends(lookup: &Lookup<'_>, seek: &Seek, items: &ItemList<'_>, k: u32, j: usize) -> bool
     requires { j < length items.now }
-    ensures { result ≡ not (is_between_of lookup.now seek.now k (nth items.now j)) }
+    ensures { result ≡ not (Seeking.is_between lookup.now seek.now k (nth items.now j)) }
 {
     !is_between(lookup, seek, k, items.at(j))
 }
@@ -135,7 +135,7 @@ pub(crate) fn distance_back(
     i: usize,
 ) -> Option<usize>
     requires { i ≤ length items.now }
-    ensures value { result ≡ distance_back_of lookup.now seek.now items.now k i }
+    ensures value { result ≡ Seeking.distance_back lookup.now seek.now items.now k i }
     ensures inside { IfSome result (λ d. d < i) }
 {
     for d in 0..i {
@@ -155,7 +155,7 @@ pub fn prev(
     i: usize,
 ) -> Option<usize>
     requires { i ≤ length items.now }
-    ensures value { result ≡ prev_place_of lookup.now seek.now items.now k i }
+    ensures value { result ≡ Seeking.prev_place lookup.now seek.now items.now k i }
     ensures inside { IfSome result (λ j. j ≤ length items.now) }
 {
     match distance_back(lookup, seek, items, k, i) {
@@ -174,7 +174,7 @@ pub fn last_after(
     i: usize,
 ) -> Option<usize>
     requires { i < length items.now }
-    ensures value { result ≡ last_after_of lookup.now seek.now items.now n i }
+    ensures value { result ≡ Seeking.last_after lookup.now seek.now items.now n i }
     ensures inside { IfSome result (λ j. j < length items.now) }
 {
     let mut last = i;
@@ -197,7 +197,7 @@ pub fn last_before(
     i: usize,
 ) -> Option<usize>
     requires { i ≤ length items.now }
-    ensures value { result ≡ last_before_of lookup.now seek.now items.now n i }
+    ensures value { result ≡ Seeking.last_before lookup.now seek.now items.now n i }
 {
     let mut last = i;
     for k in 0..n {
@@ -221,7 +221,7 @@ pub fn push_places(
 ) -> Result<(), ShapeError>
     requires { at < length items.now }
     ensures ok { OnOk result (places.new.items
-        ≡ places.old.items ++ places_after lookup.now seek.now items.now n 0 at) }
+        ≡ places.old.items ++ Seeking.places_after lookup.now seek.now items.now n 0 at) }
     ensures memory { IsOkUnless result ShapeError.Memory }
 {
     let mut last = at;

@@ -1,6 +1,6 @@
 //! What a set of rules, or of ligatures, costs at a place: its rules, and what they pass over.
 ghost use Rattle.std.specs.Prelude.{◌≡◌, ◌<◌, ◌^◌, length};
-ghost use Rattle.layout_matching.specs.Work.{passed_charged as passed_charged_of, rule_charged as rule_charged_of, part_rule as part_rule_of, part_counted as part_counted_of, set_counted as set_counted_of, set_charged as set_charged_of};
+ghost use Rattle.layout_matching.specs.Work;
 
 use crate::found::{is_chained, is_context_subtable, rule_by};
 use crate::lookup::Lookup;
@@ -19,7 +19,7 @@ pub(crate) fn passed_charged(
     count: Tally,
 ) -> Option<usize>
     requires { at < length items.now }
-    ensures { result ≡ passed_charged_of lookup.now items.now at count }
+    ensures { result ≡ Work.passed_charged lookup.now items.now at count }
 {
     let before = passed_before(lookup, items, at, count.before);
     let passed = passed_after(lookup, items, at, count.after).saturating_add(before);
@@ -35,7 +35,7 @@ pub(crate) fn rule_charged(
     left: usize,
 ) -> Option<usize>
     requires { at < length items.now }
-    ensures { result ≡ rule_charged_of lookup.now items.now at rule.now left }
+    ensures { result ≡ Work.rule_charged lookup.now items.now at rule.now left }
 {
     match rule_counted(rule, uncounted(left)) {
         Some(count) => passed_charged(lookup, items, at, count),
@@ -47,7 +47,7 @@ pub(crate) fn rule_charged(
 fn part_rule(lookup: &Lookup<'_>, subtable: LookupSubtable, place: usize) -> Rule
     requires near { subtable.start < 2 ^ 35 }
     requires place { place < 2 ^ 37 }
-    ensures { result ≡ part_rule_of lookup.now subtable place }
+    ensures { result ≡ Work.part_rule lookup.now subtable place }
 {
     if is_context_subtable(lookup, subtable) {
         let is_chain = is_chained(lookup, subtable);
@@ -68,7 +68,7 @@ fn part_counted(
     requires near { subtable.start < 2 ^ 35 }
     requires set { set < 2 ^ 36 }
     requires few { r < 2 ^ 16 }
-    ensures { result ≡ part_counted_of lookup.now subtable set r count }
+    ensures { result ≡ Work.part_counted lookup.now subtable set r count }
 {
     match rule_at(lookup.table, set, r) {
         Some(place) => rule_counted(&part_rule(lookup, subtable, place), count),
@@ -86,7 +86,7 @@ fn set_counted(
 ) -> Option<Tally>
     requires near { subtable.start < 2 ^ 35 }
     requires set { set < 2 ^ 36 }
-    ensures { result ≡ set_counted_of lookup.now subtable left set }
+    ensures { result ≡ Work.set_counted lookup.now subtable left set }
 {
     let mut count = uncounted(left);
     for r in 0..records(
@@ -115,7 +115,7 @@ pub(crate) fn set_charged(
     requires near { subtable.start < 2 ^ 35 }
     requires set { set < 2 ^ 36 }
     requires inside { at < length items.now }
-    ensures { result ≡ set_charged_of lookup.now items.now at subtable left set }
+    ensures { result ≡ Work.set_charged lookup.now items.now at subtable left set }
 {
     match set_counted(lookup, subtable, left, set) {
         Some(count) => passed_charged(lookup, items, at, count),

@@ -3,7 +3,7 @@
 //! A glyph is skipped by the lookup's flags, whatever is looked for. A default ignorable is transparent: it is passed over
 //! unless it is the very glyph that is looked for. Positioning passes over more of them than substitution does.
 ghost use Rattle.std.specs.Prelude.{◌≡◌};
-ghost use Rattle.layout_matching.specs.Skipping.{nth, is_mark_left_out, is_skipped as is_skipped_of, passes_zwnj as passes_zwnj_of, passes_zwj as passes_zwj_of, is_transparent as is_transparent_of, is_on as is_on_of, syllable_of};
+ghost use Rattle.layout_matching.specs.Skipping;
 
 use crate::lookup::Lookup;
 use layout_tables::gdef::mark_set_covers;
@@ -11,7 +11,7 @@ use shape_buffer::hb_glyph_info_t;
 
 /// The item at place `i`, a new one past the end.
 pub fn item_at(items: &[hb_glyph_info_t], i: usize) -> hb_glyph_info_t
-    ensures { result ≡ nth items.now i }
+    ensures { result ≡ Skipping.nth items.now i }
 {
     if i < items.len() {
         items[i]
@@ -22,7 +22,7 @@ pub fn item_at(items: &[hb_glyph_info_t], i: usize) -> hb_glyph_info_t
 
 /// Whether a mark is out of the lookup's set of marks, or of another class of marks than the lookup's.
 fn mark_is_left_out(lookup: &Lookup<'_>, item: &hb_glyph_info_t) -> bool
-    ensures { result ≡ is_mark_left_out lookup.now item.now }
+    ensures { result ≡ Skipping.is_mark_left_out lookup.now item.now }
 {
     if lookup.flags & 16 != 0 {
         return !mark_set_covers(lookup.gdef, lookup.mark_set, item.glyph_id);
@@ -33,27 +33,27 @@ fn mark_is_left_out(lookup: &Lookup<'_>, item: &hb_glyph_info_t) -> bool
 
 /// Whether the lookup's flags skip the glyph.
 pub fn is_skipped(lookup: &Lookup<'_>, item: &hb_glyph_info_t) -> bool
-    ensures { result ≡ is_skipped_of lookup.now item.now }
+    ensures { result ≡ Skipping.is_skipped lookup.now item.now }
 {
     let class = item._hb_glyph_info_get_glyph_class().0;
     class & lookup.flags & 14 != 0 || (class & 8 != 0 && mark_is_left_out(lookup, item))
 }
 
 fn passes_zwnj(lookup: &Lookup<'_>, is_input: bool) -> bool
-    ensures { result ≡ passes_zwnj_of lookup.now is_input }
+    ensures { result ≡ Skipping.passes_zwnj lookup.now is_input }
 {
     lookup.positioning || (!is_input && lookup.auto_zwnj)
 }
 
 fn passes_zwj(lookup: &Lookup<'_>, is_input: bool) -> bool
-    ensures { result ≡ passes_zwj_of lookup.now is_input }
+    ensures { result ≡ Skipping.passes_zwj lookup.now is_input }
 {
     !is_input || lookup.auto_zwj
 }
 
 /// Whether a default ignorable is passed over unless it is looked for. `is_input` within what is matched, else around it.
 pub fn is_transparent(lookup: &Lookup<'_>, is_input: bool, item: &hb_glyph_info_t) -> bool
-    ensures { result ≡ is_transparent_of lookup.now is_input item.now }
+    ensures { result ≡ Skipping.is_transparent lookup.now is_input item.now }
 {
     item._hb_glyph_info_is_default_ignorable()
         && (passes_zwnj(lookup, is_input) || !item._hb_glyph_info_get_zwnj())
@@ -63,14 +63,14 @@ pub fn is_transparent(lookup: &Lookup<'_>, is_input: bool, item: &hb_glyph_info_
 
 /// Whether the lookup may begin at the glyph.
 pub fn is_on(lookup: &Lookup<'_>, item: &hb_glyph_info_t) -> bool
-    ensures { result ≡ is_on_of lookup.now item.now }
+    ensures { result ≡ Skipping.is_on lookup.now item.now }
 {
     item.mask & lookup.mask != 0 && !is_skipped(lookup, item)
 }
 
 /// The syllable that a match which begins at the glyph stays in, 0 for any.
 pub fn syllable(lookup: &Lookup<'_>, item: &hb_glyph_info_t) -> u8
-    ensures { result ≡ syllable_of lookup.now item.now }
+    ensures { result ≡ Skipping.syllable_of lookup.now item.now }
 {
     if lookup.per_syllable && !lookup.positioning {
         item._hb_glyph_info_get_syllable()

@@ -1,7 +1,7 @@
 //! Where a rule of context stands: what it matches, and what is before and after that.
 ghost use Rattle.std.specs.Prelude.{◌≡◌, ◌<◌, length};
 ghost use Rattle.std.specs.Option.{IfSome};
-ghost use Rattle.layout_matching.specs.Spans.{seek_around as seek_around_of, span_to as span_to_of, span_from as span_from_of, span_of};
+ghost use Rattle.layout_matching.specs.Spans;
 
 use crate::input::{Matched, match_input};
 use crate::lookup::Lookup;
@@ -29,7 +29,7 @@ pub struct Span {
 
 /// What is looked for around what is matched, in the syllable of its first glyph if `stays`.
 pub fn seek_around(lookup: &Lookup<'_>, first: &hb_glyph_info_t, stays: bool, row: Row) -> Seek
-    ensures { result ≡ seek_around_of lookup.now first.now stays row }
+    ensures { result ≡ Spans.seek_around lookup.now first.now stays row }
 {
     Seek {
         row,
@@ -48,7 +48,7 @@ fn span_to(
     start: usize,
 ) -> Option<Span>
     requires { last < length items.now }
-    ensures value { result ≡ span_to_of lookup.now items.now origin rule.now last start }
+    ensures value { result ≡ Spans.span_to lookup.now items.now origin rule.now last start }
     ensures last { IfSome result (λ s. s.last ≡ last) }
 {
     let first = items.item(origin.at);
@@ -73,7 +73,7 @@ fn span_from(
 ) -> Option<Span>
     requires at { origin.at < length items.now }
     requires last { found.last < length items.now }
-    ensures value { result ≡ span_from_of lookup.now items.now origin rule.now found }
+    ensures value { result ≡ Spans.span_from lookup.now items.now origin rule.now found }
     ensures last { IfSome result (λ s. s.last ≡ found.last) }
 {
     let first = items.item(origin.at);
@@ -98,7 +98,7 @@ pub fn span_at(
     rule: &Rule,
 ) -> Option<Span>
     requires { origin.at < length items.now }
-    ensures value { result ≡ span_of lookup.now items.now origin rule.now }
+    ensures value { result ≡ Spans.span_of lookup.now items.now origin rule.now }
     ensures last { IfSome result (λ s. s.last < length items.now) }
 {
     match match_input(lookup, items, origin.at, rule.input) {

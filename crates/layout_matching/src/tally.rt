@@ -1,6 +1,6 @@
 //! Rules counted: each costs one for each glyph and each lookup that it names.
 ghost use Rattle.std.specs.Prelude.{◌≡◌, ◌<◌, ◌^◌};
-ghost use Rattle.layout_matching.specs.Work.{charged as charged_of, rule_work as rule_work_of, uncounted as uncounted_of, beside as beside_of, rule_counted as rule_counted_of, null_counted as null_counted_of, ligature_rule as ligature_rule_of, backward_rule as backward_rule_of};
+ghost use Rattle.layout_matching.specs.Work;
 
 use crate::rules::{Row, Rule, Test};
 use shape_font::bytes::u16_at;
@@ -17,14 +17,14 @@ pub struct Tally {
 
 /// What is left after so much, if it suffices.
 pub(crate) fn charged(work: usize, left: usize) -> Option<usize>
-    ensures { result ≡ charged_of work left }
+    ensures { result ≡ Work.charged work left }
 {
     if left < work { None } else { Some(left - work) }
 }
 
 /// Before the first rule.
 pub(crate) fn uncounted(left: usize) -> Tally
-    ensures { result ≡ uncounted_of left }
+    ensures { result ≡ Work.uncounted left }
 {
     Tally {
         left,
@@ -36,7 +36,7 @@ pub(crate) fn uncounted(left: usize) -> Tally
 
 /// A search of the glyph before a place and of the one after.
 pub(crate) fn beside(left: usize) -> Tally
-    ensures { result ≡ beside_of left }
+    ensures { result ≡ Work.beside left }
 {
     Tally {
         left,
@@ -56,7 +56,7 @@ fn short(count: u16) -> usize
 
 /// What a rule costs: each of its glyphs and of its lookups, and the rule.
 fn rule_work(rule: &Rule) -> usize
-    ensures { result ≡ rule_work_of rule.now }
+    ensures { result ≡ Work.rule_work rule.now }
 {
     short(rule.before.count)
         + short(rule.input.count)
@@ -67,7 +67,7 @@ fn rule_work(rule: &Rule) -> usize
 
 /// One rule more.
 pub(crate) fn rule_counted(rule: &Rule, count: Tally) -> Option<Tally>
-    ensures { result ≡ rule_counted_of rule.now count }
+    ensures { result ≡ Work.rule_counted rule.now count }
 {
     let Some(left) = charged(rule_work(rule), count.left) else {
         return None;
@@ -83,7 +83,7 @@ pub(crate) fn rule_counted(rule: &Rule, count: Tally) -> Option<Tally>
 
 /// One offset more that is NULL.
 pub(crate) fn null_counted(count: Tally) -> Option<Tally>
-    ensures { result ≡ null_counted_of count }
+    ensures { result ≡ Work.null_counted count }
 {
     let Some(left) = charged(1, count.left) else {
         return None;
@@ -107,7 +107,7 @@ fn row(test: Test, count: u16) -> Row
 /// A ligature as a rule, to be counted alone.
 pub(crate) fn ligature_rule(table: &[u8], place: usize) -> Rule
     requires { place < 2 ^ 37 }
-    ensures { result ≡ ligature_rule_of table.now place }
+    ensures { result ≡ Work.ligature_rule table.now place }
 {
     Rule {
         before: row(Test::Glyph, 0),
@@ -121,7 +121,7 @@ pub(crate) fn ligature_rule(table: &[u8], place: usize) -> Rule
 /// A rule of kind 8, to be counted alone.
 pub(crate) fn backward_rule(table: &[u8], start: usize) -> Rule
     requires { start < 2 ^ 35 }
-    ensures { result ≡ backward_rule_of table.now start }
+    ensures { result ≡ Work.backward_rule table.now start }
 {
     let before = u16_at(table, start + 4);
     let middle = start + 6 + 2 * usize::from(before);

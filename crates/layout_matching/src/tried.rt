@@ -5,12 +5,8 @@
 //! [`reaching`](crate::reaching) says it of rules. Nothing is changed here.
 ghost use Rattle.std.specs.Prelude.{◌≡◌, ◌<◌, ◌≤◌, length, true};
 ghost use Rattle.layout_matching.specs.Loops.{stopped};
-ghost use Rattle.layout_matching.specs.Input.{input_step as input_step_of};
-ghost use Rattle.layout_matching.specs.Tried.{untried as untried_of, match_at as match_at_of, vain as vain_of};
-ghost use Rattle.layout_matching.specs.Tried.{joined_reach, stop_after as stop_after_of};
-ghost use Rattle.layout_matching.specs.Tried.{stop_before as stop_before_of, input_stop as input_stop_of};
-ghost use Rattle.layout_matching.specs.Tried.{input_end as input_end_of, after_end as after_end_of};
-ghost use Rattle.layout_matching.specs.Tried.{before_start as before_start_of};
+ghost use Rattle.layout_matching.specs.Input;
+ghost use Rattle.layout_matching.specs.Tried;
 
 use crate::input::{MAX_CONTEXT_LENGTH, Matched, input_step, seek_input};
 use crate::lookup::Lookup;
@@ -28,7 +24,7 @@ pub struct Reach {
 
 /// Nothing was looked at yet, at place `at`.
 pub fn untried(at: usize) -> Reach
-    ensures { result ≡ untried_of at }
+    ensures { result ≡ Tried.untried at }
 {
     Reach {
         from: at,
@@ -39,7 +35,7 @@ pub fn untried(at: usize) -> Reach
 
 /// A match at place `at`.
 pub fn match_at(at: usize) -> Reach
-    ensures { result ≡ match_at_of at }
+    ensures { result ≡ Tried.match_at at }
 {
     Reach {
         from: at,
@@ -50,7 +46,7 @@ pub fn match_at(at: usize) -> Reach
 
 /// A search in vain from `from` up to `to`, for a match at `at`.
 pub fn vain(at: usize, from: usize, to: usize) -> Reach
-    ensures { result ≡ vain_of at from to }
+    ensures { result ≡ Tried.vain at from to }
 {
     Reach {
         from: at.min(from),
@@ -61,7 +57,7 @@ pub fn vain(at: usize, from: usize, to: usize) -> Reach
 
 /// What either looked at.
 pub fn joined(s: Reach, r: Reach) -> Reach
-    ensures { result ≡ joined_reach s r }
+    ensures { result ≡ Tried.joined_reach s r }
 {
     Reach {
         from: s.from.min(r.from),
@@ -73,7 +69,7 @@ pub fn joined(s: Reach, r: Reach) -> Reach
 /// Where a search for glyph `k` of a row ended after place `i`.
 fn stop_after(lookup: &Lookup<'_>, seek: &Seek, items: &ItemList<'_>, k: u32, i: usize) -> usize
     requires { i < length items.now }
-    ensures { result ≡ stop_after_of lookup.now seek.now items.now k i }
+    ensures { result ≡ Tried.stop_after lookup.now seek.now items.now k i }
 {
     // The list can be counted, so the place after one of its own can.
     let _count = items.len();
@@ -86,7 +82,7 @@ fn stop_after(lookup: &Lookup<'_>, seek: &Seek, items: &ItemList<'_>, k: u32, i:
 /// Where one ended before place `i`.
 fn stop_before(lookup: &Lookup<'_>, seek: &Seek, items: &ItemList<'_>, k: u32, i: usize) -> usize
     requires { i ≤ length items.now }
-    ensures { result ≡ stop_before_of lookup.now seek.now items.now k i }
+    ensures { result ≡ Tried.stop_before lookup.now seek.now items.now k i }
 {
     match distance_back(lookup, seek, items, k, i) {
         Some(d) => i.saturating_sub(1).saturating_sub(d).saturating_sub(1),
@@ -104,7 +100,7 @@ fn input_stop(
     found: Matched,
 ) -> usize
     requires { found.last < length items.now }
-    ensures { result ≡ input_stop_of lookup.now seek.now items.now k found }
+    ensures { result ≡ Tried.input_stop lookup.now seek.now items.now k found }
 {
     match next(lookup, seek, items, k, found.last) {
         Some(_) => 0,
@@ -116,8 +112,9 @@ fn input_stop(
 #[tactic(auto, using(crate::proofs::LoopLemmas::stopped_next, crate::proofs::LoopLemmas::stopped_none, crate::proofs::LoopLemmas::stopped_end))]
 fn glyphs_stop(lookup: &Lookup<'_>, seek: &Seek, items: &ItemList<'_>, at: usize, n: u32) -> usize
     requires { at < length items.now }
-    ensures { result ≡ stopped (input_step_of lookup.now seek.now items.now at)
-        (input_stop_of lookup.now seek.now items.now) n 0 (record { last = at; all_marks = true }) }
+    ensures { result ≡ stopped (Input.input_step lookup.now seek.now items.now at)
+        (Tried.input_stop lookup.now seek.now items.now) n 0
+        (record { last = at; all_marks = true }) }
 {
     let mut found = Matched {
         last: at,
@@ -136,7 +133,7 @@ fn glyphs_stop(lookup: &Lookup<'_>, seek: &Seek, items: &ItemList<'_>, at: usize
 /// `MAX_CONTEXT_LENGTH`.
 pub fn input_end(lookup: &Lookup<'_>, items: &ItemList<'_>, at: usize, row: Row) -> usize
     requires { at < length items.now }
-    ensures { result ≡ input_end_of lookup.now items.now at row }
+    ensures { result ≡ Tried.input_end lookup.now items.now at row }
 {
     if MAX_CONTEXT_LENGTH < row.count {
         return 0;
@@ -150,7 +147,7 @@ pub fn input_end(lookup: &Lookup<'_>, items: &ItemList<'_>, at: usize, row: Row)
 #[tactic(auto, using(crate::proofs::LoopLemmas::stopped_next, crate::proofs::LoopLemmas::stopped_none, crate::proofs::LoopLemmas::stopped_end))]
 pub fn after_end(lookup: &Lookup<'_>, seek: &Seek, items: &ItemList<'_>, n: u32, i: usize) -> usize
     requires { i < length items.now }
-    ensures { result ≡ after_end_of lookup.now seek.now items.now n i }
+    ensures { result ≡ Tried.after_end lookup.now seek.now items.now n i }
 {
     let mut last = i;
     for k in 0..n {
@@ -172,7 +169,7 @@ pub fn before_start(
     i: usize,
 ) -> usize
     requires { i ≤ length items.now }
-    ensures { result ≡ before_start_of lookup.now seek.now items.now n i }
+    ensures { result ≡ Tried.before_start lookup.now seek.now items.now n i }
 {
     let mut last = i;
     for k in 0..n {

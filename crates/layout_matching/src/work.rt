@@ -6,7 +6,7 @@
 ghost use Rattle.std.specs.Prelude.{◌≡◌, ◌<◌, ◌*◌, ◌^◌, length};
 ghost use Rattle.std.specs.Option.{IfSome};
 ghost use Rattle.layout_tables.specs.Lookups.{subtable_count_of};
-ghost use Rattle.layout_matching.specs.Work.{is_backward as is_backward_of, is_ligature as is_ligature_of, parts_for as parts_for_of, whole_list as whole_list_of, begun_charged as begun_charged_of, parts_charged as parts_charged_of, numbered_charged as numbered_charged_of, whole_charged as whole_charged_of, is_whole as is_whole_of, subtable_charged as subtable_charged_of, charged_at_subtable as charged_at_subtable_of, is_plain as is_plain_of, is_paid as is_paid_of, subtables_charged as subtables_charged_of, lookup_charged as lookup_charged_of, step_work as step_work_of, nested_charged as nested_charged_of, walk_work as walk_work_of, most_work as most_work_of};
+ghost use Rattle.layout_matching.specs.Work;
 
 use crate::found::{
     is_chained, is_context, is_context_subtable, is_first, number_in, set_for, subtable_at,
@@ -41,7 +41,7 @@ const WORK_FACTOR: usize = 32768;
 const WORK_MIN: usize = 1_048_576;
 
 fn is_ligature(lookup: &Lookup<'_>, subtable: LookupSubtable) -> bool
-    ensures { result ≡ is_ligature_of lookup.now subtable }
+    ensures { result ≡ Work.is_ligature lookup.now subtable }
 {
     !lookup.positioning && subtable.kind == 4
 }
@@ -54,7 +54,7 @@ fn parts_for(
     number: u32,
 ) -> Option<usize>
     requires near { subtable.start < 2 ^ 35 }
-    ensures value { result ≡ parts_for_of lookup.now subtable glyph number }
+    ensures value { result ≡ Work.parts_for lookup.now subtable glyph number }
     ensures near { IfSome result (λ s. s < 2 ^ 36) }
 {
     if is_context_subtable(lookup, subtable) {
@@ -69,7 +69,7 @@ fn parts_for(
 
 /// An alternate at random marks the whole list.
 fn whole_list(lookup: &Lookup<'_>, items: &ItemList<'_>, subtable: LookupSubtable) -> usize
-    ensures { result ≡ whole_list_of lookup.now items.now subtable }
+    ensures { result ≡ Work.whole_list lookup.now items.now subtable }
 {
     if !lookup.positioning && subtable.kind == 3 && lookup.random {
         items.len()
@@ -85,7 +85,7 @@ fn begun_charged(
     subtable: LookupSubtable,
     left: usize,
 ) -> Option<usize>
-    ensures { result ≡ begun_charged_of lookup.now items.now subtable left }
+    ensures { result ≡ Work.begun_charged lookup.now items.now subtable left }
 {
     match charged(whole_list(lookup, items, subtable), left) {
         Some(left) => charged(SUBTABLE_WORK, left),
@@ -94,7 +94,7 @@ fn begun_charged(
 }
 
 fn is_backward(lookup: &Lookup<'_>, subtable: LookupSubtable) -> bool
-    ensures { result ≡ is_backward_of lookup.now subtable }
+    ensures { result ≡ Work.is_backward lookup.now subtable }
 {
     !lookup.positioning && subtable.kind == 8
 }
@@ -110,7 +110,7 @@ fn parts_charged(
 ) -> Option<usize>
     requires near { subtable.start < 2 ^ 35 }
     requires inside { at < length items.now }
-    ensures { result ≡ parts_charged_of lookup.now items.now at subtable number left }
+    ensures { result ≡ Work.parts_charged lookup.now items.now at subtable number left }
 {
     if is_backward(lookup, subtable) {
         let rule = backward_rule(lookup.table, subtable.start);
@@ -133,7 +133,7 @@ fn numbered_charged(
 ) -> Option<usize>
     requires near { subtable.start < 2 ^ 35 }
     requires inside { at < length items.now }
-    ensures { result ≡ numbered_charged_of lookup.now items.now at subtable left number }
+    ensures { result ≡ Work.numbered_charged lookup.now items.now at subtable left number }
 {
     match begun_charged(lookup, items, subtable, left) {
         Some(left) => parts_charged(lookup, items, at, subtable, number, left),
@@ -151,7 +151,7 @@ fn whole_charged(
 ) -> Option<usize>
     requires near { subtable.start < 2 ^ 35 }
     requires inside { at < length items.now }
-    ensures { result ≡ whole_charged_of lookup.now items.now at subtable left }
+    ensures { result ≡ Work.whole_charged lookup.now items.now at subtable left }
 {
     let rule = whole_rule(lookup.table, is_chained(lookup, subtable), subtable.start);
     let glyph = items.item(at).glyph_id;
@@ -167,7 +167,7 @@ fn whole_charged(
 /// Whether the subtable has one rule, by its format.
 fn is_whole(lookup: &Lookup<'_>, subtable: LookupSubtable) -> bool
     requires { subtable.start < 2 ^ 35 }
-    ensures { result ≡ is_whole_of lookup.now subtable }
+    ensures { result ≡ Work.is_whole lookup.now subtable }
 {
     is_context_subtable(lookup, subtable) && u16_at(lookup.table, subtable.start) == 3
 }
@@ -182,7 +182,7 @@ fn subtable_charged(
 ) -> Option<usize>
     requires near { subtable.start < 2 ^ 35 }
     requires inside { at < length items.now }
-    ensures { result ≡ subtable_charged_of lookup.now items.now at left subtable }
+    ensures { result ≡ Work.subtable_charged lookup.now items.now at left subtable }
 {
     if is_whole(lookup, subtable) {
         return whole_charged(lookup, items, at, subtable, left);
@@ -205,7 +205,7 @@ fn charged_at_subtable(
     requires near { lookup.now.place < 2 ^ 17 }
     requires few { i < 2 ^ 16 }
     requires inside { at < length items.now }
-    ensures { result ≡ charged_at_subtable_of lookup.now items.now at i left }
+    ensures { result ≡ Work.charged_at_subtable lookup.now items.now at i left }
 {
     match subtable_at(lookup, i) {
         Some(subtable) => subtable_charged(lookup, items, at, left, subtable),
@@ -217,7 +217,7 @@ fn charged_at_subtable(
 /// context, in `GSUB` kinds 1 and 2, and 3 if it isn't at random.
 fn is_plain(lookup: &Lookup<'_>) -> bool
     requires { lookup.now.place < 2 ^ 17 }
-    ensures { result ≡ is_plain_of lookup.now }
+    ensures { result ≡ Work.is_plain lookup.now }
 {
     if lookup.positioning {
         return !is_context(lookup);
@@ -239,7 +239,7 @@ fn subtables_charged(
 ) -> Option<usize>
     requires near { lookup.now.place < 2 ^ 17 }
     requires inside { at < length items.now }
-    ensures { result ≡ subtables_charged_of lookup.now items.now at left }
+    ensures { result ≡ Work.subtables_charged lookup.now items.now at left }
 {
     let mut left = left;
     for i in 0..subtable_count(lookup.table, lookup.place) {
@@ -254,7 +254,7 @@ fn subtables_charged(
 /// Whether the walk over the list has paid for the lookup at a glyph, or the rule that names it.
 fn is_paid(lookup: &Lookup<'_>, item: &hb_glyph_info_t) -> bool
     requires { lookup.now.place < 2 ^ 17 }
-    ensures { result ≡ is_paid_of lookup.now item.now }
+    ensures { result ≡ Work.is_paid lookup.now item.now }
 {
     is_plain(lookup) && !is_transparent(lookup, false, item)
 }
@@ -269,7 +269,7 @@ pub fn lookup_charged(
 ) -> Option<usize>
     requires near { lookup.now.place < 2 ^ 17 }
     requires inside { at < length items.now }
-    ensures { result ≡ lookup_charged_of lookup.now items.now at left }
+    ensures { result ≡ Work.lookup_charged lookup.now items.now at left }
 {
     if is_paid(lookup, items.at(at)) {
         Some(left)
@@ -281,7 +281,8 @@ pub fn lookup_charged(
 /// What the subtables of the lookup cost at each item of a list, whether they begin there or not.
 fn step_work(lookup: &Lookup<'_>) -> usize
     requires { lookup.now.place < 2 ^ 17 }
-    ensures value { result ≡ subtable_count_of lookup.now.table.now lookup.now.place * step_work_of lookup.now }
+    ensures value { result ≡ subtable_count_of lookup.now.table.now lookup.now.place *
+        Work.step_work lookup.now }
     ensures near { result < 2 ^ 21 }
 {
     let count = subtable_count(lookup.table, lookup.place) as usize;
@@ -301,7 +302,7 @@ pub fn nested_charged(
 ) -> Option<usize>
     requires near { lookup.now.place < 2 ^ 17 }
     requires inside { at < length items.now }
-    ensures { result ≡ nested_charged_of lookup.now items.now at left }
+    ensures { result ≡ Work.nested_charged lookup.now items.now at left }
 {
     match charged(step_work(lookup) + NESTED_WORK, left) {
         Some(left) => subtables_charged(lookup, items, at, left),
@@ -312,14 +313,14 @@ pub fn nested_charged(
 /// What a lookup costs that goes over so many items, for each of its subtables.
 pub fn walk_work(lookup: &Lookup<'_>, count: usize) -> usize
     requires { lookup.now.place < 2 ^ 17 }
-    ensures { result ≡ walk_work_of lookup.now count }
+    ensures { result ≡ Work.walk_work lookup.now count }
 {
     count.saturating_mul(step_work(lookup))
 }
 
 /// How much the lookups of a stage may ask for that begins with so many items: a bound on its time.
 pub fn most_work(count: usize) -> usize
-    ensures { result ≡ most_work_of count }
+    ensures { result ≡ Work.most_work count }
 {
     count.saturating_mul(WORK_FACTOR).max(WORK_MIN)
 }

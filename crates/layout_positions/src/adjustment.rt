@@ -1,6 +1,6 @@
 //! Single and pair adjustment, applied at a place of a buffer.
 ghost use Rattle.std.specs.Prelude.{◌≡◌, ◌<◌, ◌^◌, length};
-ghost use Rattle.layout_positions.specs.Pairs.{glyph_adjusted, single_put, single_applied, pair_marked, pair_ended, pair_moves, pair_put, pair_with as pair_with_of, pair_at_number, has_pairs as has_pairs_of, pair_applied};
+ghost use Rattle.layout_positions.specs.Pairs;
 
 use crate::anchors::number_there;
 use crate::edits::{break_between, concat_between, position, put};
@@ -15,7 +15,7 @@ use shape_font::bytes::u16_at;
 
 /// Adjusts the glyph at place `i`.
 fn adjust(buffer: &mut hb_buffer_t, i: usize, value: &Adjustment)
-    ensures made { buffer.new ≡ glyph_adjusted value.now i buffer.old }
+    ensures made { buffer.new ≡ Pairs.glyph_adjusted value.now i buffer.old }
     ensures items { buffer.new.items ≡ buffer.old.items }
 {
     let horizontal = buffer.direction().is_horizontal();
@@ -32,8 +32,8 @@ pub fn apply_single(
 ) -> Option<usize>
     requires near { start < 2 ^ 34 }
     requires inside { i < length buffer.old.items }
-    ensures made { buffer.new ≡ (single_applied lookup.now start i buffer.old).buffer }
-    ensures next { result ≡ (single_applied lookup.now start i buffer.old).next }
+    ensures made { buffer.new ≡ (Pairs.single_applied lookup.now start i buffer.old).buffer }
+    ensures next { result ≡ (Pairs.single_applied lookup.now start i buffer.old).next }
 {
     let count = buffer.len();
     match single(lookup.table, start, item_at(buffer.infos(), i).glyph_id) {
@@ -47,7 +47,7 @@ pub fn apply_single(
 
 /// Whether a pair changes something.
 fn moves(horizontal: bool, values: &PairValues) -> bool
-    ensures { result ≡ pair_moves horizontal values.now }
+    ensures { result ≡ Pairs.pair_moves horizontal values.now }
 {
     has_effect(horizontal, &values.first) || has_effect(horizontal, &values.second)
 }
@@ -55,7 +55,7 @@ fn moves(horizontal: bool, values: &PairValues) -> bool
 /// Marks the two glyphs of a pair, as it moves them or doesn't.
 fn mark(buffer: &mut hb_buffer_t, listed: bool, moved: bool, i: usize, j: usize)
     requires { j < length buffer.old.items }
-    ensures made { buffer.new ≡ pair_marked listed moved i j buffer.old }
+    ensures made { buffer.new ≡ Pairs.pair_marked listed moved i j buffer.old }
     ensures len { length buffer.new.items ≡ length buffer.old.items }
 {
     let count = buffer.len();
@@ -69,8 +69,8 @@ fn mark(buffer: &mut hb_buffer_t, listed: bool, moved: bool, i: usize, j: usize)
 /// Ends a pair: goes on at its second glyph, or after that one if it has a record.
 fn end_pair(buffer: &mut hb_buffer_t, values: &PairValues, i: usize, j: usize) -> Option<usize>
     requires { j < length buffer.old.items }
-    ensures made { buffer.new ≡ (pair_ended values.now i j buffer.old).buffer }
-    ensures next { result ≡ (pair_ended values.now i j buffer.old).next }
+    ensures made { buffer.new ≡ (Pairs.pair_ended values.now i j buffer.old).buffer }
+    ensures next { result ≡ (Pairs.pair_ended values.now i j buffer.old).next }
 {
     let count = buffer.len();
     if values.has_second {
@@ -90,8 +90,8 @@ fn put_pair(
     values: &PairValues,
 ) -> Option<usize>
     requires inside { j < length buffer.old.items }
-    ensures made { buffer.new ≡ (pair_put listed i j buffer.old values.now).buffer }
-    ensures next { result ≡ (pair_put listed i j buffer.old values.now).next }
+    ensures made { buffer.new ≡ (Pairs.pair_put listed i j buffer.old values.now).buffer }
+    ensures next { result ≡ (Pairs.pair_put listed i j buffer.old values.now).next }
 {
     let moved = moves(buffer.direction().is_horizontal(), values);
     adjust(buffer, i, &values.first);
@@ -112,8 +112,8 @@ fn pair_with(
 ) -> Option<usize>
     requires start { start < 2 ^ 34 }
     requires inside { j < length buffer.old.items }
-    ensures made { buffer.new ≡ (pair_with_of lookup.now start i number buffer.old j).buffer }
-    ensures next { result ≡ (pair_with_of lookup.now start i number buffer.old j).next }
+    ensures made { buffer.new ≡ (Pairs.pair_with lookup.now start i number buffer.old j).buffer }
+    ensures next { result ≡ (Pairs.pair_with lookup.now start i number buffer.old j).next }
 {
     let count = buffer.len();
     let left = item_at(buffer.infos(), i).glyph_id;
@@ -138,8 +138,8 @@ fn pair_from(
 ) -> Option<usize>
     requires start { start < 2 ^ 34 }
     requires inside { i < length buffer.old.items }
-    ensures made { buffer.new ≡ (pair_at_number lookup.now start i buffer.old number).buffer }
-    ensures next { result ≡ (pair_at_number lookup.now start i buffer.old number).next }
+    ensures made { buffer.new ≡ (Pairs.pair_at_number lookup.now start i buffer.old number).buffer }
+    ensures next { result ≡ (Pairs.pair_at_number lookup.now start i buffer.old number).next }
 {
     match glyph_after(lookup, buffer.infos(), i) {
         Some(j) => pair_with(lookup, start, buffer, i, number, j),
@@ -154,7 +154,7 @@ fn pair_from(
 /// Whether the subtable is of a known format.
 fn has_pairs(table: &[u8], start: usize) -> bool
     requires { start < 2 ^ 34 }
-    ensures { result ≡ has_pairs_of table.now start }
+    ensures { result ≡ Pairs.has_pairs table.now start }
 {
     matches!(u16_at(table, start), 1 | 2)
 }
@@ -171,8 +171,8 @@ pub fn apply_pair(
 ) -> Option<usize>
     requires near { start < 2 ^ 34 }
     requires inside { i < length buffer.old.items }
-    ensures made { buffer.new ≡ (pair_applied lookup.now start i buffer.old).buffer }
-    ensures next { result ≡ (pair_applied lookup.now start i buffer.old).next }
+    ensures made { buffer.new ≡ (Pairs.pair_applied lookup.now start i buffer.old).buffer }
+    ensures next { result ≡ (Pairs.pair_applied lookup.now start i buffer.old).next }
 {
     if !has_pairs(lookup.table, start) {
         return None;

@@ -2,7 +2,7 @@
 //! tables", "Mark array").
 ghost use Rattle.std.specs.Prelude.{◌≡◌, ◌<◌, ◌≤◌, ◌^◌};
 ghost use Rattle.std.specs.Option.{IfSome};
-ghost use Rattle.layout_positions.specs.Anchors.{anchor_at, anchor_size as anchor_size_of, anchor_if as anchor_if_of, anchor_by, anchor_in, is_listed, class_in, mark_anchor_in, class_of_mark, anchor_of_mark, number_at};
+ghost use Rattle.layout_positions.specs.Anchors;
 
 use crate::places::cell;
 use layout_tables::coverage::coverage_index;
@@ -19,7 +19,7 @@ pub struct Anchor {
 /// The anchor at `start`, of format 1, 2 or 3; one of another format is the origin.
 fn anchor_from(table: &[u8], start: usize) -> Anchor
     requires { start < 2 ^ 39 }
-    ensures { result ≡ anchor_at table.now start }
+    ensures { result ≡ Anchors.anchor_at table.now start }
 {
     match u16_at(table, start) {
         1 | 2 | 3 => Anchor {
@@ -32,7 +32,7 @@ fn anchor_from(table: &[u8], start: usize) -> Anchor
 
 /// How many bytes an anchor of this format has; of another format only that is read.
 fn anchor_size(format: u16) -> usize
-    ensures value { result ≡ anchor_size_of format }
+    ensures value { result ≡ Anchors.anchor_size format }
     ensures small { result ≤ 10 }
 {
     match format {
@@ -46,7 +46,7 @@ fn anchor_size(format: u16) -> usize
 /// The anchor at `start`, if the table has room for it.
 fn anchor_if(table: &[u8], start: usize) -> Option<Anchor>
     requires { start < 2 ^ 39 }
-    ensures { result ≡ anchor_if_of table.now start }
+    ensures { result ≡ Anchors.anchor_if table.now start }
 {
     if start + anchor_size(u16_at(table, start)) <= table.len() {
         Some(anchor_from(table, start))
@@ -60,7 +60,7 @@ fn anchor_if(table: &[u8], start: usize) -> Option<Anchor>
 pub fn anchor_there(table: &[u8], start: usize, at: usize) -> Option<Anchor>
     requires start { start < 2 ^ 38 }
     requires at { at < 2 ^ 40 }
-    ensures { result ≡ anchor_by table.now start at }
+    ensures { result ≡ Anchors.anchor_by table.now start at }
 {
     let place = offset16(table, start, at)?;
     anchor_if(table, place)
@@ -75,7 +75,7 @@ pub fn anchor_of_class(
     class: u16,
 ) -> Option<Anchor>
     requires near { matrix < 2 ^ 37 }
-    ensures { result ≡ anchor_in table.now classes row class matrix }
+    ensures { result ≡ Anchors.anchor_in table.now classes row class matrix }
 {
     if u32::from(u16_at(table, matrix)) <= row || classes <= class {
         return None;
@@ -87,7 +87,7 @@ pub fn anchor_of_class(
 /// Whether an array of marks has mark number `i`.
 fn has_mark(table: &[u8], array: usize, i: u32) -> bool
     requires { array < 2 ^ 37 }
-    ensures { result ≡ is_listed table.now i array }
+    ensures { result ≡ Anchors.is_listed table.now i array }
 {
     i < records(table, u32::from(u16_at(table, array)), array + 2, 4)
 }
@@ -95,7 +95,7 @@ fn has_mark(table: &[u8], array: usize, i: u32) -> bool
 /// The class of mark number `i` in an array; 0 past its end, and without one.
 pub fn mark_class(table: &[u8], array: Option<usize>, i: u32) -> u16
     requires near { IfSome array (λ a. a < 2 ^ 37) }
-    ensures { result ≡ class_of_mark table.now i array }
+    ensures { result ≡ Anchors.class_of_mark table.now i array }
 {
     match array {
         Some(array) if has_mark(table, array, i) => u16_at(table, array + 2 + 4 * i as usize),
@@ -106,7 +106,7 @@ pub fn mark_class(table: &[u8], array: Option<usize>, i: u32) -> u16
 /// The anchor of mark number `i` in an array; the origin past its end, and where there is none.
 pub fn mark_anchor(table: &[u8], array: Option<usize>, i: u32) -> Anchor
     requires near { IfSome array (λ a. a < 2 ^ 37) }
-    ensures { result ≡ anchor_of_mark table.now i array }
+    ensures { result ≡ Anchors.anchor_of_mark table.now i array }
 {
     let found = match array {
         Some(array) if has_mark(table, array, i) => {
@@ -124,7 +124,7 @@ pub fn mark_anchor(table: &[u8], array: Option<usize>, i: u32) -> Anchor
 pub fn number_there(table: &[u8], start: usize, at: usize, glyph: u32) -> Option<u32>
     requires start { start < 2 ^ 38 }
     requires at { at < 2 ^ 38 }
-    ensures { result ≡ number_at table.now start at glyph }
+    ensures { result ≡ Anchors.number_at table.now start at glyph }
 {
     let list = offset16(table, start, at)?;
     coverage_index(table, list, glyph)

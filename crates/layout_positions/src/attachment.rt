@@ -3,7 +3,7 @@ ghost use Rattle.std.specs.Prelude.{◌≡◌, ◌<◌, length, nat_lt, pos, if�
 ghost use Rattle.std.specs.Option.{IfSome};
 ghost use Rattle.shape_buffer.specs.Outcome.{Made};
 ghost use Rattle.layout_positions.specs.Ways.{IsMeasured};
-ghost use Rattle.layout_positions.specs.Attachment.{chain_to, place_at as place_at_of, parent_of, freed, hung as hung_of, carried, followed, settled, MOST_LINKS as most_links, offsets_finished};
+ghost use Rattle.layout_positions.specs.Attachment;
 
 use crate::edits::{position, put};
 use crate::ways::{Measured, Pen, way_between};
@@ -29,7 +29,7 @@ fn near(distance: usize) -> i16
 /// The `attach_chain` of the glyph at place `i` that is attached to place `j`; 0, not attached, if
 /// they are more than 32767 apart.
 pub fn chain(i: usize, j: usize) -> i16
-    ensures { result ≡ chain_to i j }
+    ensures { result ≡ Attachment.chain_to i j }
 {
     if j < i { -near(i - j) } else { near(j - i) }
 }
@@ -37,7 +37,7 @@ pub fn chain(i: usize, j: usize) -> i16
 /// The place that far from place `i` of `count`.
 pub fn place_at(count: usize, i: usize, chain: i16) -> Option<usize>
     requires { i < count }
-    ensures value { result ≡ place_at_of count i chain }
+    ensures value { result ≡ Attachment.place_at count i chain }
     ensures inside { IfSome result (λ j. j < count) }
 {
     let n = usize::from(chain.unsigned_abs());
@@ -53,7 +53,7 @@ pub fn place_at(count: usize, i: usize, chain: i16) -> Option<usize>
 /// The place that the glyph at place `i` is attached to.
 pub fn parent(buffer: &hb_buffer_t, i: usize) -> Option<usize>
     requires { i < length buffer.now.items }
-    ensures value { result ≡ parent_of buffer.now i }
+    ensures value { result ≡ Attachment.parent_of buffer.now i }
     ensures inside { IfSome result (λ j. j < length buffer.now.items) }
 {
     place_at(buffer.len(), i, position(buffer, i).attach_chain)
@@ -61,7 +61,7 @@ pub fn parent(buffer: &hb_buffer_t, i: usize) -> Option<usize>
 
 /// Takes the link of the glyph at place `i` off.
 pub fn free(buffer: &mut hb_buffer_t, i: usize)
-    ensures made { buffer.new ≡ freed i buffer.old }
+    ensures made { buffer.new ≡ Attachment.freed i buffer.old }
     ensures items { buffer.new.items ≡ buffer.old.items }
 {
     let mut there = position(buffer, i);
@@ -71,7 +71,7 @@ pub fn free(buffer: &mut hb_buffer_t, i: usize)
 
 /// The position of a mark that is attached to a glyph, over so long a way of the pen.
 fn hung(forward: bool, way: Pen, there: &GlyphPosition, mark: GlyphPosition) -> GlyphPosition
-    ensures { result ≡ hung_of forward way there.now mark }
+    ensures { result ≡ Attachment.hung forward way there.now mark }
 {
     let mut mark = mark;
     mark.x_offset = sum(mark.x_offset, there.x_offset);
@@ -88,7 +88,7 @@ fn hung(forward: bool, way: Pen, there: &GlyphPosition, mark: GlyphPosition) -> 
 
 /// A position moved across the line as another one is.
 fn carried_by(horizontal: bool, there: &GlyphPosition, position: GlyphPosition) -> GlyphPosition
-    ensures { result ≡ carried horizontal there.now position }
+    ensures { result ≡ Attachment.carried horizontal there.now position }
 {
     let mut position = position;
     if horizontal {
@@ -105,7 +105,7 @@ fn follow(buffer: &mut hb_buffer_t, i: usize, j: usize, last: Measured) -> Measu
     requires i { i < length buffer.old.items }
     requires j { j < length buffer.old.items }
     requires last { IsMeasured buffer.old last }
-    ensures made { buffer.new ≡ followed i j buffer.old }
+    ensures made { buffer.new ≡ Attachment.followed i j buffer.old }
     ensures items { buffer.new.items ≡ buffer.old.items }
     ensures measured { IsMeasured buffer.new result }
 {
@@ -135,7 +135,7 @@ fn follow(buffer: &mut hb_buffer_t, i: usize, j: usize, last: Measured) -> Measu
 fn settle(buffer: &mut hb_buffer_t, level: u32, i: usize, last: Measured) -> Measured
     requires inside { i < length buffer.old.items }
     requires last { IsMeasured buffer.old last }
-    ensures made { buffer.new ≡ settled level i buffer.old }
+    ensures made { buffer.new ≡ Attachment.settled level i buffer.old }
     ensures items { buffer.new.items ≡ buffer.old.items }
     ensures measured { IsMeasured buffer.new result }
 {
@@ -156,7 +156,7 @@ fn settle(buffer: &mut hb_buffer_t, level: u32, i: usize, last: Measured) -> Mea
 fn settle_at(buffer: &mut hb_buffer_t, i: usize, last: Measured) -> Measured
     requires inside { i < length buffer.old.items }
     requires last { IsMeasured buffer.old last }
-    ensures made { buffer.new ≡ settled most_links i buffer.old }
+    ensures made { buffer.new ≡ Attachment.settled Attachment.MOST_LINKS i buffer.old }
     ensures items { buffer.new.items ≡ buffer.old.items }
     ensures measured { IsMeasured buffer.new result }
 {
@@ -170,7 +170,7 @@ fn settle_at(buffer: &mut hb_buffer_t, i: usize, last: Measured) -> Measured
 /// each mark.
 #[tactic(auto, using(crate::proofs::SettleLemmas::each_step, crate::proofs::WayLemmas::measured_none))]
 fn settle_each(buffer: &mut hb_buffer_t)
-    ensures made { buffer.new ≡ offsets_finished buffer.old }
+    ensures made { buffer.new ≡ Attachment.offsets_finished buffer.old }
     ensures items { buffer.new.items ≡ buffer.old.items }
 {
     let mut last = Measured::none();
@@ -183,7 +183,7 @@ fn settle_each(buffer: &mut hb_buffer_t)
 /// more. A chain that goes round or out of the list ends there. Takes no memory, and refuses
 /// nothing.
 pub fn finish_offsets(buffer: &mut hb_buffer_t)
-    ensures { Made offsets_finished buffer.old buffer.new }
+    ensures { Made Attachment.offsets_finished buffer.old buffer.new }
 {
     settle_each(buffer);
 }

@@ -4,7 +4,7 @@
 ghost use Rattle.std.specs.Prelude.{◌≡◌, ◌<◌, ◌≤◌, ◌-◌, ◌^◌, length};
 ghost use Rattle.std.specs.Option.{IfSome};
 ghost use Rattle.shape_font.specs.Search.{first_at};
-ghost use Rattle.layout_positions.specs.Marks.{is_base_seen as is_base_seen_of, follows_component as follows_component_of, is_later_component as is_later_component_of, is_listed_base as is_listed_base_of, takes_component as takes_component_of, is_base_at as is_base_at_of, nearest_base as nearest_base_of, base_of, base_seen as base_seen_of};
+ghost use Rattle.layout_positions.specs.Marks;
 
 use crate::anchors::number_there;
 use crate::neighbours::has_lookup_on;
@@ -23,7 +23,7 @@ pub struct BaseSeen {
 
 /// Whether a mark may stand on the glyph, as far as the lookup sees it.
 fn is_base_seen(lookup: &Lookup<'_>, item: &hb_glyph_info_t) -> bool
-    ensures { result ≡ is_base_seen_of lookup.now item.now }
+    ensures { result ≡ Marks.is_base_seen lookup.now item.now }
 {
     item._hb_glyph_info_get_glyph_class().0 & 8 == 0
         && !is_transparent(lookup, true, item)
@@ -33,7 +33,7 @@ fn is_base_seen(lookup: &Lookup<'_>, item: &hb_glyph_info_t) -> bool
 /// Whether the glyph is a component that follows the component `before` of a glyph that a multiple
 /// substitution took apart. A component after a mark counts as a first one.
 fn follows_component(before: &hb_glyph_info_t, item: &hb_glyph_info_t) -> bool
-    ensures { result ≡ follows_component_of before.now item.now }
+    ensures { result ≡ Marks.follows_component before.now item.now }
 {
     let component = u16::from(before._hb_glyph_info_get_ligature_component());
     item._hb_glyph_info_get_multiplied()
@@ -46,7 +46,7 @@ fn follows_component(before: &hb_glyph_info_t, item: &hb_glyph_info_t) -> bool
 /// Whether the glyph at place `j` follows a component of the same glyph.
 fn is_later_component(items: &[hb_glyph_info_t], j: usize) -> bool
     requires { j < length items.now }
-    ensures { result ≡ is_later_component_of items.now j }
+    ensures { result ≡ Marks.is_later_component items.now j }
 {
     0 < j && follows_component(&items[j - 1], &items[j])
 }
@@ -54,7 +54,7 @@ fn is_later_component(items: &[hb_glyph_info_t], j: usize) -> bool
 /// Whether the subtable at `start` lists the glyph as a base.
 fn is_listed_base(lookup: &Lookup<'_>, start: usize, item: &hb_glyph_info_t) -> bool
     requires { start < 2 ^ 34 }
-    ensures { result ≡ is_listed_base_of lookup.now start item.now }
+    ensures { result ≡ Marks.is_listed_base lookup.now start item.now }
 {
     number_there(lookup.table, start, start + 4, item.glyph_id).is_some()
 }
@@ -69,7 +69,7 @@ fn takes_component(
 ) -> bool
     requires start { subtable.start < 2 ^ 34 }
     requires inside { j < length items.now }
-    ensures { result ≡ takes_component_of lookup.now subtable items.now j }
+    ensures { result ≡ Marks.takes_component lookup.now subtable items.now j }
 {
     subtable.kind != 4
         || !is_later_component(items, j)
@@ -85,7 +85,7 @@ fn is_base_at(
 ) -> bool
     requires start { subtable.start < 2 ^ 34 }
     requires inside { j < length items.now }
-    ensures { result ≡ is_base_at_of lookup.now subtable items.now j }
+    ensures { result ≡ Marks.is_base_at lookup.now subtable items.now j }
 {
     is_base_seen(lookup, &items[j]) && takes_component(lookup, subtable, items, j)
 }
@@ -103,7 +103,7 @@ fn base_back(
     requires inside { i ≤ length items.now }
     requires count { count ≤ i }
     ensures value { result
-        ≡ first_at (λ d. is_base_at_of lookup.now subtable items.now (i - 1 - d)) count 0 }
+        ≡ first_at (λ d. Marks.is_base_at lookup.now subtable items.now (i - 1 - d)) count 0 }
     ensures near { IfSome result (λ d. d < i) }
 {
     for d in 0..count {
@@ -124,7 +124,7 @@ fn nearest_base(
 ) -> Option<usize>
     requires start { subtable.start < 2 ^ 34 }
     requires inside { i ≤ length items.now }
-    ensures value { result ≡ nearest_base_of lookup.now subtable items.now until i }
+    ensures value { result ≡ Marks.nearest_base lookup.now subtable items.now until i }
     ensures inside { IfSome result (λ j. j < i) }
 {
     match base_back(lookup, subtable, items, i, i.saturating_sub(until)) {
@@ -143,7 +143,7 @@ fn base_at(
 ) -> Option<usize>
     requires start { subtable.start < 2 ^ 34 }
     requires inside { i ≤ length items.now }
-    ensures { result ≡ base_of lookup.now subtable items.now i seen }
+    ensures { result ≡ Marks.base_of lookup.now subtable items.now i seen }
 {
     if i < seen.until {
         return nearest_base(lookup, subtable, items, 0, i);
@@ -164,7 +164,7 @@ pub fn base_seen(
 ) -> BaseSeen
     requires start { subtable.start < 2 ^ 34 }
     requires inside { i ≤ length items.now }
-    ensures { result ≡ base_seen_of lookup.now subtable items.now i seen }
+    ensures { result ≡ Marks.base_seen lookup.now subtable items.now i seen }
 {
     BaseSeen {
         until: i,

@@ -1,7 +1,7 @@
 //! Cursive attachment (OpenType, `GPOS`, lookup type 3).
 ghost use Rattle.std.specs.Prelude.{◌≡◌, ◌<◌, ◌+◌, ◌^◌, length, nat_lt};
 ghost use Rattle.shape_font.specs.Bytes.{u16_of, fitting};
-ghost use Rattle.layout_positions.specs.Cursive.{entry_of, exit_of, to_x as to_x_of, to_y as to_y_of, from_x as from_x_of, from_y as from_y_of, left_at as left_at_of, entered_at as entered_at_of, gap_across as gap_across_of, joined_across, joined_along, cursive_put, cursive_with as cursive_with_of, cursive_at, cursive_applied};
+ghost use Rattle.layout_positions.specs.Cursive;
 
 use crate::anchors::{Anchor, anchor_there, number_there};
 use crate::edits::{break_between, concat_between, position, put};
@@ -27,7 +27,7 @@ fn has_anchors(table: &[u8], start: usize, number: u32) -> bool
 /// Where a glyph is entered.
 fn entry(table: &[u8], start: usize, glyph: u32) -> Option<Anchor>
     requires { start < 2 ^ 34 }
-    ensures { result ≡ entry_of table.now start glyph }
+    ensures { result ≡ Cursive.entry_of table.now start glyph }
 {
     let number = number_there(table, start, start + 2, glyph)?;
     if has_anchors(table, start, number) {
@@ -40,7 +40,7 @@ fn entry(table: &[u8], start: usize, glyph: u32) -> Option<Anchor>
 /// Where a glyph is left.
 fn exit(table: &[u8], start: usize, glyph: u32) -> Option<Anchor>
     requires { start < 2 ^ 34 }
-    ensures { result ≡ exit_of table.now start glyph }
+    ensures { result ≡ Cursive.exit_of table.now start glyph }
 {
     let number = number_there(table, start, start + 2, glyph)?;
     if has_anchors(table, start, number) {
@@ -52,7 +52,7 @@ fn exit(table: &[u8], start: usize, glyph: u32) -> Option<Anchor>
 
 /// The advance reaches up to the anchor.
 fn to_x(anchor: Anchor, position: GlyphPosition) -> GlyphPosition
-    ensures { result ≡ to_x_of anchor position }
+    ensures { result ≡ Cursive.to_x anchor position }
 {
     let mut position = position;
     position.x_advance = sum(anchor.x, position.x_offset);
@@ -60,7 +60,7 @@ fn to_x(anchor: Anchor, position: GlyphPosition) -> GlyphPosition
 }
 
 fn to_y(anchor: Anchor, position: GlyphPosition) -> GlyphPosition
-    ensures { result ≡ to_y_of anchor position }
+    ensures { result ≡ Cursive.to_y anchor position }
 {
     let mut position = position;
     position.y_advance = sum(anchor.y, position.y_offset);
@@ -69,7 +69,7 @@ fn to_y(anchor: Anchor, position: GlyphPosition) -> GlyphPosition
 
 /// The glyph begins at the anchor.
 fn from_x(anchor: Anchor, position: GlyphPosition) -> GlyphPosition
-    ensures { result ≡ from_x_of anchor position }
+    ensures { result ≡ Cursive.from_x anchor position }
 {
     let mut position = position;
     let before = sum(anchor.x, position.x_offset);
@@ -79,7 +79,7 @@ fn from_x(anchor: Anchor, position: GlyphPosition) -> GlyphPosition
 }
 
 fn from_y(anchor: Anchor, position: GlyphPosition) -> GlyphPosition
-    ensures { result ≡ from_y_of anchor position }
+    ensures { result ≡ Cursive.from_y anchor position }
 {
     let mut position = position;
     let before = sum(anchor.y, position.y_offset);
@@ -90,7 +90,7 @@ fn from_y(anchor: Anchor, position: GlyphPosition) -> GlyphPosition
 
 /// The position of the first glyph of two, which the pen leaves at its exit.
 fn left_at(direction: Direction, exit: Anchor, position: GlyphPosition) -> GlyphPosition
-    ensures { result ≡ left_at_of direction exit position }
+    ensures { result ≡ Cursive.left_at direction exit position }
 {
     match direction {
         Direction::Invalid => position,
@@ -103,7 +103,7 @@ fn left_at(direction: Direction, exit: Anchor, position: GlyphPosition) -> Glyph
 
 /// The position of the second one, which the pen enters at its entry.
 fn entered_at(direction: Direction, entry: Anchor, position: GlyphPosition) -> GlyphPosition
-    ensures { result ≡ entered_at_of direction entry position }
+    ensures { result ≡ Cursive.entered_at direction entry position }
 {
     match direction {
         Direction::Invalid => position,
@@ -119,7 +119,7 @@ fn entered_at(direction: Direction, entry: Anchor, position: GlyphPosition) -> G
 }
 
 fn gap_across(horizontal: bool, a: Anchor, b: Anchor) -> i32
-    ensures { result ≡ gap_across_of horizontal a b }
+    ensures { result ≡ Cursive.gap_across horizontal a b }
 {
     if horizontal {
         difference(a.y, b.y)
@@ -139,7 +139,7 @@ fn join_across(
 )
     requires i { i < length buffer.old.items }
     requires j { j < length buffer.old.items }
-    ensures { buffer.new ≡ joined_across reversed i j entry exit buffer.old }
+    ensures { buffer.new ≡ Cursive.joined_across reversed i j entry exit buffer.old }
 {
     let horizontal = buffer.direction().is_horizontal();
     if reversed {
@@ -152,7 +152,7 @@ fn join_across(
 /// Joins two glyphs along the line.
 fn join_along(buffer: &mut hb_buffer_t, i: usize, j: usize, entry: Anchor, exit: Anchor)
     requires { j < length buffer.old.items }
-    ensures made { buffer.new ≡ joined_along i j entry exit buffer.old }
+    ensures made { buffer.new ≡ Cursive.joined_along i j entry exit buffer.old }
     ensures len { length buffer.new.items ≡ length buffer.old.items }
 {
     let end = after(buffer.len(), j);
@@ -176,8 +176,9 @@ fn cursive_with(
     requires start { start < 2 ^ 34 }
     requires i { i < j }
     requires j { j < length buffer.old.items }
-    ensures made { buffer.new ≡ (cursive_with_of lookup.now start j entry buffer.old i).buffer }
-    ensures next { result ≡ (cursive_with_of lookup.now start j entry buffer.old i).next }
+    ensures made { buffer.new
+        ≡ (Cursive.cursive_with lookup.now start j entry buffer.old i).buffer }
+    ensures next { result ≡ (Cursive.cursive_with lookup.now start j entry buffer.old i).next }
 {
     let count = buffer.len();
     match exit(lookup.table, start, item_at(buffer.infos(), i).glyph_id) {
@@ -203,8 +204,8 @@ pub fn apply_cursive(
 ) -> Option<usize>
     requires start { start < 2 ^ 34 }
     requires inside { j < length buffer.old.items }
-    ensures made { buffer.new ≡ (cursive_applied lookup.now start j buffer.old).buffer }
-    ensures next { result ≡ (cursive_applied lookup.now start j buffer.old).next }
+    ensures made { buffer.new ≡ (Cursive.cursive_applied lookup.now start j buffer.old).buffer }
+    ensures next { result ≡ (Cursive.cursive_applied lookup.now start j buffer.old).next }
 {
     let count = buffer.len();
     let entry = entry(lookup.table, start, item_at(buffer.infos(), j).glyph_id)?;

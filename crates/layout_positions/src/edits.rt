@@ -1,14 +1,14 @@
 //! Edits of a buffer's positions and flags, by places. Past the end nothing changes, so that no
 //! caller has to show that a place is inside.
 ghost use Rattle.std.specs.Prelude.{◌≡◌, length};
-ghost use Rattle.layout_positions.specs.Edits.{position_at, position_put, asks_for_concat as asks_for_concat_of, broken, concat_marked};
+ghost use Rattle.layout_positions.specs.Edits;
 
 use bitflags::Flags;
 use shape_buffer::{BufferFlags, GlyphPosition, hb_buffer_t};
 
 /// The position at place `i`, one that moves nothing past the end.
 pub fn position(buffer: &hb_buffer_t, i: usize) -> GlyphPosition
-    ensures { result ≡ position_at buffer.now i }
+    ensures { result ≡ Edits.position_at buffer.now i }
 {
     if i < buffer.len() {
         buffer.positions()[i]
@@ -19,7 +19,7 @@ pub fn position(buffer: &hb_buffer_t, i: usize) -> GlyphPosition
 
 /// Replaces the position at place `i`.
 pub fn put(buffer: &mut hb_buffer_t, i: usize, position: GlyphPosition)
-    ensures made { buffer.new ≡ position_put i position buffer.old }
+    ensures made { buffer.new ≡ Edits.position_put i position buffer.old }
     ensures items { buffer.new.items ≡ buffer.old.items }
 {
     if i < buffer.len() {
@@ -30,7 +30,7 @@ pub fn put(buffer: &mut hb_buffer_t, i: usize, position: GlyphPosition)
 /// Marks the items from `start` up to `end`, or to the end of the list, unsafe to break.
 #[tactic(auto, using(crate::proofs::CountLemmas::length_broken))]
 pub fn break_between(buffer: &mut hb_buffer_t, start: usize, end: usize)
-    ensures made { buffer.new ≡ broken start end buffer.old }
+    ensures made { buffer.new ≡ Edits.broken start end buffer.old }
     ensures len { length buffer.new.items ≡ length buffer.old.items }
 {
     let last = end.min(buffer.len());
@@ -41,7 +41,7 @@ pub fn break_between(buffer: &mut hb_buffer_t, start: usize, end: usize)
 
 /// Whether the buffer asks for marks of what is unsafe to concat.
 pub fn asks_for_concat(buffer: &hb_buffer_t) -> bool
-    ensures { result ≡ asks_for_concat_of buffer.now }
+    ensures { result ≡ Edits.asks_for_concat buffer.now }
 {
     buffer
         .flags()
@@ -52,7 +52,7 @@ pub fn asks_for_concat(buffer: &hb_buffer_t) -> bool
 /// buffer asks for that.
 #[tactic(auto, using(crate::proofs::CountLemmas::length_concat_marked))]
 pub fn concat_between(buffer: &mut hb_buffer_t, start: usize, end: usize)
-    ensures made { buffer.new ≡ concat_marked start end buffer.old }
+    ensures made { buffer.new ≡ Edits.concat_marked start end buffer.old }
     ensures len { length buffer.new.items ≡ length buffer.old.items }
 {
     let last = end.min(buffer.len());

@@ -2,7 +2,7 @@
 ghost use Rattle.std.specs.Prelude.{◌≡◌, ◌<◌, ◌+◌, ◌^◌, length, None};
 ghost use Rattle.std.specs.Option.{IfSome, option_and_then};
 ghost use Rattle.layout_positions.specs.Edits.{concat_marked};
-ghost use Rattle.layout_positions.specs.Marks.{mark_position as mark_position_of, mark_put, mark_array as mark_array_of, base_anchor as base_anchor_of, mark_attached, mark_number as mark_number_of, row_of, mark_on_row, mark_on_glyph, mark_base_at, mark_base_applied, ligature_in, ligature_matrix as ligature_matrix_of, component_of, mark_on_matrix, mark_on_ligature, mark_ligature_at, mark_ligature_applied, for_marks as for_marks_of, are_together as are_together_of, mark_on_mark, mark_mark_at, mark_mark_applied};
+ghost use Rattle.layout_positions.specs.Marks;
 
 use crate::anchors::{Anchor, anchor_of_class, mark_anchor, mark_class, number_there};
 use crate::attachment::{MARK_ATTACHED, chain};
@@ -26,7 +26,7 @@ pub struct Pairing {
 
 /// The position of a mark whose anchor stands on that of the glyph at place `base`.
 fn mark_position(at: &Pairing, mark: Anchor, base: Anchor, position: GlyphPosition) -> GlyphPosition
-    ensures { result ≡ mark_position_of at.now.mark at.now.base mark base position }
+    ensures { result ≡ Marks.mark_position at.now.mark at.now.base mark base position }
 {
     let mut position = position;
     position.x_offset = difference(base.x, mark.x);
@@ -39,8 +39,9 @@ fn mark_position(at: &Pairing, mark: Anchor, base: Anchor, position: GlyphPositi
 /// Attaches a mark. Returns the place where the lookup goes on.
 fn put_mark(buffer: &mut hb_buffer_t, at: &Pairing, mark: Anchor, base: Anchor) -> Option<usize>
     requires { at.now.mark < length buffer.old.items }
-    ensures made { buffer.new ≡ (mark_put at.now.mark at.now.base mark buffer.old base).buffer }
-    ensures next { result ≡ (mark_put at.now.mark at.now.base mark buffer.old base).next }
+    ensures made { buffer.new
+        ≡ (Marks.mark_put at.now.mark at.now.base mark buffer.old base).buffer }
+    ensures next { result ≡ (Marks.mark_put at.now.mark at.now.base mark buffer.old base).next }
 {
     let next = after(buffer.len(), at.mark);
     break_between(buffer, at.base, next);
@@ -52,7 +53,7 @@ fn put_mark(buffer: &mut hb_buffer_t, at: &Pairing, mark: Anchor, base: Anchor) 
 /// Where the array of marks stands.
 fn mark_array(table: &[u8], start: usize) -> Option<usize>
     requires { start < 2 ^ 34 }
-    ensures value { result ≡ mark_array_of table.now start }
+    ensures value { result ≡ Marks.mark_array table.now start }
     ensures near { IfSome result (λ a. a < 2 ^ 35) }
 {
     offset16(table, start, start + 8)
@@ -62,7 +63,7 @@ fn mark_array(table: &[u8], start: usize) -> Option<usize>
 fn base_anchor(table: &[u8], start: usize, number: u32, row: u32, matrix: usize) -> Option<Anchor>
     requires start { start < 2 ^ 34 }
     requires matrix { matrix < 2 ^ 36 }
-    ensures { result ≡ base_anchor_of table.now start number row matrix }
+    ensures { result ≡ Marks.base_anchor table.now start number row matrix }
 {
     let class = mark_class(table, mark_array(table, start), number);
     anchor_of_class(table, matrix, u16_at(table, start + 6), row, class)
@@ -80,9 +81,10 @@ fn attach_mark(
     requires start { start < 2 ^ 34 }
     requires matrix { IfSome matrix (λ m. m < 2 ^ 36) }
     requires inside { at.now.mark < length buffer.old.items }
-    ensures made { buffer.new ≡ (mark_attached lookup.now start at.now.mark at.now.base
+    ensures made { buffer.new ≡ (Marks.mark_attached lookup.now start at.now.mark at.now.base
         at.now.number row matrix buffer.old).buffer }
-    ensures next { result ≡ (mark_attached lookup.now start at.now.mark at.now.base at.now.number
+    ensures next { result ≡ (Marks.mark_attached lookup.now start at.now.mark at.now.base
+        at.now.number
         row matrix buffer.old).next }
 {
     let base = base_anchor(lookup.table, start, at.number, row, matrix?)?;
@@ -93,7 +95,7 @@ fn attach_mark(
 /// The number of the mark at place `i` in the subtable.
 pub fn mark_number(lookup: &Lookup<'_>, start: usize, buffer: &hb_buffer_t, i: usize) -> Option<u32>
     requires { start < 2 ^ 34 }
-    ensures { result ≡ mark_number_of lookup.now start i buffer.now }
+    ensures { result ≡ Marks.mark_number lookup.now start i buffer.now }
 {
     let glyph = item_at(buffer.infos(), i).glyph_id;
     number_there(lookup.table, start, start + 2, glyph)
@@ -102,7 +104,7 @@ pub fn mark_number(lookup: &Lookup<'_>, start: usize, buffer: &hb_buffer_t, i: u
 /// The row of the glyph at place `j` in the subtable.
 fn row(lookup: &Lookup<'_>, start: usize, buffer: &hb_buffer_t, j: usize) -> Option<u32>
     requires { start < 2 ^ 34 }
-    ensures { result ≡ row_of lookup.now start j buffer.now }
+    ensures { result ≡ Marks.row_of lookup.now start j buffer.now }
 {
     let glyph = item_at(buffer.infos(), j).glyph_id;
     number_there(lookup.table, start, start + 4, glyph)
@@ -128,9 +130,11 @@ fn put_on_glyph(
 ) -> Option<usize>
     requires start { start < 2 ^ 34 }
     requires inside { at.now.mark < length buffer.old.items }
-    ensures made { buffer.new ≡ (mark_on_glyph lookup.now start at.now.mark at.now.number buffer.old
+    ensures made { buffer.new
+        ≡ (Marks.mark_on_glyph lookup.now start at.now.mark at.now.number buffer.old
         at.now.base).buffer }
-    ensures next { result ≡ (mark_on_glyph lookup.now start at.now.mark at.now.number buffer.old
+    ensures next { result ≡ (Marks.mark_on_glyph lookup.now start at.now.mark at.now.number
+        buffer.old
         at.now.base).next }
 {
     match row(lookup, start, buffer, at.base) {
@@ -153,8 +157,9 @@ pub fn apply_mark_base(
 ) -> Option<usize>
     requires start { start < 2 ^ 34 }
     requires inside { i < length buffer.old.items }
-    ensures made { buffer.new ≡ (mark_base_applied lookup.now start base i buffer.old).buffer }
-    ensures next { result ≡ (mark_base_applied lookup.now start base i buffer.old).next }
+    ensures made { buffer.new
+        ≡ (Marks.mark_base_applied lookup.now start base i buffer.old).buffer }
+    ensures next { result ≡ (Marks.mark_base_applied lookup.now start base i buffer.old).next }
 {
     let number = mark_number(lookup, start, buffer, i)?;
     match base {
@@ -175,7 +180,7 @@ pub fn apply_mark_base(
 /// Where the matrix of the components of a ligature stands, by its row.
 fn ligature_matrix(table: &[u8], start: usize, row: u32) -> Option<usize>
     requires { start < 2 ^ 34 }
-    ensures value { result ≡ ligature_matrix_of table.now start row }
+    ensures value { result ≡ Marks.ligature_matrix table.now start row }
     ensures near { IfSome result (λ m. m < 2 ^ 36) }
 {
     let array = offset16(table, start, start + 10)?;
@@ -188,7 +193,7 @@ fn ligature_matrix(table: &[u8], start: usize, row: u32) -> Option<usize>
 /// The component, from 0 on, of `count` of a ligature that a mark stands on.
 fn component(count: u16, ligature: &hb_glyph_info_t, mark: &hb_glyph_info_t) -> u16
     requires { 0 < count }
-    ensures { result ≡ component_of count ligature.now mark.now }
+    ensures { result ≡ Marks.component_of count ligature.now mark.now }
 {
     let id = ligature._hb_glyph_info_get_ligature_id();
     let there = mark._hb_glyph_info_get_ligature_component();
@@ -210,9 +215,10 @@ fn put_on_matrix(
     requires start { start < 2 ^ 34 }
     requires matrix { matrix < 2 ^ 36 }
     requires inside { at.now.mark < length buffer.old.items }
-    ensures made { buffer.new ≡ (mark_on_matrix lookup.now start at.now.mark at.now.base
+    ensures made { buffer.new ≡ (Marks.mark_on_matrix lookup.now start at.now.mark at.now.base
         at.now.number buffer.old matrix).buffer }
-    ensures next { result ≡ (mark_on_matrix lookup.now start at.now.mark at.now.base at.now.number
+    ensures next { result ≡ (Marks.mark_on_matrix lookup.now start at.now.mark at.now.base
+        at.now.number
         buffer.old matrix).next }
 {
     let count = u16_at(lookup.table, matrix);
@@ -228,8 +234,8 @@ fn put_on_matrix(
 fn matrix_at(lookup: &Lookup<'_>, start: usize, buffer: &hb_buffer_t, j: usize) -> Option<usize>
     requires { start < 2 ^ 34 }
     ensures value { result
-        ≡ option_and_then (ligature_matrix_of lookup.now.table.now start)
-        (row_of lookup.now start j buffer.now) }
+        ≡ option_and_then (Marks.ligature_matrix lookup.now.table.now start)
+        (Marks.row_of lookup.now start j buffer.now) }
     ensures near { IfSome result (λ m. m < 2 ^ 36) }
 {
     let row = row(lookup, start, buffer, j)?;
@@ -245,9 +251,10 @@ fn put_on_ligature(
 ) -> Option<usize>
     requires start { start < 2 ^ 34 }
     requires inside { at.now.mark < length buffer.old.items }
-    ensures made { buffer.new ≡ (mark_on_ligature lookup.now start at.now.mark at.now.number
+    ensures made { buffer.new ≡ (Marks.mark_on_ligature lookup.now start at.now.mark at.now.number
         buffer.old at.now.base).buffer }
-    ensures next { result ≡ (mark_on_ligature lookup.now start at.now.mark at.now.number buffer.old
+    ensures next { result ≡ (Marks.mark_on_ligature lookup.now start at.now.mark at.now.number
+        buffer.old
         at.now.base).next }
 {
     match matrix_at(lookup, start, buffer, at.base) {
@@ -267,8 +274,9 @@ pub fn apply_mark_ligature(
 ) -> Option<usize>
     requires start { start < 2 ^ 34 }
     requires inside { i < length buffer.old.items }
-    ensures made { buffer.new ≡ (mark_ligature_applied lookup.now start base i buffer.old).buffer }
-    ensures next { result ≡ (mark_ligature_applied lookup.now start base i buffer.old).next }
+    ensures made { buffer.new
+        ≡ (Marks.mark_ligature_applied lookup.now start base i buffer.old).buffer }
+    ensures next { result ≡ (Marks.mark_ligature_applied lookup.now start base i buffer.old).next }
 {
     let number = mark_number(lookup, start, buffer, i)?;
     match base {
@@ -288,7 +296,7 @@ pub fn apply_mark_ligature(
 
 /// The lookup as it looks for the mark before: its flags skip no class of glyphs.
 fn for_marks<'a>(lookup: &Lookup<'a>) -> Lookup<'a>
-    ensures { result ≡ for_marks_of lookup.now }
+    ensures { result ≡ Marks.for_marks lookup.now }
 {
     let mut lookup = *lookup;
     lookup.flags &= 0xFFF1;
@@ -298,7 +306,7 @@ fn for_marks<'a>(lookup: &Lookup<'a>) -> Lookup<'a>
 /// Whether two marks stand on one glyph, or on one component of a ligature, or one of them is a
 /// ligature.
 fn are_together(x: &hb_glyph_info_t, y: &hb_glyph_info_t) -> bool
-    ensures { result ≡ are_together_of x.now y.now }
+    ensures { result ≡ Marks.are_together x.now y.now }
 {
     let (a, b) = (
         x._hb_glyph_info_get_ligature_id(),
@@ -324,9 +332,11 @@ fn put_on_mark(
 ) -> Option<usize>
     requires start { start < 2 ^ 34 }
     requires inside { at.now.mark < length buffer.old.items }
-    ensures made { buffer.new ≡ (mark_on_mark lookup.now start at.now.mark at.now.number buffer.old
+    ensures made { buffer.new
+        ≡ (Marks.mark_on_mark lookup.now start at.now.mark at.now.number buffer.old
         at.now.base).buffer }
-    ensures next { result ≡ (mark_on_mark lookup.now start at.now.mark at.now.number buffer.old
+    ensures next { result ≡ (Marks.mark_on_mark lookup.now start at.now.mark at.now.number
+        buffer.old
         at.now.base).next }
 {
     let other = item_at(buffer.infos(), at.base);
@@ -348,8 +358,8 @@ pub fn apply_mark_mark(
 ) -> Option<usize>
     requires start { start < 2 ^ 34 }
     requires inside { i < length buffer.old.items }
-    ensures made { buffer.new ≡ (mark_mark_applied lookup.now start i buffer.old).buffer }
-    ensures next { result ≡ (mark_mark_applied lookup.now start i buffer.old).next }
+    ensures made { buffer.new ≡ (Marks.mark_mark_applied lookup.now start i buffer.old).buffer }
+    ensures next { result ≡ (Marks.mark_mark_applied lookup.now start i buffer.old).next }
 {
     let number = mark_number(lookup, start, buffer, i)?;
     let seen = for_marks(lookup);

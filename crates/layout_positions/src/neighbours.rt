@@ -4,7 +4,7 @@ ghost use Rattle.std.specs.Prelude.{◌≡◌, ◌<◌, ◌≤◌, ◌+◌, ◌-
 ghost use Rattle.std.specs.Option.{IfSome};
 ghost use Rattle.shape_font.specs.Search.{first_at};
 ghost use Rattle.layout_matching.specs.Skipping.{nth};
-ghost use Rattle.layout_positions.specs.Lookups.{is_between as is_between_of, has_lookup_on as has_lookup_on_of, stop_after as stop_after_of, stop_before as stop_before_of, if_on as if_on_of, glyph_after as glyph_after_of, glyph_before as glyph_before_of, end_after as end_after_of, start_before as start_before_of};
+ghost use Rattle.layout_positions.specs.Lookups;
 
 use layout_matching::lookup::Lookup;
 use layout_matching::skipping::{is_skipped, is_transparent};
@@ -12,14 +12,14 @@ use shape_buffer::hb_glyph_info_t;
 
 /// Whether a glyph is passed over.
 pub fn is_between(lookup: &Lookup<'_>, item: &hb_glyph_info_t) -> bool
-    ensures { result ≡ is_between_of lookup.now item.now }
+    ensures { result ≡ Lookups.is_between lookup.now item.now }
 {
     is_skipped(lookup, item) || is_transparent(lookup, true, item)
 }
 
 /// Whether the lookup is on for a glyph.
 pub fn has_lookup_on(lookup: &Lookup<'_>, item: &hb_glyph_info_t) -> bool
-    ensures { result ≡ has_lookup_on_of lookup.now item.now }
+    ensures { result ≡ Lookups.has_lookup_on lookup.now item.now }
 {
     item.mask & lookup.mask != 0
 }
@@ -27,7 +27,7 @@ pub fn has_lookup_on(lookup: &Lookup<'_>, item: &hb_glyph_info_t) -> bool
 /// The first place from `from` on whose glyph isn't passed over.
 #[tactic(auto, using(shape_font::proofs::SearchLemmas::first_at_next, shape_font::proofs::SearchLemmas::first_at_found, shape_font::proofs::SearchLemmas::first_at_end, layout_matching::proofs::LoopLemmas::not_true, layout_matching::proofs::LoopLemmas::not_false))]
 fn stop_from(lookup: &Lookup<'_>, items: &[hb_glyph_info_t], from: usize) -> Option<usize>
-    ensures value { result ≡ first_at (λ j. not (is_between_of lookup.now (nth items.now j)))
+    ensures value { result ≡ first_at (λ j. not (Lookups.is_between lookup.now (nth items.now j)))
         (length items.now - from) from }
     ensures inside { IfSome result (λ j. j < length items.now) }
     ensures behind { IfSome result (λ j. from ≤ j) }
@@ -43,7 +43,7 @@ fn stop_from(lookup: &Lookup<'_>, items: &[hb_glyph_info_t], from: usize) -> Opt
 /// The first place after place `i` whose glyph isn't passed over.
 pub fn stop_after(lookup: &Lookup<'_>, items: &[hb_glyph_info_t], i: usize) -> Option<usize>
     requires { i < length items.now }
-    ensures value { result ≡ stop_after_of lookup.now items.now i }
+    ensures value { result ≡ Lookups.stop_after lookup.now items.now i }
     ensures inside { IfSome result (λ j. j < length items.now) }
     ensures behind { IfSome result (λ j. i < j) }
 {
@@ -53,7 +53,7 @@ pub fn stop_after(lookup: &Lookup<'_>, items: &[hb_glyph_info_t], i: usize) -> O
 /// Whether the glyph at place `j` isn't passed over.
 fn stops(lookup: &Lookup<'_>, items: &[hb_glyph_info_t], j: usize) -> bool
     requires { j < length items.now }
-    ensures { result ≡ not (is_between_of lookup.now (nth items.now j)) }
+    ensures { result ≡ not (Lookups.is_between lookup.now (nth items.now j)) }
 {
     !is_between(lookup, &items[j])
 }
@@ -63,7 +63,7 @@ fn stops(lookup: &Lookup<'_>, items: &[hb_glyph_info_t], j: usize) -> bool
 fn distance_back(lookup: &Lookup<'_>, items: &[hb_glyph_info_t], i: usize) -> Option<usize>
     requires { i ≤ length items.now }
     ensures value { result
-        ≡ first_at (λ d. not (is_between_of lookup.now (nth items.now (i - 1 - d)))) i 0 }
+        ≡ first_at (λ d. not (Lookups.is_between lookup.now (nth items.now (i - 1 - d)))) i 0 }
     ensures inside { IfSome result (λ d. d < i) }
 {
     for d in 0..i {
@@ -77,7 +77,7 @@ fn distance_back(lookup: &Lookup<'_>, items: &[hb_glyph_info_t], i: usize) -> Op
 /// The first place before place `i`, backwards, whose glyph isn't passed over.
 pub fn stop_before(lookup: &Lookup<'_>, items: &[hb_glyph_info_t], i: usize) -> Option<usize>
     requires { i ≤ length items.now }
-    ensures value { result ≡ stop_before_of lookup.now items.now i }
+    ensures value { result ≡ Lookups.stop_before lookup.now items.now i }
     ensures inside { IfSome result (λ j. j < i) }
 {
     match distance_back(lookup, items, i) {
@@ -89,7 +89,7 @@ pub fn stop_before(lookup: &Lookup<'_>, items: &[hb_glyph_info_t], i: usize) -> 
 /// The place, if the lookup is on for its glyph.
 fn if_on(lookup: &Lookup<'_>, items: &[hb_glyph_info_t], j: usize) -> Option<usize>
     requires { j < length items.now }
-    ensures value { result ≡ if_on_of lookup.now items.now j }
+    ensures value { result ≡ Lookups.if_on lookup.now items.now j }
     ensures same { IfSome result (λ k. k ≡ j) }
 {
     if has_lookup_on(lookup, &items[j]) {
@@ -102,7 +102,7 @@ fn if_on(lookup: &Lookup<'_>, items: &[hb_glyph_info_t], j: usize) -> Option<usi
 /// The next glyph that the lookup sees after place `i`.
 pub fn glyph_after(lookup: &Lookup<'_>, items: &[hb_glyph_info_t], i: usize) -> Option<usize>
     requires { i < length items.now }
-    ensures value { result ≡ glyph_after_of lookup.now items.now i }
+    ensures value { result ≡ Lookups.glyph_after lookup.now items.now i }
     ensures inside { IfSome result (λ j. j < length items.now) }
     ensures behind { IfSome result (λ j. i < j) }
 {
@@ -115,7 +115,7 @@ pub fn glyph_after(lookup: &Lookup<'_>, items: &[hb_glyph_info_t], i: usize) -> 
 /// The nearest glyph that the lookup sees before place `i`.
 pub fn glyph_before(lookup: &Lookup<'_>, items: &[hb_glyph_info_t], i: usize) -> Option<usize>
     requires { i ≤ length items.now }
-    ensures value { result ≡ glyph_before_of lookup.now items.now i }
+    ensures value { result ≡ Lookups.glyph_before lookup.now items.now i }
     ensures inside { IfSome result (λ j. j < i) }
 {
     match stop_before(lookup, items, i) {
@@ -127,7 +127,7 @@ pub fn glyph_before(lookup: &Lookup<'_>, items: &[hb_glyph_info_t], i: usize) ->
 /// Where a search after place `i` ends that finds nothing.
 pub fn end_after(lookup: &Lookup<'_>, items: &[hb_glyph_info_t], i: usize) -> usize
     requires { i < length items.now }
-    ensures { result ≡ end_after_of lookup.now items.now i }
+    ensures { result ≡ Lookups.end_after lookup.now items.now i }
 {
     match stop_after(lookup, items, i) {
         Some(j) => j + 1,
@@ -138,7 +138,7 @@ pub fn end_after(lookup: &Lookup<'_>, items: &[hb_glyph_info_t], i: usize) -> us
 /// Where a search before place `i` begins that finds nothing.
 pub fn start_before(lookup: &Lookup<'_>, items: &[hb_glyph_info_t], i: usize) -> usize
     requires { i ≤ length items.now }
-    ensures { result ≡ start_before_of lookup.now items.now i }
+    ensures { result ≡ Lookups.start_before lookup.now items.now i }
 {
     match stop_before(lookup, items, i) {
         Some(j) => j.saturating_sub(1),

@@ -5,7 +5,7 @@
 //! again where a record names it, and no list of places is kept.
 ghost use Rattle.std.specs.Prelude.{◌≡◌, ◌<◌, ◌+◌, ◌^◌, length};
 ghost use Rattle.std.specs.Option.{IfSome};
-ghost use Rattle.layout_positions.specs.Nested.{matched_place as matched_place_of, named_place as named_place_of, named_lookup as named_lookup_of, record_step, rule_placed, origin_at as origin_at_of, tried_concat_marked, first_rule_placed, level_placed, nested_placed};
+ghost use Rattle.layout_positions.specs.Nested;
 ghost use Rattle.layout_matching.specs.Loops.{times};
 
 use crate::edits::{asks_for_concat, break_between, concat_between};
@@ -38,7 +38,7 @@ pub struct Site<'a> {
 fn matched_place(site: &Site<'_>, items: &[hb_glyph_info_t], index: u16) -> Option<usize>
     requires { site.now.at < length items.now }
     ensures value { result
-        ≡ matched_place_of site.now.lookup items.now site.now.at site.now.rule index }
+        ≡ Nested.matched_place site.now.lookup items.now site.now.at site.now.rule index }
     ensures inside { IfSome result (λ j. j < length items.now) }
 {
     if site.rule.input.count <= index {
@@ -52,7 +52,8 @@ fn matched_place(site: &Site<'_>, items: &[hb_glyph_info_t], index: u16) -> Opti
 /// Where record `r` of a rule applies its lookup.
 fn named_place(site: &Site<'_>, items: &[hb_glyph_info_t], r: u32) -> Option<usize>
     requires { site.now.at < length items.now }
-    ensures value { result ≡ named_place_of site.now.lookup items.now site.now.at site.now.rule r }
+    ensures value { result ≡ Nested.named_place site.now.lookup items.now site.now.at site.now.rule
+        r }
     ensures inside { IfSome result (λ j. j < length items.now) }
 {
     let index = u16_at(site.lookup.table, record_at(&site.rule, r));
@@ -61,7 +62,7 @@ fn named_place(site: &Site<'_>, items: &[hb_glyph_info_t], r: u32) -> Option<usi
 
 /// The lookup that record `r` of a rule names.
 fn named_lookup<'a>(site: &Site<'a>, r: u32) -> Option<Lookup<'a>>
-    ensures value { result ≡ named_lookup_of site.now.lookup site.now.rule r }
+    ensures value { result ≡ Nested.named_lookup site.now.lookup site.now.rule r }
     ensures near { IfSome result (λ l. l.place < 2 ^ 17) }
 {
     let at = record_at(&site.rule, r);
@@ -82,7 +83,7 @@ fn apply_record(
 ) -> Carried
     requires inside { site.now.at < length buffer.old.items }
     ensures made { record { buffer = buffer.new; seen = result.seen; left = result.left; r = r + 1 }
-        ≡ record_step (nested_placed level) site.now.lookup site.now.at site.now.rule
+        ≡ Nested.record_step (Nested.nested_placed level) site.now.lookup site.now.at site.now.rule
         (record { buffer = buffer.old; seen = carried.seen; left = carried.left; r = r }) }
     ensures len { length buffer.new.items ≡ length buffer.old.items }
 {
@@ -118,7 +119,8 @@ fn apply_records(level: u32, site: &Site<'_>, buffer: &mut hb_buffer_t, carried:
       seen = result.seen;
       left = result.left;
       r = site.now.rule.count;
-    } ≡ times (record_step (nested_placed level) site.now.lookup site.now.at site.now.rule)
+    } ≡ times (Nested.record_step
+        (Nested.nested_placed level) site.now.lookup site.now.at site.now.rule)
         site.now.rule.count
         (record { buffer = buffer.old; seen = carried.seen; left = carried.left; r = 0 }) }
     ensures len { length buffer.new.items ≡ length buffer.old.items }
@@ -147,7 +149,8 @@ fn apply_rule(
       next = result.next;
       seen = result.carried.seen;
       left = result.carried.left;
-    } ≡ rule_placed (nested_placed level) here.now at carried.left carried.seen buffer.old found }
+    } ≡ Nested.rule_placed (Nested.nested_placed level) here.now at carried.left carried.seen
+        buffer.old found }
     ensures len { length buffer.new.items ≡ length buffer.old.items }
 {
     let next = after(buffer.len(), found.span.last);
@@ -180,7 +183,7 @@ pub fn apply_nested(
       next = result.next;
       seen = result.carried.seen;
       left = result.carried.left;
-    } ≡ nested_placed level here.now at carried.left carried.seen buffer.old }
+    } ≡ Nested.nested_placed level here.now at carried.left carried.seen buffer.old }
     ensures len { length buffer.new.items ≡ length buffer.old.items }
 {
     if level == 0 || buffer.len() <= at {
@@ -194,7 +197,7 @@ pub fn apply_nested(
 
 /// A place at which rules are tried.
 fn origin_at(at: usize) -> Origin
-    ensures { result ≡ origin_at_of at }
+    ensures { result ≡ Nested.origin_at at }
 {
     Origin {
         at,
@@ -208,7 +211,7 @@ fn origin_at(at: usize) -> Origin
 fn mark_tried(here: &Lookup<'_>, buffer: &mut hb_buffer_t, at: usize)
     requires place { here.now.place < 2 ^ 17 }
     requires inside { at < length buffer.old.items }
-    ensures made { buffer.new ≡ tried_concat_marked here.now at buffer.old }
+    ensures made { buffer.new ≡ Nested.tried_concat_marked here.now at buffer.old }
     ensures len { length buffer.new.items ≡ length buffer.old.items }
 {
     if !asks_for_concat(buffer) {
@@ -236,7 +239,8 @@ fn apply_first(
       next = result.next;
       seen = result.carried.seen;
       left = result.carried.left;
-    } ≡ first_rule_placed (nested_placed level) here.now at carried.left carried.seen buffer.old }
+    } ≡ Nested.first_rule_placed
+        (Nested.nested_placed level) here.now at carried.left carried.seen buffer.old }
     ensures len { length buffer.new.items ≡ length buffer.old.items }
 {
     match find(here, &ItemList::of_slice(buffer.infos()), origin_at(at)) {
@@ -264,7 +268,8 @@ fn apply_level(
       next = result.next;
       seen = result.carried.seen;
       left = result.carried.left;
-    } ≡ level_placed (nested_placed level) here.now at carried.left carried.seen buffer.old }
+    } ≡ Nested.level_placed (Nested.nested_placed level) here.now at carried.left carried.seen
+        buffer.old }
     ensures len { length buffer.new.items ≡ length buffer.old.items }
 {
     if !is_context(here) {

@@ -2,7 +2,7 @@
 //! glyph, or for two.
 ghost use Rattle.std.specs.Prelude.{◌≡◌, ◌<◌, ◌≤◌, ◌^◌};
 ghost use Rattle.std.specs.Option.{IfSome};
-ghost use Rattle.layout_positions.specs.Pairs.{single_value, single_of, pair_at as pair_at_of, pair_size as pair_size_of, pair_if as pair_if_of, pair_set as pair_set_of, side_of_second, second_in as second_in_of, pair_in_set, listed_pair as listed_pair_of, class_at as class_at_of, classed_pair as classed_pair_of, pair_of};
+ghost use Rattle.layout_positions.specs.Pairs;
 
 use crate::anchors::number_there;
 use crate::places::{cell, record_offset};
@@ -24,7 +24,7 @@ pub struct PairValues {
 /// The record for glyph number `number` of a subtable of single adjustment.
 fn single_record(table: &[u8], start: usize, number: u32) -> Option<Adjustment>
     requires { start < 2 ^ 34 }
-    ensures { result ≡ single_value table.now start number }
+    ensures { result ≡ Pairs.single_value table.now start number }
 {
     let format = u16_at(table, start + 4);
     match u16_at(table, start) {
@@ -40,7 +40,7 @@ fn single_record(table: &[u8], start: usize, number: u32) -> Option<Adjustment>
 /// What the subtable of single adjustment at `start` has for a glyph.
 pub fn single(table: &[u8], start: usize, glyph: u32) -> Option<Adjustment>
     requires { start < 2 ^ 34 }
-    ensures { result ≡ single_of table.now start glyph }
+    ensures { result ≡ Pairs.single_of table.now start glyph }
 {
     let number = number_there(table, start, start + 2, glyph)?;
     single_record(table, start, number)
@@ -50,7 +50,7 @@ pub fn single(table: &[u8], start: usize, glyph: u32) -> Option<Adjustment>
 fn pair_at(table: &[u8], start: usize, at: usize) -> PairValues
     requires start { start < 2 ^ 34 }
     requires at { at < 480000000000 }
-    ensures { result ≡ pair_at_of table.now start at }
+    ensures { result ≡ Pairs.pair_at table.now start at }
 {
     let first = u16_at(table, start + 4);
     let second = u16_at(table, start + 6);
@@ -64,7 +64,7 @@ fn pair_at(table: &[u8], start: usize, at: usize) -> PairValues
 /// How many bytes the two records of a pair have.
 fn pair_size(table: &[u8], start: usize) -> usize
     requires { start < 2 ^ 34 }
-    ensures value { result ≡ pair_size_of table.now start }
+    ensures value { result ≡ Pairs.pair_size table.now start }
     ensures small { result ≤ 64 }
 {
     size(u16_at(table, start + 4)) + size(u16_at(table, start + 6))
@@ -74,7 +74,7 @@ fn pair_size(table: &[u8], start: usize) -> usize
 fn pair_if(table: &[u8], start: usize, at: usize) -> Option<PairValues>
     requires start { start < 2 ^ 34 }
     requires at { at < 480000000000 }
-    ensures { result ≡ pair_if_of table.now start at }
+    ensures { result ≡ Pairs.pair_if table.now start at }
 {
     if has_bytes(table, at, pair_size(table, start)) {
         Some(pair_at(table, start, at))
@@ -86,7 +86,7 @@ fn pair_if(table: &[u8], start: usize, at: usize) -> Option<PairValues>
 /// Where the pairs of glyph number `number` stand.
 fn pair_set(table: &[u8], start: usize, number: u32) -> Option<usize>
     requires { start < 2 ^ 34 }
-    ensures value { result ≡ pair_set_of table.now start number }
+    ensures value { result ≡ Pairs.pair_set table.now start number }
     ensures near { IfSome result (λ set. set < 2 ^ 35) }
 {
     if records(table, u32::from(u16_at(table, start + 8)), start + 10, 2) <= number {
@@ -99,7 +99,7 @@ fn pair_set(table: &[u8], start: usize, number: u32) -> Option<usize>
 fn second_side(table: &[u8], size: usize, set: usize, glyph: u32, r: u32) -> Ordering
     requires size { size ≤ 66 }
     requires set { set < 2 ^ 35 }
-    ensures { result ≡ side_of_second table.now size set glyph r }
+    ensures { result ≡ Pairs.side_of_second table.now size set glyph r }
 {
     let there = u32::from(u16_at(table, set + 2 + record_offset(r as usize, size)));
     side(glyph, there, there)
@@ -110,7 +110,7 @@ fn second_in(table: &[u8], size: usize, set: usize, glyph: u32) -> Option<u32>
     requires some { 0 < size }
     requires size { size ≤ 66 }
     requires set { set < 2 ^ 35 }
-    ensures { result ≡ second_in_of table.now size glyph set }
+    ensures { result ≡ Pairs.second_in table.now size glyph set }
 {
     let count = records(table, u32::from(u16_at(table, set)), set + 2, size);
     found(count, |r| second_side(table, size, set, glyph, r))
@@ -120,7 +120,7 @@ fn second_in(table: &[u8], size: usize, set: usize, glyph: u32) -> Option<u32>
 fn pair_within(table: &[u8], start: usize, set: usize, glyph: u32) -> Option<PairValues>
     requires start { start < 2 ^ 34 }
     requires set { set < 2 ^ 35 }
-    ensures { result ≡ pair_in_set table.now start glyph set }
+    ensures { result ≡ Pairs.pair_in_set table.now start glyph set }
 {
     let size = 2 + pair_size(table, start);
     match second_in(table, size, set, glyph) {
@@ -132,7 +132,7 @@ fn pair_within(table: &[u8], start: usize, set: usize, glyph: u32) -> Option<Pai
 /// The pair of glyph number `number` and of this second glyph, by format 1.
 fn listed_pair(table: &[u8], start: usize, number: u32, glyph: u32) -> Option<PairValues>
     requires { start < 2 ^ 34 }
-    ensures { result ≡ listed_pair_of table.now start number glyph }
+    ensures { result ≡ Pairs.listed_pair table.now start number glyph }
 {
     let set = pair_set(table, start, number)?;
     pair_within(table, start, set, glyph)
@@ -142,7 +142,7 @@ fn listed_pair(table: &[u8], start: usize, number: u32, glyph: u32) -> Option<Pa
 fn class_at(table: &[u8], start: usize, at: usize, glyph: u32) -> u16
     requires start { start < 2 ^ 34 }
     requires at { at < 2 ^ 35 }
-    ensures { result ≡ class_at_of table.now start at glyph }
+    ensures { result ≡ Pairs.class_at table.now start at glyph }
 {
     match offset16(table, start, at) {
         Some(classes) => class(table, classes, glyph),
@@ -153,7 +153,7 @@ fn class_at(table: &[u8], start: usize, at: usize, glyph: u32) -> u16
 /// The pair of the classes of two glyphs, by format 2.
 fn classed_pair(table: &[u8], start: usize, left: u32, right: u32) -> Option<PairValues>
     requires { start < 2 ^ 34 }
-    ensures { result ≡ classed_pair_of table.now start left right }
+    ensures { result ≡ Pairs.classed_pair table.now start left right }
 {
     let first = class_at(table, start, start + 8, left);
     let second = class_at(table, start, start + 10, right);
@@ -170,7 +170,7 @@ fn classed_pair(table: &[u8], start: usize, left: u32, right: u32) -> Option<Pai
 /// first one in its list.
 pub fn pair(table: &[u8], start: usize, number: u32, left: u32, right: u32) -> Option<PairValues>
     requires { start < 2 ^ 34 }
-    ensures { result ≡ pair_of table.now start number left right }
+    ensures { result ≡ Pairs.pair_of table.now start number left right }
 {
     match u16_at(table, start) {
         1 => listed_pair(table, start, number, right),

@@ -1,6 +1,6 @@
 //! A lookup at a place: its first subtable that applies.
 ghost use Rattle.std.specs.Prelude.{◌≡◌, ◌<◌, ◌≤◌, ◌+◌, ◌^◌, length};
-ghost use Rattle.layout_positions.specs.Subtables.{kind_applied, looks_for_base as looks_for_base_of, seen_at as seen_at_of, trial_step, lookup_placed};
+ghost use Rattle.layout_positions.specs.Subtables;
 
 use crate::adjustment::{apply_pair, apply_single};
 use crate::bases::{BaseSeen, base_seen};
@@ -43,8 +43,9 @@ fn apply_attachment(
     requires near { subtable.start < 2 ^ 34 }
     requires inside { i < length buffer.old.items }
     requires kind { 3 ≤ subtable.kind }
-    ensures made { buffer.new ≡ (kind_applied lookup.now subtable base i buffer.old).buffer }
-    ensures next { result ≡ (kind_applied lookup.now subtable base i buffer.old).next }
+    ensures made { buffer.new
+        ≡ (Subtables.kind_applied lookup.now subtable base i buffer.old).buffer }
+    ensures next { result ≡ (Subtables.kind_applied lookup.now subtable base i buffer.old).next }
 {
     if u16_at(lookup.table, subtable.start) != 1 {
         return None;
@@ -68,8 +69,9 @@ fn apply_kind(
 ) -> Option<usize>
     requires near { subtable.start < 2 ^ 34 }
     requires inside { i < length buffer.old.items }
-    ensures made { buffer.new ≡ (kind_applied lookup.now subtable base i buffer.old).buffer }
-    ensures next { result ≡ (kind_applied lookup.now subtable base i buffer.old).next }
+    ensures made { buffer.new
+        ≡ (Subtables.kind_applied lookup.now subtable base i buffer.old).buffer }
+    ensures next { result ≡ (Subtables.kind_applied lookup.now subtable base i buffer.old).next }
 {
     match subtable.kind {
         0 => None,
@@ -87,7 +89,7 @@ fn looks_for_base(
     i: usize,
 ) -> bool
     requires { subtable.start < 2 ^ 34 }
-    ensures { result ≡ looks_for_base_of lookup.now subtable i buffer.now }
+    ensures { result ≡ Subtables.looks_for_base lookup.now subtable i buffer.now }
 {
     (subtable.kind == 4 || subtable.kind == 5)
         && u16_at(lookup.table, subtable.start) == 1
@@ -104,7 +106,7 @@ fn seen_at(
 ) -> BaseSeen
     requires near { subtable.start < 2 ^ 34 }
     requires inside { i < length buffer.now.items }
-    ensures { result ≡ seen_at_of lookup.now subtable i buffer.now seen }
+    ensures { result ≡ Subtables.seen_at lookup.now subtable i buffer.now seen }
 {
     if looks_for_base(lookup, subtable, buffer, i) {
         base_seen(lookup, subtable, buffer.infos(), i, seen)
@@ -124,8 +126,14 @@ fn try_subtable(
     requires place { lookup.now.place < 2 ^ 17 }
     requires inside { i < length buffer.old.items }
     requires few { k < 2 ^ 16 }
-    ensures { record { buffer = buffer.new; next = result.next; seen = result.seen; subtable = k + 1 }
-        ≡ trial_step lookup.now i (record {
+    ensures { record {
+      buffer = buffer.new;
+      next = result.next;
+      seen = result.seen;
+      subtable = k +
+          1;
+    }
+        ≡ Subtables.trial_step lookup.now i (record {
           buffer = buffer.old;
           next = placed.next;
           seen = placed.seen;
@@ -162,7 +170,7 @@ pub fn apply_lookup(
       next = result.next;
       seen = result.carried.seen;
       left = result.carried.left;
-    } ≡ lookup_placed lookup.now i carried.left carried.seen buffer.old }
+    } ≡ Subtables.lookup_placed lookup.now i carried.left carried.seen buffer.old }
     ensures len { length buffer.new.items ≡ length buffer.old.items }
 {
     let mut placed = Placed {

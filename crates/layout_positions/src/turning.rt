@@ -3,7 +3,7 @@
 ghost use Rattle.std.specs.Prelude.{◌≡◌, ◌<◌, length};
 ghost use Rattle.std.specs.Option.{IfSome};
 ghost use Rattle.layout_positions.specs.Edits.{position_at};
-ghost use Rattle.layout_positions.specs.Turning.{across as across_of, offset_across as offset_across_of, linked as linked_of, Turn, turn_next as turn_next_of, turn_at as turn_at_of, turned, follows as follows_of, parent_freed, link_put, attached};
+ghost use Rattle.layout_positions.specs.Turning;
 
 use crate::attachment::{CURSIVE_ATTACHED, chain, free, parent, place_at};
 use crate::edits::{position, put};
@@ -12,7 +12,7 @@ use shape_buffer::{GlyphPosition, hb_buffer_t};
 
 /// A position put across the line.
 fn across(horizontal: bool, offset: i32, position: GlyphPosition) -> GlyphPosition
-    ensures { result ≡ across_of horizontal offset position }
+    ensures { result ≡ Turning.across horizontal offset position }
 {
     let mut position = position;
     if horizontal {
@@ -24,7 +24,7 @@ fn across(horizontal: bool, offset: i32, position: GlyphPosition) -> GlyphPositi
 }
 
 fn offset_across(horizontal: bool, position: &GlyphPosition) -> i32
-    ensures { result ≡ offset_across_of horizontal position.now }
+    ensures { result ≡ Turning.offset_across horizontal position.now }
 {
     if horizontal {
         position.y_offset
@@ -42,7 +42,7 @@ fn linked(
     offset: i32,
     position: GlyphPosition,
 ) -> GlyphPosition
-    ensures { result ≡ linked_of horizontal i j offset position }
+    ensures { result ≡ Turning.linked horizontal i j offset position }
 {
     let mut position = position;
     position.attach_chain = chain(i, j);
@@ -54,7 +54,7 @@ fn linked(
 fn turn_next(buffer: &hb_buffer_t, end: usize, at: usize, was: GlyphPosition) -> Option<usize>
     requires { at < length buffer.now.items }
     ensures value { result
-        ≡ turn_next_of end (record { buffer = buffer.now; at = at; was = was }) }
+        ≡ Turning.turn_next end (record { buffer = buffer.now; at = at; was = was }) }
     ensures inside { IfSome result (λ j. j < length buffer.now.items) }
 {
     if was.attach_type != CURSIVE_ATTACHED {
@@ -69,7 +69,7 @@ fn turn_next(buffer: &hb_buffer_t, end: usize, at: usize, was: GlyphPosition) ->
 /// Turns the link from place `at` to place `j` round. Returns the position at `j` before.
 fn turn_at(buffer: &mut hb_buffer_t, at: usize, was: GlyphPosition, j: usize) -> GlyphPosition
     ensures made { record { buffer = buffer.new; at = j; was = result }
-        ≡ turn_at_of (record { buffer = buffer.old; at = at; was = was }) j }
+        ≡ Turning.turn_at (record { buffer = buffer.old; at = at; was = was }) j }
     ensures items { buffer.new.items ≡ buffer.old.items }
 {
     let horizontal = buffer.direction().is_horizontal();
@@ -83,7 +83,7 @@ fn turn_at(buffer: &mut hb_buffer_t, at: usize, was: GlyphPosition, j: usize) ->
 #[tactic(auto, using(layout_matching::proofs::LoopLemmas::times_step, crate::proofs::TurnLemmas::turned_whole, crate::proofs::TurnLemmas::turned_still, crate::proofs::TurnLemmas::turn_on))]
 fn turn(buffer: &mut hb_buffer_t, child: usize, end: usize)
     requires { child < length buffer.old.items }
-    ensures made { buffer.new ≡ turned child end buffer.old }
+    ensures made { buffer.new ≡ Turning.turned child end buffer.old }
     ensures items { buffer.new.items ≡ buffer.old.items }
 {
     let mut at = child;
@@ -103,7 +103,7 @@ fn turn(buffer: &mut hb_buffer_t, child: usize, end: usize)
 /// Whether the glyph at place `i` is attached to the one at place `j`.
 fn follows(buffer: &hb_buffer_t, i: usize, j: usize) -> bool
     requires { i < length buffer.now.items }
-    ensures { result ≡ follows_of i j buffer.now }
+    ensures { result ≡ Turning.follows i j buffer.now }
 {
     match parent(buffer, i) {
         Some(there) => there == j,
@@ -114,7 +114,7 @@ fn follows(buffer: &hb_buffer_t, i: usize, j: usize) -> bool
 /// Takes the link from `parent` to `child` off, if there is one.
 fn free_parent(buffer: &mut hb_buffer_t, child: usize, parent: usize)
     requires { parent < length buffer.old.items }
-    ensures made { buffer.new ≡ parent_freed child parent buffer.old }
+    ensures made { buffer.new ≡ Turning.parent_freed child parent buffer.old }
     ensures items { buffer.new.items ≡ buffer.old.items }
 {
     if !follows(buffer, parent, child) {
@@ -131,7 +131,7 @@ fn free_parent(buffer: &mut hb_buffer_t, child: usize, parent: usize)
 
 /// Links the glyph at place `child` to the one at place `parent`.
 fn link(buffer: &mut hb_buffer_t, child: usize, parent: usize, offset: i32)
-    ensures made { buffer.new ≡ link_put child parent offset buffer.old }
+    ensures made { buffer.new ≡ Turning.link_put child parent offset buffer.old }
     ensures items { buffer.new.items ≡ buffer.old.items }
 {
     let horizontal = buffer.direction().is_horizontal();
@@ -148,7 +148,7 @@ fn link(buffer: &mut hb_buffer_t, child: usize, parent: usize, offset: i32)
 pub fn attach(buffer: &mut hb_buffer_t, child: usize, parent: usize, offset: i32)
     requires child { child < length buffer.old.items }
     requires parent { parent < length buffer.old.items }
-    ensures made { buffer.new ≡ attached child parent offset buffer.old }
+    ensures made { buffer.new ≡ Turning.attached child parent offset buffer.old }
     ensures items { buffer.new.items ≡ buffer.old.items }
 {
     turn(buffer, child, parent);

@@ -1,7 +1,7 @@
 //! Value records: how far a glyph is moved, and its advance changed (OpenType, `GPOS`, "Value
 //! record").
 ghost use Rattle.std.specs.Prelude.{◌≡◌, ◌<◌, ◌≤◌, ◌^◌};
-ghost use Rattle.layout_positions.specs.Values.{value_size, number_for, value_at, has_bytes as has_bytes_of, value_in as value_in_of, adjusted as adjusted_of, advance_along as advance_along_of, has_effect as has_effect_of};
+ghost use Rattle.layout_positions.specs.Values;
 
 use shape_buffer::GlyphPosition;
 use shape_buffer::wrapping::{difference, sum};
@@ -19,7 +19,7 @@ pub struct Adjustment {
 
 /// How many bytes a record of this format has.
 pub fn size(format: u16) -> usize
-    ensures value { result ≡ value_size format }
+    ensures value { result ≡ Values.value_size format }
     ensures small { result ≤ 32 }
 {
     2 * format.count_ones() as usize
@@ -29,7 +29,7 @@ pub fn size(format: u16) -> usize
 fn number(table: &[u8], format: u16, at: usize, bit: u16) -> i32
     requires near { at < 2 ^ 39 }
     requires bit { 0 < bit }
-    ensures { result ≡ number_for table.now format at bit }
+    ensures { result ≡ Values.number_for table.now format at bit }
 {
     if format & bit == 0 {
         return 0;
@@ -42,7 +42,7 @@ fn number(table: &[u8], format: u16, at: usize, bit: u16) -> i32
 /// default instance, at no size in pixels.
 pub fn value_record(table: &[u8], format: u16, at: usize) -> Adjustment
     requires { at < 2 ^ 39 }
-    ensures { result ≡ value_at table.now format at }
+    ensures { result ≡ Values.value_at table.now format at }
 {
     Adjustment {
         x_placement: number(table, format, at, 1),
@@ -56,7 +56,7 @@ pub fn value_record(table: &[u8], format: u16, at: usize) -> Adjustment
 pub fn has_bytes(table: &[u8], at: usize, size: usize) -> bool
     requires at { at < 2 ^ 39 }
     requires size { size ≤ 64 }
-    ensures { result ≡ has_bytes_of table.now at size }
+    ensures { result ≡ Values.has_bytes table.now at size }
 {
     at + size <= table.len()
 }
@@ -64,7 +64,7 @@ pub fn has_bytes(table: &[u8], at: usize, size: usize) -> bool
 /// The record of this format at `at`, if the table has room for it.
 pub fn value_in(table: &[u8], format: u16, at: usize) -> Option<Adjustment>
     requires { at < 2 ^ 39 }
-    ensures { result ≡ value_in_of table.now format at }
+    ensures { result ≡ Values.value_in table.now format at }
 {
     if has_bytes(table, at, size(format)) {
         Some(value_record(table, format, at))
@@ -75,7 +75,7 @@ pub fn value_in(table: &[u8], format: u16, at: usize) -> Option<Adjustment>
 
 /// A position after an adjustment, in a horizontal or a vertical line. Sums wrap.
 pub fn adjusted(horizontal: bool, value: &Adjustment, position: GlyphPosition) -> GlyphPosition
-    ensures { result ≡ adjusted_of horizontal value.now position }
+    ensures { result ≡ Values.adjusted horizontal value.now position }
 {
     let mut position = position;
     position.x_offset = sum(position.x_offset, value.x_placement);
@@ -90,7 +90,7 @@ pub fn adjusted(horizontal: bool, value: &Adjustment, position: GlyphPosition) -
 
 /// How far the advance along the line changes.
 fn advance_along(horizontal: bool, value: &Adjustment) -> i32
-    ensures { result ≡ advance_along_of horizontal value.now }
+    ensures { result ≡ Values.advance_along horizontal value.now }
 {
     if horizontal {
         value.x_advance
@@ -101,7 +101,7 @@ fn advance_along(horizontal: bool, value: &Adjustment) -> i32
 
 /// Whether an adjustment changes something.
 pub fn has_effect(horizontal: bool, value: &Adjustment) -> bool
-    ensures { result ≡ has_effect_of horizontal value.now }
+    ensures { result ≡ Values.has_effect horizontal value.now }
 {
     value.x_placement != 0 || value.y_placement != 0 || advance_along(horizontal, value) != 0
 }

@@ -1,8 +1,8 @@
 //! Positioning: no glyph is attached at first; then lookups go over the buffer, one after the other.
 ghost use Rattle.std.specs.Prelude.{◌≡◌, ◌<◌, ◌-◌, ◌^◌, fold, length, All};
 ghost use Rattle.shape_buffer.specs.Outcome.{Made};
-ghost use Rattle.layout_matching.specs.Work.{walk_work as walk_work_of};
-ghost use Rattle.layout_positions.specs.Walk.{unattached as unattached_of, started, tried, lookup_step, gone_over, lookup_applied, budgeted, positioned};
+ghost use Rattle.layout_matching.specs.Work;
+ghost use Rattle.layout_positions.specs.Walk;
 ghost use Rattle.layout_positions.specs.Digested.{IsDigested, HoldsGlyphs, lookups_in};
 
 use crate::bases::BaseSeen;
@@ -29,7 +29,7 @@ pub struct Spot {
 
 /// The position of a glyph that isn't attached to another one.
 fn unattached(position: GlyphPosition) -> GlyphPosition
-    ensures { result ≡ unattached_of position }
+    ensures { result ≡ Walk.unattached position }
 {
     let mut position = position;
     position.attach_chain = 0;
@@ -40,7 +40,7 @@ fn unattached(position: GlyphPosition) -> GlyphPosition
 /// Begins positioning: no glyph is attached to another one. Advances and offsets stay. Takes no
 /// memory, and refuses nothing.
 pub fn position_start(buffer: &mut hb_buffer_t)
-    ensures { Made started buffer.old buffer.new }
+    ensures { Made Walk.started buffer.old buffer.new }
 {
     update_positions(buffer, |_info, position| unattached(position));
 }
@@ -54,7 +54,7 @@ fn try_at(lookup: &Lookup<'_>, buffer: &mut hb_buffer_t, spot: Spot) -> Spot
       at = result.at;
       seen = result.carried.seen;
       left = result.carried.left;
-    } ≡ tried lookup.now (record {
+    } ≡ Walk.tried lookup.now (record {
       buffer = buffer.old;
       at = spot.at;
       seen = spot.carried.seen;
@@ -89,7 +89,7 @@ fn step_on(named: &Digested<'_>, buffer: &mut hb_buffer_t, spot: Spot) -> Spot
       at = result.at;
       seen = result.carried.seen;
       left = result.carried.left;
-    } ≡ lookup_step named.now.lookup (record {
+    } ≡ Walk.lookup_step named.now.lookup (record {
       buffer = buffer.old;
       at = spot.at;
       seen = spot.carried.seen;
@@ -118,7 +118,7 @@ fn step_on(named: &Digested<'_>, buffer: &mut hb_buffer_t, spot: Spot) -> Spot
 fn go_over(named: &Digested<'_>, buffer: &mut hb_buffer_t, left: usize) -> usize
     requires { IsDigested named.now }
     ensures { record { buffer = buffer.new; left = result }
-        ≡ gone_over (record { buffer = buffer.old; left = left }) named.now.lookup }
+        ≡ Walk.gone_over (record { buffer = buffer.old; left = left }) named.now.lookup }
 {
     let seen = BaseSeen {
         until: 0,
@@ -137,7 +137,7 @@ fn go_over(named: &Digested<'_>, buffer: &mut hb_buffer_t, left: usize) -> usize
 /// What is left after a walk over so many items was charged for.
 fn charge_walk(lookup: &Lookup<'_>, count: usize, left: usize) -> usize
     requires { lookup.now.place < 2 ^ 17 }
-    ensures { result ≡ left - walk_work_of lookup.now count }
+    ensures { result ≡ left - Work.walk_work lookup.now count }
 {
     left.saturating_sub(walk_work(lookup, count))
 }
@@ -146,7 +146,7 @@ fn charge_walk(lookup: &Lookup<'_>, count: usize, left: usize) -> usize
 pub fn apply_over(named: &Digested<'_>, buffer: &mut hb_buffer_t, left: usize) -> usize
     requires { IsDigested named.now }
     ensures { record { buffer = buffer.new; left = result }
-        ≡ lookup_applied (record { buffer = buffer.old; left = left }) named.now.lookup }
+        ≡ Walk.lookup_applied (record { buffer = buffer.old; left = left }) named.now.lookup }
 {
     let after = charge_walk(&named.lookup, buffer.len(), left);
     if left < walk_work(&named.lookup, buffer.len()) {
@@ -173,7 +173,7 @@ fn run_digest(items: &[hb_glyph_info_t]) -> Digest
 fn apply_each(lookups: &[Digested<'_>], buffer: &mut hb_buffer_t) -> usize
     requires { All IsDigested lookups.now }
     ensures { record { buffer = buffer.new; left = result }
-        ≡ fold lookup_applied (budgeted buffer.old) (lookups_in lookups.now) }
+        ≡ fold Walk.lookup_applied (Walk.budgeted buffer.old) (lookups_in lookups.now) }
 {
     let mut left = most_work(buffer.len());
     let mut run = run_digest(buffer.infos());
@@ -192,7 +192,7 @@ fn apply_each(lookups: &[Digested<'_>], buffer: &mut hb_buffer_t) -> usize
 /// limit stay. Takes no memory, and refuses nothing.
 pub fn position(lookups: &[Digested<'_>], buffer: &mut hb_buffer_t)
     requires { All IsDigested lookups.now }
-    ensures { Made (positioned (lookups_in lookups.now)) buffer.old buffer.new }
+    ensures { Made (Walk.positioned (lookups_in lookups.now)) buffer.old buffer.new }
 {
     apply_each(lookups, buffer);
 }

@@ -3,7 +3,7 @@
 //! Marks on one base ask for ways that begin at the same place, each longer than the one before: a
 //! way goes on from the one that was measured last.
 ghost use Rattle.std.specs.Prelude.{◌≡◌, ◌<◌, ◌≤◌, ◌-◌, fold, length, nat_lt, slice_range, if◌then◌else◌};
-ghost use Rattle.layout_positions.specs.Ways.{pen_on as pen_on_of, no_way, way as way_of, way_between as way_between_of, IsMeasured};
+ghost use Rattle.layout_positions.specs.Ways;
 
 use crate::places::after;
 use shape_buffer::wrapping::sum;
@@ -30,7 +30,7 @@ pub struct Measured {
 impl Measured {
     /// No way at all.
     pub fn none() -> Measured
-        ensures { result ≡ record { from = 0; to = 0; pen = no_way } }
+        ensures { result ≡ record { from = 0; to = 0; pen = Ways.no_way } }
     {
         Measured {
             from: 0,
@@ -49,7 +49,7 @@ impl Measured {
 
 /// The pen after one more glyph.
 fn pen_on(pen: Pen, there: GlyphPosition) -> Pen
-    ensures { result ≡ pen_on_of pen there }
+    ensures { result ≡ Ways.pen_on pen there }
 {
     Pen {
         x: sum(pen.x, there.x_advance),
@@ -59,7 +59,7 @@ fn pen_on(pen: Pen, there: GlyphPosition) -> Pen
 
 /// The pen after these glyphs.
 fn pen_over(pen: Pen, positions: &[GlyphPosition]) -> Pen
-    ensures { result ≡ fold pen_on_of pen positions.now }
+    ensures { result ≡ fold Ways.pen_on pen positions.now }
 {
     let mut pen = pen;
     for there in positions {
@@ -72,7 +72,7 @@ fn pen_over(pen: Pen, positions: &[GlyphPosition]) -> Pen
 fn pen_after(buffer: &hb_buffer_t, pen: Pen, from: usize, end: usize) -> Pen
     requires { end ≤ length buffer.now.items }
     ensures { result ≡ (if nat_lt from end
-        then fold pen_on_of pen (slice_range buffer.now.positions from end) else pen) }
+        then fold Ways.pen_on pen (slice_range buffer.now.positions from end) else pen) }
 {
     if from < end {
         pen_over(pen, &buffer.positions()[from..end])
@@ -84,8 +84,8 @@ fn pen_after(buffer: &hb_buffer_t, pen: Pen, from: usize, end: usize) -> Pen
 /// The way of the pen from place `from` up to place `to`.
 #[tactic(auto, using(crate::proofs::WayLemmas::way_goes_on))]
 fn way(buffer: &hb_buffer_t, from: usize, to: usize, last: Measured) -> Pen
-    requires { IsMeasured buffer.now last }
-    ensures { result ≡ way_of buffer.now from to }
+    requires { Ways.IsMeasured buffer.now last }
+    ensures { result ≡ Ways.way buffer.now from to }
 {
     let end = to.min(buffer.len());
     if last.from == from && from <= last.to && last.to <= end {
@@ -97,9 +97,9 @@ fn way(buffer: &hb_buffer_t, from: usize, to: usize, last: Measured) -> Pen
 
 /// The same, measured.
 fn measure(buffer: &hb_buffer_t, from: usize, to: usize, last: Measured) -> Measured
-    requires { IsMeasured buffer.now last }
-    ensures way { result.pen ≡ way_of buffer.now from to }
-    ensures measured { IsMeasured buffer.now result }
+    requires { Ways.IsMeasured buffer.now last }
+    ensures way { result.pen ≡ Ways.way buffer.now from to }
+    ensures measured { Ways.IsMeasured buffer.now result }
 {
     Measured {
         from,
@@ -112,9 +112,9 @@ fn measure(buffer: &hb_buffer_t, from: usize, to: usize, last: Measured) -> Meas
 pub fn way_between(buffer: &hb_buffer_t, i: usize, j: usize, last: Measured) -> Measured
     requires i { i < length buffer.now.items }
     requires j { j < length buffer.now.items }
-    requires last { IsMeasured buffer.now last }
-    ensures way { result.pen ≡ way_between_of buffer.now i j }
-    ensures measured { IsMeasured buffer.now result }
+    requires last { Ways.IsMeasured buffer.now last }
+    ensures way { result.pen ≡ Ways.way_between buffer.now i j }
+    ensures measured { Ways.IsMeasured buffer.now result }
 {
     let count = buffer.len();
     if buffer.direction().is_forward() {

@@ -1,7 +1,6 @@
 //! Alternates (kind 3): by the value of the mask, or at random.
 ghost use Rattle.std.specs.Prelude.{◌≡◌, ◌<◌, ◌^◌, length, None};
-ghost use Rattle.layout_substitution.specs.Applied.{value_of, is_random as is_random_of, next_random as next_random_of};
-ghost use Rattle.layout_substitution.specs.Applied.{random_put, random_applied, alternate_applied};
+ghost use Rattle.layout_substitution.specs.Applied;
 
 use crate::apply::{Spot, replace};
 use crate::edits::{break_span, item};
@@ -15,7 +14,7 @@ const MAX_VALUE: u32 = 255;
 
 /// The value that a mask has for the lookup.
 fn value(lookup: &Lookup<'_>, there: &hb_glyph_info_t) -> u32
-    ensures { result ≡ value_of lookup.now there.now }
+    ensures { result ≡ Applied.value_of lookup.now there.now }
 {
     if lookup.unit == 0 {
         0
@@ -26,14 +25,14 @@ fn value(lookup: &Lookup<'_>, there: &hb_glyph_info_t) -> u32
 
 /// Whether the mask asks for an alternate at random: by the greatest value of a feature that lets it.
 fn is_random(lookup: &Lookup<'_>, there: &hb_glyph_info_t) -> bool
-    ensures { result ≡ is_random_of lookup.now there.now }
+    ensures { result ≡ Applied.is_random lookup.now there.now }
 {
     lookup.random && value(lookup, there) == MAX_VALUE
 }
 
 /// The random state after this one, by a product that is cut to 32 bits.
 fn next_random(state: u32) -> u32
-    ensures { result ≡ next_random_of state }
+    ensures { result ≡ Applied.next_random state }
 {
     let product = (u64::from(state) * 48271 % 4_294_967_296) as u32;
     product % 2_147_483_647
@@ -48,8 +47,8 @@ fn replace_at_random(
 ) -> Option<Spot>
     requires near { set < 2 ^ 36 }
     requires inside { spot.at < length buffer.old.items }
-    ensures made { buffer.new ≡ (random_put lookup.now spot buffer.old set).buffer }
-    ensures next { result ≡ (random_put lookup.now spot buffer.old set).next }
+    ensures made { buffer.new ≡ (Applied.random_put lookup.now spot buffer.old set).buffer }
+    ensures next { result ≡ (Applied.random_put lookup.now spot buffer.old set).next }
     ensures still { result ≡ None → buffer.new ≡ buffer.old }
 {
     let count = count(lookup.table, set);
@@ -73,8 +72,8 @@ fn apply_random(
 ) -> Option<Spot>
     requires near { start < 2 ^ 35 }
     requires inside { spot.at < length buffer.old.items }
-    ensures made { buffer.new ≡ (random_applied lookup.now start spot buffer.old).buffer }
-    ensures next { result ≡ (random_applied lookup.now start spot buffer.old).next }
+    ensures made { buffer.new ≡ (Applied.random_applied lookup.now start spot buffer.old).buffer }
+    ensures next { result ≡ (Applied.random_applied lookup.now start spot buffer.old).next }
     ensures still { result ≡ None → buffer.new ≡ buffer.old }
 {
     match set(lookup.table, start, item(buffer, spot.at).glyph_id) {
@@ -92,8 +91,9 @@ pub fn apply_alternate(
 ) -> Option<Spot>
     requires near { start < 2 ^ 35 }
     requires inside { spot.at < length buffer.old.items }
-    ensures made { buffer.new ≡ (alternate_applied lookup.now start spot buffer.old).buffer }
-    ensures next { result ≡ (alternate_applied lookup.now start spot buffer.old).next }
+    ensures made { buffer.new
+        ≡ (Applied.alternate_applied lookup.now start spot buffer.old).buffer }
+    ensures next { result ≡ (Applied.alternate_applied lookup.now start spot buffer.old).next }
     ensures still { result ≡ None → buffer.new ≡ buffer.old }
 {
     let there = item(buffer, spot.at);

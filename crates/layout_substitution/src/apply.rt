@@ -2,12 +2,12 @@
 ghost use Rattle.std.specs.Prelude.{◌≡◌, ◌≢◌, ◌<◌, ◌-◌, ◌+◌, ◌^◌, length, None, OnOk, IfOk, IsErrOf, IsTrue};
 ghost use Rattle.shape_items.specs.Buffer.{limit_of};
 ghost use Rattle.shape_buffer.specs.declared.buffer.error.ShapeError.TheVariants.{Length};
-ghost use Rattle.layout_substitution.specs.Applied.{put_one, single_applied, cluster_at, is_left_in, is_handed as is_handed_of, Handing, handed_step, handed_back, left_to_neighbours, gone as gone_of, copy_like, copies_put, first_put, several_put, list_put, sequence_put, multiple_applied};
+ghost use Rattle.layout_substitution.specs.Applied;
 ghost use Rattle.layout_substitution.specs.Ligatures.{ligature_made, one_ligated, set_ligated, ligature_applied};
 ghost use Rattle.shape_items.specs.Delete.{hand_over};
 ghost use Rattle.layout_matching.specs.Loops.{times};
 ghost use Rattle.layout_substitution.specs.Edits.{item_at, put_at};
-ghost use Rattle.layout_substitution.specs.Replaced.{replaced as replaced_of};
+ghost use Rattle.layout_substitution.specs.Replaced;
 
 use crate::edits::{insert_after, item, merge, next_place, put, take_out};
 use crate::ligature::{Components, found, put_ligature};
@@ -32,7 +32,8 @@ pub struct Spot {
 
 /// Puts another glyph at a place.
 pub fn put_glyph(lookup: &Lookup<'_>, buffer: &mut GapBuffer, at: usize, glyph: u32)
-    ensures { buffer.new ≡ put_at at (replaced_of lookup.now 0 glyph (item_at buffer.old at)) buffer.old }
+    ensures { buffer.new ≡ put_at at (Replaced.replaced lookup.now 0 glyph
+        (item_at buffer.old at)) buffer.old }
 {
     let there = item(buffer, at);
     put(buffer, at, replaced(lookup, 0, glyph, there));
@@ -46,8 +47,8 @@ pub(crate) fn replace(
     glyph: u32,
 ) -> Option<Spot>
     requires { spot.at < length buffer.old.items }
-    ensures made { buffer.new ≡ (put_one lookup.now spot buffer.old glyph).buffer }
-    ensures next { result ≡ (put_one lookup.now spot buffer.old glyph).next }
+    ensures made { buffer.new ≡ (Applied.put_one lookup.now spot buffer.old glyph).buffer }
+    ensures next { result ≡ (Applied.put_one lookup.now spot buffer.old glyph).next }
     ensures some { result ≢ None }
 {
     let count = buffer.len();
@@ -66,8 +67,8 @@ pub fn apply_single(
 ) -> Option<Spot>
     requires near { start < 2 ^ 35 }
     requires inside { spot.at < length buffer.old.items }
-    ensures made { buffer.new ≡ (single_applied lookup.now start spot buffer.old).buffer }
-    ensures next { result ≡ (single_applied lookup.now start spot buffer.old).next }
+    ensures made { buffer.new ≡ (Applied.single_applied lookup.now start spot buffer.old).buffer }
+    ensures next { result ≡ (Applied.single_applied lookup.now start spot buffer.old).next }
 {
     let there = item(buffer, spot.at);
     match single(lookup.table, start, there.glyph_id) {
@@ -78,7 +79,7 @@ pub fn apply_single(
 
 /// Whether the item after has the cluster of the one at `i`.
 fn is_left(buffer: &GapBuffer, i: usize) -> bool
-    ensures { result ≡ is_left_in buffer.now i }
+    ensures { result ≡ Applied.is_left_in buffer.now i }
 {
     i < buffer.len()
         && i + 1 < buffer.len()
@@ -87,7 +88,7 @@ fn is_left(buffer: &GapBuffer, i: usize) -> bool
 
 /// Whether the item before `at` stands in the cluster.
 fn is_handed(buffer: &GapBuffer, cluster: u32, at: usize) -> bool
-    ensures value { result ≡ is_handed_of cluster (record { buffer = buffer.now; at = at }) }
+    ensures value { result ≡ Applied.is_handed cluster (record { buffer = buffer.now; at = at }) }
     ensures some { IsTrue result → 0 < at }
 {
     0 < at && item(buffer, at - 1).cluster == cluster
@@ -106,7 +107,8 @@ fn handed_over(from: &hb_glyph_info_t, to: hb_glyph_info_t) -> hb_glyph_info_t
 /// Hands the cluster and the defined flags of an item to the one before it.
 fn hand_one(buffer: &mut GapBuffer, at: usize)
     requires { 0 < at }
-    ensures { buffer.new ≡ put_at (at - 1) (hand_over (item_at buffer.old at) (item_at buffer.old (at - 1))) buffer.old }
+    ensures { buffer.new ≡ put_at (at - 1) (hand_over (item_at buffer.old at) (item_at buffer.old
+        (at - 1))) buffer.old }
 {
     let there = handed_over(&item(buffer, at), item(buffer, at - 1));
     put(buffer, at - 1, there);
@@ -115,7 +117,8 @@ fn hand_one(buffer: &mut GapBuffer, at: usize)
 /// Hands the cluster and the defined flags of the item at `i` to all items before it that stand in one cluster.
 #[tactic(auto, using(layout_matching::proofs::LoopLemmas::times_step, crate::proofs::CopyLemmas::handed_on, crate::proofs::CopyLemmas::handed_buffer))]
 fn hand_back(buffer: &mut GapBuffer, cluster: u32, i: usize)
-    ensures { buffer.new ≡ (times (handed_step cluster) i (record { buffer = buffer.old; at = i })).buffer }
+    ensures { buffer.new ≡ (times (Applied.handed_step cluster) i
+        (record { buffer = buffer.old; at = i })).buffer }
 {
     let mut at = i;
     for _k in 0..i {
@@ -130,7 +133,7 @@ fn hand_back(buffer: &mut GapBuffer, cluster: u32, i: usize)
 /// Leaves the cluster of an item that is to go to its neighbours, if it isn't theirs.
 fn leave_to_neighbours(buffer: &mut GapBuffer, i: usize)
     requires { i < length buffer.old.items }
-    ensures { buffer.new ≡ left_to_neighbours i buffer.old }
+    ensures { buffer.new ≡ Applied.left_to_neighbours i buffer.old }
 {
     let count = buffer.len();
     if count <= i || is_left(buffer, i) {
@@ -147,7 +150,7 @@ fn leave_to_neighbours(buffer: &mut GapBuffer, i: usize)
 /// Takes an item out, whose cluster is left to its neighbours.
 fn delete(buffer: &mut GapBuffer, i: usize)
     requires { i < length buffer.old.items }
-    ensures { buffer.new ≡ gone_of i buffer.old }
+    ensures { buffer.new ≡ Applied.gone i buffer.old }
 {
     leave_to_neighbours(buffer, i);
     take_out(buffer, i);
@@ -163,7 +166,7 @@ fn copy_of(
     k: u32,
 ) -> hb_glyph_info_t
     requires near { list < 2 ^ 36 }
-    ensures { result ≡ copy_like lookup.now list (item_at buffer.now at) there.now k }
+    ensures { result ≡ Applied.copy_like lookup.now list (item_at buffer.now at) there.now k }
 {
     let now = item(buffer, at);
     let glyph = u32::from(listed(lookup.table, list, k));
@@ -185,7 +188,8 @@ fn put_copies(
 ) -> Result<(), ShapeError>
     requires near { list < 2 ^ 36 }
     requires inside { at < length buffer.old.items }
-    ensures ok { OnOk result (buffer.new ≡ copies_put lookup.now list at there.now n buffer.old) }
+    ensures ok { OnOk result (buffer.new
+        ≡ Applied.copies_put lookup.now list at there.now n buffer.old) }
     ensures length { IsErrOf result Length → limit_of buffer.old < length buffer.old.items + n }
 {
     let mut k = n;
@@ -200,7 +204,7 @@ fn put_copies(
 /// Puts the first glyph of a list at a place.
 fn put_first(lookup: &Lookup<'_>, buffer: &mut GapBuffer, list: usize, at: usize)
     requires near { list < 2 ^ 36 }
-    ensures { buffer.new ≡ first_put lookup.now list at (item_at buffer.old at) buffer.old }
+    ensures { buffer.new ≡ Applied.first_put lookup.now list at (item_at buffer.old at) buffer.old }
 {
     let there = item(buffer, at);
     let glyph = u32::from(listed(lookup.table, list, 0));
@@ -217,9 +221,9 @@ fn put_several(
 ) -> Result<(), ShapeError>
     requires near { list < 2 ^ 36 }
     requires inside { at < length buffer.old.items }
-    ensures ok { OnOk result (buffer.new ≡ several_put lookup.now list at buffer.old) }
+    ensures ok { OnOk result (buffer.new ≡ Applied.several_put lookup.now list at buffer.old) }
     ensures length { IsErrOf result Length
-        → limit_of buffer.old < length (several_put lookup.now list at buffer.old).items }
+        → limit_of buffer.old < length (Applied.several_put lookup.now list at buffer.old).items }
 {
     let there = item(buffer, at);
     let n = count(lookup.table, list).saturating_sub(1);
@@ -236,9 +240,9 @@ fn put_list(
 ) -> Result<(), ShapeError>
     requires near { list < 2 ^ 36 }
     requires inside { at < length buffer.old.items }
-    ensures ok { OnOk result (buffer.new ≡ list_put lookup.now list at buffer.old) }
+    ensures ok { OnOk result (buffer.new ≡ Applied.list_put lookup.now list at buffer.old) }
     ensures length { IsErrOf result Length
-        → limit_of buffer.old < length (list_put lookup.now list at buffer.old).items }
+        → limit_of buffer.old < length (Applied.list_put lookup.now list at buffer.old).items }
 {
     match count(lookup.table, list) {
         0 => {
@@ -262,10 +266,13 @@ fn put_sequence(
 ) -> Result<Option<Spot>, ShapeError>
     requires near { list < 2 ^ 36 }
     requires inside { spot.at < length buffer.old.items }
-    ensures made { OnOk result (buffer.new ≡ (sequence_put lookup.now spot buffer.old list).buffer) }
-    ensures next { IfOk result (λ next. next ≡ (sequence_put lookup.now spot buffer.old list).next) }
+    ensures made { OnOk result (buffer.new
+        ≡ (Applied.sequence_put lookup.now spot buffer.old list).buffer) }
+    ensures next { IfOk result (λ next. next
+        ≡ (Applied.sequence_put lookup.now spot buffer.old list).next) }
     ensures length { IsErrOf result Length
-        → limit_of buffer.old < length (sequence_put lookup.now spot buffer.old list).buffer.items }
+        → limit_of buffer.old < length
+        (Applied.sequence_put lookup.now spot buffer.old list).buffer.items }
 {
     let after = buffer.len().saturating_sub(spot.at + 1);
     put_list(lookup, buffer, list, spot.at)?;
@@ -283,10 +290,13 @@ pub fn apply_multiple(
 ) -> Result<Option<Spot>, ShapeError>
     requires near { start < 2 ^ 35 }
     requires inside { spot.at < length buffer.old.items }
-    ensures made { OnOk result (buffer.new ≡ (multiple_applied lookup.now start spot buffer.old).buffer) }
-    ensures next { IfOk result (λ next. next ≡ (multiple_applied lookup.now start spot buffer.old).next) }
+    ensures made { OnOk result (buffer.new
+        ≡ (Applied.multiple_applied lookup.now start spot buffer.old).buffer) }
+    ensures next { IfOk result (λ next. next
+        ≡ (Applied.multiple_applied lookup.now start spot buffer.old).next) }
     ensures length { IsErrOf result Length
-        → limit_of buffer.old < length (multiple_applied lookup.now start spot buffer.old).buffer.items }
+        → limit_of buffer.old < length
+        (Applied.multiple_applied lookup.now start spot buffer.old).buffer.items }
 {
     let there = item(buffer, spot.at);
     match set(lookup.table, start, there.glyph_id) {

@@ -4,8 +4,7 @@
 ghost use Rattle.std.specs.Prelude.{◌≡◌, ◌<◌, ◌≤◌, ◌+◌, length, OnOk, IsErrOf};
 ghost use Rattle.shape_items.specs.Buffer.{limit_of};
 ghost use Rattle.shape_buffer.specs.declared.buffer.error.ShapeError.TheVariants.{Length};
-ghost use Rattle.layout_substitution.specs.Edits.{item_at as item_at_of, put_at, put_after, taken_out, merged, broken};
-ghost use Rattle.layout_substitution.specs.Edits.{asks_for_concat as asks_for_concat_of, concat_marked};
+ghost use Rattle.layout_substitution.specs.Edits;
 
 use bitflags::Flags;
 use layout_buffer::GapBuffer;
@@ -14,14 +13,14 @@ use shape_buffer::{BufferFlags, ShapeError, hb_glyph_info_t};
 
 /// The item at a place, a new one past the end.
 pub fn item(buffer: &GapBuffer, i: usize) -> hb_glyph_info_t
-    ensures { result ≡ item_at_of buffer.now i }
+    ensures { result ≡ Edits.item_at buffer.now i }
 {
     buffer.items().item(i)
 }
 
 /// Replaces the item at a place.
 pub fn put(buffer: &mut GapBuffer, i: usize, item: hb_glyph_info_t)
-    ensures { buffer.new ≡ put_at i item buffer.old }
+    ensures { buffer.new ≡ Edits.put_at i item buffer.old }
 {
     if i < buffer.len() {
         buffer.set_info(i, item);
@@ -34,7 +33,7 @@ pub fn insert_after(
     i: usize,
     item: hb_glyph_info_t,
 ) -> Result<(), ShapeError>
-    ensures ok { OnOk result (buffer.new ≡ put_after i item buffer.old) }
+    ensures ok { OnOk result (buffer.new ≡ Edits.put_after i item buffer.old) }
     ensures length { IsErrOf result Length → limit_of buffer.old ≤ length buffer.old.items }
     ensures longer { OnOk result (i < length buffer.old.items
         → length buffer.new.items ≡ length buffer.old.items + 1) }
@@ -48,7 +47,7 @@ pub fn insert_after(
 
 /// Takes the item at a place out.
 pub fn take_out(buffer: &mut GapBuffer, i: usize)
-    ensures { buffer.new ≡ taken_out i buffer.old }
+    ensures { buffer.new ≡ Edits.taken_out i buffer.old }
 {
     if i < buffer.len() {
         buffer.remove(i);
@@ -57,7 +56,7 @@ pub fn take_out(buffer: &mut GapBuffer, i: usize)
 
 /// Merges the clusters of a span.
 pub fn merge(buffer: &mut GapBuffer, start: usize, end: usize)
-    ensures { buffer.new ≡ merged start end buffer.old }
+    ensures { buffer.new ≡ Edits.merged start end buffer.old }
 {
     if start <= end && end <= buffer.len() {
         buffer.merge_clusters(start, end);
@@ -67,7 +66,7 @@ pub fn merge(buffer: &mut GapBuffer, start: usize, end: usize)
 /// Marks a span unsafe to break.
 #[tactic(auto, using(crate::proofs::EditLemmas::length_broken))]
 pub fn break_span(buffer: &mut GapBuffer, start: usize, end: usize)
-    ensures made { buffer.new ≡ broken start end buffer.old }
+    ensures made { buffer.new ≡ Edits.broken start end buffer.old }
     ensures as_many { length buffer.new.items ≡ length buffer.old.items }
 {
     if start <= end && end <= buffer.len() {
@@ -77,7 +76,7 @@ pub fn break_span(buffer: &mut GapBuffer, start: usize, end: usize)
 
 /// Whether the buffer asks for marks of what is unsafe to concat.
 pub fn asks_for_concat(buffer: &GapBuffer) -> bool
-    ensures { result ≡ asks_for_concat_of buffer.now }
+    ensures { result ≡ Edits.asks_for_concat buffer.now }
 {
     buffer
         .flags()
@@ -87,7 +86,7 @@ pub fn asks_for_concat(buffer: &GapBuffer) -> bool
 /// Marks what was looked at in vain unsafe to concat, if the buffer asks for that.
 #[tactic(auto, using(crate::proofs::EditLemmas::length_concat_marked, crate::proofs::EditLemmas::limit_concat_marked))]
 pub fn concat_span(buffer: &mut GapBuffer, reach: Reach)
-    ensures made { buffer.new ≡ concat_marked reach buffer.old }
+    ensures made { buffer.new ≡ Edits.concat_marked reach buffer.old }
     ensures as_many { length buffer.new.items ≡ length buffer.old.items }
     ensures limit { limit_of buffer.new ≡ limit_of buffer.old }
 {

@@ -1,6 +1,6 @@
 //! How a ligature is made: which are its components, and its id.
 ghost use Rattle.std.specs.Prelude.{◌≡◌, ◌<◌, ◌^◌, length};
-ghost use Rattle.layout_substitution.specs.Ligatures.{is_own as is_own_of, ligation_of, id_of, id_given};
+ghost use Rattle.layout_substitution.specs.Ligatures;
 
 use crate::edits::item;
 use crate::ligature::{Components, Ligation, component_row};
@@ -11,15 +11,15 @@ use shape_buffer::hb_glyph_info_t;
 
 /// Whether the ligature isn't one of marks, or of a base and marks.
 fn is_own(found: Components, first: &hb_glyph_info_t) -> bool
-    ensures { result ≡ is_own_of found first.now }
+    ensures { result ≡ Ligatures.is_own found first.now }
 {
     !(found.all_marks && first._hb_glyph_info_get_glyph_class().0 & 10 != 0)
 }
 
 /// Gives the ligature an id if it has one of its own. Returns the id, 0 for none.
 fn give_id(buffer: &mut GapBuffer, own: bool) -> u8
-    ensures id { result ≡ id_of own buffer.old }
-    ensures given { buffer.new ≡ id_given own buffer.old }
+    ensures id { result ≡ Ligatures.id_of own buffer.old }
+    ensures given { buffer.new ≡ Ligatures.id_given own buffer.old }
 {
     if own { buffer.allocate_lig_id() } else { 0 }
 }
@@ -33,8 +33,8 @@ pub fn how_to_ligate(
     found: Components,
 ) -> Ligation
     requires near { found.ligature < 2 ^ 37 }
-    ensures how { result ≡ ligation_of lookup.now at buffer.old found }
-    ensures given { buffer.new ≡ id_given result.own buffer.old }
+    ensures how { result ≡ Ligatures.ligation_of lookup.now at buffer.old found }
+    ensures given { buffer.new ≡ Ligatures.id_given result.own buffer.old }
     ensures as_many { length buffer.new.items ≡ length buffer.old.items }
 {
     let first = item(buffer, at);

@@ -5,7 +5,7 @@
 ghost use Rattle.std.specs.Prelude.{◌≡◌, ◌<◌, ◌-◌, ◌+◌, ◌^◌, Some, length, true, IsTrue};
 ghost use Rattle.std.specs.Option.{IfSome};
 ghost use Rattle.layout_matching.specs.Loops.{times, first_some};
-ghost use Rattle.layout_substitution.specs.Ligatures.{component_row as component_row_of, ligature_matched, ligature_in, ligature_found, component_among, Joined, between_stays, component_gone, looked_for as looked_for_of, stays as stays_of, join_step, follows as follows_of, follow_step, followed, first_joined, joined, ligature_over, ligated, ligature_put};
+ghost use Rattle.layout_substitution.specs.Ligatures;
 ghost use Rattle.layout_substitution.specs.Applied.{with_as_many_after};
 
 use crate::apply::Spot;
@@ -53,7 +53,7 @@ pub struct Joining {
 /// The components of a ligature, as a row of glyphs whose count has the first one too.
 pub(crate) fn component_row(lookup: &Lookup<'_>, ligature: usize) -> Row
     requires { ligature < 2 ^ 37 }
-    ensures { result ≡ component_row_of lookup.now ligature }
+    ensures { result ≡ Ligatures.component_row lookup.now ligature }
 {
     Row {
         test: Test::Glyph,
@@ -72,7 +72,7 @@ pub fn matched_at(
 ) -> Option<Components>
     requires near { ligature < 2 ^ 37 }
     requires inside { at < length buffer.now.items }
-    ensures value { result ≡ ligature_matched lookup.now buffer.now at ligature }
+    ensures value { result ≡ Ligatures.ligature_matched lookup.now buffer.now at ligature }
     ensures inside { IfSome result (λ m. m.last < length buffer.now.items) }
     ensures near { IfSome result (λ m. m.ligature < 2 ^ 37) }
 {
@@ -100,7 +100,7 @@ fn matched_in(
     requires near { set < 2 ^ 36 }
     requires few { i < 2 ^ 16 }
     requires inside { at < length buffer.now.items }
-    ensures value { result ≡ ligature_in lookup.now buffer.now at set i }
+    ensures value { result ≡ Ligatures.ligature_in lookup.now buffer.now at set i }
     ensures inside { IfSome result (λ m. m.last < length buffer.now.items) }
     ensures near { IfSome result (λ m. m.ligature < 2 ^ 37) }
 {
@@ -115,7 +115,7 @@ fn matched_in(
 pub fn found(lookup: &Lookup<'_>, buffer: &GapBuffer, at: usize, set: usize) -> Option<Components>
     requires near { set < 2 ^ 36 }
     requires inside { at < length buffer.now.items }
-    ensures value { result ≡ ligature_found lookup.now buffer.now at set }
+    ensures value { result ≡ Ligatures.ligature_found lookup.now buffer.now at set }
     ensures inside { IfSome result (λ m. m.last < length buffer.now.items) }
     ensures near { IfSome result (λ m. m.ligature < 2 ^ 37) }
 {
@@ -129,7 +129,7 @@ pub fn found(lookup: &Lookup<'_>, buffer: &GapBuffer, at: usize, set: usize) -> 
 
 /// The component of the new ligature that a mark on a component of the last one stands on.
 fn component_of(walk: Joining, there: &hb_glyph_info_t) -> u32
-    ensures { result ≡ component_among walk there.now }
+    ensures { result ≡ Ligatures.component_among walk there.now }
 {
     let component = there._hb_glyph_info_get_ligature_component();
     let among = if component == 0 {
@@ -144,7 +144,7 @@ fn component_of(walk: Joining, there: &hb_glyph_info_t) -> u32
 fn leave_between(buffer: &mut GapBuffer, own: bool, id: u8, walk: Joining) -> Joining
     requires { walk.at < length buffer.old.items }
     ensures { record { buffer = buffer.new; walk = result }
-        ≡ between_stays own id (record { buffer = buffer.old; walk = walk }) }
+        ≡ Ligatures.between_stays own id (record { buffer = buffer.old; walk = walk }) }
 {
     let count = buffer.len();
     if walk.at < count && own {
@@ -163,7 +163,7 @@ fn leave_between(buffer: &mut GapBuffer, own: bool, id: u8, walk: Joining) -> Jo
 /// Takes a component out.
 fn drop_component(buffer: &mut GapBuffer, walk: Joining) -> Joining
     ensures { record { buffer = buffer.new; walk = result }
-        ≡ component_gone (record { buffer = buffer.old; walk = walk }) }
+        ≡ Ligatures.component_gone (record { buffer = buffer.old; walk = walk }) }
 {
     let there = item(buffer, walk.at);
     take_out(buffer, walk.at);
@@ -179,7 +179,7 @@ fn drop_component(buffer: &mut GapBuffer, walk: Joining) -> Joining
 
 /// The component that is looked for next: number 0 is the one after the first.
 fn looked_for(made: &Ligation, walk: Joining) -> u32
-    ensures { result ≡ looked_for_of made.now walk }
+    ensures { result ≡ Ligatures.looked_for made.now walk }
 {
     u32::from(
         made.seek
@@ -192,7 +192,8 @@ fn looked_for(made: &Ligation, walk: Joining) -> u32
 
 /// Whether the item at the walk stays: the lookup skips it, or it isn't the component that is looked for.
 fn stays(lookup: &Lookup<'_>, buffer: &GapBuffer, made: &Ligation, walk: Joining) -> bool
-    ensures { result ≡ stays_of lookup.now made.now (record { buffer = buffer.now; walk = walk }) }
+    ensures { result ≡ Ligatures.stays lookup.now made.now
+        (record { buffer = buffer.now; walk = walk }) }
 {
     let there = item(buffer, walk.at);
     is_skipped(lookup, &there) || !fits(lookup, &made.seek, looked_for(made, walk), &there)
@@ -200,7 +201,8 @@ fn stays(lookup: &Lookup<'_>, buffer: &GapBuffer, made: &Ligation, walk: Joining
 
 /// Goes over one item after the first component.
 fn join_one(lookup: &Lookup<'_>, buffer: &mut GapBuffer, made: &Ligation, walk: Joining) -> Joining
-    ensures { record { buffer = buffer.new; walk = result } ≡ join_step lookup.now made.now
+    ensures { record { buffer = buffer.new; walk = result }
+        ≡ Ligatures.join_step lookup.now made.now
         (record { buffer = buffer.old; walk = walk }) }
 {
     if buffer.len() <= walk.at {
@@ -222,7 +224,8 @@ fn join_all(
     n: usize,
     walk: Joining,
 ) -> Joining
-    ensures { record { buffer = buffer.new; walk = result } ≡ times (join_step lookup.now made.now) n
+    ensures { record { buffer = buffer.new; walk = result }
+        ≡ times (Ligatures.join_step lookup.now made.now) n
         (record { buffer = buffer.old; walk = walk }) }
 {
     let mut walk = walk;
@@ -234,7 +237,7 @@ fn join_all(
 
 /// Whether the item stands on a component of the ligature that the last component was.
 fn follows(buffer: &GapBuffer, walk: Joining) -> bool
-    ensures value { result ≡ follows_of (record { buffer = buffer.now; walk = walk }) }
+    ensures value { result ≡ Ligatures.follows (record { buffer = buffer.now; walk = walk }) }
     ensures inside { IsTrue result → walk.at < length buffer.now.items }
 {
     if buffer.len() <= walk.at {
@@ -249,7 +252,8 @@ fn follows(buffer: &GapBuffer, walk: Joining) -> bool
 #[tactic(auto, using(layout_matching::proofs::LoopLemmas::times_step, crate::proofs::LigatureLemmas::follow_on, crate::proofs::LigatureLemmas::follow_stops))]
 fn follow_all(buffer: &mut GapBuffer, id: u8, walk: Joining) -> Joining
     ensures { record { buffer = buffer.new; walk = result }
-        ≡ times (follow_step id) (length buffer.old.items) (record { buffer = buffer.old; walk = walk }) }
+        ≡ times (Ligatures.follow_step id) (length buffer.old.items)
+        (record { buffer = buffer.old; walk = walk }) }
 {
     let mut walk = walk;
     for _i in 0..buffer.len() {
@@ -264,7 +268,7 @@ fn follow_all(buffer: &mut GapBuffer, id: u8, walk: Joining) -> Joining
 /// The same, unless the ligature is one of marks alone, or the last component belonged to none.
 fn follow(buffer: &mut GapBuffer, made: &Ligation, walk: Joining) -> Joining
     ensures { record { buffer = buffer.new; walk = result }
-        ≡ followed made.now (record { buffer = buffer.old; walk = walk }) }
+        ≡ Ligatures.followed made.now (record { buffer = buffer.old; walk = walk }) }
 {
     if made.marks || walk.id == 0 {
         return walk;
@@ -284,7 +288,7 @@ fn join(
     requires last { found.last < length buffer.old.items }
     requires inside { at < length buffer.old.items }
     ensures { record { buffer = buffer.new; walk = result }
-        ≡ joined lookup.now made.now found at buffer.old }
+        ≡ Ligatures.joined lookup.now made.now found at buffer.old }
 {
     let first = item(buffer, at);
     let of_first = components_of(&first);
@@ -312,7 +316,8 @@ fn put_over(
     walk: Joining,
 )
     requires { found.ligature < 2 ^ 37 }
-    ensures { buffer.new ≡ ligature_over lookup.now made.now found at (record { buffer = buffer.old; walk = walk }) }
+    ensures { buffer.new ≡ Ligatures.ligature_over lookup.now made.now found at
+        (record { buffer = buffer.old; walk = walk }) }
 {
     let glyph = u32::from(ligature_glyph(lookup.table, found.ligature));
     let now = item(buffer, at);
@@ -345,8 +350,10 @@ fn ligate(
     requires near { found.ligature < 2 ^ 37 }
     requires last { found.last < length buffer.old.items }
     requires inside { spot.at < length buffer.old.items }
-    ensures made { buffer.new ≡ (ligated lookup.now spot made.now found left buffer.old).buffer }
-    ensures next { Some result ≡ (ligated lookup.now spot made.now found left buffer.old).next }
+    ensures made { buffer.new
+        ≡ (Ligatures.ligated lookup.now spot made.now found left buffer.old).buffer }
+    ensures next { Some result
+        ≡ (Ligatures.ligated lookup.now spot made.now found left buffer.old).next }
 {
     let walk = join(lookup, buffer, made, found, spot.at);
     put_over(lookup, buffer, made, found, spot.at, walk);
@@ -372,8 +379,8 @@ pub fn put_ligature(
     requires near { found.ligature < 2 ^ 37 }
     requires last { found.last < length buffer.old.items }
     requires inside { spot.at < length buffer.old.items }
-    ensures made { buffer.new ≡ (ligature_put lookup.now spot buffer.old found).buffer }
-    ensures next { Some result ≡ (ligature_put lookup.now spot buffer.old found).next }
+    ensures made { buffer.new ≡ (Ligatures.ligature_put lookup.now spot buffer.old found).buffer }
+    ensures next { Some result ≡ (Ligatures.ligature_put lookup.now spot buffer.old found).next }
 {
     let left = left_after(buffer, found.last);
     let made = how_to_ligate(lookup, buffer, spot.at, found);

@@ -2,12 +2,7 @@
 ghost use Rattle.std.specs.Prelude.{◌≡◌, ◌<◌, ◌^◌, length, true};
 ghost use Rattle.shape_items.specs.Buffer.{limit_of};
 ghost use Rattle.layout_substitution.specs.Edits.{concat_marked};
-ghost use Rattle.layout_substitution.specs.Ligatures.{ligature_reach as ligature_reach_of, ligature_reach_in};
-ghost use Rattle.layout_substitution.specs.Ligatures.{all_reach as all_reach_of, seek_any as seek_any_of};
-ghost use Rattle.layout_substitution.specs.Ligatures.{seen_glyph as seen_glyph_of, next_glyph as next_glyph_of};
-ghost use Rattle.layout_substitution.specs.Ligatures.{begins_otherwise as begins_otherwise_of, quick_reach_in};
-ghost use Rattle.layout_substitution.specs.Ligatures.{quickly_reached as quickly_reached_of};
-ghost use Rattle.layout_substitution.specs.Ligatures.{ligatures_reach as ligatures_reach_of};
+ghost use Rattle.layout_substitution.specs.Ligatures;
 
 use crate::edits::{asks_for_concat, concat_span, item};
 use crate::ligature::component_row;
@@ -26,7 +21,7 @@ use shape_font::bytes::u16_at;
 fn ligature_reach(lookup: &Lookup<'_>, buffer: &GapBuffer, at: usize, ligature: usize) -> Reach
     requires near { ligature < 2 ^ 37 }
     requires inside { at < length buffer.now.items }
-    ensures { result ≡ ligature_reach_of lookup.now buffer.now at ligature }
+    ensures { result ≡ Ligatures.ligature_reach lookup.now buffer.now at ligature }
 {
     if !has_components(lookup.table, ligature) {
         return untried(at);
@@ -49,7 +44,7 @@ fn reach_by_ligature(
     requires near { set < 2 ^ 36 }
     requires few { i < 2 ^ 16 }
     requires inside { at < length buffer.now.items }
-    ensures { result ≡ ligature_reach_in lookup.now buffer.now at set i }
+    ensures { result ≡ Ligatures.ligature_reach_in lookup.now buffer.now at set i }
 {
     match ligature_at(lookup.table, set, i) {
         Some(ligature) => ligature_reach(lookup, buffer, at, ligature),
@@ -62,7 +57,7 @@ fn reach_by_ligature(
 fn all_reach(lookup: &Lookup<'_>, buffer: &GapBuffer, at: usize, set: usize) -> Reach
     requires near { set < 2 ^ 36 }
     requires inside { at < length buffer.now.items }
-    ensures { result ≡ all_reach_of lookup.now buffer.now at set }
+    ensures { result ≡ Ligatures.all_reach lookup.now buffer.now at set }
 {
     let mut reach = untried(at);
     for i in 0..count(lookup.table, set) {
@@ -77,7 +72,7 @@ fn all_reach(lookup: &Lookup<'_>, buffer: &GapBuffer, at: usize, set: usize) -> 
 /// The next glyph that the lookup sees after `at`, unless it may be passed over.
 fn next_glyph(lookup: &Lookup<'_>, buffer: &GapBuffer, at: usize) -> Option<u32>
     requires { at < length buffer.now.items }
-    ensures { result ≡ next_glyph_of lookup.now buffer.now at }
+    ensures { result ≡ Ligatures.next_glyph lookup.now buffer.now at }
 {
     let seek = seek_any(lookup, &item(buffer, at));
     match next(lookup, &seek, &buffer.items(), 0, at) {
@@ -88,7 +83,7 @@ fn next_glyph(lookup: &Lookup<'_>, buffer: &GapBuffer, at: usize) -> Option<u32>
 
 /// What is looked for: any glyph within what is matched.
 fn seek_any(lookup: &Lookup<'_>, first: &hb_glyph_info_t) -> Seek
-    ensures { result ≡ seek_any_of lookup.now first.now }
+    ensures { result ≡ Ligatures.seek_any lookup.now first.now }
 {
     let row = Row {
         test: Test::Any,
@@ -101,7 +96,7 @@ fn seek_any(lookup: &Lookup<'_>, first: &hb_glyph_info_t) -> Seek
 
 /// The glyph at `j`, unless it may be passed over.
 fn seen_glyph(lookup: &Lookup<'_>, buffer: &GapBuffer, j: usize) -> Option<u32>
-    ensures { result ≡ seen_glyph_of lookup.now buffer.now j }
+    ensures { result ≡ Ligatures.seen_glyph lookup.now buffer.now j }
 {
     let there = item(buffer, j);
     if is_transparent(lookup, true, &there) {
@@ -114,7 +109,7 @@ fn seen_glyph(lookup: &Lookup<'_>, buffer: &GapBuffer, j: usize) -> Option<u32>
 /// Whether the second component of a ligature isn't the next glyph.
 fn begins_otherwise(lookup: &Lookup<'_>, glyph: u32, ligature: usize) -> bool
     requires { ligature < 2 ^ 37 }
-    ensures { result ≡ begins_otherwise_of lookup.now glyph ligature }
+    ensures { result ≡ Ligatures.begins_otherwise lookup.now glyph ligature }
 {
     1 < components(lookup.table, ligature) && u32::from(u16_at(lookup.table, ligature + 4)) != glyph
 }
@@ -131,7 +126,7 @@ fn quick_reach(
     requires near { set < 2 ^ 36 }
     requires few { i < 2 ^ 16 }
     requires inside { at < length buffer.now.items }
-    ensures { result ≡ quick_reach_in lookup.now buffer.now at set glyph i }
+    ensures { result ≡ Ligatures.quick_reach_in lookup.now buffer.now at set glyph i }
 {
     match ligature_at(lookup.table, set, i) {
         Some(ligature) => {
@@ -155,7 +150,7 @@ fn quickly_reached(
 ) -> Reach
     requires near { set < 2 ^ 36 }
     requires inside { at < length buffer.now.items }
-    ensures { result ≡ quickly_reached_of lookup.now buffer.now at set glyph }
+    ensures { result ≡ Ligatures.quickly_reached lookup.now buffer.now at set glyph }
 {
     let mut reach = untried(at);
     for i in 0..count(lookup.table, set) {
@@ -172,7 +167,7 @@ fn quickly_reached(
 fn ligatures_reach(lookup: &Lookup<'_>, buffer: &GapBuffer, at: usize, set: usize) -> Reach
     requires near { set < 2 ^ 36 }
     requires inside { at < length buffer.now.items }
-    ensures { result ≡ ligatures_reach_of lookup.now buffer.now at set }
+    ensures { result ≡ Ligatures.ligatures_reach lookup.now buffer.now at set }
 {
     let all = all_reach(lookup, buffer, at, set);
     if !all.matched || count(lookup.table, set) <= 4 {
@@ -189,7 +184,8 @@ fn ligatures_reach(lookup: &Lookup<'_>, buffer: &GapBuffer, at: usize, set: usiz
 pub fn mark_tried(lookup: &Lookup<'_>, buffer: &mut GapBuffer, at: usize, set: usize)
     requires near { set < 2 ^ 36 }
     requires inside { at < length buffer.old.items }
-    ensures made { buffer.new ≡ concat_marked (ligatures_reach_of lookup.now buffer.old at set) buffer.old }
+    ensures made { buffer.new
+        ≡ concat_marked (Ligatures.ligatures_reach lookup.now buffer.old at set) buffer.old }
     ensures as_many { length buffer.new.items ≡ length buffer.old.items }
     ensures limit { limit_of buffer.new ≡ limit_of buffer.old }
 {

@@ -1,6 +1,6 @@
 //! Glyphs put in place of others.
 ghost use Rattle.std.specs.Prelude.{◌≡◌};
-ghost use Rattle.layout_substitution.specs.Replaced.{components_of as components_of_item, with_class as with_class_of, replaced as replaced_of, as_component as as_component_of, taken_apart as taken_apart_of, with_components as with_components_of, as_ligature as as_ligature_of};
+ghost use Rattle.layout_substitution.specs.Replaced;
 
 use layout_matching::lookup::Lookup;
 use layout_tables::gdef::{glyph_props, has_glyph_classes};
@@ -10,7 +10,7 @@ use shape_common::{GlyphPropsFlags, hb_unicode_general_category_t};
 /// An item with the class of its glyph, and with the mark attachment class in the upper byte of `props`. A glyph that is no
 /// ligature any more counts as one component.
 pub fn with_class(props: u16, item: hb_glyph_info_t) -> hb_glyph_info_t
-    ensures { result ≡ with_class_of props item }
+    ensures { result ≡ Replaced.with_class props item }
 {
     let mut item = item;
     item._hb_glyph_info_set_glyph_class(GlyphPropsFlags(props));
@@ -27,7 +27,7 @@ pub fn replaced(
     glyph: u32,
     item: hb_glyph_info_t,
 ) -> hb_glyph_info_t
-    ensures { result ≡ replaced_of lookup.now guess glyph item }
+    ensures { result ≡ Replaced.replaced lookup.now guess glyph item }
 {
     let mut item = item;
     item.glyph_id = glyph;
@@ -43,7 +43,7 @@ pub fn replaced(
 
 /// How many components a glyph has: more than one only if its class is that of ligatures.
 pub fn components_of(item: &hb_glyph_info_t) -> u8
-    ensures { result ≡ components_of_item item.now }
+    ensures { result ≡ Replaced.components_of item.now }
 {
     if item._hb_glyph_info_get_glyph_class().0 & 4 != 0 {
         item._hb_glyph_info_get_number_of_components()
@@ -54,7 +54,7 @@ pub fn components_of(item: &hb_glyph_info_t) -> u8
 
 /// A mark on a component of a ligature, or a component of what one glyph was taken apart into.
 pub fn as_component(id: u8, component: u32, item: hb_glyph_info_t) -> hb_glyph_info_t
-    ensures { result ≡ as_component_of id component item }
+    ensures { result ≡ Replaced.as_component id component item }
 {
     let mut item = item;
     item._hb_glyph_info_set_ligature_id(id);
@@ -71,7 +71,7 @@ pub fn taken_apart(
     i: u32,
     item: hb_glyph_info_t,
 ) -> hb_glyph_info_t
-    ensures { result ≡ taken_apart_of lookup.now glyph i item }
+    ensures { result ≡ Replaced.taken_apart lookup.now glyph i item }
 {
     let guess = if item._hb_glyph_info_get_glyph_class().0 & 4 != 0 {
         2
@@ -89,7 +89,7 @@ pub fn taken_apart(
 
 /// A ligature with its id, of so many components, which isn't a mark any more.
 fn with_components(id: u8, components: u32, item: hb_glyph_info_t) -> hb_glyph_info_t
-    ensures { result ≡ with_components_of id components item }
+    ensures { result ≡ Replaced.with_components id components item }
 {
     let mut item = item;
     item._hb_glyph_info_set_ligature_id(id);
@@ -113,7 +113,7 @@ pub fn as_ligature(
     glyph: u32,
     item: hb_glyph_info_t,
 ) -> hb_glyph_info_t
-    ensures { result ≡ as_ligature_of lookup.now own id components glyph item }
+    ensures { result ≡ Replaced.as_ligature lookup.now own id components glyph item }
 {
     let mut item = if own {
         replaced(lookup, 4, glyph, with_components(id, components, item))

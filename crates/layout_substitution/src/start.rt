@@ -1,7 +1,7 @@
 //! The beginning of substitution: what `GDEF` says of each glyph, before any lookup.
 ghost use Rattle.std.specs.Prelude.{◌≡◌};
 ghost use Rattle.shape_buffer.specs.Outcome.{Made};
-ghost use Rattle.layout_substitution.specs.Start.{untouched as untouched_of, begun_item as begun_item_of, begun};
+ghost use Rattle.layout_substitution.specs.Start;
 
 use crate::replaced::with_class;
 use layout_tables::gdef::glyph_props;
@@ -10,7 +10,7 @@ use shape_buffer::{hb_buffer_t, hb_glyph_info_t};
 
 /// The item as a glyph that no lookup has made, and that belongs to no ligature.
 fn untouched(item: hb_glyph_info_t) -> hb_glyph_info_t
-    ensures { result ≡ untouched_of item }
+    ensures { result ≡ Start.untouched item }
 {
     let mut item = item;
     item._hb_glyph_info_set_substituted(false);
@@ -24,7 +24,7 @@ fn untouched(item: hb_glyph_info_t) -> hb_glyph_info_t
 
 /// The item with the class and the mark attachment class of its glyph.
 fn begun_item(gdef: &[u8], item: &hb_glyph_info_t) -> hb_glyph_info_t
-    ensures { result ≡ begun_item_of gdef.now item.now }
+    ensures { result ≡ Start.begun_item gdef.now item.now }
 {
     untouched(with_class(glyph_props(gdef, item.glyph_id), *item))
 }
@@ -33,7 +33,7 @@ fn begun_item(gdef: &[u8], item: &hb_glyph_info_t) -> hb_glyph_info_t
 /// table has no classes of glyphs. Substitution begins with it (OpenType, "GDEF"). Takes no memory.
 #[tactic(auto, unfolding(crate::specs::Start::begun))]
 pub fn begin_substitution(gdef: &[u8], buffer: &mut hb_buffer_t)
-    ensures { Made (begun gdef.now) buffer.old buffer.new }
+    ensures { Made (Start.begun gdef.now) buffer.old buffer.new }
 {
     update_items(buffer, |item| begun_item(gdef, item));
 }

@@ -2,7 +2,7 @@
 ghost use Rattle.std.specs.Prelude.{◌≡◌, ◌<◌, ◌+◌, ◌*◌, ◌^◌};
 ghost use Rattle.std.specs.Option.{IfSome};
 ghost use Rattle.layout_tables.specs.Offsets.{offset16_of};
-ghost use Rattle.layout_substitution.specs.Substitutes.{single_by, single_of, set_number, set_of, listed_count, listed_at, alternate_in, alternate_of, ligature_glyph as ligature_glyph_of, component_count, has_components as has_components_of};
+ghost use Rattle.layout_substitution.specs.Substitutes;
 
 use layout_matching::found::number_in;
 use layout_tables::offsets::offset16;
@@ -11,7 +11,7 @@ use shape_font::bytes::{records, u16_at};
 /// The glyph in place of the one with this number.
 fn single_at(table: &[u8], start: usize, glyph: u32, i: u32) -> Option<u32>
     requires { start < 2 ^ 35 }
-    ensures { result ≡ single_by table.now start glyph i }
+    ensures { result ≡ Substitutes.single_by table.now start glyph i }
 {
     if u16_at(table, start) == 1 {
         let far = u64::from(glyph) + u64::from(u16_at(table, start + 4));
@@ -29,7 +29,7 @@ fn single_at(table: &[u8], start: usize, glyph: u32, i: u32) -> Option<u32>
 /// The one glyph in place of this one.
 pub fn single(table: &[u8], start: usize, glyph: u32) -> Option<u32>
     requires { start < 2 ^ 35 }
-    ensures { result ≡ single_of table.now start glyph }
+    ensures { result ≡ Substitutes.single_of table.now start glyph }
 {
     match number_in(table, start, glyph) {
         Some(i) => single_at(table, start, glyph, i),
@@ -40,7 +40,7 @@ pub fn single(table: &[u8], start: usize, glyph: u32) -> Option<u32>
 /// Where the set of the glyph with this number stands.
 fn set_at(table: &[u8], start: usize, i: u32) -> Option<usize>
     requires { start < 2 ^ 35 }
-    ensures value { result ≡ set_number table.now start i }
+    ensures value { result ≡ Substitutes.set_number table.now start i }
     ensures near { IfSome result (λ s. s < 2 ^ 36) }
 {
     if i < records(table, u32::from(u16_at(table, start + 4)), start + 6, 2) {
@@ -53,7 +53,7 @@ fn set_at(table: &[u8], start: usize, i: u32) -> Option<usize>
 /// Where the set of a glyph stands, in a subtable that has a set for each glyph of its list.
 pub fn set(table: &[u8], start: usize, glyph: u32) -> Option<usize>
     requires { start < 2 ^ 35 }
-    ensures value { result ≡ set_of table.now start glyph }
+    ensures value { result ≡ Substitutes.set_of table.now start glyph }
     ensures near { IfSome result (λ s. s < 2 ^ 36) }
 {
     if u16_at(table, start) != 1 {
@@ -68,7 +68,7 @@ pub fn set(table: &[u8], start: usize, glyph: u32) -> Option<usize>
 /// How many numbers are listed at a place.
 pub fn count(table: &[u8], list: usize) -> u32
     requires { list < 2 ^ 36 }
-    ensures value { result ≡ listed_count table.now list }
+    ensures value { result ≡ Substitutes.listed_count table.now list }
     ensures few { result < 2 ^ 16 }
 {
     records(table, u32::from(u16_at(table, list)), list + 2, 2)
@@ -77,7 +77,7 @@ pub fn count(table: &[u8], list: usize) -> u32
 /// Number `i` of those listed at a place.
 pub fn listed(table: &[u8], list: usize, i: u32) -> u16
     requires { list < 2 ^ 36 }
-    ensures { result ≡ listed_at table.now list i }
+    ensures { result ≡ Substitutes.listed_at table.now list i }
 {
     u16_at(table, list + 2 + 2 * i as usize)
 }
@@ -85,7 +85,7 @@ pub fn listed(table: &[u8], list: usize, i: u32) -> u16
 /// An alternate of the set, which are counted from 1 on.
 fn alternate_at(table: &[u8], value: u32, set: usize) -> Option<u32>
     requires { set < 2 ^ 36 }
-    ensures { result ≡ alternate_in table.now value set }
+    ensures { result ≡ Substitutes.alternate_in table.now value set }
 {
     if 0 < value && value <= count(table, set) {
         Some(u32::from(listed(table, set, value - 1)))
@@ -97,7 +97,7 @@ fn alternate_at(table: &[u8], value: u32, set: usize) -> Option<u32>
 /// The alternate of a glyph that this value picks.
 pub fn alternate(table: &[u8], start: usize, glyph: u32, value: u32) -> Option<u32>
     requires { start < 2 ^ 35 }
-    ensures { result ≡ alternate_of table.now start glyph value }
+    ensures { result ≡ Substitutes.alternate_of table.now start glyph value }
 {
     match set(table, start, glyph) {
         Some(set) => alternate_at(table, value, set),
@@ -118,7 +118,7 @@ pub fn ligature_at(table: &[u8], set: usize, i: u32) -> Option<usize>
 /// The glyph of a ligature.
 pub fn ligature_glyph(table: &[u8], ligature: usize) -> u16
     requires { ligature < 2 ^ 37 }
-    ensures { result ≡ ligature_glyph_of table.now ligature }
+    ensures { result ≡ Substitutes.ligature_glyph table.now ligature }
 {
     u16_at(table, ligature)
 }
@@ -126,7 +126,7 @@ pub fn ligature_glyph(table: &[u8], ligature: usize) -> u16
 /// How many components a ligature has.
 pub fn components(table: &[u8], ligature: usize) -> u16
     requires { ligature < 2 ^ 37 }
-    ensures { result ≡ component_count table.now ligature }
+    ensures { result ≡ Substitutes.component_count table.now ligature }
 {
     u16_at(table, ligature + 2)
 }
@@ -134,7 +134,7 @@ pub fn components(table: &[u8], ligature: usize) -> u16
 /// Whether a ligature has a component, and the table all of its bytes. The first component isn't listed.
 pub fn has_components(table: &[u8], ligature: usize) -> bool
     requires { ligature < 2 ^ 37 }
-    ensures { result ≡ has_components_of table.now ligature }
+    ensures { result ≡ Substitutes.has_components table.now ligature }
 {
     let count = usize::from(components(table, ligature));
     0 < count && ligature + 4 + 2 * count.saturating_sub(1) <= table.len()

@@ -1,7 +1,7 @@
 //! Coverage tables: which glyphs a subtable is for, and the index of each.
 ghost use Rattle.std.specs.Prelude.{◌≡◌, ◌<◌, ◌+◌, ◌*◌, ◌^◌, is_some};
 ghost use Rattle.shape_font.specs.Bytes.{u16_of, fitting};
-ghost use Rattle.layout_tables.specs.Coverage.{listed, ranged, index_in_range as index_in_range_of, coverage_index as coverage_index_of, covers as covers_of};
+ghost use Rattle.layout_tables.specs.Coverage;
 
 use shape_font::bytes::{records, u16_at, word};
 
@@ -20,7 +20,7 @@ fn listed_glyph(table: &[u8], start: usize, i: u32) -> u32
 #[tactic(auto, using(crate::proofs::SearchLemmas::nowhere))]
 fn in_list(table: &[u8], start: usize, glyph: u32) -> Option<u32>
     requires { start < 2 ^ 40 }
-    ensures { result ≡ listed table.now start glyph }
+    ensures { result ≡ Coverage.listed table.now start glyph }
 {
     let count = records(table, u32::from(u16_at(table, start + 2)), start + 4, 2);
     let (mut from, mut end) = (0, count);
@@ -58,7 +58,7 @@ fn range_last(table: &[u8], start: usize, i: u32) -> u32
 #[tactic(auto, using(crate::proofs::SearchLemmas::nowhere))]
 pub(crate) fn range(table: &[u8], start: usize, glyph: u32) -> Option<u32>
     requires { start < 2 ^ 40 }
-    ensures { result ≡ ranged table.now start glyph }
+    ensures { result ≡ Coverage.ranged table.now start glyph }
 {
     let count = records(table, u32::from(u16_at(table, start + 2)), start + 4, 6);
     let (mut from, mut end) = (0, count);
@@ -79,7 +79,7 @@ pub(crate) fn range(table: &[u8], start: usize, glyph: u32) -> Option<u32>
 fn index_in_range(table: &[u8], start: usize, glyph: u32, i: u32) -> u32
     requires start { start < 2 ^ 40 }
     requires glyph { glyph < 2 ^ 16 }
-    ensures { result ≡ index_in_range_of table.now start glyph i }
+    ensures { result ≡ Coverage.index_in_range table.now start glyph i }
 {
     let at = start + 4 + 6 * i as usize;
     let first = u32::from(u16_at(table, at));
@@ -90,7 +90,7 @@ fn index_in_range(table: &[u8], start: usize, glyph: u32, i: u32) -> u32
 /// format is neither 1 nor 2.
 pub fn coverage_index(table: &[u8], start: usize, glyph: u32) -> Option<u32>
     requires { start < 2 ^ 40 }
-    ensures { result ≡ coverage_index_of table.now start glyph }
+    ensures { result ≡ Coverage.coverage_index table.now start glyph }
 {
     if 0xFFFF < glyph {
         return None;
@@ -108,7 +108,7 @@ pub fn coverage_index(table: &[u8], start: usize, glyph: u32) -> Option<u32>
 /// Whether the Coverage table at `start` covers the glyph.
 pub fn covers(table: &[u8], start: usize, glyph: u32) -> bool
     requires { start < 2 ^ 40 }
-    ensures { result ≡ covers_of table.now start glyph }
+    ensures { result ≡ Coverage.covers table.now start glyph }
 {
     coverage_index(table, start, glyph).is_some()
 }

@@ -2,7 +2,7 @@
 ghost use Rattle.std.specs.Prelude.{◌≡◌, ◌<◌, ◌^◌};
 ghost use Rattle.std.specs.Option.{IfSome};
 ghost use Rattle.shape_font.specs.Search.{first_at};
-ghost use Rattle.layout_tables.specs.Features.{features_at, feature_count_of, feature_tag_of, required_feature_of, has_tag as has_tag_of, has_feature_tag as has_feature_tag_of, feature_index_of, any_feature_of, feature_of, feature_lookup_count_of, feature_lookup_of};
+ghost use Rattle.layout_tables.specs.Features;
 
 use crate::offsets::{header_offset, offset16};
 use shape_font::bytes::{records, u16_at, u32_at};
@@ -10,7 +10,7 @@ use shape_font::bytes::{records, u16_at, u32_at};
 /// How many features the FeatureList at `list` has.
 fn features(table: &[u8], list: usize) -> u32
     requires { list < 2 ^ 16 }
-    ensures value { result ≡ features_at table.now list }
+    ensures value { result ≡ Features.features_at table.now list }
     ensures few { result < 2 ^ 16 }
 {
     records(table, u32::from(u16_at(table, list)), list + 2, 6)
@@ -18,7 +18,7 @@ fn features(table: &[u8], list: usize) -> u32
 
 /// How many features the table has.
 pub fn feature_count(table: &[u8]) -> u32
-    ensures value { result ≡ feature_count_of table.now }
+    ensures value { result ≡ Features.feature_count_of table.now }
     ensures few { result < 2 ^ 16 }
 {
     match header_offset(table, 6) {
@@ -29,7 +29,7 @@ pub fn feature_count(table: &[u8]) -> u32
 
 /// The tag of the feature with this index, 0 past the last one.
 pub fn feature_tag(table: &[u8], index: u16) -> u32
-    ensures { result ≡ feature_tag_of table.now index }
+    ensures { result ≡ Features.feature_tag_of table.now index }
 {
     match header_offset(table, 6) {
         Some(list) if u32::from(index) < features(table, list) => {
@@ -43,7 +43,7 @@ pub fn feature_tag(table: &[u8], index: u16) -> u32
 /// past the end of the table.
 pub fn required_feature(table: &[u8], lang_sys: usize) -> Option<u16>
     requires { lang_sys < 2 ^ 18 }
-    ensures { result ≡ required_feature_of table.now lang_sys }
+    ensures { result ≡ Features.required_feature_of table.now lang_sys }
 {
     let index = u16_at(table, lang_sys + 2);
     if index == 0xFFFF || table.len() < lang_sys + 6 {
@@ -55,7 +55,7 @@ pub fn required_feature(table: &[u8], lang_sys: usize) -> Option<u16>
 
 /// Whether the feature with this index has the tag. None has the tag 0.
 fn has_tag(table: &[u8], tag: u32, index: u16) -> bool
-    ensures { result ≡ has_tag_of table.now tag index }
+    ensures { result ≡ Features.has_tag table.now tag index }
 {
     tag != 0 && feature_tag(table, index) == tag
 }
@@ -63,7 +63,7 @@ fn has_tag(table: &[u8], tag: u32, index: u16) -> bool
 /// Whether feature `i` of those that the language system at `lang_sys` lists has the tag.
 fn has_feature_tag(table: &[u8], lang_sys: usize, tag: u32, i: u32) -> bool
     requires { lang_sys < 2 ^ 18 }
-    ensures { result ≡ has_feature_tag_of table.now lang_sys tag i }
+    ensures { result ≡ Features.has_feature_tag table.now lang_sys tag i }
 {
     has_tag(table, tag, u16_at(table, lang_sys + 6 + 2 * i as usize))
 }
@@ -72,7 +72,7 @@ fn has_feature_tag(table: &[u8], lang_sys: usize, tag: u32, i: u32) -> bool
 #[tactic(auto, using(shape_font::proofs::SearchLemmas::first_at_next, shape_font::proofs::SearchLemmas::first_at_found, shape_font::proofs::SearchLemmas::first_at_end))]
 fn feature_number(table: &[u8], lang_sys: usize, tag: u32, count: u32) -> Option<u32>
     requires { lang_sys < 2 ^ 18 }
-    ensures { result ≡ first_at (has_feature_tag_of table.now lang_sys tag) count 0 }
+    ensures { result ≡ first_at (Features.has_feature_tag table.now lang_sys tag) count 0 }
 {
     for i in 0..count {
         if has_feature_tag(table, lang_sys, tag, i) {
@@ -86,7 +86,7 @@ fn feature_number(table: &[u8], lang_sys: usize, tag: u32, count: u32) -> Option
 /// several; none if it lists none, or the tag is 0.
 pub fn feature_index(table: &[u8], lang_sys: usize, tag: u32) -> Option<u16>
     requires { lang_sys < 2 ^ 18 }
-    ensures { result ≡ feature_index_of table.now lang_sys tag }
+    ensures { result ≡ Features.feature_index_of table.now lang_sys tag }
 {
     let stated = u32::from(u16_at(table, lang_sys + 4));
     let i = feature_number(
@@ -102,7 +102,7 @@ pub fn feature_index(table: &[u8], lang_sys: usize, tag: u32) -> Option<u16>
 /// 0.
 #[tactic(auto, using(shape_font::proofs::SearchLemmas::first_at_next, shape_font::proofs::SearchLemmas::first_at_found, shape_font::proofs::SearchLemmas::first_at_end))]
 pub fn any_feature(table: &[u8], tag: u32) -> Option<u16>
-    ensures { result ≡ any_feature_of table.now tag }
+    ensures { result ≡ Features.any_feature_of table.now tag }
 {
     for i in 0..feature_count(table) as u16 {
         if has_tag(table, tag, i) {
@@ -114,7 +114,7 @@ pub fn any_feature(table: &[u8], tag: u32) -> Option<u16>
 
 /// Where the Feature table of the feature with this index stands; none if the table has no such feature.
 pub fn feature(table: &[u8], index: u16) -> Option<usize>
-    ensures value { result ≡ feature_of table.now index }
+    ensures value { result ≡ Features.feature_of table.now index }
     ensures near { IfSome result (λ feature. feature < 2 ^ 17) }
 {
     let list = header_offset(table, 6)?;
@@ -127,7 +127,7 @@ pub fn feature(table: &[u8], index: u16) -> Option<usize>
 /// How many lookups the Feature table at `feature` lists.
 pub fn feature_lookup_count(table: &[u8], feature: usize) -> u32
     requires { feature < 2 ^ 35 }
-    ensures value { result ≡ feature_lookup_count_of table.now feature }
+    ensures value { result ≡ Features.feature_lookup_count_of table.now feature }
     ensures few { result < 2 ^ 16 }
 {
     records(table, u32::from(u16_at(table, feature + 2)), feature + 4, 2)
@@ -136,7 +136,7 @@ pub fn feature_lookup_count(table: &[u8], feature: usize) -> u32
 /// The index of lookup `i` of those that the Feature table at `feature` lists.
 pub fn feature_lookup(table: &[u8], feature: usize, i: u32) -> u16
     requires { feature < 2 ^ 35 }
-    ensures { result ≡ feature_lookup_of table.now feature i }
+    ensures { result ≡ Features.feature_lookup_of table.now feature i }
 {
     u16_at(table, feature + 4 + 2 * i as usize)
 }

@@ -1,7 +1,7 @@
 //! The lookups of a table (`GSUB`, `GPOS`), their flags and their subtables.
 ghost use Rattle.std.specs.Prelude.{◌≡◌, ◌<◌, ◌^◌};
 ghost use Rattle.std.specs.Option.{IfSome};
-ghost use Rattle.layout_tables.specs.Lookups.{lookup_count_of, lookup_of, lookup_type_of, lookup_flag_of, subtable_count_of, mark_filtering_set_of, extended as extended_of, resolved as resolved_of, subtable_of};
+ghost use Rattle.layout_tables.specs.Lookups;
 
 use crate::offsets::{header_offset, offset16, offset32};
 use shape_font::bytes::{records, u16_at};
@@ -34,7 +34,7 @@ pub struct LookupSubtable {
 
 /// How many lookups the table has.
 pub fn lookup_count(table: &[u8]) -> u32
-    ensures value { result ≡ lookup_count_of table.now }
+    ensures value { result ≡ Lookups.lookup_count_of table.now }
     ensures few { result < 2 ^ 16 }
 {
     match header_offset(table, 8) {
@@ -45,7 +45,7 @@ pub fn lookup_count(table: &[u8]) -> u32
 
 /// Where the lookup with this index stands; none if the table has no such lookup.
 pub fn lookup(table: &[u8], index: u16) -> Option<usize>
-    ensures value { result ≡ lookup_of table.now index }
+    ensures value { result ≡ Lookups.lookup_of table.now index }
     ensures near { IfSome result (λ lookup. lookup < 2 ^ 17) }
 {
     if lookup_count(table) <= u32::from(index) {
@@ -58,7 +58,7 @@ pub fn lookup(table: &[u8], index: u16) -> Option<usize>
 /// The type of the lookup at `lookup`.
 pub fn lookup_type(table: &[u8], lookup: usize) -> u16
     requires { lookup < 2 ^ 17 }
-    ensures { result ≡ lookup_type_of table.now lookup }
+    ensures { result ≡ Lookups.lookup_type_of table.now lookup }
 {
     u16_at(table, lookup)
 }
@@ -66,7 +66,7 @@ pub fn lookup_type(table: &[u8], lookup: usize) -> u16
 /// The flags of the lookup at `lookup`.
 pub fn lookup_flag(table: &[u8], lookup: usize) -> u16
     requires { lookup < 2 ^ 17 }
-    ensures { result ≡ lookup_flag_of table.now lookup }
+    ensures { result ≡ Lookups.lookup_flag_of table.now lookup }
 {
     u16_at(table, lookup + 2)
 }
@@ -74,7 +74,7 @@ pub fn lookup_flag(table: &[u8], lookup: usize) -> u16
 /// How many subtables the lookup at `lookup` has.
 pub fn subtable_count(table: &[u8], lookup: usize) -> u32
     requires { lookup < 2 ^ 17 }
-    ensures value { result ≡ subtable_count_of table.now lookup }
+    ensures value { result ≡ Lookups.subtable_count_of table.now lookup }
     ensures few { result < 2 ^ 16 }
 {
     records(table, u32::from(u16_at(table, lookup + 4)), lookup + 6, 2)
@@ -83,7 +83,7 @@ pub fn subtable_count(table: &[u8], lookup: usize) -> u32
 /// The index of the mark filtering set of a lookup with the flag `USE_MARK_FILTERING_SET`.
 pub fn mark_filtering_set(table: &[u8], lookup: usize) -> u16
     requires { lookup < 2 ^ 17 }
-    ensures { result ≡ mark_filtering_set_of table.now lookup }
+    ensures { result ≡ Lookups.mark_filtering_set_of table.now lookup }
 {
     u16_at(
         table,
@@ -94,7 +94,7 @@ pub fn mark_filtering_set(table: &[u8], lookup: usize) -> u16
 /// What an extension subtable at `start` stands for.
 fn extended(table: &[u8], start: usize) -> Option<LookupSubtable>
     requires { start < 2 ^ 18 }
-    ensures value { result ≡ extended_of table.now start }
+    ensures value { result ≡ Lookups.extended table.now start }
     ensures near { IfSome result (λ subtable. subtable.start < 2 ^ 33) }
 {
     if u16_at(table, start) != 1 {
@@ -110,7 +110,7 @@ fn extended(table: &[u8], start: usize) -> Option<LookupSubtable>
 /// What a subtable of this type at `start` is, if it may stand for another one.
 fn resolved(table: &[u8], extension: u16, kind: u16, start: usize) -> Option<LookupSubtable>
     requires { start < 2 ^ 18 }
-    ensures value { result ≡ resolved_of table.now extension kind start }
+    ensures value { result ≡ Lookups.resolved table.now extension kind start }
     ensures near { IfSome result (λ subtable. subtable.start < 2 ^ 33) }
 {
     if kind == extension {
@@ -125,7 +125,7 @@ fn resolved(table: &[u8], extension: u16, kind: u16, start: usize) -> Option<Loo
 pub fn subtable(table: &[u8], extension: u16, lookup: usize, i: u32) -> Option<LookupSubtable>
     requires lookup { lookup < 2 ^ 17 }
     requires i { i < 2 ^ 16 }
-    ensures value { result ≡ subtable_of table.now extension lookup i }
+    ensures value { result ≡ Lookups.subtable_of table.now extension lookup i }
     ensures near { IfSome result (λ subtable. subtable.start < 2 ^ 33) }
 {
     let start = offset16(table, lookup, lookup + 6 + 2 * i as usize)?;

@@ -1,7 +1,7 @@
 //! Scripts and language systems of a table of lookups (`GSUB`, `GPOS`).
 ghost use Rattle.std.specs.Prelude.{◌≡◌, ◌<◌, ◌^◌, is_some};
 ghost use Rattle.std.specs.Option.{IfSome, option_or};
-ghost use Rattle.layout_tables.specs.Scripts.{side_of_tag, tagged, script_record as script_record_of, script_of, first_script as first_script_of, chosen_script as chosen_script_of, lang_sys_record as lang_sys_record_of, first_lang_sys as first_lang_sys_of, chosen_lang_sys as chosen_lang_sys_of};
+ghost use Rattle.layout_tables.specs.Scripts;
 
 use crate::offsets::{header_offset, offset16};
 use shape_font::bytes::{records, u16_at, u32_at};
@@ -17,7 +17,7 @@ const DEFAULT_LANGUAGE: u32 = 0x6466_6C74;
 /// Where a tag stands to that of record `i`.
 fn tag_side(table: &[u8], start: usize, tag: u32, i: u32) -> Ordering
     requires { start < 2 ^ 38 }
-    ensures { result ≡ side_of_tag table.now start tag i }
+    ensures { result ≡ Scripts.side_of_tag table.now start tag i }
 {
     let there = u32_at(table, start + 2 + 6 * i as usize);
     side(tag, there, there)
@@ -26,7 +26,7 @@ fn tag_side(table: &[u8], start: usize, tag: u32, i: u32) -> Ordering
 /// The record with a tag, of those that follow their count at `start`.
 fn record(table: &[u8], start: usize, tag: u32) -> Option<u32>
     requires { start < 2 ^ 38 }
-    ensures { result ≡ tagged table.now start tag }
+    ensures { result ≡ Scripts.tagged table.now start tag }
 {
     let count = records(table, u32::from(u16_at(table, start)), start + 2, 6);
     found(count, |i| tag_side(table, start, tag, i))
@@ -34,14 +34,14 @@ fn record(table: &[u8], start: usize, tag: u32) -> Option<u32>
 
 /// The record of a script.
 fn script_record(table: &[u8], tag: u32) -> Option<u32>
-    ensures { result ≡ script_record_of table.now tag }
+    ensures { result ≡ Scripts.script_record table.now tag }
 {
     record(table, header_offset(table, 4)?, tag)
 }
 
 /// Where the Script table of a script stands; none if the table lacks the script, or its offset is NULL.
 fn script(table: &[u8], tag: u32) -> Option<usize>
-    ensures value { result ≡ script_of table.now tag }
+    ensures value { result ≡ Scripts.script_of table.now tag }
     ensures near { IfSome result (λ script. script < 2 ^ 17) }
 {
     let i = script_record(table, tag)?;
@@ -51,7 +51,7 @@ fn script(table: &[u8], tag: u32) -> Option<usize>
 
 /// The first of these tags for which the table has a script.
 fn first_script(table: &[u8], tags: &[u32]) -> Option<u32>
-    ensures { result ≡ first_script_of table.now tags.now }
+    ensures { result ≡ Scripts.first_script table.now tags.now }
 {
     for tag in tags {
         if script_record(table, *tag).is_some() {
@@ -64,7 +64,7 @@ fn first_script(table: &[u8], tags: &[u32]) -> Option<u32>
 /// The script that is taken for a text whose script has these tags, the preferred one first: the first of them that
 /// the table has, else `DFLT`, `dflt` or `latn`; none if the table has none of these.
 pub fn chosen_script(table: &[u8], tags: &[u32]) -> Option<u32>
-    ensures { result ≡ chosen_script_of table.now tags.now }
+    ensures { result ≡ Scripts.chosen_script table.now tags.now }
 {
     match first_script(table, tags) {
         None => first_script(table, &DEFAULT_SCRIPTS),
@@ -75,7 +75,7 @@ pub fn chosen_script(table: &[u8], tags: &[u32]) -> Option<u32>
 /// The record of a language in the Script table at `script`.
 fn lang_sys_record(table: &[u8], script: usize, tag: u32) -> Option<u32>
     requires { script < 2 ^ 17 }
-    ensures { result ≡ lang_sys_record_of table.now script tag }
+    ensures { result ≡ Scripts.lang_sys_record table.now script tag }
 {
     record(table, script + 2, tag)
 }
@@ -83,7 +83,7 @@ fn lang_sys_record(table: &[u8], script: usize, tag: u32) -> Option<u32>
 /// The record of the first of these languages that the script has.
 fn first_lang_sys(table: &[u8], script: usize, tags: &[u32]) -> Option<u32>
     requires { script < 2 ^ 17 }
-    ensures { result ≡ first_lang_sys_of table.now script tags.now }
+    ensures { result ≡ Scripts.first_lang_sys table.now script tags.now }
 {
     for tag in tags {
         if let Some(i) = lang_sys_record(table, script, *tag) {
@@ -96,8 +96,8 @@ fn first_lang_sys(table: &[u8], script: usize, tags: &[u32]) -> Option<u32>
 /// The record of the first of these languages that the script has, else of `dflt`.
 fn chosen_record(table: &[u8], script: usize, tags: &[u32]) -> Option<u32>
     requires { script < 2 ^ 17 }
-    ensures { result ≡ option_or (first_lang_sys_of table.now script tags.now)
-        (lang_sys_record_of table.now script 0x64666C74) }
+    ensures { result ≡ option_or (Scripts.first_lang_sys table.now script tags.now)
+        (Scripts.lang_sys_record table.now script 0x64666C74) }
 {
     match first_lang_sys(table, script, tags) {
         None => lang_sys_record(table, script, DEFAULT_LANGUAGE),
@@ -109,7 +109,7 @@ fn chosen_record(table: &[u8], script: usize, tags: &[u32]) -> Option<u32>
 /// of the first of them that the script has, else of `dflt`, else the default one of the script. None if the table
 /// lacks the script, or the offset is NULL.
 pub fn chosen_lang_sys(table: &[u8], script_tag: u32, tags: &[u32]) -> Option<usize>
-    ensures value { result ≡ chosen_lang_sys_of table.now script_tag tags.now }
+    ensures value { result ≡ Scripts.chosen_lang_sys table.now script_tag tags.now }
     ensures near { IfSome result (λ lang_sys. lang_sys < 2 ^ 18) }
 {
     let script = script(table, script_tag)?;

@@ -2,7 +2,7 @@
 ghost use Rattle.std.specs.Prelude.{◌≡◌, ◌<◌, ◌^◌, false};
 ghost use Rattle.std.specs.Option.{IfSome, ForSome};
 ghost use Rattle.shape_font.specs.Search.{first_at};
-ghost use Rattle.layout_tables.specs.Variations.{is_negative as is_negative_number, is_positive as is_positive_number, condition_holds as condition_holds_at, condition_fails as condition_fails_of, set_holds as set_holds_at, record_holds as record_holds_of, feature_variations_of, substitution_at as substitution_at_of, substitution_in as substitution_in_of, substitution_of, is_substitute, substitute_in as substitute_in_of, varied_feature_of, varied_in as varied_in_of};
+ghost use Rattle.layout_tables.specs.Variations;
 
 use crate::features::feature;
 use crate::offsets::offset32;
@@ -10,14 +10,14 @@ use shape_font::bytes::{records, u16_at, u32_at};
 
 /// Whether a number of 16 bits in two's complement is below 0.
 fn is_negative(number: u16) -> bool
-    ensures { result ≡ is_negative_number number }
+    ensures { result ≡ Variations.is_negative number }
 {
     0x8000 <= number
 }
 
 /// Whether a number of 16 bits in two's complement is above 0.
 fn is_positive(number: u16) -> bool
-    ensures { result ≡ is_positive_number number }
+    ensures { result ≡ Variations.is_positive number }
 {
     0 < number && number < 0x8000
 }
@@ -25,7 +25,7 @@ fn is_positive(number: u16) -> bool
 /// Whether the Condition at `at` holds. Of formats 3 to 5, which OpenType does not have, none does.
 fn condition_holds(table: &[u8], at: usize) -> bool
     requires { at < 2 ^ 38 }
-    ensures { result ≡ condition_holds_at table.now at }
+    ensures { result ≡ Variations.condition_holds table.now at }
 {
     match u16_at(table, at) {
         1 => !is_positive(u16_at(table, at + 4)) && !is_negative(u16_at(table, at + 6)),
@@ -37,7 +37,7 @@ fn condition_holds(table: &[u8], at: usize) -> bool
 /// Whether condition `i` of the ConditionSet at `set` fails.
 fn condition_fails(table: &[u8], set: usize, i: u32) -> bool
     requires { set < 2 ^ 37 }
-    ensures { result ≡ condition_fails_of table.now set i }
+    ensures { result ≡ Variations.condition_fails table.now set i }
 {
     match offset32(table, set, set + 2 + 4 * i as usize) {
         Some(at) => !condition_holds(table, at),
@@ -49,7 +49,7 @@ fn condition_fails(table: &[u8], set: usize, i: u32) -> bool
 #[tactic(auto, using(shape_font::proofs::SearchLemmas::first_at_next, shape_font::proofs::SearchLemmas::first_at_found, shape_font::proofs::SearchLemmas::first_at_end))]
 fn first_failing(table: &[u8], set: usize, count: u32) -> Option<u32>
     requires { set < 2 ^ 37 }
-    ensures { result ≡ first_at (condition_fails_of table.now set) count 0 }
+    ensures { result ≡ first_at (Variations.condition_fails table.now set) count 0 }
 {
     for i in 0..count {
         if condition_fails(table, set, i) {
@@ -63,7 +63,7 @@ fn first_failing(table: &[u8], set: usize, count: u32) -> Option<u32>
 /// sets that overlap don't take more work than the bytes that are there.
 fn set_holds(table: &[u8], set: usize) -> bool
     requires { set < 2 ^ 37 }
-    ensures { result ≡ set_holds_at table.now set }
+    ensures { result ≡ Variations.set_holds table.now set }
 {
     let count = records(table, u32::from(u16_at(table, set)), set + 2, 4);
     count <= 256 && first_failing(table, set, count).is_none()
@@ -72,7 +72,7 @@ fn set_holds(table: &[u8], set: usize) -> bool
 /// Whether record `i` of the FeatureVariations table at `start` holds.
 fn record_holds(table: &[u8], start: usize, i: u32) -> bool
     requires { start < 2 ^ 33 }
-    ensures { result ≡ record_holds_of table.now start i }
+    ensures { result ≡ Variations.record_holds table.now start i }
 {
     match offset32(table, start, start + 8 + 8 * i as usize) {
         Some(set) => set_holds(table, set),
@@ -84,7 +84,7 @@ fn record_holds(table: &[u8], start: usize, i: u32) -> bool
 #[tactic(auto, using(shape_font::proofs::SearchLemmas::first_at_next, shape_font::proofs::SearchLemmas::first_at_found, shape_font::proofs::SearchLemmas::first_at_end))]
 fn first_record(table: &[u8], start: usize, count: u32) -> Option<u32>
     requires { start < 2 ^ 33 }
-    ensures { result ≡ first_at (record_holds_of table.now start) count 0 }
+    ensures { result ≡ first_at (Variations.record_holds table.now start) count 0 }
 {
     for i in 0..count {
         if record_holds(table, start, i) {
@@ -97,7 +97,7 @@ fn first_record(table: &[u8], start: usize, count: u32) -> Option<u32>
 /// The substitutions of record `i` of the FeatureVariations table at `start`.
 fn substitution_at(table: &[u8], start: usize, i: u32) -> Option<usize>
     requires { start < 2 ^ 33 }
-    ensures value { result ≡ substitution_at_of table.now start i }
+    ensures value { result ≡ Variations.substitution_at table.now start i }
     ensures near { IfSome result (λ at. at < 2 ^ 34) }
 {
     let at = offset32(table, start, start + 12 + 8 * i as usize)?;
@@ -111,7 +111,7 @@ fn substitution_at(table: &[u8], start: usize, i: u32) -> Option<usize>
 /// The substitutions of the first record that holds, of the FeatureVariations table at `start`.
 fn substitution_in(table: &[u8], start: usize) -> Option<usize>
     requires { start < 2 ^ 33 }
-    ensures value { result ≡ substitution_in_of table.now start }
+    ensures value { result ≡ Variations.substitution_in table.now start }
     ensures near { IfSome result (λ at. at < 2 ^ 34) }
 {
     if u16_at(table, start) != 1 {
@@ -124,7 +124,7 @@ fn substitution_in(table: &[u8], start: usize) -> Option<usize>
 
 /// Where the FeatureVariations table stands, in a table of version 1.1 or later.
 fn feature_variations(table: &[u8]) -> Option<usize>
-    ensures value { result ≡ feature_variations_of table.now }
+    ensures value { result ≡ Variations.feature_variations_of table.now }
     ensures near { IfSome result (λ start. start < 2 ^ 32) }
 {
     if u16_at(table, 0) == 1 && 1 <= u16_at(table, 2) {
@@ -136,7 +136,7 @@ fn feature_variations(table: &[u8]) -> Option<usize>
 
 /// Where the FeatureTableSubstitution table of the default instance stands; none if no feature varies there.
 pub fn substitution(table: &[u8]) -> Option<usize>
-    ensures value { result ≡ substitution_of table.now }
+    ensures value { result ≡ Variations.substitution_of table.now }
     ensures near { IfSome result (λ at. at < 2 ^ 34) }
 {
     let start = feature_variations(table)?;
@@ -147,7 +147,7 @@ pub fn substitution(table: &[u8]) -> Option<usize>
 #[tactic(auto, using(shape_font::proofs::SearchLemmas::first_at_next, shape_font::proofs::SearchLemmas::first_at_found, shape_font::proofs::SearchLemmas::first_at_end))]
 fn first_substitute(table: &[u8], index: u16, at: usize, count: u32) -> Option<u32>
     requires { at < 2 ^ 34 }
-    ensures { result ≡ first_at (is_substitute table.now index at) count 0 }
+    ensures { result ≡ first_at (Variations.is_substitute table.now index at) count 0 }
 {
     for i in 0..count {
         if u16_at(table, at + 6 + 6 * i as usize) == index {
@@ -160,7 +160,7 @@ fn first_substitute(table: &[u8], index: u16, at: usize, count: u32) -> Option<u
 /// The record for the feature with this index, of the FeatureTableSubstitution table at `at`.
 fn substitute_in(table: &[u8], index: u16, at: usize) -> Option<u32>
     requires { at < 2 ^ 34 }
-    ensures { result ≡ substitute_in_of table.now index at }
+    ensures { result ≡ Variations.substitute_in table.now index at }
 {
     let count = records(table, u32::from(u16_at(table, at + 4)), at + 6, 6);
     first_substitute(table, index, at, count)
@@ -169,7 +169,7 @@ fn substitute_in(table: &[u8], index: u16, at: usize) -> Option<u32>
 /// Where the Feature table of a feature stands, with the substitutions at `at`.
 fn varied_in(table: &[u8], index: u16, at: usize) -> Option<usize>
     requires { at < 2 ^ 34 }
-    ensures value { result ≡ varied_in_of table.now index at }
+    ensures value { result ≡ Variations.varied_in table.now index at }
     ensures near { IfSome result (λ feature. feature < 2 ^ 35) }
 {
     match substitute_in(table, index, at) {
@@ -183,7 +183,7 @@ fn varied_in(table: &[u8], index: u16, at: usize) -> Option<usize>
 /// offset is NULL.
 pub fn varied_feature(table: &[u8], substitution: Option<usize>, index: u16) -> Option<usize>
     requires { ForSome substitution (λ at. at < 2 ^ 34) }
-    ensures value { result ≡ varied_feature_of table.now substitution index }
+    ensures value { result ≡ Variations.varied_feature_of table.now substitution index }
     ensures near { IfSome result (λ feature. feature < 2 ^ 35) }
 {
     match substitution {

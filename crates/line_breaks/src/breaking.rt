@@ -1,6 +1,6 @@
 //! The places of a text where its lines may end, and where they must.
 ghost use Rattle.std.specs.Prelude.{◌≡◌, ◌<◌, ◌^◌, List, [], ◌∷◌, length, drop, IfOk};
-ghost use Rattle.line_breaks.specs.Around.{before_of, letter_at as letter_of_units};
+ghost use Rattle.line_breaks.specs.Around as around_rules;
 ghost use Rattle.line_breaks.specs.Breaks.{verdict_between, verdicts_of, offsets_of, spaces_of};
 ghost use Rattle.line_breaks.specs.Breaks.{AreLineBreaks, AreRising};
 ghost use Rattle.line_breaks.specs.declared.units.Unit.{Unit as AnyUnit};
@@ -70,7 +70,7 @@ fn verdicts(alloc: Global, units: &[Unit]) -> Result<Vec<Verdict>, AllocError>
 /// What the rules say of the place before a unit, given those before it.
 fn verdict_at(units: &[Unit], before: Before, place: usize) -> Verdict
     requires { place < length units.now }
-    ensures { (done rest : List AnyUnit) (unit : AnyUnit) → before ≡ before_of done
+    ensures { (done rest : List AnyUnit) (unit : AnyUnit) → before ≡ around_rules.before_of done
         → length done ≡ place → drop place units.now ≡ unit ∷ rest
         → result ≡ verdict_between done unit rest }
 {
@@ -88,7 +88,7 @@ fn verdict_at(units: &[Unit], before: Before, place: usize) -> Verdict
 
 /// The letter of a unit, or the edge of the text.
 fn letter_at(units: &[Unit], place: usize) -> Letter
-    ensures { result ≡ letter_of_units units.now place }
+    ensures { result ≡ around_rules.letter_at units.now place }
 {
     if place < units.len() {
         units[place].letter

@@ -1,6 +1,6 @@
 //! What the rules ask of a character.
 ghost use Rattle.std.specs.Prelude.{◌≡◌, ◌==◌};
-ghost use Rattle.line_breaks.specs.Letters.{is as is_of, is_combining, letter_of, resolved, is_wide, edge as edge_of};
+ghost use Rattle.line_breaks.specs.Letters;
 ghost use Rattle.ucd_breaks.specs.LineBreak.{line_break_number};
 
 use ucd_breaks::LineBreak;
@@ -27,7 +27,7 @@ pub struct Letter {
 /// What stands before and after a text: the rules treat its start and its end as they treat a mandatory
 /// break.
 pub(crate) fn edge() -> Letter
-    ensures { result ≡ edge_of }
+    ensures { result ≡ Letters.edge }
 {
     Letter {
         class: LineBreak::MandatoryBreak,
@@ -43,7 +43,7 @@ impl Letter {
     /// Whether a letter is of a class.
     #[inline]
     pub fn is(&self, class: LineBreak) -> bool
-        ensures { result ≡ is_of self.now class }
+        ensures { result ≡ Letters.is self.now class }
     {
         let letter = *self;
         letter.class.number() == class.number()
@@ -51,7 +51,7 @@ impl Letter {
 
     /// A character as the rules see it.
     pub fn of(c: char) -> Letter
-        ensures { result ≡ letter_of c }
+        ensures { result ≡ Letters.letter_of c }
     {
         let category = GeneralCategory::for_char(c);
         Letter {
@@ -75,7 +75,7 @@ fn same(class: LineBreak, other: LineBreak) -> bool
 
 /// LB1: the class that stands for one that depends on more than the character.
 fn resolve(class: LineBreak, category: GeneralCategory) -> LineBreak
-    ensures { result ≡ resolved class category }
+    ensures { result ≡ Letters.resolved class category }
 {
     if same(class, LineBreak::Ambiguous)
         || same(class, LineBreak::Surrogate)
@@ -98,7 +98,7 @@ fn resolve(class: LineBreak, category: GeneralCategory) -> LineBreak
 
 /// Whether a category is one of the two of marks that LB1 asks for.
 fn is_mark(category: GeneralCategory) -> bool
-    ensures { result ≡ is_combining category }
+    ensures { result ≡ Letters.is_combining category }
 {
     category.number() == GeneralCategory::NonspacingMark.number()
         || category.number() == GeneralCategory::SpacingMark.number()
@@ -106,7 +106,7 @@ fn is_mark(category: GeneralCategory) -> bool
 
 /// Whether a width is one of East Asian characters.
 fn is_east_asian(width: EastAsianWidth) -> bool
-    ensures { result ≡ is_wide width }
+    ensures { result ≡ Letters.is_wide width }
 {
     width.number() == EastAsianWidth::Fullwidth.number()
         || width.number() == EastAsianWidth::Halfwidth.number()

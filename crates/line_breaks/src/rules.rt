@@ -4,9 +4,9 @@
 //! end of the text are letters of their own, of the class BK, which no rule from LB8 on tells from
 //! them.
 ghost use Rattle.std.specs.Prelude.{◌≡◌};
-ghost use Rattle.line_breaks.specs.Around.{before_of, goes_on as goes_on_of, closes as closes_of};
+ghost use Rattle.line_breaks.specs.Around as around_rules;
 ghost use Rattle.line_breaks.specs.Breaks.{verdict_number};
-ghost use Rattle.line_breaks.specs.Rules.{first_rules as first_rules_of, space_rules as space_rules_of, quotation_rules as quotation_rules_of, hyphen_rules as hyphen_rules_of, number_rules as number_rules_of, letter_rules as letter_rules_of, verdict_of};
+ghost use Rattle.line_breaks.specs.Rules;
 ghost use Rattle.line_breaks.specs.declared.units.Unit.{Unit as AnyUnit};
 ghost use Rattle.std.specs.Prelude.{List, ◌∷◌, []};
 
@@ -81,7 +81,7 @@ pub struct Around {
 impl Before {
     /// Before the text.
     pub fn start() -> Before
-        ensures { result ≡ before_of [] }
+        ensures { result ≡ around_rules.before_of [] }
     {
         Before {
             two: edge(),
@@ -96,8 +96,8 @@ impl Before {
 
     /// One unit further on.
     pub fn step(self, unit: &Unit) -> Before
-        ensures { (units : List AnyUnit) → self ≡ before_of units
-            → result ≡ before_of (unit.now ∷ units) }
+        ensures { (units : List AnyUnit) → self ≡ around_rules.before_of units
+            → result ≡ around_rules.before_of (unit.now ∷ units) }
     {
         let letter = unit.letter;
         let space = letter.is(LineBreak::Space);
@@ -115,7 +115,7 @@ impl Before {
 
 /// Whether a number ends with this letter, given whether one ends before it.
 fn goes_on(letter: &Letter, number: bool) -> bool
-    ensures { result ≡ goes_on_of letter.now number }
+    ensures { result ≡ around_rules.goes_on letter.now number }
 {
     letter.is(LineBreak::Numeric)
         || (letter.is(LineBreak::BreakSymbols) || letter.is(LineBreak::InfixNumeric)) && number
@@ -123,21 +123,21 @@ fn goes_on(letter: &Letter, number: bool) -> bool
 
 /// Whether a letter may close a number.
 fn closes(letter: &Letter) -> bool
-    ensures { result ≡ closes_of letter.now }
+    ensures { result ≡ around_rules.closes letter.now }
 {
     letter.is(LineBreak::ClosePunctuation) || letter.is(LineBreak::CloseParenthesis)
 }
 
 /// What the rules say of a place between two units.
 pub fn decide(around: &Around) -> Verdict
-    ensures { result ≡ verdict_of around.now }
+    ensures { result ≡ Rules.verdict_of around.now }
 {
     first_rules(around)
 }
 
 /// LB4 to LB8a, and then the rules after them.
 fn first_rules(around: &Around) -> Verdict
-    ensures { result ≡ first_rules_of around.now }
+    ensures { result ≡ Rules.first_rules around.now }
 {
     if lb4(around) {
         return Verdict::Mandatory;
@@ -165,7 +165,7 @@ fn first_rules(around: &Around) -> Verdict
 
 /// LB11 to LB15b, and then the rules after them.
 fn space_rules(around: &Around) -> Verdict
-    ensures { result ≡ space_rules_of around.now }
+    ensures { result ≡ Rules.space_rules around.now }
 {
     if lb11(around) {
         return Verdict::Prohibited;
@@ -193,7 +193,7 @@ fn space_rules(around: &Around) -> Verdict
 
 /// LB15c to LB20, and then the rules after them.
 fn quotation_rules(around: &Around) -> Verdict
-    ensures { result ≡ quotation_rules_of around.now }
+    ensures { result ≡ Rules.quotation_rules around.now }
 {
     if lb15c(around) {
         return Verdict::Allowed;
@@ -224,7 +224,7 @@ fn quotation_rules(around: &Around) -> Verdict
 
 /// LB20a to LB23a, and then the rules after them.
 fn hyphen_rules(around: &Around) -> Verdict
-    ensures { result ≡ hyphen_rules_of around.now }
+    ensures { result ≡ Rules.hyphen_rules around.now }
 {
     if lb20a(around) {
         return Verdict::Prohibited;
@@ -252,7 +252,7 @@ fn hyphen_rules(around: &Around) -> Verdict
 
 /// LB24 to LB28a, and then the rules after them.
 fn number_rules(around: &Around) -> Verdict
-    ensures { result ≡ number_rules_of around.now }
+    ensures { result ≡ Rules.number_rules around.now }
 {
     if lb24(around) {
         return Verdict::Prohibited;
@@ -280,7 +280,7 @@ fn number_rules(around: &Around) -> Verdict
 
 /// LB28a to LB30b, and LB31: a line may end everywhere else.
 fn letter_rules(around: &Around) -> Verdict
-    ensures { result ≡ letter_rules_of around.now }
+    ensures { result ≡ Rules.letter_rules around.now }
 {
     if lb28a_second(around) {
         return Verdict::Prohibited;

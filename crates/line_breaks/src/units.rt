@@ -1,7 +1,6 @@
 //! Characters with the marks that follow them, which no line parts.
 ghost use Rattle.std.specs.Prelude.{◌≡◌, ◌<◌, ◌^◌, length, IfOk, OnOk};
-ghost use Rattle.line_breaks.specs.Units.{attaches as attaches_of, takes_marks as takes_marks_of};
-ghost use Rattle.line_breaks.specs.Units.{alone as alone_of, put as put_of, takes_after, units_of};
+ghost use Rattle.line_breaks.specs.Units;
 
 use crate::letters::Letter;
 use std::alloc::{AllocError, Global};
@@ -20,14 +19,14 @@ pub struct Unit {
 
 /// Whether a letter is a mark or a joiner.
 fn attaches(letter: &Letter) -> bool
-    ensures { result ≡ attaches_of letter.now }
+    ensures { result ≡ Units.attaches letter.now }
 {
     letter.is(LineBreak::CombiningMark) || letter.is(LineBreak::Zwj)
 }
 
 /// LB9: whether marks attach to a letter.
 fn takes_marks(letter: &Letter) -> bool
-    ensures { result ≡ takes_marks_of letter.now }
+    ensures { result ≡ Units.takes_marks letter.now }
 {
     !(letter.is(LineBreak::MandatoryBreak)
         || letter.is(LineBreak::CarriageReturn)
@@ -39,7 +38,7 @@ fn takes_marks(letter: &Letter) -> bool
 
 /// LB10: a mark that is left stands for the letter A.
 fn alone(letter: &Letter) -> Letter
-    ensures { result ≡ alone_of letter.now }
+    ensures { result ≡ Units.alone letter.now }
 {
     if attaches(letter) {
         return Letter::of('A');
@@ -57,8 +56,8 @@ fn put(
     offset: u32,
 ) -> Result<bool, AllocError>
     ensures units { OnOk result (units.new.items
-        ≡ put_of takes joined offset letter.now units.old.items) }
-    ensures takes { IfOk result (λ next. next ≡ takes_after takes letter.now) }
+        ≡ Units.put takes joined offset letter.now units.old.items) }
+    ensures takes { IfOk result (λ next. next ≡ Units.takes_after takes letter.now) }
 {
     if takes && attaches(letter) {
         return Ok(true);
@@ -75,7 +74,7 @@ fn put(
 /// The characters of a text, each with the marks that follow it.
 pub(crate) fn units(alloc: Global, text: &str) -> Result<Vec<Unit>, AllocError>
     requires { length text.now < 2 ^ 32 }
-    ensures { IfOk result (λ units. units.items ≡ units_of text.now) }
+    ensures { IfOk result (λ units. units.items ≡ Units.units_of text.now) }
 {
     let mut units = Vec::new(alloc);
     let mut takes = false;

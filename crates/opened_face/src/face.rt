@@ -1,7 +1,7 @@
 //! The face that is opened once.
 ghost use Rattle.std.specs.Prelude.{◌≡◌, ◌<◌, IfOk, IsOkUnless};
 ghost use Rattle.kern_table.specs.Pairs.{HoldSides};
-ghost use Rattle.shape_font.specs.Face.{font_face, numbered as numbered_of, glyph_of, h_advance_of};
+ghost use Rattle.shape_font.specs.Face;
 
 use crate::advances::advances_of;
 use crate::pages::{glyphs_of, index_of, listed_pages};
@@ -38,7 +38,7 @@ impl<'a> Model for OpenedFace<'a> {
 
 /// The glyph with this number; 0 is none.
 fn numbered(glyph: u32) -> Option<GlyphId>
-    ensures { result ≡ numbered_of glyph }
+    ensures { result ≡ Face.numbered glyph }
 {
     if 0 < glyph {
         Some(GlyphId(glyph))
@@ -85,7 +85,7 @@ impl<'a> OpenedFace<'a> {
 
     /// The glyph of a character: from its page, or by a search if its page isn't stored.
     fn glyph(&self, c: char) -> Option<GlyphId>
-        ensures { result ≡ glyph_of self.now c }
+        ensures { result ≡ Face.glyph_of self.now c }
     {
         let code = u32::from(c) as usize;
         let page = code / 256;
@@ -100,7 +100,7 @@ impl<'a> OpenedFace<'a> {
 
     /// The advance of a glyph.
     fn advance(&self, glyph: GlyphId) -> i32
-        ensures { result ≡ h_advance_of self.now glyph }
+        ensures { result ≡ Face.h_advance_of self.now glyph }
     {
         let at = glyph.0 as usize;
         if at < self.advances.len() {
@@ -112,7 +112,7 @@ impl<'a> OpenedFace<'a> {
 }
 
 impl<'a> hb_font_t for OpenedFace<'a> {
-    ghost face = { font_face };
+    ghost face = { Face.font_face };
 
     fn get_nominal_glyph(&self, c: char) -> Option<GlyphId> {
         self.glyph(c)

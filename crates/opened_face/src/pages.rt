@@ -4,7 +4,7 @@
 //! large: all of the basic plane and as much again. A page that comes later in the subtable but earlier in Unicode
 //! isn't stored, so that opening takes a step for each range and each page, whatever a font lists.
 ghost use Rattle.std.specs.Prelude.{◌≡◌, ◌+◌, ◌*◌, ◌≤◌, ◌<◌, length, IfOk, OnOk, IsOkUnless};
-ghost use Rattle.opened_face.specs.Pages.{IsIndexOf, glyph_in as glyph_in_pages, AreGlyphsOf};
+ghost use Rattle.opened_face.specs.Pages;
 
 use crate::ranges::{first, last, range_count};
 use shape_buffer::ShapeError;
@@ -66,7 +66,7 @@ pub(crate) fn listed_pages(alloc: Global, table: &[u8]) -> Result<Vec<u16>, Shap
 /// For each page of Unicode its place among the stored ones. Refuses with `Memory` if a growth was refused.
 pub(crate) fn index_of(alloc: Global, pages: &[u16]) -> Result<Vec<u16>, ShapeError>
     requires { length pages.now ≤ 512 }
-    ensures ok { IfOk result (λ index. IsIndexOf pages.now index.items) }
+    ensures ok { IfOk result (λ index. Pages.IsIndexOf pages.now index.items) }
     ensures short { IfOk result (λ index. length index.items ≤ 4352) }
     ensures memory { IsOkUnless result ShapeError.Memory }
 {
@@ -87,7 +87,7 @@ pub(crate) fn index_of(alloc: Global, pages: &[u16]) -> Result<Vec<u16>, ShapeEr
 #[tactic(auto, unfolding(crate::specs::Pages::glyph_in))]
 fn glyph_in(face: &FontFace<'_>, pages: &[u16], i: usize) -> u32
     requires { i < 256 * length pages.now }
-    ensures { result ≡ glyph_in_pages face.now pages.now i }
+    ensures { result ≡ Pages.glyph_in face.now pages.now i }
 {
     face.glyph_number(256 * u32::from(pages[i / 256]) + (i % 256) as u32)
 }
@@ -99,7 +99,7 @@ pub(crate) fn glyphs_of(
     pages: &[u16],
 ) -> Result<Vec<u32>, ShapeError>
     requires { length pages.now ≤ 512 }
-    ensures ok { IfOk result (λ glyphs. AreGlyphsOf face.now pages.now glyphs.items) }
+    ensures ok { IfOk result (λ glyphs. Pages.AreGlyphsOf face.now pages.now glyphs.items) }
     ensures all { IfOk result (λ glyphs. length glyphs.items ≡ 256 * length pages.now) }
     ensures memory { IsOkUnless result ShapeError.Memory }
 {

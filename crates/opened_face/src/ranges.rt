@@ -1,13 +1,13 @@
 //! Which characters a subtable of `cmap` lists: ranges, by its format. They decide which pages are stored, and so what
 //! a look-up costs; what it returns doesn't depend on them.
 ghost use Rattle.std.specs.Prelude.{◌≡◌, ◌<◌, ◌^◌};
-ghost use Rattle.opened_face.specs.Ranges.{range_count as range_count_of, first_listed, last_listed};
+ghost use Rattle.opened_face.specs.Ranges;
 
 use shape_font::bytes::{records, u16_at, u32_at};
 
 /// How many ranges of characters the subtable has room for.
 pub(crate) fn range_count(table: &[u8]) -> u32
-    ensures { result ≡ range_count_of table.now }
+    ensures { result ≡ Ranges.range_count table.now }
 {
     match u16_at(table, 0) {
         4 => records(table, u32::from(u16_at(table, 6) / 2), 14, 2),
@@ -19,7 +19,7 @@ pub(crate) fn range_count(table: &[u8]) -> u32
 
 /// The first character of range `i`.
 pub(crate) fn first(table: &[u8], i: u32) -> u32
-    ensures { result ≡ first_listed table.now i }
+    ensures { result ≡ Ranges.first_listed table.now i }
 {
     match u16_at(table, 0) {
         4 => {
@@ -35,7 +35,7 @@ pub(crate) fn first(table: &[u8], i: u32) -> u32
 
 /// The last character of range `i`.
 pub(crate) fn last(table: &[u8], i: u32) -> u32
-    ensures { result ≡ last_listed table.now i }
+    ensures { result ≡ Ranges.last_listed table.now i }
 {
     match u16_at(table, 0) {
         0 => 255,

@@ -1,9 +1,9 @@
 //! The script and the language system that are taken for a text.
 ghost use Rattle.std.specs.Prelude.{◌≡◌, ◌≤◌, length, take, string_bytes};
 ghost use Rattle.std.specs.Option.{option_map};
-ghost use Rattle.shape_buffer.specs.MapBuilder.{chosen_script as chosen_script_of};
+ghost use Rattle.shape_buffer.specs.MapBuilder;
 ghost use Rattle.layout_map.specs.Chosen.{chosen};
-ghost use Rattle.opentype_layout.specs.Chosen.{numbers_of, number_at as number_at_of, script_in as script_in_of, chosen_in as chosen_in_of};
+ghost use Rattle.opentype_layout.specs.Chosen;
 
 use layout_map::chosen::ChosenTable;
 use layout_tables::scripts;
@@ -13,7 +13,7 @@ use shape_buffer::{Language, Script, hb_tag_t};
 
 /// Tag number `i` as a number; 0 past the last.
 fn number_at(tags: &[hb_tag_t], i: usize) -> u32
-    ensures { result ≡ number_at_of tags.now i }
+    ensures { result ≡ Chosen.number_at tags.now i }
 {
     match tags.get(i) {
         Some(tag) => tag.0,
@@ -24,7 +24,7 @@ fn number_at(tags: &[hb_tag_t], i: usize) -> u32
 /// At most three tags as numbers; 0 past the last.
 fn numbers(tags: &[hb_tag_t]) -> [u32; 3]
     requires { length tags.now ≤ 3 }
-    ensures { take (length tags.now) result ≡ numbers_of tags.now }
+    ensures { take (length tags.now) result ≡ Chosen.numbers_of tags.now }
 {
     [number_at(tags, 0), number_at(tags, 1), number_at(tags, 2)]
 }
@@ -46,7 +46,7 @@ pub fn script_in(
     script: Option<Script>,
     language: Option<&Language>,
 ) -> Option<hb_tag_t>
-    ensures { result ≡ script_in_of table.now script
+    ensures { result ≡ Chosen.script_in table.now script
         (option_map (λ l. string_bytes l.now.0) language.entry) }
 {
     let list = script_tags(script, language);
@@ -60,7 +60,7 @@ pub fn script_in(
 /// A table of lookups with the language system that is taken for these tags, within the script with a tag.
 fn chosen_by<'a>(table: &'a [u8], script: Option<u32>, tags: &[hb_tag_t]) -> ChosenTable<'a>
     requires { length tags.now ≤ 3 }
-    ensures { result ≡ chosen table.now script (numbers_of tags.now) }
+    ensures { result ≡ chosen table.now script (Chosen.numbers_of tags.now) }
 {
     ChosenTable::new(table, script, &numbers(tags)[..tags.len()])
 }
@@ -72,7 +72,7 @@ fn chosen_in<'a>(
     script: Option<hb_tag_t>,
     language: Option<&Language>,
 ) -> ChosenTable<'a>
-    ensures { result ≡ chosen_in_of table.now script
+    ensures { result ≡ Chosen.chosen_in table.now script
         (option_map (λ l. string_bytes l.now.0) language.entry) }
 {
     let list = language_tags(language);
@@ -85,7 +85,7 @@ pub fn chosen_for<'a>(
     index: TableIndex,
     builder: &hb_ot_map_builder_t,
 ) -> ChosenTable<'a>
-    ensures { result ≡ chosen_in_of table.now (chosen_script_of builder.now index)
+    ensures { result ≡ Chosen.chosen_in table.now (MapBuilder.chosen_script builder.now index)
         builder.now.language }
 {
     chosen_in(table, builder.chosen_script(index), builder.language())

@@ -1,8 +1,8 @@
 //! Glyphs as the lookups find them: with the class that the font gives each.
 ghost use Rattle.std.specs.Prelude.{◌≡◌, ◌≤◌, length, IfOk, IsOkUnless};
 ghost use Rattle.shape_buffer.specs.Outcome.{Made};
-ghost use Rattle.layout_tables.specs.Gdef.{glyph_props as glyph_props_of};
-ghost use Rattle.opentype_layout.specs.Classes.{begun as begun_of, glyphs_begun, AreProps};
+ghost use Rattle.layout_tables.specs.Gdef;
+ghost use Rattle.opentype_layout.specs.Classes;
 
 use layout_tables::gdef::{glyph_props, has_glyph_classes};
 use shape_buffer::walks::update_items;
@@ -15,13 +15,13 @@ use std::alloc::Global;
 pub(crate) struct GlyphClasses<'a> {
     gdef: &'a [u8],
     props: &'a [u16],
-    ghost stored: { AreProps gdef.now props.now },
+    ghost stored: { Classes.AreProps gdef.now props.now },
 }
 
 impl<'a> GlyphClasses<'a> {
     /// The table with what is stored of it.
     pub fn new(gdef: &'a [u8], props: &'a [u16]) -> GlyphClasses<'a>
-        requires { AreProps gdef.now props.now }
+        requires { Classes.AreProps gdef.now props.now }
         ensures { result.gdef.now ≡ gdef.now }
     {
         GlyphClasses { gdef, props }
@@ -29,7 +29,7 @@ impl<'a> GlyphClasses<'a> {
 
     /// The properties of a glyph: a look-up in place of a search among classes.
     fn props(self, glyph: u32) -> u16
-        ensures { result ≡ glyph_props_of self.entry.gdef.now glyph }
+        ensures { result ≡ Gdef.glyph_props self.entry.gdef.now glyph }
     {
         if (glyph as usize) < self.props.len() {
             self.props[glyph as usize]
@@ -42,7 +42,7 @@ impl<'a> GlyphClasses<'a> {
 /// What the table says of the first `count` glyphs; nothing if it has no classes. Refuses with `Memory` if a growth was
 /// refused.
 pub(crate) fn props_of(alloc: Global, gdef: &[u8], count: u16) -> Result<Vec<u16>, ShapeError>
-    ensures ok { IfOk result (λ props. AreProps gdef.now props.items) }
+    ensures ok { IfOk result (λ props. Classes.AreProps gdef.now props.items) }
     ensures few { IfOk result (λ props. length props.items ≤ count) }
     ensures memory { IsOkUnless result ShapeError.Memory }
 {
@@ -56,7 +56,7 @@ pub(crate) fn props_of(alloc: Global, gdef: &[u8], count: u16) -> Result<Vec<u16
 
 /// A glyph that no lookup has made, with the class that the font says, and in no ligature.
 fn begun(classes: GlyphClasses<'_>, info: &hb_glyph_info_t) -> hb_glyph_info_t
-    ensures { result ≡ begun_of classes.entry.gdef.now info.now }
+    ensures { result ≡ Classes.begun classes.entry.gdef.now info.now }
 {
     let mut info = *info;
     let props = classes.props(info.glyph_id);
@@ -73,7 +73,7 @@ fn begun(classes: GlyphClasses<'_>, info: &hb_glyph_info_t) -> hb_glyph_info_t
 
 /// Makes the glyphs ones that no lookup has made. Takes no memory.
 pub(crate) fn begin_glyphs(classes: GlyphClasses<'_>, buffer: &mut hb_buffer_t)
-    ensures { Made (glyphs_begun classes.entry.gdef.now) buffer.old buffer.new }
+    ensures { Made (Classes.glyphs_begun classes.entry.gdef.now) buffer.old buffer.new }
 {
     update_items(buffer, |info| begun(classes, info));
 }

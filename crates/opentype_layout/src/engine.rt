@@ -6,7 +6,7 @@ ghost use Rattle.layout_digests.specs.Lookups.{AreDigests};
 ghost use Rattle.opentype_layout.specs.Lookups.{lookups_of};
 ghost use Rattle.layout_map.specs.Map.{OtMap, map_meaning};
 ghost use Rattle.opentype_layout.specs.declared.face.OpenTypeFace.{OpenTypeFace as Face};
-ghost use Rattle.opentype_layout.specs.Engine.{table_of as table_of_face, gsub_tables as gsub_tables_of, gpos_tables as gpos_tables_of, map_of, positioned_by, opentype_layout, opentype_lookups};
+ghost use Rattle.opentype_layout.specs.Engine;
 ghost use Rattle.opentype_layout.specs.EngineLaws.{opentype_lookups-lawful};
 ghost use Rattle.layout_map.proofs.LawfulLemmas.{map_meaning-lawful};
 
@@ -33,7 +33,7 @@ pub struct OpenTypeLayout;
 
 /// A table of lookups.
 pub(crate) fn table_of<'a>(face: &OpenTypeFace<'a>, table: TableIndex) -> &'a [u8]
-    ensures { result.now ≡ table_of_face face.now table }
+    ensures { result.now ≡ Engine.table_of face.now table }
 {
     match table {
         TableIndex::GSUB => face.gsub(),
@@ -43,7 +43,7 @@ pub(crate) fn table_of<'a>(face: &OpenTypeFace<'a>, table: TableIndex) -> &'a [u
 
 /// The tables that lookups of substitution read.
 pub(crate) fn gsub_tables<'a>(face: &OpenTypeFace<'a>) -> LookupTables<'a>
-    ensures { result ≡ gsub_tables_of face.now }
+    ensures { result ≡ Engine.gsub_tables face.now }
 {
     LookupTables {
         table: face.gsub(),
@@ -54,7 +54,7 @@ pub(crate) fn gsub_tables<'a>(face: &OpenTypeFace<'a>) -> LookupTables<'a>
 
 /// The tables that lookups of positioning read.
 pub(crate) fn gpos_tables<'a>(face: &OpenTypeFace<'a>) -> LookupTables<'a>
-    ensures { result ≡ gpos_tables_of face.now }
+    ensures { result ≡ Engine.gpos_tables face.now }
 {
     LookupTables {
         table: face.gpos(),
@@ -96,7 +96,8 @@ pub(crate) fn position_by(
     requires within { IsWithinLimit buffer.old }
     requires kind { tables.positioning ≡ true }
     requires stored { AreDigests tables.table.now true digests.now }
-    ensures { Outcome (step (positioned_by tables.entry maps.now)) buffer.old buffer.new result }
+    ensures { Outcome (step (Engine.positioned_by tables.entry maps.now)) buffer.old buffer.new
+        result }
 {
     match lookups(alloc, tables, digests, maps) {
         Ok(lookups) => {
@@ -113,7 +114,8 @@ pub(crate) fn compiled(
     face: &OpenTypeFace<'_>,
     builder: &hb_ot_map_builder_t,
 ) -> Result<hb_ot_map_t, ShapeError>
-    ensures { MatchResult result (λ map. map ≡ map_of face.now builder.now) (λ e. e ≡ ShapeError.Memory) }
+    ensures { MatchResult result (λ map. map ≡ Engine.map_of face.now builder.now) (λ e. e
+        ≡ ShapeError.Memory) }
 {
     let gsub = chosen_for(face.gsub(), TableIndex::GSUB, builder);
     let gpos = chosen_for(face.gpos(), TableIndex::GPOS, builder);
@@ -126,11 +128,11 @@ pub(crate) fn compiled(
 impl<'a> hb_ot_layout_t<OpenTypeFace<'a>> for OpenTypeLayout {
     type Map = hb_ot_map_t;
 
-    ghost layout = { opentype_layout };
+    ghost layout = { Engine.opentype_layout };
 
     ghost masks = { map_meaning };
 
-    ghost lookups = { opentype_lookups };
+    ghost lookups = { Engine.opentype_lookups };
 
     fn chosen_script(
         face: &OpenTypeFace<'a>,
@@ -227,12 +229,12 @@ impl<'a> hb_ot_layout_t<OpenTypeFace<'a>> for OpenTypeLayout {
 
     fn aat_remove_deleted(buffer: &mut hb_buffer_t)
         ensures { (map : OtMap) (face : Face)
-            → Made (opentype_lookups map face).aat_remove_deleted buffer.old buffer.new }
+            → Made (Engine.opentype_lookups map face).aat_remove_deleted buffer.old buffer.new }
     {}
 
     fn aat_zero_width_deleted(buffer: &mut hb_buffer_t)
         ensures { (map : OtMap) (face : Face)
-            → Made (opentype_lookups map face).aat_zero_width_deleted buffer.old buffer.new }
+            → Made (Engine.opentype_lookups map face).aat_zero_width_deleted buffer.old buffer.new }
     {}
 
     fn position_start(_face: &OpenTypeFace<'a>, buffer: &mut hb_buffer_t) {

@@ -1,7 +1,7 @@
 //! The face that the engine is over.
 ghost use Rattle.std.specs.Prelude.{◌≡◌, is_some, nat_lt, IfSome};
 ghost use Rattle.opentype_layout.specs.Fonts.{IsFaceOf, IsFontOf, units_of};
-ghost use Rattle.opentype_layout.specs.Face.{is_read as is_read_of, tables_of, opentype_face};
+ghost use Rattle.opentype_layout.specs.Face;
 
 use shape_buffer::{GlyphId, hb_font_t, hb_glyph_extents_t, hb_tables_t};
 use shape_font::FontFace;
@@ -20,7 +20,7 @@ pub struct OpenTypeFace<'a> {
 
 /// Whether a table of lookups is read: it is of major version 1.
 fn is_read(table: &[u8]) -> bool
-    ensures { result ≡ is_read_of table.now }
+    ensures { result ≡ Face.is_read table.now }
 {
     u16_at(table, 0) == 1
 }
@@ -98,7 +98,7 @@ impl<'a> OpenTypeFace<'a> {
 
     /// The tables of lookups that the engine reads.
     fn read_tables(&self) -> hb_tables_t
-        ensures { result ≡ tables_of self.now }
+        ensures { result ≡ Face.tables_of self.now }
     {
         hb_tables_t {
             gsub: is_read(self.gsub),
@@ -111,7 +111,7 @@ impl<'a> OpenTypeFace<'a> {
 }
 
 impl<'a> hb_font_t for OpenTypeFace<'a> {
-    ghost face = { opentype_face };
+    ghost face = { Face.opentype_face };
 
     fn get_nominal_glyph(&self, c: char) -> Option<GlyphId> {
         self.font.get_nominal_glyph(c)

@@ -4,7 +4,7 @@ ghost use Rattle.std.specs.Option.{IfSome, option_map};
 ghost use Rattle.layout_digests.specs.Lookups.{AreDigests, IsDigestAt};
 ghost use Rattle.layout_digests.specs.declared.digested.Digested.{Digested as DigestedLookup};
 ghost use Rattle.opentype_layout.specs.Digested.{IsSaid, lookups_in};
-ghost use Rattle.opentype_layout.specs.Lookups.{least_bit as least_bit_of, lookup_at, lookup_of, with_lookup, lookups_of};
+ghost use Rattle.opentype_layout.specs.Lookups;
 
 use layout_digests::{Digest, Digested};
 use layout_map::lookups::LookupMap;
@@ -23,7 +23,7 @@ pub struct LookupTables<'a> {
 
 /// The least bit of a mask; 0 of an empty one.
 fn least_bit(mask: u32) -> u32
-    ensures { result ≡ least_bit_of mask }
+    ensures { result ≡ Lookups.least_bit mask }
 {
     if mask == 0 {
         0
@@ -35,7 +35,7 @@ fn least_bit(mask: u32) -> u32
 /// The lookup at a place with the use that a plan makes of it.
 fn made_ready<'a>(tables: LookupTables<'a>, map: &LookupMap, place: usize) -> Lookup<'a>
     requires { place < 2 ^ 17 }
-    ensures { result ≡ lookup_at tables.entry map.now place }
+    ensures { result ≡ Lookups.lookup_at tables.entry map.now place }
 {
     Lookup {
         table: tables.table,
@@ -73,7 +73,8 @@ fn digested<'a>(
     map: &LookupMap,
 ) -> Option<Digested<'a>>
     requires { AreDigests tables.table.now tables.positioning digests.now }
-    ensures value { option_map (λ (d : DigestedLookup). d.lookup) result ≡ lookup_of tables.entry map.now }
+    ensures value { option_map (λ (d : DigestedLookup). d.lookup) result
+        ≡ Lookups.lookup_of tables.entry map.now }
     ensures said { IfSome result (IsSaid tables.entry.positioning) }
 {
     let place = lookup(tables.table, map.index)?;
@@ -93,7 +94,8 @@ fn append<'a>(
 ) -> Result<(), ShapeError>
     requires stored { AreDigests tables.table.now tables.positioning digests.now }
     requires said { All (IsSaid tables.positioning) lookups.old.items }
-    ensures ok { OnOk result (lookups_in lookups.new.items ≡ with_lookup tables.entry (lookups_in lookups.old.items) map.now) }
+    ensures ok { OnOk result (lookups_in lookups.new.items
+        ≡ Lookups.with_lookup tables.entry (lookups_in lookups.old.items) map.now) }
     ensures said { OnOk result (All (IsSaid tables.entry.positioning) lookups.new.items) }
     ensures memory { IsOkUnless result ShapeError.Memory }
 {
@@ -112,7 +114,8 @@ pub fn lookups<'a>(
     maps: &[LookupMap],
 ) -> Result<Vec<Digested<'a>>, ShapeError>
     requires { AreDigests tables.table.now tables.positioning digests.now }
-    ensures ok { IfOk result (λ lookups. lookups_in lookups.items ≡ lookups_of tables.entry maps.now) }
+    ensures ok { IfOk result (λ lookups. lookups_in lookups.items
+        ≡ Lookups.lookups_of tables.entry maps.now) }
     ensures said { IfOk result (λ lookups. All (IsSaid tables.entry.positioning) lookups.items) }
     ensures memory { IsOkUnless result ShapeError.Memory }
 {

@@ -6,16 +6,7 @@
 ghost use Rattle.std.specs.Prelude.{◌≡◌, ◌<◌, ◌≤◌, ◌^◌, length};
 ghost use Rattle.std.specs.Prelude.{string_bytes};
 ghost use Rattle.std.specs.Option.{option_map};
-ghost use Rattle.opentype_tags.specs.Language.{variant_tag as variant_tag_of, is_name as is_name_of};
-ghost use Rattle.opentype_tags.specs.Language.{long_variant_tag as long_variant_tag_of};
-ghost use Rattle.opentype_tags.specs.Language.{tags_of_whole as tags_of_whole_of, subtag_key as subtag_key_of};
-ghost use Rattle.opentype_tags.specs.Language.{is_chinese as is_chinese_of, chinese_tags as chinese_tags_of};
-ghost use Rattle.opentype_tags.specs.Language.{placed_tags as placed_tags_of, regional_tags as regional_tags_of};
-ghost use Rattle.opentype_tags.specs.Language.{with_tag as with_tag_of, with_row as with_row_of};
-ghost use Rattle.opentype_tags.specs.Language.{row_tags as row_tags_of, has_extended as has_extended_of};
-ghost use Rattle.opentype_tags.specs.Language.{capital_tag as capital_tag_of, listed_tags as listed_tags_of};
-ghost use Rattle.opentype_tags.specs.Language.{registered_tags as registered_tags_of, name_tags as name_tags_of};
-ghost use Rattle.opentype_tags.specs.Language.{language_tags as language_tags_of};
+ghost use Rattle.opentype_tags.specs.Language as language_rules;
 
 use crate::private_use::private_language_tag;
 use crate::rows::rows_of;
@@ -26,7 +17,7 @@ use shape_font::bytes::u8_at;
 
 /// The tag of a variant or a script that has one in whatever language.
 fn variant_tag(name: &[u8]) -> Option<u32>
-    ensures { result ≡ variant_tag_of name.now }
+    ensures { result ≡ language_rules.variant_tag name.now }
 {
     if has_subtag(name, b"-fonnapa") {
         Some(0x4150_5048) // APPH
@@ -53,7 +44,7 @@ fn variant_tag(name: &[u8]) -> Option<u32>
 
 /// The same, of a name that is long enough to have a language beside the variant.
 fn long_variant_tag(name: &[u8]) -> Option<u32>
-    ensures { result ≡ long_variant_tag_of name.now }
+    ensures { result ≡ language_rules.long_variant_tag name.now }
 {
     if name.len() >= 7 {
         variant_tag(name)
@@ -63,14 +54,14 @@ fn long_variant_tag(name: &[u8]) -> Option<u32>
 }
 
 fn is_name(name: &[u8], whole: &[u8]) -> bool
-    ensures { result ≡ is_name_of name.now whole.now }
+    ensures { result ≡ language_rules.is_name name.now whole.now }
 {
     name.len() == whole.len() && name.starts_with(whole)
 }
 
 /// The tags of a name that is registered as a whole.
 fn tags_of_whole(name: &[u8]) -> Option<TagList>
-    ensures { result ≡ tags_of_whole_of name.now }
+    ensures { result ≡ language_rules.tags_of_whole name.now }
 {
     if is_name(name, b"art-lojban") {
         Some(TagList::one(0x4A42_4F20)) // JBO
@@ -95,7 +86,7 @@ fn tags_of_whole(name: &[u8]) -> Option<TagList>
 
 /// A subtag of two or three bytes as one number, filled up with spaces; 0 for others.
 fn subtag_key(subtag: &[u8]) -> u32
-    ensures { result ≡ subtag_key_of subtag.now }
+    ensures { result ≡ language_rules.subtag_key subtag.now }
 {
     match subtag {
         [a, b] => u32::from(*a) * 0x100_0000 + u32::from(*b) * 0x1_0000 + 0x2020,
@@ -108,7 +99,7 @@ fn subtag_key(subtag: &[u8]) -> u32
 
 /// Whether the key is of a Chinese language, whose writing depends on the script or the place.
 fn is_chinese(key: u32) -> bool
-    ensures { result ≡ is_chinese_of key }
+    ensures { result ≡ language_rules.is_chinese key }
 {
     matches!(
         key,
@@ -132,7 +123,7 @@ fn is_chinese(key: u32) -> bool
 
 /// Chinese by script and place; `after` is what follows the language.
 fn chinese_tags(name: &[u8], after: &[u8]) -> Option<TagList>
-    ensures { result ≡ chinese_tags_of name.now after.now }
+    ensures { result ≡ language_rules.chinese_tags name.now after.now }
 {
     if begins_with(after, b"hant-hk") {
         Some(TagList::one(0x5A48_4820)) // ZHH
@@ -155,7 +146,7 @@ fn chinese_tags(name: &[u8], after: &[u8]) -> Option<TagList>
 
 /// Other languages that a script or a place gives another tag.
 fn placed_tags(key: u32, name: &[u8], after: &[u8]) -> Option<TagList>
-    ensures { result ≡ placed_tags_of key name.now after.now }
+    ensures { result ≡ language_rules.placed_tags key name.now after.now }
 {
     let is_written_chinese = key == 0x6C7A_6820 || key == 0x7975_6520;
     if is_written_chinese && begins_with(after, b"hans") {
@@ -173,7 +164,7 @@ fn placed_tags(key: u32, name: &[u8], after: &[u8]) -> Option<TagList>
 
 /// The tags of a language whose writing depends on the script or the place.
 fn regional_tags(name: &[u8]) -> Option<TagList>
-    ensures { result ≡ regional_tags_of name.now }
+    ensures { result ≡ language_rules.regional_tags name.now }
 {
     let key = subtag_key(first_subtag(name));
     let after = after_first(name);
@@ -186,7 +177,7 @@ fn regional_tags(name: &[u8]) -> Option<TagList>
 
 /// A tag after those before; 0 is no tag.
 fn with_tag(mut tags: TagList, tag: u32) -> TagList
-    ensures { result ≡ with_tag_of tags tag }
+    ensures { result ≡ language_rules.with_tag tags tag }
 {
     if tag != 0 {
         tags.push(hb_tag_t(tag));
@@ -196,7 +187,7 @@ fn with_tag(mut tags: TagList, tag: u32) -> TagList
 
 /// What is found with one row more.
 fn with_row(key: u32, found: Option<TagList>, row: (u32, u32)) -> Option<TagList>
-    ensures { result ≡ with_row_of key found row }
+    ensures { result ≡ language_rules.with_row key found row }
 {
     if row.0 == key {
         Some(with_tag(found.unwrap_or(TagList::new()), row.1))
@@ -207,7 +198,7 @@ fn with_row(key: u32, found: Option<TagList>, row: (u32, u32)) -> Option<TagList
 
 /// What the rows of a subtag say; none if it has no row.
 fn row_tags(subtag: &[u8]) -> Option<TagList>
-    ensures { result ≡ row_tags_of subtag.now }
+    ensures { result ≡ language_rules.row_tags subtag.now }
 {
     let key = subtag_key(subtag);
     let mut found = None;
@@ -219,7 +210,7 @@ fn row_tags(subtag: &[u8]) -> Option<TagList>
 
 /// Whether a second subtag of three letters names the language more closely.
 fn has_extended(name: &[u8]) -> bool
-    ensures { result ≡ has_extended_of name.now }
+    ensures { result ≡ language_rules.has_extended name.now }
 {
     let after = after_first(name);
     name.len() >= 6
@@ -229,7 +220,7 @@ fn has_extended(name: &[u8]) -> bool
 
 /// Three letters as a tag.
 fn capital_tag(subtag: &[u8]) -> TagList
-    ensures { result ≡ capital_tag_of subtag.now }
+    ensures { result ≡ language_rules.capital_tag subtag.now }
 {
     if subtag.len() == 3 {
         TagList::one(subtag_key(subtag) & 0xDFDF_DFFF)
@@ -240,7 +231,7 @@ fn capital_tag(subtag: &[u8]) -> TagList
 
 /// The tags by the rows of the language's subtag, or by its letters.
 fn listed_tags(name: &[u8]) -> TagList
-    ensures { result ≡ listed_tags_of name.now }
+    ensures { result ≡ language_rules.listed_tags name.now }
 {
     if has_extended(name) {
         return row_tags(first_subtag(after_first(name))).unwrap_or(TagList::new());
@@ -251,7 +242,7 @@ fn listed_tags(name: &[u8]) -> TagList
 
 /// The tags of a name whose registered subtags are `subtags`.
 fn registered_tags(name: &[u8], subtags: &[u8]) -> TagList
-    ensures { result ≡ registered_tags_of name.now subtags.now }
+    ensures { result ≡ language_rules.registered_tags name.now subtags.now }
 {
     if let Some(tag) = long_variant_tag(subtags) {
         return TagList::one(tag);
@@ -266,7 +257,7 @@ fn registered_tags(name: &[u8], subtags: &[u8]) -> TagList
 }
 
 fn name_tags(name: &[u8]) -> TagList
-    ensures { result ≡ name_tags_of name.now }
+    ensures { result ≡ language_rules.name_tags name.now }
 {
     match private_language_tag(name) {
         Some(tag) => TagList::one(tag),
@@ -279,7 +270,8 @@ fn name_tags(name: &[u8]) -> TagList
 /// with the private subtag `x-hbot-..` names the only tag, as [`script_tags`](crate::script_tags) has it (HarfBuzz,
 /// `hb_ot_tags_from_script_and_language`; "Language system tags" of the OpenType specification).
 pub fn language_tags(language: Option<&Language>) -> TagList
-    ensures { result ≡ language_tags_of (option_map (λ l. string_bytes l.now.0) language.entry) }
+    ensures { result ≡ language_rules.language_tags (option_map
+        (λ l. string_bytes l.now.0) language.entry) }
 {
     match language {
         Some(language) => name_tags(language.0.as_bytes()),

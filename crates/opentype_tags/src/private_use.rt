@@ -3,18 +3,10 @@ ghost use Rattle.std.specs.Prelude.{◌≡◌, ◌<◌, ◌≤◌, ◌+◌, leng
 ghost use Rattle.std.specs.List.{prefix_len};
 ghost use Rattle.std.specs.Prelude.{string_bytes};
 ghost use Rattle.std.specs.Option.{option_map};
-ghost use Rattle.opentype_tags.specs.Subtags.{is_alphanumeric as is_alphanumeric_of};
+ghost use Rattle.opentype_tags.specs.Subtags;
 ghost use Rattle.shape_font.specs.Search.{first_at};
-ghost use Rattle.opentype_tags.specs.Subtags.{begins_at as begins_at_of};
-ghost use Rattle.opentype_tags.specs.PrivateUse.{hex_value as hex_value_of, hex_tag as hex_tag_of};
-ghost use Rattle.opentype_tags.specs.PrivateUse.{with_digit as with_digit_of};
-ghost use Rattle.opentype_tags.specs.PrivateUse.{in_case as in_case_of, tag_byte as tag_byte_of};
-ghost use Rattle.opentype_tags.specs.PrivateUse.{spelled_tag as spelled_tag_of};
-ghost use Rattle.opentype_tags.specs.PrivateUse.{default_in_case as default_in_case_of};
-ghost use Rattle.opentype_tags.specs.PrivateUse.{written_tag as written_tag_of};
-ghost use Rattle.opentype_tags.specs.PrivateUse.{tag_after as tag_after_of, tag_in as tag_in_of, private_tag as private_tag_of};
-ghost use Rattle.opentype_tags.specs.Language.{private_script_tag as private_script_tag_of};
-ghost use Rattle.opentype_tags.specs.Language.{private_language_tag as private_language_tag_of};
+ghost use Rattle.opentype_tags.specs.PrivateUse;
+ghost use Rattle.opentype_tags.specs.Language as language_rules;
 
 use crate::subtags::{begins_at, bytes_from, is_alphanumeric, private_subtags};
 use shape_common::Language;
@@ -22,7 +14,7 @@ use shape_font::bytes::u8_at;
 
 /// The value of a hexadecimal digit.
 fn hex_value(byte: u8) -> Option<u32>
-    ensures value { result ≡ hex_value_of byte }
+    ensures value { result ≡ PrivateUse.hex_value byte }
     ensures digit { IfSome result (λ digit. digit < 16) }
 {
     match byte {
@@ -35,7 +27,7 @@ fn hex_value(byte: u8) -> Option<u32>
 
 /// One digit more. Eight digits fill a number, so that no product wraps.
 fn with_digit(number: Option<u32>, byte: u8) -> Option<u32>
-    ensures { result ≡ with_digit_of number byte }
+    ensures { result ≡ PrivateUse.with_digit number byte }
 {
     match (number, hex_value(byte)) {
         (Some(number), Some(digit)) => Some(number % 0x1000_0000 * 16 + digit),
@@ -45,7 +37,7 @@ fn with_digit(number: Option<u32>, byte: u8) -> Option<u32>
 
 /// The tag that eight hexadecimal digits give.
 fn hex_tag(bytes: &[u8]) -> Option<u32>
-    ensures { result ≡ hex_tag_of bytes.now }
+    ensures { result ≡ PrivateUse.hex_tag bytes.now }
 {
     let mut tag = Some(0);
     for byte in bytes.get(..8)? {
@@ -56,7 +48,7 @@ fn hex_tag(bytes: &[u8]) -> Option<u32>
 
 /// A letter as tags of scripts have them, small, or as those of language systems do, capital.
 fn in_case(small: bool, byte: u8) -> u8
-    ensures { result ≡ in_case_of small byte }
+    ensures { result ≡ PrivateUse.in_case small byte }
 {
     match byte {
         b'A'..=b'Z' if small => byte + 32,
@@ -67,7 +59,7 @@ fn in_case(small: bool, byte: u8) -> u8
 
 /// Byte `i` of a tag that `count` letters and digits spell, filled up with spaces.
 fn tag_byte(small: bool, bytes: &[u8], count: usize, i: usize) -> u32
-    ensures value { result ≡ tag_byte_of small bytes.now count i }
+    ensures value { result ≡ PrivateUse.tag_byte small bytes.now count i }
     ensures byte { result < 256 }
 {
     if i < count {
@@ -79,7 +71,7 @@ fn tag_byte(small: bool, bytes: &[u8], count: usize, i: usize) -> u32
 
 /// How many letters and digits a text begins with.
 fn spelled_length(bytes: &[u8]) -> usize
-    ensures { result ≡ prefix_len is_alphanumeric_of bytes.now }
+    ensures { result ≡ prefix_len Subtags.is_alphanumeric bytes.now }
 {
     bytes
         .iter()
@@ -89,7 +81,7 @@ fn spelled_length(bytes: &[u8]) -> usize
 
 /// The tag that up to four letters and digits spell, at least one.
 fn spelled_tag(small: bool, bytes: &[u8]) -> Option<u32>
-    ensures { result ≡ spelled_tag_of small bytes.now }
+    ensures { result ≡ PrivateUse.spelled_tag small bytes.now }
 {
     let count = spelled_length(bytes).min(4);
     if count == 0 {
@@ -108,7 +100,7 @@ fn spelled_tag(small: bool, bytes: &[u8]) -> Option<u32>
 
 /// The default's tag in the other case: `DFLT` of scripts, `dflt` of language systems.
 fn default_in_case(tag: u32) -> u32
-    ensures { result ≡ default_in_case_of tag }
+    ensures { result ≡ PrivateUse.default_in_case tag }
 {
     if tag & 0xDFDF_DFDF == 0x4446_4C54 {
         tag ^ 0x2020_2020
@@ -119,7 +111,7 @@ fn default_in_case(tag: u32) -> u32
 
 /// The tag that the text after a key gives by its digits or letters.
 fn written_tag(small: bool, bytes: &[u8]) -> Option<u32>
-    ensures { result ≡ written_tag_of small bytes.now }
+    ensures { result ≡ PrivateUse.written_tag small bytes.now }
 {
     if u8_at(bytes, 0) == b'-' {
         hex_tag(bytes_from(bytes, 1))
@@ -130,7 +122,7 @@ fn written_tag(small: bool, bytes: &[u8]) -> Option<u32>
 
 /// The tag that the text after a key gives.
 fn tag_after(small: bool, bytes: &[u8]) -> Option<u32>
-    ensures { result ≡ tag_after_of small bytes.now }
+    ensures { result ≡ PrivateUse.tag_after small bytes.now }
 {
     match written_tag(small, bytes) {
         Some(tag) => Some(default_in_case(tag)),
@@ -141,7 +133,8 @@ fn tag_after(small: bool, bytes: &[u8]) -> Option<u32>
 /// The first place where the bytes of a key stand.
 #[tactic(auto, using(shape_font::proofs::SearchLemmas::first_at_next, shape_font::proofs::SearchLemmas::first_at_found, shape_font::proofs::SearchLemmas::first_at_end))]
 fn key_place(subtags: &[u8], key: &[u8]) -> Option<usize>
-    ensures value { result ≡ first_at (begins_at_of subtags.now key.now) (length subtags.now) 0 }
+    ensures value { result ≡ first_at (Subtags.begins_at subtags.now key.now)
+        (length subtags.now) 0 }
     ensures within { IfSome result (λ at. at < length subtags.now) }
 {
     for at in 0..subtags.len() {
@@ -155,14 +148,14 @@ fn key_place(subtags: &[u8], key: &[u8]) -> Option<usize>
 /// The tag after a place of a key, of five bytes.
 fn tag_from(small: bool, subtags: &[u8], at: usize) -> Option<u32>
     requires { at < length subtags.now }
-    ensures { result ≡ tag_after_of small (drop (at + 5) subtags.now) }
+    ensures { result ≡ PrivateUse.tag_after small (drop (at + 5) subtags.now) }
 {
     tag_after(small, bytes_from(subtags, at + 5))
 }
 
 /// The tag after the first place of a key in subtags of private use.
 fn tag_in(small: bool, key: &[u8], subtags: &[u8]) -> Option<u32>
-    ensures { result ≡ tag_in_of small key.now subtags.now }
+    ensures { result ≡ PrivateUse.tag_in small key.now subtags.now }
 {
     match key_place(subtags, key) {
         Some(at) => tag_from(small, subtags, at),
@@ -172,14 +165,15 @@ fn tag_in(small: bool, key: &[u8], subtags: &[u8]) -> Option<u32>
 
 /// The tag after the first place of a key in the private use of a name.
 fn private_tag(small: bool, key: &[u8], name: &[u8]) -> Option<u32>
-    ensures { result ≡ private_tag_of small key.now name.now }
+    ensures { result ≡ PrivateUse.private_tag small key.now name.now }
 {
     tag_in(small, key, private_subtags(name))
 }
 
 /// The tag of a script that a language names.
 pub(crate) fn private_script_tag(language: Option<&Language>) -> Option<u32>
-    ensures { result ≡ private_script_tag_of (option_map (λ l. string_bytes l.now.0) language.entry) }
+    ensures { result ≡ language_rules.private_script_tag (option_map
+        (λ l. string_bytes l.now.0) language.entry) }
 {
     match language {
         Some(language) => private_tag(true, b"-hbsc", language.0.as_bytes()),
@@ -189,7 +183,7 @@ pub(crate) fn private_script_tag(language: Option<&Language>) -> Option<u32>
 
 /// The tag of a language system that a language's name names.
 pub(crate) fn private_language_tag(name: &[u8]) -> Option<u32>
-    ensures { result ≡ private_language_tag_of name.now }
+    ensures { result ≡ language_rules.private_language_tag name.now }
 {
     private_tag(false, b"-hbot", name)
 }

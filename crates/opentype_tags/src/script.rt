@@ -2,9 +2,8 @@
 ghost use Rattle.std.specs.Prelude.{◌≡◌, ◌<◌, ◌^◌, IfSome};
 ghost use Rattle.std.specs.Prelude.{string_bytes};
 ghost use Rattle.std.specs.Option.{option_map};
-ghost use Rattle.opentype_tags.specs.Script.{new_tag as new_tag_of, old_tag as old_tag_of, new_tags as new_tags_of};
-ghost use Rattle.opentype_tags.specs.Script.{tags_of_script as tags_of_script_of};
-ghost use Rattle.opentype_tags.specs.Language.{script_tags as script_tags_of};
+ghost use Rattle.opentype_tags.specs.Script as script_rules;
+ghost use Rattle.opentype_tags.specs.Language as language_rules;
 
 use crate::private_use::private_script_tag;
 use crate::tag_list::TagList;
@@ -12,7 +11,7 @@ use shape_common::{Language, Script, hb_tag_t};
 
 /// The tag of a script whose shaping was defined anew, in version 2.
 fn new_tag(script: u32) -> Option<u32>
-    ensures value { result ≡ new_tag_of script }
+    ensures value { result ≡ script_rules.new_tag script }
     ensures small { IfSome result (λ tag. tag < 2 ^ 31) }
 {
     match script {
@@ -32,7 +31,7 @@ fn new_tag(script: u32) -> Option<u32>
 
 /// The first tag that a script was given.
 fn old_tag(script: u32) -> u32
-    ensures { result ≡ old_tag_of script }
+    ensures { result ≡ script_rules.old_tag script }
 {
     match script {
         0x5A6D_7468 => 0x6D61_7468, // Zmth: math
@@ -47,7 +46,7 @@ fn old_tag(script: u32) -> u32
 
 /// Version 3 before version 2. Myanmar has no version 3.
 fn new_tags(script: u32) -> TagList
-    ensures { result ≡ new_tags_of (new_tag_of script) }
+    ensures { result ≡ script_rules.new_tags (script_rules.new_tag script) }
 {
     match new_tag(script) {
         None => TagList::new(),
@@ -57,7 +56,7 @@ fn new_tags(script: u32) -> TagList
 }
 
 fn tags_of_script(script: Option<Script>) -> TagList
-    ensures { result ≡ tags_of_script_of script }
+    ensures { result ≡ script_rules.tags_of_script script }
 {
     match script {
         None => TagList::new(),
@@ -75,7 +74,8 @@ fn tags_of_script(script: Option<Script>) -> TagList
 /// letters and digits or by eight hexadecimal digits after a further hyphen (HarfBuzz,
 /// `hb_ot_tags_from_script_and_language`; "Script tags" of the OpenType specification).
 pub fn script_tags(script: Option<Script>, language: Option<&Language>) -> TagList
-    ensures { result ≡ script_tags_of script (option_map (λ l. string_bytes l.now.0) language.entry) }
+    ensures { result ≡ language_rules.script_tags script (option_map
+        (λ l. string_bytes l.now.0) language.entry) }
 {
     match private_script_tag(language) {
         Some(tag) => TagList::one(tag),

@@ -4,23 +4,13 @@
 //! registered subtags. The name is given in HarfBuzz's spelling: small letters, digits and hyphens.
 ghost use Rattle.std.specs.Prelude.{◌≡◌, ◌≤◌, ◌<◌, ◌^◌, length, drop, slice_index, IfSome};
 ghost use Rattle.shape_font.specs.Search.{first_at};
-ghost use Rattle.opentype_tags.specs.Subtags.{begins_at as begins_at_of};
-ghost use Rattle.opentype_tags.specs.Subtags.{first_subtag as first_subtag_of, after_first as after_first_of};
-ghost use Rattle.opentype_tags.specs.Subtags.{is_before_singleton as is_before_singleton_of};
-ghost use Rattle.opentype_tags.specs.Subtags.{is_before_private as is_before_private_of};
-ghost use Rattle.opentype_tags.specs.Subtags.{first_length as first_length_of};
-ghost use Rattle.opentype_tags.specs.Subtags.{is_all_private as is_all_private_of};
-ghost use Rattle.opentype_tags.specs.Subtags.{registered_subtags as registered_subtags_of};
-ghost use Rattle.opentype_tags.specs.Subtags.{private_subtags as private_subtags_of};
-ghost use Rattle.opentype_tags.specs.Subtags.{is_subtag_at as is_subtag_at_of, has_subtag as has_subtag_of};
-ghost use Rattle.opentype_tags.specs.Subtags.{begins_with as begins_with_of};
-ghost use Rattle.opentype_tags.specs.Subtags.{is_alphanumeric as is_alphanumeric_of};
+ghost use Rattle.opentype_tags.specs.Subtags;
 
 use shape_font::bytes::u8_at;
 
 /// Whether a byte is a letter or a digit of ASCII.
 pub(crate) fn is_alphanumeric(byte: u8) -> bool
-    ensures { result ≡ is_alphanumeric_of byte }
+    ensures { result ≡ Subtags.is_alphanumeric byte }
 {
     matches!(byte, b'0'..=b'9' | b'a'..=b'z' | b'A'..=b'Z')
 }
@@ -34,14 +24,14 @@ pub(crate) fn bytes_from(bytes: &[u8], at: usize) -> &[u8]
 
 /// Whether the bytes from a place on begin with those given.
 pub(crate) fn begins_at(name: &[u8], subtags: &[u8], at: usize) -> bool
-    ensures { result ≡ begins_at_of name.now subtags.now at }
+    ensures { result ≡ Subtags.begins_at name.now subtags.now at }
 {
     bytes_from(name, at).starts_with(subtags)
 }
 
 /// How long the subtag is that a name begins with.
 fn first_length(name: &[u8]) -> usize
-    ensures value { result ≡ first_length_of name.now }
+    ensures value { result ≡ Subtags.first_length name.now }
     ensures within { result ≤ length name.now }
 {
     name.iter().take_while(|byte| **byte != b'-').count()
@@ -49,14 +39,14 @@ fn first_length(name: &[u8]) -> usize
 
 /// The subtag that a name begins with.
 pub(crate) fn first_subtag(name: &[u8]) -> &[u8]
-    ensures { result.now ≡ first_subtag_of name.now }
+    ensures { result.now ≡ Subtags.first_subtag name.now }
 {
     &name[..first_length(name)]
 }
 
 /// What follows the first subtag and its hyphen.
 pub(crate) fn after_first(name: &[u8]) -> &[u8]
-    ensures { result.now ≡ after_first_of name.now }
+    ensures { result.now ≡ Subtags.after_first name.now }
 {
     bytes_from(name, first_length(name) + 1)
 }
@@ -64,7 +54,7 @@ pub(crate) fn after_first(name: &[u8]) -> &[u8]
 /// Whether a hyphen stands at a place, and a subtag of one byte that isn't the last one after it.
 fn is_before_singleton(name: &[u8], at: usize) -> bool
     requires { at < 2 ^ 63 }
-    ensures { result ≡ is_before_singleton_of name.now at }
+    ensures { result ≡ Subtags.is_before_singleton name.now at }
 {
     u8_at(name, at) == b'-' && u8_at(name, at + 2) == b'-'
 }
@@ -72,7 +62,7 @@ fn is_before_singleton(name: &[u8], at: usize) -> bool
 /// Whether private use begins after the hyphen at a place.
 fn is_before_private(name: &[u8], at: usize) -> bool
     requires { at < 2 ^ 63 }
-    ensures { result ≡ is_before_private_of name.now at }
+    ensures { result ≡ Subtags.is_before_private name.now at }
 {
     is_before_singleton(name, at) && u8_at(name, at + 1) == b'x'
 }
@@ -80,7 +70,7 @@ fn is_before_private(name: &[u8], at: usize) -> bool
 /// The hyphen before the first extension or private use.
 #[tactic(auto, using(shape_font::proofs::SearchLemmas::first_at_next, shape_font::proofs::SearchLemmas::first_at_found, shape_font::proofs::SearchLemmas::first_at_end))]
 fn first_singleton(name: &[u8]) -> Option<usize>
-    ensures { result ≡ first_at (is_before_singleton_of name.now) (length name.now) 0 }
+    ensures { result ≡ first_at (Subtags.is_before_singleton name.now) (length name.now) 0 }
 {
     for at in 0..name.len() {
         if is_before_singleton(name, at) {
@@ -93,7 +83,7 @@ fn first_singleton(name: &[u8]) -> Option<usize>
 /// The hyphen before private use.
 #[tactic(auto, using(shape_font::proofs::SearchLemmas::first_at_next, shape_font::proofs::SearchLemmas::first_at_found, shape_font::proofs::SearchLemmas::first_at_end))]
 fn first_private(name: &[u8]) -> Option<usize>
-    ensures value { result ≡ first_at (is_before_private_of name.now) (length name.now) 0 }
+    ensures value { result ≡ first_at (Subtags.is_before_private name.now) (length name.now) 0 }
     ensures within { IfSome result (λ at. at < length name.now) }
 {
     for at in 0..name.len() {
@@ -106,14 +96,14 @@ fn first_private(name: &[u8]) -> Option<usize>
 
 /// Whether a name is of private use alone.
 fn is_all_private(name: &[u8]) -> bool
-    ensures { result ≡ is_all_private_of name.now }
+    ensures { result ≡ Subtags.is_all_private name.now }
 {
     name.starts_with(b"x-")
 }
 
 /// What comes before the first extension.
 pub(crate) fn registered_subtags(name: &[u8]) -> &[u8]
-    ensures { result.now ≡ registered_subtags_of name.now }
+    ensures { result.now ≡ Subtags.registered_subtags name.now }
 {
     if is_all_private(name) {
         return &[];
@@ -126,7 +116,7 @@ pub(crate) fn registered_subtags(name: &[u8]) -> &[u8]
 
 /// The subtags of private use, from its `x` on; empty if there is none.
 pub(crate) fn private_subtags(name: &[u8]) -> &[u8]
-    ensures { result.now ≡ private_subtags_of name.now }
+    ensures { result.now ≡ Subtags.private_subtags name.now }
 {
     if is_all_private(name) {
         return name;
@@ -140,7 +130,7 @@ pub(crate) fn private_subtags(name: &[u8]) -> &[u8]
 /// Whether a subtag after the first, given with its hyphen, stands at a place.
 fn is_subtag_at(name: &[u8], subtag: &[u8], at: usize) -> bool
     requires { at < length name.now }
-    ensures { result ≡ is_subtag_at_of name.now subtag.now at }
+    ensures { result ≡ Subtags.is_subtag_at name.now subtag.now at }
 {
     begins_at(name, subtag, at) && !is_alphanumeric(u8_at(name, at + subtag.len()))
 }
@@ -148,7 +138,7 @@ fn is_subtag_at(name: &[u8], subtag: &[u8], at: usize) -> bool
 /// Whether a name has a subtag, given with its hyphen, after its first one.
 #[tactic(auto, using(shape_font::proofs::SearchLemmas::first_at_next, shape_font::proofs::SearchLemmas::first_at_found, shape_font::proofs::SearchLemmas::first_at_end))]
 fn subtag_place(name: &[u8], subtag: &[u8]) -> Option<usize>
-    ensures { result ≡ first_at (is_subtag_at_of name.now subtag.now) (length name.now) 0 }
+    ensures { result ≡ first_at (Subtags.is_subtag_at name.now subtag.now) (length name.now) 0 }
 {
     for at in 0..name.len() {
         if is_subtag_at(name, subtag, at) {
@@ -160,14 +150,14 @@ fn subtag_place(name: &[u8], subtag: &[u8]) -> Option<usize>
 
 /// Whether a name has a subtag, given with its hyphen, after its first one.
 pub(crate) fn has_subtag(name: &[u8], subtag: &[u8]) -> bool
-    ensures { result ≡ has_subtag_of name.now subtag.now }
+    ensures { result ≡ Subtags.has_subtag name.now subtag.now }
 {
     subtag_place(name, subtag).is_some()
 }
 
 /// Whether a name begins with whole subtags, given with the hyphens between them.
 pub(crate) fn begins_with(name: &[u8], subtags: &[u8]) -> bool
-    ensures { result ≡ begins_with_of name.now subtags.now }
+    ensures { result ≡ Subtags.begins_with name.now subtags.now }
 {
     begins_at(name, subtags, 0) && matches!(u8_at(name, subtags.len()), 0 | b'-')
 }

@@ -2,8 +2,7 @@
 ghost use Rattle.std.specs.Prelude.{◌≡◌, ◌&&◌, nat_lt, pos, ◌∷◌, ◌++◌, List, IfOk};
 ghost use Rattle.shape_common.specs.Wrapping.{◌+ʷ◌};
 ghost use Rattle.shape_items.specs.declared.clusters.glyph_clusters.GlyphCluster.{GlyphCluster};
-ghost use Rattle.shape_carets.specs.Cells.{cell as cell_at, cells_after, cells_of, move_of as move_in};
-ghost use Rattle.shape_carets.specs.Cells.{Rises};
+ghost use Rattle.shape_carets.specs.Cells;
 
 use shape_common::wrapping::{negative, sum};
 use shape_items::GlyphCluster;
@@ -25,8 +24,8 @@ pub(super) fn cells(
     text_end: u32,
 ) -> Result<Vec<Cell>, AllocError>
     ensures are { IfOk result (λ cells. cells.items
-        ≡ cells_of backward text_start text_end clusters.now) }
-    ensures rise { IfOk result (λ cells. Rises text_end cells.items) }
+        ≡ Cells.cells_of backward text_start text_end clusters.now) }
+    ensures rise { IfOk result (λ cells. Cells.Rises text_end cells.items) }
 {
     if text_end <= text_start {
         return Ok(Vec::new(alloc));
@@ -52,8 +51,8 @@ fn add(
     text_end: u32,
 ) -> Result<Cell, AllocError>
     ensures { IfOk result (λ next. (rest : List GlyphCluster) → cells.new.items
-        ++ cells_after backward text_end next.offset next.advance rest ≡ cells.old.items
-        ++ cells_after backward text_end cell.offset cell.advance (cluster ∷ rest)) }
+        ++ Cells.cells_after backward text_end next.offset next.advance rest ≡ cells.old.items
+        ++ Cells.cells_after backward text_end cell.offset cell.advance (cluster ∷ rest)) }
 {
     if !begins(cell, cluster, text_end) {
         return Ok(widened(cell, cluster, backward));
@@ -71,7 +70,7 @@ fn begins(cell: Cell, cluster: GlyphCluster, text_end: u32) -> bool
 
 /// The cell that a cluster begins.
 fn begun(cluster: GlyphCluster, backward: bool) -> Cell
-    ensures { result ≡ cell_at cluster.cluster (move_in backward cluster.advance) }
+    ensures { result ≡ Cells.cell cluster.cluster (Cells.move_of backward cluster.advance) }
 {
     Cell {
         offset: cluster.cluster,
@@ -81,7 +80,8 @@ fn begun(cluster: GlyphCluster, backward: bool) -> Cell
 
 /// A cell with the glyphs of one more cluster.
 fn widened(cell: Cell, cluster: GlyphCluster, backward: bool) -> Cell
-    ensures { result ≡ cell_at cell.offset (cell.advance +ʷ move_in backward cluster.advance) }
+    ensures { result ≡ Cells.cell cell.offset
+        (cell.advance +ʷ Cells.move_of backward cluster.advance) }
 {
     Cell {
         offset: cell.offset,
@@ -91,7 +91,7 @@ fn widened(cell: Cell, cluster: GlyphCluster, backward: bool) -> Cell
 
 /// How far an advance moves the caret: back, if the text runs backward.
 fn move_of(backward: bool, advance: i32) -> i32
-    ensures { result ≡ move_in backward advance }
+    ensures { result ≡ Cells.move_of backward advance }
 {
     if backward { negative(advance) } else { advance }
 }

@@ -1,8 +1,6 @@
 //! What a selection covers of a line.
 ghost use Rattle.std.specs.Prelude.{◌≡◌};
-ghost use Rattle.shape_carets.specs.Selections.{selection_of, covered};
-ghost use Rattle.shape_carets.specs.Selections.{span_between as span_of, united as united_of};
-ghost use Rattle.shape_carets.specs.Selections.{is_selected as is_selected_in};
+ghost use Rattle.shape_carets.specs.Selections;
 
 use crate::caret::Caret;
 
@@ -17,7 +15,7 @@ pub struct Span {
 /// carets is covered whole, if some of it is selected. The pieces that are selected stand one after the other, so they make
 /// one span. Nothing is covered, if there is no text in the range.
 pub fn selection(carets: &[Caret], start: u32, end: u32) -> Option<Span>
-    ensures { result ≡ selection_of carets.now start end }
+    ensures { result ≡ Selections.selection_of carets.now start end }
 {
     let mut selected = None;
     for place in (0..carets.len()).rev() {
@@ -30,7 +28,7 @@ pub fn selection(carets: &[Caret], start: u32, end: u32) -> Option<Span>
 
 /// What is covered from a caret on, given what is from the next caret on.
 fn with_piece(from: Caret, to: Caret, start: u32, end: u32, rest: Option<Span>) -> Option<Span>
-    ensures { result ≡ covered from to start end rest }
+    ensures { result ≡ Selections.covered from to start end rest }
 {
     if is_selected(from.offset, to.offset, start, end) {
         Some(united(span_between(from.x, to.x), rest))
@@ -41,14 +39,14 @@ fn with_piece(from: Caret, to: Caret, start: u32, end: u32, rest: Option<Span>) 
 
 /// Whether a piece of text has some of a range.
 fn is_selected(from: u32, to: u32, start: u32, end: u32) -> bool
-    ensures { result ≡ is_selected_in from to start end }
+    ensures { result ≡ Selections.is_selected from to start end }
 {
     from.max(start) < to.min(end)
 }
 
 /// The piece of a line between two carets.
 fn span_between(a: i32, b: i32) -> Span
-    ensures { result ≡ span_of a b }
+    ensures { result ≡ Selections.span_between a b }
 {
     Span {
         start: a.min(b),
@@ -58,7 +56,7 @@ fn span_between(a: i32, b: i32) -> Span
 
 /// The least span that has two, the second if there is one.
 fn united(span: Span, other: Option<Span>) -> Span
-    ensures { result ≡ united_of span other }
+    ensures { result ≡ Selections.united span other }
 {
     match other {
         None => span,

@@ -1,8 +1,6 @@
 //! Scripts by name, and by tags that callers bring.
 ghost use Rattle.std.specs.Prelude.{◌≡◌};
-ghost use Rattle.shape_common.specs.ScriptTags.{is_specific};
-ghost use Rattle.shape_common.specs.ScriptTags.{in_standard_case as in_standard_case_of};
-ghost use Rattle.shape_common.specs.ScriptTags.{main_script as main_script_of, script_of_tag};
+ghost use Rattle.shape_common.specs.ScriptTags;
 
 use crate::{Script, hb_tag_t};
 
@@ -74,7 +72,7 @@ impl Script {
     /// (Hans is Hani), as is a name that it had before. None for the tag 0, and Unknown for what doesn't look
     /// like a name (HarfBuzz, `hb_script_from_iso15924_tag`).
     pub fn from_iso15924_tag(tag: hb_tag_t) -> Option<Script>
-        ensures { result ≡ script_of_tag tag.0 }
+        ensures { result ≡ ScriptTags.script_of_tag tag.0 }
     {
         if tag.0 == 0 {
             return None;
@@ -95,7 +93,7 @@ impl Script {
 
     /// Whether the script is neither Common nor Inherited nor Unknown.
     pub fn is_specific(self) -> bool
-        ensures { result ≡ is_specific self }
+        ensures { result ≡ ScriptTags.is_specific self }
     {
         self != Script::COMMON && self != Script::INHERITED && self != Script::UNKNOWN
     }
@@ -103,14 +101,14 @@ impl Script {
 
 /// The tag with one capital letter and three small ones.
 fn in_standard_case(tag: u32) -> u32
-    ensures { result ≡ in_standard_case_of tag }
+    ensures { result ≡ ScriptTags.in_standard_case tag }
 {
     tag & 0xDFDF_DFDF | 0x0020_2020
 }
 
 /// The script that a tag names a variant of, or named before; any other tag as it is.
 fn main_script(tag: u32) -> u32
-    ensures { result ≡ main_script_of tag }
+    ensures { result ≡ ScriptTags.main_script tag }
 {
     match tag {
         0x5161_6169 => Script::INHERITED.0.0,

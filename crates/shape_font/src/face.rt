@@ -7,10 +7,10 @@ ghost use Rattle.shape_font.specs.Subtables.{chosen_subtable, symbols_of};
 ghost use Rattle.shape_font.specs.Variations.{sequences_of};
 ghost use Rattle.shape_font.specs.Directory.{bytes_of, has_table};
 ghost use Rattle.shape_font.specs.Metrics.{long_metrics};
-ghost use Rattle.shape_font.specs.Names.{glyph_name as glyph_name_of};
+ghost use Rattle.shape_font.specs.Names;
 ghost use Rattle.shape_font.specs.declared.names.TheConstants.{STANDARD};
 ghost use Rattle.shape_font.specs.declared.tags.TheConstants.{HEAD, HHEA, MAXP, HMTX, VHEA, VMTX, VORG, OS2, CMAP, LOCA, GLYF, GSUB, GPOS, GDEF, MORX, KERX, TRAK, KERN, POST};
-ghost use Rattle.shape_font.specs.Face.{font_face, numbered as numbered_of, glyph_of, variant_of, h_advance_of, line_height, v_advance_of, inked_of, extents_of, half_room, origin_over, v_origin_of};
+ghost use Rattle.shape_font.specs.Face;
 
 use crate::bytes::{u16_at, u32_at};
 use crate::directory::Directory;
@@ -56,7 +56,7 @@ pub struct FontFace<'a> {
 
 /// The glyph with this number, whether the font has so many or not; 0 is none.
 fn numbered(glyph: u32) -> Option<GlyphId>
-    ensures { result ≡ numbered_of glyph }
+    ensures { result ≡ Face.numbered glyph }
 {
     if 0 < glyph {
         Some(GlyphId(glyph))
@@ -195,7 +195,7 @@ impl<'a> FontFace<'a> {
     /// The glyph's name by `post`; none if the table has none for it, or an empty one.
     pub fn glyph_name(&self, glyph: GlyphId) -> Option<&'a [u8]>
         ensures { option_map (λ s. s.now) result
-            ≡ glyph_name_of STANDARD.now self.now.post.now glyph.0 }
+            ≡ Names.glyph_name STANDARD.now self.now.post.now glyph.0 }
     {
         names::glyph_name(self.post, glyph.0)
     }
@@ -216,14 +216,14 @@ impl<'a> FontFace<'a> {
 
     /// The glyph of a character by `cmap`. It may be past the last glyph of the font.
     fn glyph(&self, c: char) -> Option<GlyphId>
-        ensures { result ≡ glyph_of self.now c }
+        ensures { result ≡ Face.glyph_of self.now c }
     {
         numbered(self.glyph_number(u32::from(c)))
     }
 
     /// The glyph of a character before a selector: its own, or the character's if it looks as it does alone.
     fn variant(&self, c: char, selector: char) -> Option<GlyphId>
-        ensures { result ≡ variant_of self.now c selector }
+        ensures { result ≡ Face.variant_of self.now c selector }
     {
         match variation(self.sequences, u32::from(c), u32::from(selector)) {
             GlyphVariant::Missing => None,
@@ -234,7 +234,7 @@ impl<'a> FontFace<'a> {
 
     /// The advance of a glyph, half of the em square in a font without advances, 0 past the last glyph.
     fn advance(&self, glyph: GlyphId) -> i32
-        ensures { result ≡ h_advance_of self.now glyph }
+        ensures { result ≡ Face.h_advance_of self.now glyph }
     {
         if u32::from(self.glyph_count) <= glyph.0 {
             0
@@ -247,7 +247,7 @@ impl<'a> FontFace<'a> {
 
     /// How high a line is.
     fn height(&self) -> i32
-        ensures value { result ≡ pos (line_height self.now) }
+        ensures value { result ≡ pos (Face.line_height self.now) }
         ensures high { result ≤ℤ pos 65536 }
     {
         (metrics::ascender(self.os2, self.hhea) + metrics::descender(self.os2, self.hhea)) as i32
@@ -255,7 +255,7 @@ impl<'a> FontFace<'a> {
 
     /// The advance downwards, the height of a line in a font without such advances, 0 past the last glyph.
     fn advance_down(&self, glyph: GlyphId) -> i32
-        ensures { result ≡ v_advance_of self.now glyph }
+        ensures { result ≡ Face.v_advance_of self.now glyph }
     {
         if self.v_count == 0 {
             -self.height()
@@ -269,7 +269,7 @@ impl<'a> FontFace<'a> {
     /// The box of a glyph's outline.
     #[tactic(auto, unfolding(crate::specs::Face::inked_of))]
     fn inked(&self, glyph: u32) -> hb_glyph_extents_t
-        ensures value { result ≡ inked_of self.now glyph }
+        ensures value { result ≡ Face.inked_of self.now glyph }
         ensures long { negsuc 65535 ≤ℤ result.height }
         ensures short { result.height ≤ℤ pos 65535 }
     {
@@ -288,7 +288,7 @@ impl<'a> FontFace<'a> {
 
     /// The box of a glyph, none in a font without `glyf` and none past the last glyph.
     fn extents(&self, glyph: GlyphId) -> Option<hb_glyph_extents_t>
-        ensures { result ≡ extents_of self.now glyph }
+        ensures { result ≡ Face.extents_of self.now glyph }
     {
         if self.has_box(glyph) {
             Some(self.inked(glyph.0))
@@ -301,14 +301,14 @@ impl<'a> FontFace<'a> {
     fn half_room(&self, height: i32) -> i32
         requires long { negsuc 65535 ≤ℤ height }
         requires short { height ≤ℤ pos 65535 }
-        ensures { result ≡ half_room self.now height }
+        ensures { result ≡ Face.half_room self.now height }
     {
         metrics::half_below(self.height() + height)
     }
 
     /// The height of the origin over a glyph's box.
     fn over(&self, glyph: u32) -> i32
-        ensures { result ≡ origin_over self.now glyph (inked_of self.now glyph) }
+        ensures { result ≡ Face.origin_over self.now glyph (Face.inked_of self.now glyph) }
     {
         let inked = self.inked(glyph);
         match metrics::bearing(self.vmtx, self.v_count, glyph) {
@@ -319,7 +319,7 @@ impl<'a> FontFace<'a> {
 
     /// The height of the origin of vertical lines: by `VORG`, by the box, or at the top of a line.
     fn origin(&self, glyph: GlyphId) -> i32
-        ensures { result ≡ v_origin_of self.now glyph }
+        ensures { result ≡ Face.v_origin_of self.now glyph }
     {
         if u32_at(self.vorg, 0) != 0 {
             metrics::origin(self.vorg, glyph.0)
@@ -332,7 +332,7 @@ impl<'a> FontFace<'a> {
 }
 
 impl<'a> hb_font_t for FontFace<'a> {
-    ghost face = { font_face };
+    ghost face = { Face.font_face };
 
     fn get_nominal_glyph(&self, c: char) -> Option<GlyphId> {
         self.glyph(c)

@@ -1,7 +1,7 @@
 //! Names of glyphs: formats 1 and 2 of the table `post`.
 ghost use Rattle.std.specs.Prelude.{◌≡◌, ◌+◌, ◌*◌, ◌<◌, ◌^◌};
 ghost use Rattle.std.specs.Option.{option_map, IfSome};
-ghost use Rattle.shape_font.specs.Names.{string_start as string_start_of, string_of, name_index as name_index_of, name_of, glyph_name as glyph_name_of};
+ghost use Rattle.shape_font.specs.Names;
 
 use crate::bytes::{records, u8_at, u16_at, u32_at};
 
@@ -44,7 +44,7 @@ const STANDARD_COUNT: u32 = 258;
 fn string_start(table: &[u8], k: u32, at: usize) -> usize
     requires few { k < 2 ^ 16 }
     requires near { at < 2 ^ 32 }
-    ensures value { result ≡ string_start_of table.now k at }
+    ensures value { result ≡ Names.string_start table.now k at }
     ensures small { result < 2 ^ 40 }
 {
     let mut start = at;
@@ -58,7 +58,7 @@ fn string_start(table: &[u8], k: u32, at: usize) -> usize
 fn string(table: &[u8], k: u32, at: usize) -> Option<&[u8]>
     requires few { k < 2 ^ 16 }
     requires near { at < 2 ^ 32 }
-    ensures { option_map (λ s. s.now) result ≡ string_of table.now k at }
+    ensures { option_map (λ s. s.now) result ≡ Names.string_of table.now k at }
 {
     let start = string_start(table, k, at);
     let len = usize::from(u8_at(table, start));
@@ -71,7 +71,7 @@ fn string(table: &[u8], k: u32, at: usize) -> Option<&[u8]>
 
 /// The number of a glyph's name: its own in format 1, the one in the list of format 2.
 fn name_index(post: &[u8], glyph: u32) -> Option<u32>
-    ensures value { result ≡ name_index_of post.now glyph }
+    ensures value { result ≡ Names.name_index post.now glyph }
     ensures small { IfSome result (λ index. index < 2 ^ 16) }
 {
     let listed = match u32_at(post, 0) {
@@ -92,7 +92,7 @@ fn name_index(post: &[u8], glyph: u32) -> Option<u32>
 /// The name with a number: one of those that are left out, or one of the strings after the list.
 fn name(post: &[u8], index: u32) -> Option<&[u8]>
     requires { index < 2 ^ 16 }
-    ensures { option_map (λ s. s.now) result ≡ name_of STANDARD.now post.now index }
+    ensures { option_map (λ s. s.now) result ≡ Names.name_of STANDARD.now post.now index }
 {
     if index < STANDARD_COUNT {
         string(STANDARD, index, 0)
@@ -107,7 +107,7 @@ fn name(post: &[u8], index: u32) -> Option<&[u8]>
 
 /// The name of a glyph; none if the table has none for it, or an empty one.
 pub fn glyph_name(post: &[u8], glyph: u32) -> Option<&[u8]>
-    ensures { option_map (λ s. s.now) result ≡ glyph_name_of STANDARD.now post.now glyph }
+    ensures { option_map (λ s. s.now) result ≡ Names.glyph_name STANDARD.now post.now glyph }
 {
     match name_index(post, glyph) {
         Some(index) => name(post, index),

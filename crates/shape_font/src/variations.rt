@@ -3,7 +3,7 @@
 //! For each selector a font says which characters look under it as they do alone, and which have a glyph of their
 //! own. Another character has no glyph under it.
 ghost use Rattle.std.specs.Prelude.{◌≡◌, ◌<◌, ◌^◌};
-ghost use Rattle.shape_font.specs.Variations.{sequences_of, side_of_selector, selector_of, sequences_from, side_of_range, is_default as is_default_of, side_of_mapping, own_glyph as own_glyph_of, variation_of};
+ghost use Rattle.shape_font.specs.Variations;
 
 use crate::bytes::{records, u8_at, u16_at, u24_at, u32_at};
 use crate::search::{found, side};
@@ -26,7 +26,7 @@ pub enum GlyphVariant {
 
 /// The table of sequences; an empty one if `cmap` has none.
 pub fn sequences(cmap: &[u8]) -> &[u8]
-    ensures { result.now ≡ sequences_of cmap.now }
+    ensures { result.now ≡ Variations.sequences_of cmap.now }
 {
     match subtable(cmap, SEQUENCES) {
         Some(table) if u16_at(table, 0) == 14 => table,
@@ -36,7 +36,7 @@ pub fn sequences(cmap: &[u8]) -> &[u8]
 
 /// Where a selector stands to record `i`.
 fn selector_side(table: &[u8], selector: u32, i: u32) -> Ordering
-    ensures { result ≡ side_of_selector table.now selector i }
+    ensures { result ≡ Variations.side_of_selector table.now selector i }
 {
     let there = u24_at(table, 10 + 11 * i as usize);
     side(selector, there, there)
@@ -44,7 +44,7 @@ fn selector_side(table: &[u8], selector: u32, i: u32) -> Ordering
 
 /// The record of a selector.
 fn record(table: &[u8], selector: u32) -> Option<u32>
-    ensures { result ≡ selector_of table.now selector }
+    ensures { result ≡ Variations.selector_of table.now selector }
 {
     let count = records(table, u32_at(table, 6), 10, 11);
     found(count, |i| selector_side(table, selector, i))
@@ -53,7 +53,7 @@ fn record(table: &[u8], selector: u32) -> Option<u32>
 /// What stands in the table from the place on that the number at `at` names; nothing if that is 0.
 fn sequences_from(table: &[u8], at: usize) -> &[u8]
     requires { at < 2 ^ 40 }
-    ensures { result.now ≡ sequences_from table.now at }
+    ensures { result.now ≡ Variations.sequences_from table.now at }
 {
     match u32_at(table, at) {
         0 => &[],
@@ -63,7 +63,7 @@ fn sequences_from(table: &[u8], at: usize) -> &[u8]
 
 /// Where a character stands to range `i` of those that look as they do alone.
 fn range_side(ranges: &[u8], c: u32, i: u32) -> Ordering
-    ensures { result ≡ side_of_range ranges.now c i }
+    ensures { result ≡ Variations.side_of_range ranges.now c i }
 {
     let at = 4 + 4 * i as usize;
     let start = u24_at(ranges, at);
@@ -72,7 +72,7 @@ fn range_side(ranges: &[u8], c: u32, i: u32) -> Ordering
 
 /// Whether the character looks as it does alone.
 fn is_default(ranges: &[u8], c: u32) -> bool
-    ensures { result ≡ is_default_of ranges.now c }
+    ensures { result ≡ Variations.is_default ranges.now c }
 {
     let count = records(ranges, u32_at(ranges, 0), 4, 4);
     found(count, |i| range_side(ranges, c, i)).is_some()
@@ -80,7 +80,7 @@ fn is_default(ranges: &[u8], c: u32) -> bool
 
 /// Where a character stands to row `i` of those with glyphs of their own.
 fn mapping_side(mappings: &[u8], c: u32, i: u32) -> Ordering
-    ensures { result ≡ side_of_mapping mappings.now c i }
+    ensures { result ≡ Variations.side_of_mapping mappings.now c i }
 {
     let there = u24_at(mappings, 4 + 5 * i as usize);
     side(c, there, there)
@@ -88,7 +88,7 @@ fn mapping_side(mappings: &[u8], c: u32, i: u32) -> Ordering
 
 /// The glyph that the character has of its own, or 0.
 fn own_glyph(mappings: &[u8], c: u32) -> u32
-    ensures { result ≡ own_glyph_of mappings.now c }
+    ensures { result ≡ Variations.own_glyph mappings.now c }
 {
     let count = records(mappings, u32_at(mappings, 0), 4, 5);
     match found(count, |i| mapping_side(mappings, c, i)) {
@@ -99,7 +99,7 @@ fn own_glyph(mappings: &[u8], c: u32) -> u32
 
 /// What the table of sequences says of a character before a selector.
 pub fn variation(table: &[u8], c: u32, selector: u32) -> GlyphVariant
-    ensures { result ≡ variation_of table.now c selector }
+    ensures { result ≡ Variations.variation_of table.now c selector }
 {
     let Some(i) = record(table, selector) else {
         return GlyphVariant::Missing;

@@ -6,8 +6,7 @@
 //! hook may have left others.
 ghost use Rattle.std.specs.Prelude.{◌≡◌, false};
 ghost use Rattle.shape_buffer.specs.Outcome.{IsWithinLimit, Made, Ran};
-ghost use Rattle.shape_glyphs.specs.Advances.{positions_cleared, advanced, advanced_position};
-ghost use Rattle.shape_glyphs.specs.Advances.{glyph_of as glyph_of_item, IsExactDifference};
+ghost use Rattle.shape_glyphs.specs.Advances;
 ghost use Rattle.shape_glyphs.specs.Steps.{advance_steps};
 
 use shape_buffer::buffer::{GlyphId, GlyphPosition, hb_buffer_t, hb_glyph_info_t};
@@ -26,13 +25,14 @@ fn advance_position<F: hb_font_t>(
     info: &hb_glyph_info_t,
     position: GlyphPosition,
 ) -> GlyphPosition
-    ensures value { result ≡ advanced_position (F.face face.now) horizontal info.now position }
+    ensures value { result ≡ Advances.advanced_position
+        (F.face face.now) horizontal info.now position }
     ensures exact_x { horizontal ≡ false
-        → IsExactDifference position.x_offset
-        ((F.face face.now).h_origin (glyph_of_item info.now)) result.x_offset }
+        → Advances.IsExactDifference position.x_offset
+        ((F.face face.now).h_origin (Advances.glyph_of info.now)) result.x_offset }
     ensures exact_y { horizontal ≡ false
-        → IsExactDifference position.y_offset
-        ((F.face face.now).v_origin (glyph_of_item info.now)) result.y_offset }
+        → Advances.IsExactDifference position.y_offset
+        ((F.face face.now).v_origin (Advances.glyph_of info.now)) result.y_offset }
 {
     let glyph = GlyphId(info.glyph_id);
     if horizontal {
@@ -51,7 +51,7 @@ fn advance_position<F: hb_font_t>(
 
 /// Sets all six numbers of each position to 0. Takes no memory.
 pub fn clear_positions(buffer: &mut hb_buffer_t)
-    ensures { Made positions_cleared buffer.old buffer.new }
+    ensures { Made Advances.positions_cleared buffer.old buffer.new }
 {
     if buffer.positions().is_empty() {
         return;
@@ -64,7 +64,7 @@ pub fn clear_positions(buffer: &mut hb_buffer_t)
 /// `exact_y` of `advance_position`. Takes no memory.
 #[tactic(auto, unfolding(crate::specs::Advances::advanced))]
 pub fn put_advances<F: hb_font_t>(face: &F, buffer: &mut hb_buffer_t)
-    ensures { Made (advanced (F.face face.now)) buffer.old buffer.new }
+    ensures { Made (Advances.advanced (F.face face.now)) buffer.old buffer.new }
 {
     let horizontal = buffer.direction().is_horizontal();
     update_positions(

@@ -8,12 +8,9 @@
 ghost use Rattle.std.specs.Prelude.{◌≡◌, ◌==◌, false, IsTrue};
 ghost use Rattle.std.specs.List.{prefix_len};
 ghost use Rattle.std.specs.Int.RustNames.{bit_and};
-ghost use Rattle.shape_items.specs.Flags.{first_united, handed_flags as handed_flags_of};
-ghost use Rattle.shape_items.specs.Flags.{with_tatweel as with_tatweel_of};
-ghost use Rattle.shape_items.specs.Flags.{flags_propagated};
+ghost use Rattle.shape_items.specs.Flags as flag_rules;
 ghost use Rattle.shape_glyphs.specs.FlagWalk.{handed_by, handed_by_run};
 ghost use Rattle.shape_common.specs.FlagNames.{PRODUCE_UNSAFE_TO_CONCAT, UNSAFE_TO_CONCAT};
-ghost use Rattle.shape_items.specs.Flags.{HasOneSetOfFlags};
 ghost use Rattle.shape_items.specs.PreservesFlags.{some_has};
 ghost use Rattle.shape_items.specs.Items.{has_cluster};
 ghost use Rattle.shape_buffer.specs.Outcome.{Made};
@@ -44,7 +41,7 @@ fn count_in(infos: &[hb_glyph_info_t], cluster: u32) -> usize
 
 /// The defined flags of the first items, as long as they are in the cluster, united.
 fn united_flags(infos: &[hb_glyph_info_t], cluster: u32) -> hb_mask_t
-    ensures { result ≡ first_united cluster infos.now }
+    ensures { result ≡ flag_rules.first_united cluster infos.now }
 {
     infos
         .iter()
@@ -55,7 +52,7 @@ fn united_flags(infos: &[hb_glyph_info_t], cluster: u32) -> hb_mask_t
 /// The united flags of a cluster, if tatweel is asked for: a tatweel may not be put in where it is unsafe
 /// to break, and where it may be put in it is unsafe to break and to concat.
 fn with_tatweel(flags: BufferFlags, united: hb_mask_t) -> hb_mask_t
-    ensures { result ≡ with_tatweel_of flags united }
+    ensures { result ≡ flag_rules.with_tatweel flags united }
 {
     if !flags.contains(BufferFlags::PRODUCE_SAFE_TO_INSERT_TATWEEL) {
         united
@@ -70,7 +67,7 @@ fn with_tatweel(flags: BufferFlags, united: hb_mask_t) -> hb_mask_t
 
 /// Which of the united flags of a cluster are handed out: unsafe to concat only if it is asked for.
 fn handed_flags(flags: BufferFlags, united: hb_mask_t) -> hb_mask_t
-    ensures { result ≡ handed_flags_of flags united }
+    ensures { result ≡ flag_rules.handed_flags flags united }
 {
     let tatweel = with_tatweel(flags, united);
     if flags.contains(BufferFlags::PRODUCE_UNSAFE_TO_CONCAT) {
@@ -124,7 +121,7 @@ fn hand_on(
 
 /// Gives the items of each cluster the flags of all, if the run has seen flags.
 fn share_flags(buffer: &mut hb_buffer_t)
-    ensures { Made flags_propagated buffer.old buffer.new }
+    ensures { Made flag_rules.flags_propagated buffer.old buffer.new }
 {
     if !buffer
         .scratch_flags()
@@ -146,8 +143,8 @@ fn share_flags(buffer: &mut hb_buffer_t)
 /// as far as the caller asks for them, in place of each mask. If it hasn't seen any and no item has
 /// one, nothing is to be done. Takes no memory.
 pub fn propagate_flags(buffer: &mut hb_buffer_t)
-    ensures made { Made flags_propagated buffer.old buffer.new }
-    ensures one_set { IsHonest buffer.old → HasOneSetOfFlags buffer.new.items }
+    ensures made { Made flag_rules.flags_propagated buffer.old buffer.new }
+    ensures one_set { IsHonest buffer.old → flag_rules.HasOneSetOfFlags buffer.new.items }
     ensures concat { IsHonest buffer.old
         → (bit_and buffer.old.flags.0 PRODUCE_UNSAFE_TO_CONCAT == PRODUCE_UNSAFE_TO_CONCAT) ≡ false
         → some_has UNSAFE_TO_CONCAT buffer.new.items ≡ false }

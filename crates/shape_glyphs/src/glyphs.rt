@@ -5,10 +5,7 @@
 ghost use Rattle.std.specs.Prelude.{◌≡◌};
 ghost use Rattle.shape_buffer.specs.Outcome.{IsWithinLimit, Made, Ran};
 ghost use Rattle.shape_plan.specs.Run.{step_if};
-ghost use Rattle.shape_glyphs.specs.Classes.{class_of_glyph as class_of_glyph_of};
-ghost use Rattle.shape_glyphs.specs.Classes.{with_nominal_glyph as with_nominal_glyph_of};
-ghost use Rattle.shape_glyphs.specs.Classes.{with_class as with_class_of, glyphs_mapped};
-ghost use Rattle.shape_glyphs.specs.Classes.{classes_synthesised};
+ghost use Rattle.shape_glyphs.specs.Classes;
 ghost use Rattle.shape_glyphs.specs.Substitution.{glyph_steps};
 
 use crate::engine_calls::substitute_start;
@@ -23,7 +20,7 @@ use shape_plan::shaping_types::{Meaning, PlanOf, ShapingTypes};
 
 /// An item with the glyph that the face returned for its character.
 fn with_nominal_glyph(info: &hb_glyph_info_t) -> hb_glyph_info_t
-    ensures { result ≡ with_nominal_glyph_of info.now }
+    ensures { result ≡ Classes.with_nominal_glyph info.now }
 {
     let mut info = *info;
     info.glyph_id = info.glyph_index;
@@ -32,14 +29,14 @@ fn with_nominal_glyph(info: &hb_glyph_info_t) -> hb_glyph_info_t
 
 /// Makes the glyph of each item the one that the face returned for its character. Takes no memory.
 pub fn map_glyphs_fast(buffer: &mut hb_buffer_t)
-    ensures { Made glyphs_mapped buffer.old buffer.new }
+    ensures { Made Classes.glyphs_mapped buffer.old buffer.new }
 {
     update_items(buffer, |info| with_nominal_glyph(info));
 }
 
 /// The class of a glyph by its character.
 fn class_of_glyph(info: &hb_glyph_info_t) -> GlyphPropsFlags
-    ensures { result ≡ class_of_glyph_of info.now }
+    ensures { result ≡ Classes.class_of_glyph info.now }
 {
     let nonspacing = matches!(
         info._hb_glyph_info_get_general_category(),
@@ -54,7 +51,7 @@ fn class_of_glyph(info: &hb_glyph_info_t) -> GlyphPropsFlags
 
 /// An item with that class, as a glyph that no lookup has made. It has no mark attachment class.
 fn with_class(info: &hb_glyph_info_t) -> hb_glyph_info_t
-    ensures { result ≡ with_class_of info.now }
+    ensures { result ≡ Classes.with_class info.now }
 {
     let mut info = *info;
     info._hb_glyph_info_set_glyph_class(class_of_glyph(&info));
@@ -67,14 +64,14 @@ fn with_class(info: &hb_glyph_info_t) -> hb_glyph_info_t
 
 /// Makes up the class of each glyph, as one that no lookup has made. Takes no memory.
 pub fn hb_synthesize_glyph_classes(buffer: &mut hb_buffer_t)
-    ensures { Made classes_synthesised buffer.old buffer.new }
+    ensures { Made Classes.classes_synthesised buffer.old buffer.new }
 {
     update_items(buffer, |info| with_class(info));
 }
 
 /// Makes up the classes, if the plan says so, since the face has none.
 pub fn synthesize_classes<S, P, D>(plan: &hb_ot_shape_plan_t<'_, S, P, D>, buffer: &mut hb_buffer_t)
-    ensures { Made (step_if plan.now.decisions.fallback_glyph_classes classes_synthesised)
+    ensures { Made (step_if plan.now.decisions.fallback_glyph_classes Classes.classes_synthesised)
         buffer.old buffer.new }
 {
     if plan.fallback_glyph_classes() {

@@ -9,13 +9,7 @@ ghost use Rattle.shape_buffer.specs.Outcome.{Made};
 ghost use Rattle.shape_buffer.specs.PositionWalks.{positions_mapped};
 ghost use Rattle.shape_common.specs.declared.positions.GlyphPosition.{GlyphPosition as Position};
 ghost use Rattle.shape_items.specs.Items.{Item, is_ignorable_item};
-ghost use Rattle.shape_glyphs.specs.Ignorables.{hides_ignorables as hides_ignorables_of};
-ghost use Rattle.shape_glyphs.specs.Ignorables.{removes_ignorables as removes_ignorables_of};
-ghost use Rattle.shape_glyphs.specs.Ignorables.{without_values as without_values_of};
-ghost use Rattle.shape_glyphs.specs.Ignorables.{zeroed_ignorable, ignorables_zeroed};
-ghost use Rattle.shape_glyphs.specs.Ignorables.{unseen_glyph as unseen_glyph_of};
-ghost use Rattle.shape_glyphs.specs.Ignorables.{shown_as as shown_as_of, replaced_or_deleted};
-ghost use Rattle.shape_glyphs.specs.Ignorables.{ignorables_hidden};
+ghost use Rattle.shape_glyphs.specs.Ignorables;
 
 use bitflags::Flags;
 use shape_buffer::buffer::{
@@ -26,7 +20,7 @@ use shape_buffer::walks::update_items;
 
 /// Whether default ignorables are hidden: the run has seen some, and the flags don't preserve them.
 fn hides_ignorables(buffer: &hb_buffer_t) -> bool
-    ensures { result ≡ hides_ignorables_of buffer.now }
+    ensures { result ≡ Ignorables.hides_ignorables buffer.now }
 {
     buffer
         .scratch_flags()
@@ -38,7 +32,7 @@ fn hides_ignorables(buffer: &hb_buffer_t) -> bool
 
 /// Whether the flags remove default ignorables.
 fn removes_ignorables(buffer: &hb_buffer_t) -> bool
-    ensures { result ≡ removes_ignorables_of buffer.now }
+    ensures { result ≡ Ignorables.removes_ignorables buffer.now }
 {
     buffer
         .flags()
@@ -47,7 +41,7 @@ fn removes_ignorables(buffer: &hb_buffer_t) -> bool
 
 /// The position with its four values 0; what the glyph is attached to stays.
 pub(crate) fn without_values(position: GlyphPosition) -> GlyphPosition
-    ensures { result ≡ without_values_of position }
+    ensures { result ≡ Ignorables.without_values position }
 {
     GlyphPosition {
         x_advance: 0,
@@ -65,7 +59,7 @@ fn zero_ignorable_at(buffer: &mut hb_buffer_t, place: usize)
     ensures { (x : Item) (p : Position) → x ≡ slice_index_or buffer.old.items place x
         → p ≡ slice_index_or buffer.old.positions place p
         → buffer.new ≡ record buffer.old {
-          positions = slice_set buffer.old.positions place (zeroed_ignorable x p);
+          positions = slice_set buffer.old.positions place (Ignorables.zeroed_ignorable x p);
         } }
 {
     let info = &buffer.infos()[place];
@@ -78,7 +72,7 @@ fn zero_ignorable_at(buffer: &mut hb_buffer_t, place: usize)
 
 /// Sets the four values of default ignorables to 0.
 fn zero_ignorables(buffer: &mut hb_buffer_t)
-    ensures { Made (positions_mapped zeroed_ignorable) buffer.old buffer.new }
+    ensures { Made (positions_mapped Ignorables.zeroed_ignorable) buffer.old buffer.new }
 {
     for i in 0..buffer.len() {
         zero_ignorable_at(buffer, i);
@@ -89,7 +83,7 @@ fn zero_ignorables(buffer: &mut hb_buffer_t)
 /// or remove them. Takes no memory.
 #[tactic(auto, unfolding(crate::specs::Ignorables::ignorables_zeroed))]
 pub fn zero_width_default_ignorables(buffer: &mut hb_buffer_t)
-    ensures { Made ignorables_zeroed buffer.old buffer.new }
+    ensures { Made Ignorables.ignorables_zeroed buffer.old buffer.new }
 {
     if !hides_ignorables(buffer) || removes_ignorables(buffer) {
         return;
@@ -99,7 +93,7 @@ pub fn zero_width_default_ignorables(buffer: &mut hb_buffer_t)
 
 /// What is seen of default ignorables: the buffer's invisible glyph, else the glyph of U+0020.
 fn unseen_glyph<F: hb_font_t>(face: &F, buffer: &hb_buffer_t) -> Option<GlyphId>
-    ensures { result ≡ unseen_glyph_of (F.face face.now) buffer.now }
+    ensures { result ≡ Ignorables.unseen_glyph (F.face face.now) buffer.now }
 {
     match buffer.invisible_glyph() {
         Some(glyph) => Some(glyph),
@@ -109,7 +103,7 @@ fn unseen_glyph<F: hb_font_t>(face: &F, buffer: &hb_buffer_t) -> Option<GlyphId>
 
 /// The item, with the glyph if it stands for a default ignorable.
 fn show_as(glyph: GlyphId, info: &hb_glyph_info_t) -> hb_glyph_info_t
-    ensures { result ≡ shown_as_of glyph info.now }
+    ensures { result ≡ Ignorables.shown_as glyph info.now }
 {
     let mut info = *info;
     if info._hb_glyph_info_is_default_ignorable() {
@@ -120,7 +114,7 @@ fn show_as(glyph: GlyphId, info: &hb_glyph_info_t) -> hb_glyph_info_t
 
 /// Gives the default ignorables a glyph, or deletes them if there is none.
 fn replace_or_delete(buffer: &mut hb_buffer_t, glyph: Option<GlyphId>)
-    ensures { Made (replaced_or_deleted glyph) buffer.old buffer.new }
+    ensures { Made (Ignorables.replaced_or_deleted glyph) buffer.old buffer.new }
 {
     match glyph {
         Some(glyph) => update_items(buffer, |info| show_as(glyph, info)),
@@ -133,7 +127,7 @@ fn replace_or_delete(buffer: &mut hb_buffer_t, glyph: Option<GlyphId>)
 /// is neither glyph. Takes no memory.
 #[tactic(auto, unfolding(crate::specs::Ignorables::ignorables_hidden))]
 pub fn hide_default_ignorables<F: hb_font_t>(face: &F, buffer: &mut hb_buffer_t)
-    ensures { Made (ignorables_hidden (F.face face.now)) buffer.old buffer.new }
+    ensures { Made (Ignorables.ignorables_hidden (F.face face.now)) buffer.old buffer.new }
 {
     if !hides_ignorables(buffer) {
         return;

@@ -4,9 +4,7 @@
 //! it in the buffer; else a selector is hidden like any default ignorable (OpenType, `cmap` format 14).
 ghost use Rattle.std.specs.Prelude.{◌≡◌};
 ghost use Rattle.shape_buffer.specs.Outcome.{Made};
-ghost use Rattle.shape_glyphs.specs.Selectors.{not_found_item as not_found_item_of};
-ghost use Rattle.shape_glyphs.specs.Selectors.{not_found_position as not_found_position_of};
-ghost use Rattle.shape_glyphs.specs.Selectors.{selectors_replaced, selectors_replaced_by};
+ghost use Rattle.shape_glyphs.specs.Selectors;
 ghost use Rattle.std.specs.Prelude.{Some};
 
 use crate::ignorables::without_values;
@@ -15,7 +13,7 @@ use shape_buffer::buffer::{GlyphId, GlyphPosition, ScratchFlags, hb_buffer_t, hb
 
 /// The item, with the glyph and without its mark if it is a marked selector.
 fn not_found_item(glyph: GlyphId, info: &hb_glyph_info_t) -> hb_glyph_info_t
-    ensures { result ≡ not_found_item_of glyph info.now }
+    ensures { result ≡ Selectors.not_found_item glyph info.now }
 {
     let mut info = *info;
     if info._hb_glyph_info_get_selector_mark() {
@@ -27,7 +25,7 @@ fn not_found_item(glyph: GlyphId, info: &hb_glyph_info_t) -> hb_glyph_info_t
 
 /// The position of a glyph, with values 0 if it is a marked selector.
 fn not_found_position(info: &hb_glyph_info_t, position: GlyphPosition) -> GlyphPosition
-    ensures { result ≡ not_found_position_of info.now position }
+    ensures { result ≡ Selectors.not_found_position info.now position }
 {
     if info._hb_glyph_info_get_selector_mark() {
         without_values(position)
@@ -38,7 +36,7 @@ fn not_found_position(info: &hb_glyph_info_t, position: GlyphPosition) -> GlyphP
 
 /// Gives each marked selector the glyph and values 0.
 fn replace_selectors(buffer: &mut hb_buffer_t, glyph: GlyphId)
-    ensures { Made (selectors_replaced_by (Some glyph)) buffer.old buffer.new }
+    ensures { Made (Selectors.selectors_replaced_by (Some glyph)) buffer.old buffer.new }
 {
     for i in 0..buffer.len() {
         let info = buffer.infos()[i];
@@ -52,7 +50,7 @@ fn replace_selectors(buffer: &mut hb_buffer_t, glyph: GlyphId)
 /// has seen one and that glyph is set; the mark goes. Takes no memory.
 #[tactic(auto, unfolding(crate::specs::Selectors::selectors_replaced))]
 pub fn deal_with_variation_selectors(buffer: &mut hb_buffer_t)
-    ensures { Made selectors_replaced buffer.old buffer.new }
+    ensures { Made Selectors.selectors_replaced buffer.old buffer.new }
 {
     if !buffer
         .scratch_flags()

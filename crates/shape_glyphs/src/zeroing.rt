@@ -13,11 +13,7 @@ ghost use Rattle.shape_buffer.specs.Outcome.{Made};
 ghost use Rattle.shape_buffer.specs.PositionWalks.{positions_mapped};
 ghost use Rattle.shape_common.specs.declared.positions.GlyphPosition.{GlyphPosition as Position};
 ghost use Rattle.shape_glyphs.specs.Advances.{IsExactDifference};
-ghost use Rattle.shape_glyphs.specs.Zeroing.{is_mark_glyph as is_mark_glyph_of};
-ghost use Rattle.shape_glyphs.specs.Zeroing.{without_advances as without_advances_of};
-ghost use Rattle.shape_glyphs.specs.Zeroing.{moved_back as moved_back_of, zeroed_mark};
-ghost use Rattle.shape_glyphs.specs.Zeroing.{marks_zeroed, zero_width_time as zero_width_time_of};
-ghost use Rattle.shape_glyphs.specs.Zeroing.{zeroed_at, zeroed_early, zeroed_late};
+ghost use Rattle.shape_glyphs.specs.Zeroing;
 
 use bitflags::Flags;
 use shape_buffer::buffer::{GlyphPosition, GlyphPropsFlags, hb_buffer_t, hb_glyph_info_t};
@@ -31,7 +27,7 @@ use shape_plan::shaping_types::{Meaning, PlanOf, ShapingTypes};
 
 /// Whether the class of a glyph has the bit of marks.
 fn is_mark_glyph(info: &hb_glyph_info_t) -> bool
-    ensures { result ≡ is_mark_glyph_of info.now }
+    ensures { result ≡ Zeroing.is_mark_glyph info.now }
 {
     info._hb_glyph_info_get_glyph_class()
         .contains(GlyphPropsFlags::MARK)
@@ -39,7 +35,7 @@ fn is_mark_glyph(info: &hb_glyph_info_t) -> bool
 
 /// The position moved back by its advances. A difference that doesn't fit wraps.
 fn move_back(position: GlyphPosition) -> GlyphPosition
-    ensures value { result ≡ moved_back_of position }
+    ensures value { result ≡ Zeroing.moved_back position }
     ensures exact_x { IsExactDifference position.x_offset position.x_advance result.x_offset }
     ensures exact_y { IsExactDifference position.y_offset position.y_advance result.y_offset }
 {
@@ -52,7 +48,7 @@ fn move_back(position: GlyphPosition) -> GlyphPosition
 
 /// The position without advances.
 fn without_advances(position: GlyphPosition) -> GlyphPosition
-    ensures { result ≡ without_advances_of position }
+    ensures { result ≡ Zeroing.without_advances position }
 {
     GlyphPosition {
         x_advance: 0,
@@ -68,7 +64,7 @@ fn zero_mark_at(buffer: &mut hb_buffer_t, place: usize, adjust: bool)
     ensures { (x : Item) (p : Position) → x ≡ slice_index_or buffer.old.items place x
         → p ≡ slice_index_or buffer.old.positions place p
         → buffer.new ≡ record buffer.old {
-          positions = slice_set buffer.old.positions place (zeroed_mark adjust x p);
+          positions = slice_set buffer.old.positions place (Zeroing.zeroed_mark adjust x p);
         } }
 {
     let info = &buffer.infos()[place];
@@ -86,7 +82,7 @@ fn zero_mark_at(buffer: &mut hb_buffer_t, place: usize, adjust: bool)
 
 /// Takes the advances from the marks, which are first moved back if they are to be adjusted.
 fn zero_marks(adjust: bool, buffer: &mut hb_buffer_t)
-    ensures { Made (positions_mapped (zeroed_mark adjust)) buffer.old buffer.new }
+    ensures { Made (positions_mapped (Zeroing.zeroed_mark adjust)) buffer.old buffer.new }
 {
     for i in 0..buffer.len() {
         zero_mark_at(buffer, i, adjust);
@@ -98,7 +94,7 @@ fn zero_marks(adjust: bool, buffer: &mut hb_buffer_t)
 /// `exact_x` and `exact_y` of `move_back`. Takes no memory.
 #[tactic(auto, unfolding(crate::specs::Zeroing::marks_zeroed))]
 pub fn zero_mark_widths_by_gdef(buffer: &mut hb_buffer_t, adjust_offsets: bool)
-    ensures { Made (marks_zeroed adjust_offsets) buffer.old buffer.new }
+    ensures { Made (Zeroing.marks_zeroed adjust_offsets) buffer.old buffer.new }
 {
     let adjust = adjust_offsets && buffer.direction().is_forward();
     zero_marks(adjust, buffer);
@@ -110,7 +106,7 @@ fn zero_width_time<T: ShapingTypes>(
     face: &T::Face,
 ) -> hb_ot_shape_zero_width_marks_type_t
     ensures { let run = ⟦<T as Meaning>⟧.run plan.now face.now in
-        result ≡ zero_width_time_of run.constants run.hooks }
+        result ≡ Zeroing.zero_width_time run.constants run.hooks }
 {
     match plan.shaper() {
         Some(_) => T::Shaper::ZERO_WIDTH_MARKS,
@@ -126,7 +122,7 @@ fn zero_marks_at<T: ShapingTypes>(
     buffer: &mut hb_buffer_t,
 )
     ensures { let run = ⟦<T as Meaning>⟧.run plan.now face.now in
-        Made (zeroed_at time run.decisions run.constants run.hooks) buffer.old buffer.new }
+        Made (Zeroing.zeroed_at time run.decisions run.constants run.hooks) buffer.old buffer.new }
 {
     if plan.zero_marks() && zero_width_time::<T>(plan, face) == time {
         zero_mark_widths_by_gdef(buffer, plan.adjust_mark_positioning_when_zeroing());
@@ -140,7 +136,7 @@ pub fn zero_marks_early<T: ShapingTypes>(
     face: &T::Face,
     buffer: &mut hb_buffer_t,
 )
-    ensures { Made (zeroed_early (⟦<T as Meaning>⟧.run plan.now face.now))
+    ensures { Made (Zeroing.zeroed_early (⟦<T as Meaning>⟧.run plan.now face.now))
         buffer.old buffer.new }
 {
     let early = HB_OT_SHAPE_ZERO_WIDTH_MARKS_BY_GDEF_EARLY;
@@ -154,7 +150,7 @@ pub fn zero_marks_late<T: ShapingTypes>(
     face: &T::Face,
     buffer: &mut hb_buffer_t,
 )
-    ensures { Made (zeroed_late (⟦<T as Meaning>⟧.run plan.now face.now))
+    ensures { Made (Zeroing.zeroed_late (⟦<T as Meaning>⟧.run plan.now face.now))
         buffer.old buffer.new }
 {
     let late = HB_OT_SHAPE_ZERO_WIDTH_MARKS_BY_GDEF_LATE;

@@ -11,12 +11,7 @@ ghost use Rattle.std.specs.Prelude.{◌≡◌, ◌+◌, ◌≤◌, ◌<◌, leng
 ghost use Rattle.std.specs.List.{prefix_len, suffix_len};
 ghost use Rattle.shape_items.specs.ClusterOrder.{PreservesClusters};
 ghost use Rattle.shape_items.specs.Items.{has_cluster, put_in};
-ghost use Rattle.shape_items.specs.Clusters.{clusters, least_cluster as least_cluster_of};
-ghost use Rattle.shape_items.specs.Clusters.{growth_left as growth_left_of};
-ghost use Rattle.shape_items.specs.Clusters.{growth_right as growth_right_of, map_range};
-ghost use Rattle.shape_items.specs.Clusters.{mark_break as mark_break_of};
-ghost use Rattle.shape_items.specs.Clusters.{mark_concat as mark_concat_of, merge};
-ghost use Rattle.shape_items.specs.Clusters.{mark_tatweel as mark_tatweel_of};
+ghost use Rattle.shape_items.specs.Clusters;
 
 mod delete;
 mod each_span;
@@ -30,7 +25,7 @@ pub use glyph_clusters::{GlyphCluster, clusters_in_order};
 
 /// The least cluster, 0 for no items.
 pub fn least_cluster(infos: &[hb_glyph_info_t]) -> u32
-    ensures { result ≡ least_cluster_of infos.now }
+    ensures { result ≡ Clusters.least_cluster infos.now }
 {
     match infos.split_first() {
         None => 0,
@@ -64,7 +59,7 @@ pub(crate) fn count_at_end(infos: &[hb_glyph_info_t], cluster: u32) -> usize
 /// How many items directly before a span of that least cluster the merge takes in.
 fn growth_left(infos: &[hb_glyph_info_t], start: usize, least: u32) -> usize
     requires { start < length infos.now }
-    ensures value { result ≡ growth_left_of infos.now start least }
+    ensures value { result ≡ Clusters.growth_left infos.now start least }
     ensures within { result ≤ start }
 {
     let first = infos[start].cluster;
@@ -77,7 +72,7 @@ fn growth_left(infos: &[hb_glyph_info_t], start: usize, least: u32) -> usize
 /// How many items directly after a span of that least cluster, which ends with `last`, the merge takes in.
 pub(super) fn growth_right(infos: &[hb_glyph_info_t], last: usize, least: u32) -> usize
     requires { last < length infos.now }
-    ensures value { result ≡ growth_right_of infos.now last least }
+    ensures value { result ≡ Clusters.growth_right infos.now last least }
     ensures within { last + result < length infos.now }
 {
     let cluster = infos[last].cluster;
@@ -100,8 +95,8 @@ pub(super) fn put_all_in(infos: &mut [hb_glyph_info_t], cluster: u32)
 pub fn merge_items(infos: &mut [hb_glyph_info_t], start: usize, end: usize)
     requires ordered { start ≤ end }
     requires within { end ≤ length infos.old }
-    ensures merged { infos.new ≡ merge start end infos.old }
-    ensures order { PreservesClusters (clusters infos.old) (clusters infos.new) }
+    ensures merged { infos.new ≡ Clusters.merge start end infos.old }
+    ensures order { PreservesClusters (Clusters.clusters infos.old) (Clusters.clusters infos.new) }
 {
     if end - start < 2 {
         return;
@@ -118,7 +113,8 @@ pub fn mark_break(infos: &mut [hb_glyph_info_t], start: usize, end: usize)
     requires ordered { start ≤ end }
     requires within { end ≤ length infos.old }
     ensures { infos.new
-        ≡ map_range (mark_break_of (least_cluster_of (slice_range infos.old start end)))
+        ≡ Clusters.map_range (Clusters.mark_break (Clusters.least_cluster
+        (slice_range infos.old start end)))
         start end infos.old }
 {
     let items: &[hb_glyph_info_t] = infos;
@@ -131,7 +127,8 @@ pub fn mark_tatweel(infos: &mut [hb_glyph_info_t], start: usize, end: usize)
     requires ordered { start ≤ end }
     requires within { end ≤ length infos.old }
     ensures { infos.new
-        ≡ map_range (mark_tatweel_of (least_cluster_of (slice_range infos.old start end)))
+        ≡ Clusters.map_range (Clusters.mark_tatweel (Clusters.least_cluster
+        (slice_range infos.old start end)))
         start end infos.old }
 {
     let items: &[hb_glyph_info_t] = infos;
@@ -143,13 +140,13 @@ pub fn mark_tatweel(infos: &mut [hb_glyph_info_t], start: usize, end: usize)
 pub fn mark_concat(infos: &mut [hb_glyph_info_t], start: usize, end: usize)
     requires ordered { start ≤ end }
     requires within { end ≤ length infos.old }
-    ensures { infos.new ≡ map_range mark_concat_of start end infos.old }
+    ensures { infos.new ≡ Clusters.map_range Clusters.mark_concat start end infos.old }
 {
     mark_all_concat(&mut infos[start..end]);
 }
 
 fn mark_all_break(infos: &mut [hb_glyph_info_t], least: u32)
-    ensures { infos.new ≡ map (mark_break_of least) infos.old }
+    ensures { infos.new ≡ map (Clusters.mark_break least) infos.old }
 {
     for info in infos.iter_mut() {
         if info.cluster != least {
@@ -159,7 +156,7 @@ fn mark_all_break(infos: &mut [hb_glyph_info_t], least: u32)
 }
 
 fn mark_all_tatweel(infos: &mut [hb_glyph_info_t], least: u32)
-    ensures { infos.new ≡ map (mark_tatweel_of least) infos.old }
+    ensures { infos.new ≡ map (Clusters.mark_tatweel least) infos.old }
 {
     for info in infos.iter_mut() {
         if info.cluster != least {
@@ -169,7 +166,7 @@ fn mark_all_tatweel(infos: &mut [hb_glyph_info_t], least: u32)
 }
 
 fn mark_all_concat(infos: &mut [hb_glyph_info_t])
-    ensures { infos.new ≡ map mark_concat_of infos.old }
+    ensures { infos.new ≡ map Clusters.mark_concat infos.old }
 {
     for info in infos.iter_mut() {
         info.mask |= UNSAFE_TO_CONCAT;

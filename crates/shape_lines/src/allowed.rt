@@ -6,8 +6,7 @@ ghost use Rattle.std.specs.Prelude.{◌≡◌, ℕ, ◌<◌, ◌≤◌, ◌+◌,
 ghost use Rattle.std.specs.List.Sorted.{IsNonDecreasing};
 ghost use Rattle.shape_items.specs.Clusters.{clusters};
 ghost use Rattle.shape_lines.specs.CanCut.{CanCut, IsMonotone};
-ghost use Rattle.shape_lines.specs.LinesAt.{ends_before as ends, AreLinesAt, AreLinesFrom, IsEndAt};
-ghost use Rattle.shape_lines.specs.LinesAt.{line_at as line_of_places};
+ghost use Rattle.shape_lines.specs.LinesAt;
 ghost use Rattle.shape_lines.specs.Measured.{AreMeasures};
 ghost use Rattle.shape_lines.specs.Spots.{spots_of, spot_at, pen};
 
@@ -42,8 +41,10 @@ pub fn cut_lines_at(
     requires allowed { IsNonDecreasing breaks.now.allowed.now }
     requires mandatory { IsNonDecreasing breaks.now.mandatory.now }
     requires spaces { IsNonDecreasing breaks.now.spaces.now }
-    ensures lines { IfOk result (λ lines. AreLinesAt glyphs.now text_end breaks.now.allowed.now
-        breaks.now.mandatory.now breaks.now.spaces.now breaks.now.anywhere (pos width) lines.items) }
+    ensures lines { IfOk result
+        (λ lines. LinesAt.AreLinesAt glyphs.now text_end breaks.now.allowed.now
+        breaks.now.mandatory.now breaks.now.spaces.now breaks.now.anywhere
+        (pos width) lines.items) }
     ensures memory { IsOkUnless result ShapeError.Memory }
 {
     let measures = measured(alloc, glyphs, breaks)?;
@@ -89,7 +90,7 @@ fn lines_of(
 ) -> Result<Vec<LineAt>, AllocError>
     requires as_many { length measures.now.spots.items ≡ length glyphs.now.items }
     requires measured { AreMeasures measures.now.spots.items measures.now }
-    ensures { IfOk result (λ lines. AreLinesFrom glyphs.now text_end measures.now.anywhere
+    ensures { IfOk result (λ lines. LinesAt.AreLinesFrom glyphs.now text_end measures.now.anywhere
         measures.now.spots.items (pos width) 0 lines.items) }
 {
     let mut lines = Vec::new(alloc);
@@ -107,7 +108,7 @@ fn line_at(glyphs: &GlyphBuffer, text_end: u32, spots: &[Spot], start: usize, en
     requires some { start < end }
     requires within { end ≤ length glyphs.now.items }
     requires as_many { length spots.now ≡ length glyphs.now.items }
-    ensures { result ≡ line_of_places glyphs.now text_end spots.now start end }
+    ensures { result ≡ LinesAt.line_at glyphs.now text_end spots.now start end }
 {
     LineAt {
         line: line_between(glyphs, text_end, start, end),
@@ -121,7 +122,8 @@ fn line_end(measures: &Measures, width: u32, start: usize) -> usize
     requires measured { AreMeasures measures.now.spots.items measures.now }
     ensures order { start < result }
     ensures within { result ≤ length measures.now.spots.items }
-    ensures end { IsEndAt measures.now.anywhere measures.now.spots.items (pos width) start result }
+    ensures end { LinesAt.IsEndAt measures.now.anywhere measures.now.spots.items
+        (pos width) start result }
 {
     let limit = limit_of(measures, width, start);
     if measures.allowed[start + 1] <= limit {
@@ -166,8 +168,9 @@ fn shortest(spots: &[Spot], anywhere: bool, start: usize) -> usize
     requires { start < length spots.now }
     ensures order { start < result }
     ensures within { result ≤ length spots.now }
-    ensures is { ends anywhere (spot_at spots.now result) ≡ true }
-    ensures none { (k : ℕ) → start < k → k < result → ends anywhere (spot_at spots.now k) ≡ false }
+    ensures is { LinesAt.ends_before anywhere (spot_at spots.now result) ≡ true }
+    ensures none { (k : ℕ) → start < k → k < result
+        → LinesAt.ends_before anywhere (spot_at spots.now k) ≡ false }
 {
     for place in start + 1..spots.len() {
         if ends_before(spots[place], anywhere) {

@@ -9,7 +9,7 @@ ghost use Rattle.std.specs.Int.{int_min};
 ghost use Rattle.shape_lines.specs.CanCut.{CanCut};
 ghost use Rattle.shape_lines.specs.Pieces.{is_end, pieces_of, AreLines, AreSummable, IsNarrow};
 ghost use Rattle.shape_lines.specs.RightLines.{AreRightLines};
-ghost use Rattle.shape_lines.specs.Walked.{leasts, least_from, line_of, text_at as text_of, IsSmall, HasWalked};
+ghost use Rattle.shape_lines.specs.Walked;
 
 use crate::reading::{Piece, cluster_at, piece_at, runs_back};
 use shape_buffer::buffer::{GlyphBuffer, ShapeError};
@@ -72,7 +72,7 @@ fn walked_lines(
 ) -> Result<Vec<Line>, AllocError>
     requires { 0 < length glyphs.now.items }
     ensures { IfOk result (λ lines. AreLines (pieces_of glyphs.now) (pos width)
-        (line_of glyphs.now text_end) 0 lines.items) }
+        (Walked.line_of glyphs.now text_end) 0 lines.items) }
 {
     let least = least_widths(alloc, glyphs)?;
     let mut walk = Walk {
@@ -97,7 +97,7 @@ fn walked_lines(
 
 /// The least width from each place of the text to an end at it or after it.
 fn least_widths(alloc: Global, glyphs: &GlyphBuffer) -> Result<Vec<i128>, AllocError>
-    ensures least { IfOk result (λ widths. widths.items ≡ leasts (pieces_of glyphs.now)) }
+    ensures least { IfOk result (λ widths. widths.items ≡ Walked.leasts (pieces_of glyphs.now)) }
     ensures summable { IfOk result (λ _. AreSummable glyphs.now) }
 {
     let mut widths: Vec<i128> = Vec::with_capacity(alloc, glyphs.len())?;
@@ -113,7 +113,7 @@ fn least_widths(alloc: Global, glyphs: &GlyphBuffer) -> Result<Vec<i128>, AllocE
 /// The least width from a piece on, given the least width after it.
 fn least_on(piece: Piece, beyond: i128) -> i128
     requires narrow { IsNarrow piece.width }
-    requires small { IsSmall beyond }
+    requires small { Walked.IsSmall beyond }
     ensures { result
         ≡ let on = piece.width +ℤ beyond in if piece.cut then int_min (pos 0) on else on }
 {
@@ -126,7 +126,7 @@ fn least_on(piece: Piece, beyond: i128) -> i128
 
 /// Where the text of a place begins: at its glyph's cluster, or at the end of all text.
 fn text_at(glyphs: &GlyphBuffer, text_end: u32, place: usize) -> u32
-    ensures { result ≡ text_of glyphs.now text_end place }
+    ensures { result ≡ Walked.text_at glyphs.now text_end place }
 {
     if place < glyphs.len() {
         cluster_at(glyphs, place)
@@ -139,7 +139,7 @@ fn text_at(glyphs: &GlyphBuffer, text_end: u32, place: usize) -> u32
 pub(super) fn line_between(glyphs: &GlyphBuffer, text_end: u32, start: usize, end: usize) -> Line
     requires some { start < end }
     requires within { end ≤ length glyphs.now.items }
-    ensures { result ≡ line_of glyphs.now text_end start end }
+    ensures { result ≡ Walked.line_of glyphs.now text_end start end }
 {
     let count = glyphs.len();
     let back = runs_back(glyphs.glyph_infos());
@@ -165,11 +165,12 @@ impl Walk {
         requires summable { AreSummable glyphs.now }
         requires may_end { is_end (pieces_of glyphs.now) place ≡ true }
         requires within { place ≤ length glyphs.now.items }
-        requires least { least ≡ least_from (pieces_of glyphs.now) place }
-        requires walked { HasWalked glyphs.now text_end (pos width) place place self.old }
+        requires least { least ≡ Walked.least_from (pieces_of glyphs.now) place }
+        requires walked { Walked.HasWalked glyphs.now text_end (pos width) place place self.old }
         ensures taken { OnOk result (self.new.taken ≡ place) }
         ensures some { OnOk result (self.new.start < place) }
-        ensures walked { OnOk result (HasWalked glyphs.now text_end (pos width) place (place + 1)
+        ensures walked { OnOk result (Walked.HasWalked glyphs.now text_end (pos width) place
+            (place + 1)
             self.new) }
     {
         if self.start < self.taken && self.so_far + least > i128::from(width) {
@@ -187,8 +188,10 @@ impl Walk {
     fn add(&mut self, glyphs: &GlyphBuffer, text_end: u32, width: u32, place: usize)
         requires summable { AreSummable glyphs.now }
         requires within { place < length glyphs.now.items }
-        requires walked { HasWalked glyphs.now text_end (pos width) place (place + 1) self.old }
-        ensures { HasWalked glyphs.now text_end (pos width) (place + 1) (place + 1) self.new }
+        requires walked { Walked.HasWalked glyphs.now text_end (pos width) place
+            (place + 1) self.old }
+        ensures { Walked.HasWalked glyphs.now text_end (pos width) (place + 1)
+            (place + 1) self.new }
     {
         let width = i128::from(piece_at(glyphs, place).width);
         self.so_far += width;

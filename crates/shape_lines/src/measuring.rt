@@ -5,7 +5,7 @@
 //! fits. It never falls as the place goes on, so the longest line that fits ends where it passes the limit.
 ghost use Rattle.std.specs.Prelude.{◌≡◌, ◌^◌, ◌≤ℤ◌, ◌+ℤ◌, pos, false, length, IfOk, if◌then◌else◌};
 ghost use Rattle.std.specs.Int.{int_min};
-ghost use Rattle.shape_lines.specs.LinesAt.{ends_before as ends};
+ghost use Rattle.shape_lines.specs.LinesAt;
 ghost use Rattle.shape_lines.specs.Measured.{ArePens, AreSmallPens, AreReaches, AreLeast};
 
 use crate::spots::Spot;
@@ -89,7 +89,7 @@ pub(super) fn least_reaches(
 /// The least reach from a glyph on, given that of an end before it and the least after it.
 fn least_on(spot: Spot, anywhere: bool, here: i128, on: i128) -> i128
     ensures { result ≡ if spot.mandatory then here else
-        if ends anywhere spot then int_min here on else on }
+        if LinesAt.ends_before anywhere spot then int_min here on else on }
 {
     if spot.mandatory || ends_before(spot, anywhere) && here < on {
         return here;
@@ -99,7 +99,7 @@ fn least_on(spot: Spot, anywhere: bool, here: i128, on: i128) -> i128
 
 /// Whether a line may end before a glyph.
 pub(super) fn ends_before(spot: Spot, anywhere: bool) -> bool
-    ensures { result ≡ ends anywhere spot }
+    ensures { result ≡ LinesAt.ends_before anywhere spot }
 {
     spot.mandatory || spot.allowed || anywhere && spot.safe
 }

@@ -3,7 +3,7 @@ ghost use Rattle.std.specs.Prelude.{◌≡◌, ◌<◌, ◌-◌, ◌==◌, lengt
 ghost use Rattle.shape_items.specs.Clusters.{clusters};
 ghost use Rattle.shape_common.specs.Positions.{zero_position};
 ghost use Rattle.shape_lines.specs.Pieces.{pieces_of, IsNarrow};
-ghost use Rattle.shape_lines.specs.Places.{cluster_at as cluster_of};
+ghost use Rattle.shape_lines.specs.Places;
 ghost use Rattle.shape_lines.specs.TextOrder.{falls, text_order, place_in, width_of};
 
 use shape_buffer::buffer::{GlyphBuffer, hb_glyph_info_t};
@@ -38,7 +38,7 @@ fn listed(infos: &[hb_glyph_info_t], place: usize) -> usize
 /// The cluster of the glyph at a place of the text.
 pub(super) fn cluster_at(glyphs: &GlyphBuffer, place: usize) -> u32
     requires { place < length glyphs.now.items }
-    ensures { result ≡ cluster_of (text_order glyphs.now) place }
+    ensures { result ≡ Places.cluster_at (text_order glyphs.now) place }
 {
     let infos = glyphs.glyph_infos();
     infos[listed(infos, place)].cluster
@@ -62,8 +62,8 @@ pub(super) fn piece_at(glyphs: &GlyphBuffer, place: usize) -> Piece
 /// Whether the glyph at a place of the text is in another cluster than the one before it.
 pub(super) fn begins_cluster(glyphs: &GlyphBuffer, place: usize) -> bool
     requires { place < length glyphs.now.items }
-    ensures { result ≡ not (cluster_of (text_order glyphs.now) place
-        == cluster_of (text_order glyphs.now) (place - 1)) }
+    ensures { result ≡ not (Places.cluster_at (text_order glyphs.now) place
+        == Places.cluster_at (text_order glyphs.now) (place - 1)) }
 {
     place > 0 && cluster_at(glyphs, place) != cluster_at(glyphs, place - 1)
 }

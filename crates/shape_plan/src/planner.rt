@@ -13,8 +13,7 @@
 //! face lives as long as the plan.
 ghost use Rattle.std.specs.Prelude.{◌≡◌, Option, OnOk, IsOkUnless, IfOk, IfErr, string_bytes};
 ghost use Rattle.std.specs.Option.{option_map};
-ghost use Rattle.shape_plan.specs.Planner.{begun_planner, collected_planner, compiled_plan};
-ghost use Rattle.shape_plan.specs.Planner.{used_shaper, uses_morx as uses_morx_of};
+ghost use Rattle.shape_plan.specs.Planner as planner_rules;
 ghost use Rattle.shape_plan.specs.Plan.{given_shaper};
 ghost use Rattle.shape_plan.specs.Decisions.{MasksAreFeatures, PositionsByOneTable};
 
@@ -100,14 +99,14 @@ impl<'a, 't, F, S> Model for hb_ot_shape_planner_t<'a, 't, F, S> {
 /// Whether the table `morx` substitutes: if the face has it and the text is horizontal or there is no
 /// `GSUB`.
 fn uses_morx(tables: hb_tables_t, direction: Direction) -> bool
-    ensures { result ≡ uses_morx_of tables direction }
+    ensures { result ≡ planner_rules.uses_morx tables direction }
 {
     tables.morx && (direction.is_horizontal() || !tables.gsub)
 }
 
 /// The shaper that is used: under `morx` one that isn't the default gives way.
 fn kept<'a, S>(apply_morx: bool, is_default: bool, shaper: &'a S) -> ChosenShaper<'a, S>
-    ensures { given_shaper result ≡ used_shaper apply_morx is_default shaper.now }
+    ensures { given_shaper result ≡ planner_rules.used_shaper apply_morx is_default shaper.now }
 {
     if apply_morx && !is_default {
         ChosenShaper::Dumber
@@ -134,7 +133,8 @@ impl<'a, 't, F, S> hb_ot_shape_planner_t<'a, 't, F, S> {
         M: hb_ot_layout_t<F>,
         S: hb_ot_shaper_t<U, F, M>,
         ensures { result
-            ≡ begun_planner ⟦<S as Plans<U, F, M>>⟧.planning face.now shaper.now direction script
+            ≡ planner_rules.begun_planner ⟦<S as Plans<U, F, M>>⟧.planning face.now shaper.now
+            direction script
             (option_map (λ l. string_bytes l.now.0) language.entry) }
     {
         let apply_morx = uses_morx(face.tables(), direction);
@@ -164,7 +164,8 @@ impl<'a, 't, F, S> hb_ot_shape_planner_t<'a, 't, F, S> {
         M: hb_ot_layout_t<F>,
         S: hb_ot_shaper_t<U, F, M>,
         ensures ok { OnOk result (self.new
-            ≡ collected_planner ⟦<S as Plans<U, F, M>>⟧.planning user_features.now self.old) }
+            ≡ planner_rules.collected_planner ⟦<S as Plans<U, F, M>>⟧.planning user_features.now
+            self.old) }
         ensures memory { IsOkUnless result ShapeError.Memory }
     {
         let (direction, script, shaper) = (self.direction, self.script, self.shaper);
@@ -194,7 +195,8 @@ impl<'a, 't, F, S> hb_ot_shape_planner_t<'a, 't, F, S> {
         M: hb_ot_layout_t<F>,
         S: hb_ot_shaper_t<U, F, M>,
         ensures plan { IfOk result (λ plan. plan
-            ≡ compiled_plan ⟦<S as Plans<U, F, M>>⟧.planning user_features.now self.entry) }
+            ≡ planner_rules.compiled_plan ⟦<S as Plans<U, F, M>>⟧.planning user_features.now
+            self.entry) }
         ensures masks { IfOk result (λ plan. MasksAreFeatures plan.decisions) }
         ensures tables { IfOk result (λ plan. PositionsByOneTable plan.decisions) }
         ensures memory { IfErr result (λ e. e ≡ ShapeError.Memory) }

@@ -4,11 +4,9 @@
 //! stand on, as code charts have it, unless the caller forbids it or the text goes on from another one.
 ghost use Rattle.std.specs.Prelude.{◌≡◌, ◌<◌, length, IsTrue};
 ghost use Rattle.shape_buffer.specs.Outcome.{Outcome, IsWithinLimit, step};
-ghost use Rattle.canonical_form.specs.Expanded.{begins_with_mark as begins_with_mark_of};
+ghost use Rattle.canonical_form.specs.Expanded;
 ghost use Rattle.shape_items.specs.Items.{is_mark_item};
-ghost use Rattle.shape_prepare.specs.DottedCircle.{dotted_circled, with_circle};
-ghost use Rattle.shape_prepare.specs.DottedCircle.{takes_circle as takes_circle_of};
-ghost use Rattle.shape_prepare.specs.DottedCircle.{circle_before as circle_before_of};
+ghost use Rattle.shape_prepare.specs.DottedCircle;
 ghost use Rattle.shape_items.specs.UnicodeProps.{with_scratch_of};
 
 use bitflags::Flags;
@@ -27,7 +25,7 @@ pub fn insert_dotted_circle<U: hb_unicode_funcs_t, F: hb_font_t>(
     buffer: &mut hb_buffer_t,
 ) -> Result<(), ShapeError>
     requires { IsWithinLimit buffer.old }
-    ensures { Outcome (step (dotted_circled U.unicode (F.face face.now)))
+    ensures { Outcome (step (DottedCircle.dotted_circled U.unicode (F.face face.now)))
         buffer.old buffer.new result }
 {
     if takes_circle(face, buffer) && begins_with_mark(buffer.infos()) {
@@ -40,7 +38,8 @@ pub fn insert_dotted_circle<U: hb_unicode_funcs_t, F: hb_font_t>(
 fn insert_circle<U: hb_unicode_funcs_t>(buffer: &mut hb_buffer_t) -> Result<(), ShapeError>
     requires within { IsWithinLimit buffer.old }
     requires some { 0 < length buffer.old.items }
-    ensures { Outcome (step (λ b. with_circle U.unicode b.items b)) buffer.old buffer.new result }
+    ensures { Outcome (step (λ b. DottedCircle.with_circle U.unicode b.items b)) buffer.old
+        buffer.new result }
 {
     let mut scratch_flags = buffer.scratch_flags();
     let circle = circle_before::<U>(&buffer.infos()[0], &mut scratch_flags);
@@ -51,7 +50,7 @@ fn insert_circle<U: hb_unicode_funcs_t>(buffer: &mut hb_buffer_t) -> Result<(), 
 
 /// Whether there is a first item and it is a mark.
 fn begins_with_mark(infos: &[hb_glyph_info_t]) -> bool
-    ensures mark { result ≡ begins_with_mark_of is_mark_item infos.now }
+    ensures mark { result ≡ Expanded.begins_with_mark is_mark_item infos.now }
     ensures some { IsTrue result → 0 < length infos.now }
 {
     match infos.first() {
@@ -62,7 +61,7 @@ fn begins_with_mark(infos: &[hb_glyph_info_t]) -> bool
 
 /// Whether a mark that begins the text is to get a dotted circle.
 fn takes_circle<F: hb_font_t>(face: &F, buffer: &hb_buffer_t) -> bool
-    ensures { result ≡ takes_circle_of (F.face face.now) buffer.now }
+    ensures { result ≡ DottedCircle.takes_circle (F.face face.now) buffer.now }
 {
     let flags = buffer.flags();
     !flags.contains(BufferFlags::DO_NOT_INSERT_DOTTED_CIRCLE)
@@ -76,7 +75,7 @@ fn circle_before<U: hb_unicode_funcs_t>(
     info: &hb_glyph_info_t,
     scratch_flags: &mut ScratchFlags,
 ) -> hb_glyph_info_t
-    ensures circle { result ≡ circle_before_of U.unicode info.now }
+    ensures circle { result ≡ DottedCircle.circle_before U.unicode info.now }
     ensures flags { scratch_flags.new ≡ with_scratch_of U.unicode 0x25CC scratch_flags.old }
 {
     let mut circle = hb_glyph_info_t::new(DOTTED_CIRCLE, info.cluster);

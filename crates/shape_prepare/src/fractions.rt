@@ -10,15 +10,7 @@
 ghost use Rattle.std.specs.Prelude.{◌≡◌, ◌+◌, ◌-◌, ◌^◌, ◌<◌, ◌≤◌, ◌&&◌, nat_lt, length};
 ghost use Rattle.std.specs.List.{prefix_len, suffix_len};
 ghost use Rattle.shape_buffer.specs.Outcome.{Made};
-ghost use Rattle.shape_prepare.specs.Fractions.{fraction_masks as fraction_masks_of};
-ghost use Rattle.shape_prepare.specs.Fractions.{is_slash as is_slash_of};
-ghost use Rattle.shape_prepare.specs.Fractions.{is_digit as is_digit_of};
-ghost use Rattle.shape_prepare.specs.Fractions.{whole_start as whole_start_of};
-ghost use Rattle.shape_prepare.specs.Fractions.{whole_end as whole_end_of, next_place};
-ghost use Rattle.shape_prepare.specs.Fractions.{features_added, slash_masked, slash_places};
-ghost use Rattle.shape_prepare.specs.Fractions.{slashes_masked};
-ghost use Rattle.shape_prepare.specs.Fractions.{may_have_fractions as may_have_fractions_of};
-ghost use Rattle.shape_prepare.specs.Fractions.{fractions_masked};
+ghost use Rattle.shape_prepare.specs.Fractions;
 
 use bitflags::Flags;
 use shape_buffer::buffer::{
@@ -41,7 +33,7 @@ fn fraction_masks<S, P, D>(
     plan: &hb_ot_shape_plan_t<'_, S, P, D>,
     direction: Direction,
 ) -> FractionMasks
-    ensures { result ≡ fraction_masks_of plan.now.decisions direction }
+    ensures { result ≡ Fractions.fraction_masks plan.now.decisions direction }
 {
     let slash = plan.frac_mask();
     let numerator = plan.numr_mask() | slash;
@@ -62,13 +54,13 @@ fn fraction_masks<S, P, D>(
 }
 
 fn is_slash(info: &hb_glyph_info_t) -> bool
-    ensures { result ≡ is_slash_of info.now }
+    ensures { result ≡ Fractions.is_slash info.now }
 {
     info.codepoint == FRACTION_SLASH
 }
 
 fn is_digit(info: &hb_glyph_info_t) -> bool
-    ensures { result ≡ is_digit_of info.now }
+    ensures { result ≡ Fractions.is_digit info.now }
 {
     matches!(
         info._hb_glyph_info_get_general_category(),
@@ -78,7 +70,7 @@ fn is_digit(info: &hb_glyph_info_t) -> bool
 
 /// How many items at the beginning are digits.
 fn digits_at_start(infos: &[hb_glyph_info_t]) -> usize
-    ensures value { result ≡ prefix_len is_digit_of infos.now }
+    ensures value { result ≡ prefix_len Fractions.is_digit infos.now }
     ensures within { result ≤ length infos.now }
 {
     infos.iter().take_while(|info| is_digit(info)).count()
@@ -86,7 +78,7 @@ fn digits_at_start(infos: &[hb_glyph_info_t]) -> usize
 
 /// How many items at the end are digits.
 fn digits_at_end(infos: &[hb_glyph_info_t]) -> usize
-    ensures value { result ≡ suffix_len is_digit_of infos.now }
+    ensures value { result ≡ suffix_len Fractions.is_digit infos.now }
     ensures within { result ≤ length infos.now }
 {
     infos.iter().rev().take_while(|info| is_digit(info)).count()
@@ -95,7 +87,7 @@ fn digits_at_end(infos: &[hb_glyph_info_t]) -> usize
 /// Where the digits directly before a slash begin: at the slash itself if there are none.
 fn whole_start(infos: &[hb_glyph_info_t], slash: usize) -> usize
     requires { slash < length infos.now }
-    ensures value { result ≡ whole_start_of infos.now slash }
+    ensures value { result ≡ Fractions.whole_start infos.now slash }
     ensures within { result ≤ slash }
 {
     slash - digits_at_end(&infos[..slash])
@@ -104,7 +96,7 @@ fn whole_start(infos: &[hb_glyph_info_t], slash: usize) -> usize
 /// Where the digits directly after a slash end: right after the slash if there are none.
 fn whole_end(infos: &[hb_glyph_info_t], slash: usize) -> usize
     requires { slash < length infos.now }
-    ensures value { result ≡ whole_end_of infos.now slash }
+    ensures value { result ≡ Fractions.whole_end infos.now slash }
     ensures after { slash + 1 ≤ result }
     ensures within { result ≤ length infos.now }
 {
@@ -123,7 +115,7 @@ fn has_both_sides(start: usize, slash: usize, end: usize) -> bool
 fn add_features(buffer: &mut hb_buffer_t, mask: hb_mask_t, start: usize, end: usize)
     requires ordered { start ≤ end }
     requires within { end ≤ length buffer.old.items }
-    ensures added { Made (features_added mask start end) buffer.old buffer.new }
+    ensures added { Made (Fractions.features_added mask start end) buffer.old buffer.new }
     ensures as_long { length buffer.new.items ≡ length buffer.old.items }
 {
     for i in start..end {
@@ -137,9 +129,9 @@ fn add_features(buffer: &mut hb_buffer_t, mask: hb_mask_t, start: usize, end: us
 /// where the walk goes on.
 fn mask_slash(buffer: &mut hb_buffer_t, masks: FractionMasks, slash: usize) -> usize
     requires { slash < length buffer.old.items }
-    ensures masked { Made (slash_masked masks slash) buffer.old buffer.new }
+    ensures masked { Made (Fractions.slash_masked masks slash) buffer.old buffer.new }
     ensures as_long { length buffer.new.items ≡ length buffer.old.items }
-    ensures next { result ≡ next_place buffer.old.items slash }
+    ensures next { result ≡ Fractions.next_place buffer.old.items slash }
 {
     let start = whole_start(buffer.infos(), slash);
     let end = whole_end(buffer.infos(), slash);
@@ -156,7 +148,8 @@ fn mask_slash(buffer: &mut hb_buffer_t, masks: FractionMasks, slash: usize) -> u
 
 /// Masks the wholes from left to right. A slash that stands among the digits of a whole is skipped.
 fn mask_slashes(buffer: &mut hb_buffer_t, masks: FractionMasks)
-    ensures { Made (λ b. slashes_masked masks 0 (slash_places 0 b.items) b) buffer.old buffer.new }
+    ensures { Made (λ b. Fractions.slashes_masked masks 0
+        (Fractions.slash_places 0 b.items) b) buffer.old buffer.new }
 {
     let mut next = 0;
     for i in 0..buffer.len() {
@@ -168,7 +161,7 @@ fn mask_slashes(buffer: &mut hb_buffer_t, masks: FractionMasks)
 
 /// Whether the plan has lookups for fractions and a character past ASCII was seen.
 fn may_have_fractions<S, P, D>(plan: &hb_ot_shape_plan_t<'_, S, P, D>, buffer: &hb_buffer_t) -> bool
-    ensures { result ≡ may_have_fractions_of plan.now.decisions buffer.now }
+    ensures { result ≡ Fractions.may_have_fractions plan.now.decisions buffer.now }
 {
     plan.has_frac() && buffer.scratch_flags().contains(ScratchFlags::HAS_NON_ASCII)
 }
@@ -181,7 +174,7 @@ pub fn setup_masks_fraction<S, P, D>(
     plan: &hb_ot_shape_plan_t<'_, S, P, D>,
     buffer: &mut hb_buffer_t,
 )
-    ensures { Made (fractions_masked plan.now.decisions) buffer.old buffer.new }
+    ensures { Made (Fractions.fractions_masked plan.now.decisions) buffer.old buffer.new }
 {
     if may_have_fractions(plan, buffer) {
         let masks = fraction_masks(plan, buffer.direction());

@@ -11,15 +11,7 @@
 //! An item that was joined to a ZWJ is itself no open regional indicator and joins nothing.
 ghost use Rattle.std.specs.Prelude.{◌≡◌};
 ghost use Rattle.shape_buffer.specs.Outcome.{Made};
-ghost use Rattle.shape_prepare.specs.Graphemes.{graphemes_marked, with_continuation, continues};
-ghost use Rattle.shape_prepare.specs.Graphemes.{continues_by_rule as continues_by_rule_of};
-ghost use Rattle.shape_prepare.specs.Graphemes.{is_to_next, is_joined as is_joined_of};
-ghost use Rattle.shape_prepare.specs.Graphemes.{is_settled as is_settled_of};
-ghost use Rattle.shape_prepare.specs.Graphemes.{is_unasked as is_unasked_of};
-ghost use Rattle.shape_prepare.specs.Graphemes.{is_modifier_symbol as is_modifier_symbol_of};
-ghost use Rattle.shape_prepare.specs.Graphemes.{is_skin_tone as is_skin_tone_of};
-ghost use Rattle.shape_prepare.specs.Graphemes.{is_regional_indicator as is_regional_indicator_of};
-ghost use Rattle.shape_prepare.specs.Graphemes.{is_extender as is_extender_of, is_open, is_joining};
+ghost use Rattle.shape_prepare.specs.Graphemes;
 ghost use Rattle.shape_items.specs.UnicodeProps.{with_unicode_props, with_scratch_of};
 
 use shape_buffer::buffer::{
@@ -40,7 +32,7 @@ pub(crate) enum Before {
 /// Sets the properties of each item that depend on its character, marks the items that continue a grapheme, and
 /// sets the scratch flags that the characters show. Takes no memory.
 pub fn set_unicode_props<U: hb_unicode_funcs_t>(buffer: &mut hb_buffer_t)
-    ensures { Made (graphemes_marked U.unicode) buffer.old buffer.new }
+    ensures { Made (Graphemes.graphemes_marked U.unicode) buffer.old buffer.new }
 {
     let mut scratch_flags = buffer.scratch_flags();
     let mut before = Before::Plain;
@@ -60,8 +52,9 @@ fn mark_item<U: hb_unicode_funcs_t>(
     scratch_flags: &mut ScratchFlags,
 ) -> Before
     ensures item { let item = with_unicode_props U.unicode info.old in
-        info.new ≡ with_continuation (continues U.unicode before item) item }
-    ensures next { result ≡ is_to_next U.unicode before (with_unicode_props U.unicode info.old) }
+        info.new ≡ Graphemes.with_continuation (Graphemes.continues U.unicode before item) item }
+    ensures next { result ≡ Graphemes.is_to_next U.unicode before
+        (with_unicode_props U.unicode info.old) }
     ensures flags { scratch_flags.new
         ≡ with_scratch_of U.unicode info.old.codepoint scratch_flags.old }
 {
@@ -74,15 +67,16 @@ fn mark_item<U: hb_unicode_funcs_t>(
 
 /// Whether no rule has to be asked about an item: it continues already, as a mark does, and is no ZWJ.
 fn is_settled(info: &hb_glyph_info_t) -> bool
-    ensures { result ≡ is_settled_of info.now }
+    ensures { result ≡ Graphemes.is_settled info.now }
 {
     info._hb_glyph_info_get_continuation() && !info._hb_glyph_info_get_zwj()
 }
 
 /// Marks an item as a continuation if it is one, and says what it is to the next one.
 fn mark_continuation<U: hb_unicode_funcs_t>(before: Before, info: &mut hb_glyph_info_t) -> Before
-    ensures item { info.new ≡ with_continuation (continues U.unicode before info.old) info.old }
-    ensures next { result ≡ is_to_next U.unicode before info.old }
+    ensures item { info.new ≡ Graphemes.with_continuation
+        (Graphemes.continues U.unicode before info.old) info.old }
+    ensures next { result ≡ Graphemes.is_to_next U.unicode before info.old }
 {
     if is_settled(info) {
         return Before::Plain;
@@ -106,7 +100,7 @@ fn mark_continuation<U: hb_unicode_funcs_t>(before: Before, info: &mut hb_glyph_
 
 /// Whether a character is a pictograph right after a ZWJ. Only after a ZWJ is Unicode asked.
 fn is_joined<U: hb_unicode_funcs_t>(before: Before, c: char) -> bool
-    ensures { result ≡ is_joined_of U.unicode before c }
+    ensures { result ≡ Graphemes.is_joined U.unicode before c }
 {
     match before {
         Before::Zwj => U::is_emoji_extended_pictographic(c),
@@ -117,7 +111,7 @@ fn is_joined<U: hb_unicode_funcs_t>(before: Before, c: char) -> bool
 /// Whether an item that is no mark continues the grapheme before it: a skin tone, the second of two regional
 /// indicators, a ZWJ, a voice mark of halfwidth katakana, or a tag.
 fn continues_by_rule(before: Before, info: &hb_glyph_info_t) -> bool
-    ensures { result ≡ continues_by_rule_of before info.now }
+    ensures { result ≡ Graphemes.continues_by_rule before info.now }
 {
     let c = info.codepoint;
     let category = info._hb_glyph_info_get_general_category();
@@ -133,14 +127,14 @@ fn continues_by_rule(before: Before, info: &hb_glyph_info_t) -> bool
 impl Before {
     /// Whether a pictograph that comes next belongs to this item.
     fn is_zwj(self) -> bool
-        ensures { result ≡ is_joining self }
+        ensures { result ≡ Graphemes.is_joining self }
     {
         matches!(self, Before::Zwj)
     }
 
     /// Whether the next regional indicator makes a pair with this item.
     fn is_open(self) -> bool
-        ensures { result ≡ is_open self }
+        ensures { result ≡ Graphemes.is_open self }
     {
         matches!(self, Before::OpenIndicator)
     }
@@ -148,7 +142,7 @@ impl Before {
 
 /// Whether no rule asks about this category: most letters, and spaces, which are the most common.
 fn is_unasked(category: hb_unicode_general_category_t) -> bool
-    ensures { result ≡ is_unasked_of category }
+    ensures { result ≡ Graphemes.is_unasked category }
 {
     matches!(
         category,
@@ -162,21 +156,21 @@ fn is_unasked(category: hb_unicode_general_category_t) -> bool
 
 /// Whether this is the category of modifier symbols, which skin tones have.
 fn is_modifier_symbol(category: hb_unicode_general_category_t) -> bool
-    ensures { result ≡ is_modifier_symbol_of category }
+    ensures { result ≡ Graphemes.is_modifier_symbol category }
 {
     matches!(category, hb_unicode_general_category_t::ModifierSymbol)
 }
 
 /// Whether a character gives an emoji the colour of a skin (UTS 51, Emoji_Modifier).
 fn is_skin_tone(c: char) -> bool
-    ensures { result ≡ is_skin_tone_of c }
+    ensures { result ≡ Graphemes.is_skin_tone c }
 {
     matches!(c, '\u{1F3FB}'..='\u{1F3FF}')
 }
 
 /// Whether two of these characters stand for a flag (UTS 51, Regional_Indicator).
 pub(crate) fn is_regional_indicator(c: char) -> bool
-    ensures { result ≡ is_regional_indicator_of c }
+    ensures { result ≡ Graphemes.is_regional_indicator c }
 {
     matches!(c, '\u{1F1E6}'..='\u{1F1FF}')
 }
@@ -184,7 +178,7 @@ pub(crate) fn is_regional_indicator(c: char) -> bool
 /// Whether a character that is no mark extends what stands before it: a voice mark of halfwidth katakana, or
 /// a tag (UAX 29, Grapheme_Extend).
 fn is_extender(c: char) -> bool
-    ensures { result ≡ is_extender_of c }
+    ensures { result ≡ Graphemes.is_extender c }
 {
     matches!(c, '\u{FF9E}'..='\u{FF9F}' | '\u{E0020}'..='\u{E007F}')
 }

@@ -12,13 +12,7 @@ ghost use Rattle.std.specs.List.{list_any};
 ghost use Rattle.shape_buffer.specs.Outcome.{Made};
 ghost use Rattle.shape_prepare.specs.GraphemeWalk.{reverse_span};
 ghost use Rattle.shape_prepare.specs.ClustersFormed.{over_graphemes};
-ghost use Rattle.shape_prepare.specs.NativeOrder.{natively_ordered};
-ghost use Rattle.shape_prepare.specs.NativeOrder.{native_direction as native_direction_of};
-ghost use Rattle.shape_prepare.specs.NativeOrder.{direction_of_script as direction_of_script_of};
-ghost use Rattle.shape_prepare.specs.NativeOrder.{is_against as is_against_of};
-ghost use Rattle.shape_prepare.specs.NativeOrder.{has_numbers_alone as has_numbers_alone_of};
-ghost use Rattle.shape_prepare.specs.NativeOrder.{is_letter as is_letter_of};
-ghost use Rattle.shape_prepare.specs.NativeOrder.{is_number as is_number_of, graphemes_reversed};
+ghost use Rattle.shape_prepare.specs.NativeOrder;
 
 use crate::clusters::merge_graphemes;
 use crate::grapheme_walk::{GraphemeChange, each_grapheme};
@@ -34,7 +28,7 @@ use shape_buffer::interfaces::hb_unicode_funcs_t;
 /// stay as they are; at level MONOTONE_CHARACTERS each is merged first. Text from left to right that has
 /// numbers and no letter stays so under a script that is written from right to left. Takes no memory.
 pub fn ensure_native_direction<U: hb_unicode_funcs_t>(buffer: &mut hb_buffer_t)
-    ensures { Made (natively_ordered U.unicode) buffer.old buffer.new }
+    ensures { Made (NativeOrder.natively_ordered U.unicode) buffer.old buffer.new }
 {
     let native = native_direction::<U>(buffer);
     if !is_against(native, buffer.direction()) {
@@ -48,7 +42,7 @@ pub fn ensure_native_direction<U: hb_unicode_funcs_t>(buffer: &mut hb_buffer_t)
 
 /// The direction that the text is written in, if it is known.
 fn native_direction<U: hb_unicode_funcs_t>(buffer: &hb_buffer_t) -> Option<Direction>
-    ensures { result ≡ native_direction_of U.unicode buffer.now }
+    ensures { result ≡ NativeOrder.native_direction U.unicode buffer.now }
 {
     let native = direction_of_script::<U>(buffer.script());
     match (buffer.direction(), native) {
@@ -60,7 +54,7 @@ fn native_direction<U: hb_unicode_funcs_t>(buffer: &hb_buffer_t) -> Option<Direc
 
 /// The direction that a script is written in, if it is known.
 fn direction_of_script<U: hb_unicode_funcs_t>(script: Option<Script>) -> Option<Direction>
-    ensures { result ≡ direction_of_script_of U.unicode script }
+    ensures { result ≡ NativeOrder.direction_of_script U.unicode script }
 {
     match U::script_direction(script?) {
         Some(Direction::Invalid) => None,
@@ -70,7 +64,7 @@ fn direction_of_script<U: hb_unicode_funcs_t>(script: Option<Script>) -> Option<
 
 /// Whether text of this direction is reversed to run in its native direction.
 fn is_against(native: Option<Direction>, direction: Direction) -> bool
-    ensures { result ≡ is_against_of native direction }
+    ensures { result ≡ NativeOrder.is_against native direction }
 {
     match direction {
         Direction::Invalid | Direction::TopToBottom => false,
@@ -82,28 +76,28 @@ fn is_against(native: Option<Direction>, direction: Direction) -> bool
 
 /// Whether there are digits or regional indicators, and no letters.
 fn has_numbers_alone(infos: &[hb_glyph_info_t]) -> bool
-    ensures { result ≡ has_numbers_alone_of infos.now }
+    ensures { result ≡ NativeOrder.has_numbers_alone infos.now }
 {
     !has_letter(infos) && has_number(infos)
 }
 
 /// Whether some item is a letter.
 fn has_letter(infos: &[hb_glyph_info_t]) -> bool
-    ensures { result ≡ list_any is_letter_of infos.now }
+    ensures { result ≡ list_any NativeOrder.is_letter infos.now }
 {
     infos.iter().any(|info| is_letter(info))
 }
 
 /// Whether some item is a digit or a regional indicator.
 fn has_number(infos: &[hb_glyph_info_t]) -> bool
-    ensures { result ≡ list_any is_number_of infos.now }
+    ensures { result ≡ list_any NativeOrder.is_number infos.now }
 {
     infos.iter().any(|info| is_number(info))
 }
 
 /// Whether an item is a letter.
 fn is_letter(info: &hb_glyph_info_t) -> bool
-    ensures { result ≡ is_letter_of info.now }
+    ensures { result ≡ NativeOrder.is_letter info.now }
 {
     matches!(
         info._hb_glyph_info_get_general_category(),
@@ -117,7 +111,7 @@ fn is_letter(info: &hb_glyph_info_t) -> bool
 
 /// Whether an item is a digit or a regional indicator, which run from left to right.
 fn is_number(info: &hb_glyph_info_t) -> bool
-    ensures { result ≡ is_number_of info.now }
+    ensures { result ≡ NativeOrder.is_number info.now }
 {
     matches!(
         info._hb_glyph_info_get_general_category(),
@@ -127,7 +121,7 @@ fn is_number(info: &hb_glyph_info_t) -> bool
 
 /// Reverses the order of the graphemes, each of which stays as it is, and the direction.
 fn reverse_graphemes(buffer: &mut hb_buffer_t)
-    ensures { Made graphemes_reversed buffer.old buffer.new }
+    ensures { Made NativeOrder.graphemes_reversed buffer.old buffer.new }
 {
     reverse_within_graphemes(buffer);
     buffer.reverse();

@@ -6,9 +6,7 @@
 ghost use Rattle.std.specs.Prelude.{◌≡◌, ◌<◌};
 ghost use Rattle.shape_buffer.specs.Outcome.{Made};
 ghost use Rattle.shape_buffer.specs.Walks.{items_mapped};
-ghost use Rattle.shape_prepare.specs.Ranges.{with_value as with_value_of};
-ghost use Rattle.shape_prepare.specs.Ranges.{with_feature as with_feature_of, range_masked};
-ghost use Rattle.shape_prepare.specs.Ranges.{ranges_masked};
+ghost use Rattle.shape_prepare.specs.Ranges;
 
 use shape_buffer::buffer::{Feature, hb_buffer_t, hb_glyph_info_t, hb_mask_t};
 use shape_buffer::interfaces::hb_ot_layout_t;
@@ -17,7 +15,7 @@ use shape_plan::shaping_types::{PlanOf, ShapingTypes};
 
 /// A mask whose bits in `bits` become those of a value that stands at its place.
 fn with_value(bits: hb_mask_t, value: u32, mask: hb_mask_t) -> hb_mask_t
-    ensures { result ≡ with_value_of bits value mask }
+    ensures { result ≡ Ranges.with_value bits value mask }
 {
     (mask & !bits) | (value & bits)
 }
@@ -30,7 +28,7 @@ fn with_feature(
     info: &hb_glyph_info_t,
 ) -> hb_glyph_info_t
     requires { shift < 32 }
-    ensures { result ≡ with_feature_of feature.now (bits, shift) info.now }
+    ensures { result ≡ Ranges.with_feature feature.now (bits, shift) info.now }
 {
     let mut info = *info;
     if feature.start <= info.cluster && info.cluster < feature.end {
@@ -42,7 +40,7 @@ fn with_feature(
 /// Sets the value of a feature in the items whose clusters are in its range.
 fn set_masks(buffer: &mut hb_buffer_t, feature: &Feature, bits: hb_mask_t, shift: u32)
     requires { shift < 32 }
-    ensures { Made (items_mapped (with_feature_of feature.now (bits, shift)))
+    ensures { Made (items_mapped (Ranges.with_feature feature.now (bits, shift)))
         buffer.old buffer.new }
 {
     update_items(buffer, |info| with_feature(feature, bits, shift, info));
@@ -50,7 +48,7 @@ fn set_masks(buffer: &mut hb_buffer_t, feature: &Feature, bits: hb_mask_t, shift
 
 /// Sets one of the user's features, if it isn't asked for over the whole text.
 fn set_feature<T: ShapingTypes>(plan: &PlanOf<'_, T>, buffer: &mut hb_buffer_t, feature: &Feature)
-    ensures { Made (λ b. range_masked (T.Engine.masks plan.now.ot_map) b feature.now)
+    ensures { Made (λ b. Ranges.range_masked (T.Engine.masks plan.now.ot_map) b feature.now)
         buffer.old buffer.new }
 {
     if !feature.is_global() {
@@ -62,7 +60,7 @@ fn set_feature<T: ShapingTypes>(plan: &PlanOf<'_, T>, buffer: &mut hb_buffer_t, 
 /// Sets the features that the user asked for over a part of the text, in their order, over the items whose
 /// clusters are in their ranges: the bits of the feature become those of its value. Takes no memory.
 pub fn setup_masks_user<T: ShapingTypes>(plan: &PlanOf<'_, T>, buffer: &mut hb_buffer_t)
-    ensures { Made (ranges_masked (T.Engine.masks plan.now.ot_map) plan.now.user_features)
+    ensures { Made (Ranges.ranges_masked (T.Engine.masks plan.now.ot_map) plan.now.user_features)
         buffer.old buffer.new }
 {
     for feature in plan.user_features() {

@@ -9,7 +9,7 @@ ghost use Rattle.std.specs.Prelude.{◌≡◌, Some, MatchOption};
 ghost use Rattle.std.specs.Str.{IsUtf8};
 ghost use Rattle.shape_sessions.specs.Lines.{IsObeyed, line_words};
 ghost use Rattle.shape_sessions.specs.State.{IsMeant, set_by, start};
-ghost use Rattle.shape_sessions.specs.Words.{words as words_of};
+ghost use Rattle.shape_sessions.specs.Words as word_rules;
 
 use crate::command::Command;
 use crate::mode::Mode;
@@ -62,7 +62,7 @@ impl Model for Session {
 pub fn words_of_line(line: &[u8]) -> Option<Words<'_>>
     ensures { MatchOption result
         (¬ IsUtf8 line.now)
-        (λ words. IsUtf8 line.now × (words_of words.rest.now ≡ line_words line.now)) }
+        (λ words. IsUtf8 line.now × (word_rules.words words.rest.now ≡ line_words line.now)) }
 {
     let Ok(line) = str::from_utf8(line) else {
         return None;
@@ -112,8 +112,8 @@ impl Session {
     /// `face U`: an empty face of U units per em.
     pub fn set_face(&mut self, alloc: Global, words: Words) -> Outcome
         ensures { IsObeyed (Some Command.Face)
-            (IsMeant Command.Face (words_of words.entry.rest.now)) self.old
-            (set_by Command.Face (words_of words.entry.rest.now) self.old) result self.new }
+            (IsMeant Command.Face (word_rules.words words.entry.rest.now)) self.old
+            (set_by Command.Face (word_rules.words words.entry.rest.now) self.old) result self.new }
     {
         let Some(units_per_em) = settings::units_per_em(words) else {
             return Outcome::Malformed;
@@ -126,8 +126,9 @@ impl Session {
     /// if a growth was refused; then the character keeps the glyph that it had.
     pub fn set_glyph(&mut self, words: Words) -> Outcome
         ensures { IsObeyed (Some Command.Glyph)
-            (IsMeant Command.Glyph (words_of words.entry.rest.now)) self.old
-            (set_by Command.Glyph (words_of words.entry.rest.now) self.old) result self.new }
+            (IsMeant Command.Glyph (word_rules.words words.entry.rest.now)) self.old
+            (set_by Command.Glyph
+            (word_rules.words words.entry.rest.now) self.old) result self.new }
     {
         let Some(said) = settings::glyph(words) else {
             return Outcome::Malformed;
@@ -141,8 +142,8 @@ impl Session {
     /// `mode M`: how texts are normalised.
     pub fn set_mode(&mut self, words: Words) -> Outcome
         ensures { IsObeyed (Some Command.Mode)
-            (IsMeant Command.Mode (words_of words.entry.rest.now)) self.old
-            (set_by Command.Mode (words_of words.entry.rest.now) self.old) result self.new }
+            (IsMeant Command.Mode (word_rules.words words.entry.rest.now)) self.old
+            (set_by Command.Mode (word_rules.words words.entry.rest.now) self.old) result self.new }
     {
         let Some(mode) = settings::mode(words) else {
             return Outcome::Malformed;
@@ -154,8 +155,9 @@ impl Session {
     /// `level N`: how far clusters are merged.
     pub fn set_level(&mut self, words: Words) -> Outcome
         ensures { IsObeyed (Some Command.Level)
-            (IsMeant Command.Level (words_of words.entry.rest.now)) self.old
-            (set_by Command.Level (words_of words.entry.rest.now) self.old) result self.new }
+            (IsMeant Command.Level (word_rules.words words.entry.rest.now)) self.old
+            (set_by Command.Level
+            (word_rules.words words.entry.rest.now) self.old) result self.new }
     {
         let Some(level) = settings::level(words) else {
             return Outcome::Malformed;
@@ -167,8 +169,8 @@ impl Session {
     /// `dir D`: the direction that texts run in.
     pub fn set_direction(&mut self, words: Words) -> Outcome
         ensures { IsObeyed (Some Command.Dir)
-            (IsMeant Command.Dir (words_of words.entry.rest.now)) self.old
-            (set_by Command.Dir (words_of words.entry.rest.now) self.old) result self.new }
+            (IsMeant Command.Dir (word_rules.words words.entry.rest.now)) self.old
+            (set_by Command.Dir (word_rules.words words.entry.rest.now) self.old) result self.new }
     {
         let Some(direction) = settings::direction(words) else {
             return Outcome::Malformed;
@@ -180,8 +182,9 @@ impl Session {
     /// `flags N`: what is asked of a run.
     pub fn set_flags(&mut self, words: Words) -> Outcome
         ensures { IsObeyed (Some Command.Flags)
-            (IsMeant Command.Flags (words_of words.entry.rest.now)) self.old
-            (set_by Command.Flags (words_of words.entry.rest.now) self.old) result self.new }
+            (IsMeant Command.Flags (word_rules.words words.entry.rest.now)) self.old
+            (set_by Command.Flags
+            (word_rules.words words.entry.rest.now) self.old) result self.new }
     {
         let Some(flags) = settings::flags(words) else {
             return Outcome::Malformed;

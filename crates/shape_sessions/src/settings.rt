@@ -7,10 +7,8 @@
 ghost use Rattle.std.specs.Prelude.{MatchOption};
 ghost use Rattle.std.specs.Option.{SomeIff};
 ghost use Rattle.shape_sessions.specs.Modes.{mode_of};
-ghost use Rattle.shape_sessions.specs.Settings.{IsNumber, IsUnits, IsFlags, IsDirection, IsExtents};
-ghost use Rattle.shape_sessions.specs.Settings.{IsGlyph, SaysGlyph, number as number_of, level_of};
-ghost use Rattle.shape_sessions.specs.Settings.{direction_said, extents_of};
-ghost use Rattle.shape_sessions.specs.Words.{words as words_of};
+ghost use Rattle.shape_sessions.specs.Settings;
+ghost use Rattle.shape_sessions.specs.Words as word_rules;
 
 use crate::command;
 use crate::mode::Mode;
@@ -32,8 +30,8 @@ pub struct GlyphLine {
 
 /// The number of the one word. Refuses a number above `most`.
 fn number(mut words: Words, most: u32) -> Option<u32>
-    ensures { SomeIff result (IsNumber most (words_of words.entry.rest.now))
-        (number_of (words_of words.entry.rest.now)) }
+    ensures { SomeIff result (Settings.IsNumber most (word_rules.words words.entry.rest.now))
+        (Settings.number (word_rules.words words.entry.rest.now)) }
 {
     let number = natural(words.next()?, most)?;
     if words.next().is_some() {
@@ -44,8 +42,8 @@ fn number(mut words: Words, most: u32) -> Option<u32>
 
 /// The units per em of a face, which are not 0.
 pub fn units_per_em(words: Words) -> Option<u16>
-    ensures { SomeIff result (IsUnits (words_of words.entry.rest.now))
-        (number_of (words_of words.entry.rest.now)) }
+    ensures { SomeIff result (Settings.IsUnits (word_rules.words words.entry.rest.now))
+        (Settings.number (word_rules.words words.entry.rest.now)) }
 {
     let units = number(words, GREATEST)?;
     if units == 0 { None } else { Some(units as u16) }
@@ -53,16 +51,16 @@ pub fn units_per_em(words: Words) -> Option<u16>
 
 /// How texts are to be normalised.
 pub fn mode(words: Words) -> Option<Mode>
-    ensures { SomeIff result (IsNumber 4 (words_of words.entry.rest.now))
-        (mode_of (number_of (words_of words.entry.rest.now))) }
+    ensures { SomeIff result (Settings.IsNumber 4 (word_rules.words words.entry.rest.now))
+        (mode_of (Settings.number (word_rules.words words.entry.rest.now))) }
 {
     Mode::from_number(number(words, 4)?)
 }
 
 /// How far clusters are to be merged.
 pub fn level(words: Words) -> Option<BufferClusterLevel>
-    ensures { SomeIff result (IsNumber 2 (words_of words.entry.rest.now))
-        (level_of (number_of (words_of words.entry.rest.now))) }
+    ensures { SomeIff result (Settings.IsNumber 2 (word_rules.words words.entry.rest.now))
+        (Settings.level_of (Settings.number (word_rules.words words.entry.rest.now))) }
 {
     match number(words, 2)? {
         0 => Some(BufferClusterLevel::MonotoneGraphemes),
@@ -73,16 +71,16 @@ pub fn level(words: Words) -> Option<BufferClusterLevel>
 
 /// What is to be asked of a run. Refuses bits that are no flag.
 pub fn flags(words: Words) -> Option<BufferFlags>
-    ensures { SomeIff result (IsFlags (words_of words.entry.rest.now))
-        (record { 0 = number_of (words_of words.entry.rest.now) }) }
+    ensures { SomeIff result (Settings.IsFlags (word_rules.words words.entry.rest.now))
+        (record { 0 = Settings.number (word_rules.words words.entry.rest.now) }) }
 {
     BufferFlags::from_bits(number(words, u32::MAX)?)
 }
 
 /// The direction that texts are to run in; Invalid if it is to be guessed.
 pub fn direction(mut words: Words) -> Option<Direction>
-    ensures { SomeIff result (IsDirection (words_of words.entry.rest.now))
-        (direction_said (words_of words.entry.rest.now)) }
+    ensures { SomeIff result (Settings.IsDirection (word_rules.words words.entry.rest.now))
+        (Settings.direction_said (word_rules.words words.entry.rest.now)) }
 {
     let direction = command::direction(words.next()?)?;
     if words.next().is_some() {
@@ -93,8 +91,8 @@ pub fn direction(mut words: Words) -> Option<Direction>
 
 /// The extents of a glyph; none are said if there are no words.
 fn extents(mut words: Words) -> Option<Option<hb_glyph_extents_t>>
-    ensures { SomeIff result (IsExtents (words_of words.entry.rest.now))
-        (extents_of (words_of words.entry.rest.now)) }
+    ensures { SomeIff result (Settings.IsExtents (word_rules.words words.entry.rest.now))
+        (Settings.extents_of (word_rules.words words.entry.rest.now)) }
 {
     let Some(x_bearing) = words.next() else {
         return Some(None);
@@ -114,9 +112,9 @@ fn extents(mut words: Words) -> Option<Option<hb_glyph_extents_t>>
 /// A character, its glyph and what is said of that.
 pub fn glyph(mut words: Words) -> Option<GlyphLine>
     ensures { MatchOption result
-        (¬ IsGlyph (words_of words.entry.rest.now))
-        (λ said. IsGlyph (words_of words.entry.rest.now)
-        × SaysGlyph (words_of words.entry.rest.now) said) }
+        (¬ Settings.IsGlyph (word_rules.words words.entry.rest.now))
+        (λ said. Settings.IsGlyph (word_rules.words words.entry.rest.now)
+        × Settings.SaysGlyph (word_rules.words words.entry.rest.now) said) }
 {
     let c = character(words.next()?)?;
     let glyph = GlyphId(natural(words.next()?, GREATEST)?);

@@ -9,7 +9,7 @@ ghost use Rattle.std.specs.Prelude.{◌≡◌, ◌≤◌, Some};
 ghost use Rattle.shape_sessions.specs.Lines.{IsLine, IsObeyed, line_words, obeyed};
 ghost use Rattle.shape_sessions.specs.Lines.{command_of_words};
 ghost use Rattle.shape_sessions.specs.State.{IsMeant, set_by};
-ghost use Rattle.shape_sessions.specs.Words.{words as words_of};
+ghost use Rattle.shape_sessions.specs.Words as word_rules;
 
 mod answers;
 mod lines;
@@ -108,8 +108,9 @@ fn execute<W: Write>(
     words: Words,
     writer: &mut W,
 ) -> Outcome
-    ensures { IsObeyed (Some command) (IsMeant command (words_of words.entry.rest.now)) session.old
-        (set_by command (words_of words.entry.rest.now) session.old) result session.new }
+    ensures { IsObeyed (Some command) (IsMeant command
+        (word_rules.words words.entry.rest.now)) session.old
+        (set_by command (word_rules.words words.entry.rest.now) session.old) result session.new }
 {
     match command {
         Command::Face => session.set_face(alloc, words),

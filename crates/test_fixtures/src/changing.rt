@@ -1,6 +1,6 @@
 //! A shaper whose `preprocess_text` hook changes characters, and not their properties.
 ghost use Rattle.std.specs.Prelude.{◌≡◌, true, false, None, pos, refl};
-ghost use Rattle.test_fixtures.specs.Changing.{changed as changed_of, all_changed};
+ghost use Rattle.test_fixtures.specs.Changing;
 
 use shape_buffer::buffer::{ShapeError, hb_buffer_t, hb_glyph_info_t, hb_tag_t};
 use shape_buffer::interfaces::{hb_font_t, hb_ot_layout_t, hb_unicode_funcs_t};
@@ -15,7 +15,7 @@ use std::alloc::Global;
 pub struct ChangingShaper;
 
 fn changed(info: &hb_glyph_info_t) -> hb_glyph_info_t
-    ensures { result ≡ changed_of info.now }
+    ensures { result ≡ Changing.changed info.now }
 {
     let mut info = *info;
     if info.codepoint == 'a' {
@@ -80,7 +80,7 @@ impl<U: hb_unicode_funcs_t, F, M: hb_ot_layout_t<F>> preprocess_text_hook<
     F,
     M,
 > for ChangingShaper {
-    ghost preprocessed = { λ _ _ _. all_changed };
+    ghost preprocessed = { λ _ _ _. Changing.all_changed };
 
     ghost GIVEN = { true };
 

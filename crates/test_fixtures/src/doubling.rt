@@ -1,8 +1,6 @@
 //! A shaper with the hooks `setup_masks` and `pause`.
 ghost use Rattle.std.specs.Prelude.{◌≡◌, true, false, None, pos, refl};
-ghost use Rattle.test_fixtures.specs.Doubling.{with_bit as with_bit_of};
-ghost use Rattle.test_fixtures.specs.Doubling.{with_double as with_double_of, all_with_bit};
-ghost use Rattle.test_fixtures.specs.Doubling.{all_with_bit-alone, doubled};
+ghost use Rattle.test_fixtures.specs.Doubling;
 
 use shape_buffer::buffer::{ShapeError, hb_buffer_t, hb_glyph_info_t, hb_tag_t};
 use shape_buffer::interfaces::{hb_font_t, hb_ot_layout_t, hb_unicode_funcs_t};
@@ -17,7 +15,7 @@ use std::alloc::Global;
 pub struct DoublingShaper;
 
 fn with_bit(info: &hb_glyph_info_t) -> hb_glyph_info_t
-    ensures { result ≡ with_bit_of info.now }
+    ensures { result ≡ Doubling.with_bit info.now }
 {
     let mut info = *info;
     info.mask |= 0x800;
@@ -26,7 +24,7 @@ fn with_bit(info: &hb_glyph_info_t) -> hb_glyph_info_t
 
 /// An item with twice its glyph, bits past 32 dropped.
 fn with_double(info: &hb_glyph_info_t) -> hb_glyph_info_t
-    ensures { result ≡ with_double_of info.now }
+    ensures { result ≡ Doubling.with_double info.now }
 {
     let mut info = *info;
     info.glyph_id <<= 1;
@@ -84,7 +82,7 @@ impl<U: hb_unicode_funcs_t, F: hb_font_t, M: hb_ot_layout_t<F>> script_shaper<U,
 
 impl<U: hb_unicode_funcs_t, F, M: hb_ot_layout_t<F>> setup_masks_hook<DoublingShaper, (), U, F, M>
     for DoublingShaper {
-    ghost masked = { λ _ _ _. all_with_bit };
+    ghost masked = { λ _ _ _. Doubling.all_with_bit };
 
     ghost GIVEN = { true };
 
@@ -99,12 +97,12 @@ impl<U: hb_unicode_funcs_t, F, M: hb_ot_layout_t<F>> setup_masks_hook<DoublingSh
         update_items(buffer, |info| with_bit(info));
     }
 
-    ghost masks_alone = { λ _ _ _. all_with_bit-alone };
+    ghost masks_alone = { λ _ _ _. Doubling.all_with_bit-alone };
 }
 
 impl<U: hb_unicode_funcs_t, F, M: hb_ot_layout_t<F>> pause_hook<DoublingShaper, (), U, F, M>
     for DoublingShaper {
-    ghost paused = { λ _ _ _. doubled };
+    ghost paused = { λ _ _ _. Doubling.doubled };
 
     ghost GIVEN = { true };
 

@@ -4,11 +4,7 @@ ghost use Rattle.std.specs.Prelude.{◌≡◌};
 ghost use Rattle.shape_buffer.specs.Outcome.{Made};
 ghost use Rattle.test_fixtures.specs.declared.face.TestFace.{TestFace as Face};
 ghost use Rattle.test_fixtures.specs.declared.layout.TestMap.{TestMap as Compiled};
-ghost use Rattle.test_fixtures.specs.Layouts.{layout_of, masks_of, masks_of-lawful, lookups_of};
-ghost use Rattle.test_fixtures.specs.Layouts.{lookups_of-lawful, wider_by, with_class_of_face};
-ghost use Rattle.test_fixtures.specs.Layouts.{one_mask as one_mask_of};
-ghost use Rattle.test_fixtures.specs.Layouts.{struck_glyph as struck_glyph_of};
-ghost use Rattle.test_fixtures.specs.Layouts.{struck as struck_of, is_struck as is_struck_of};
+ghost use Rattle.test_fixtures.specs.Layouts;
 
 use crate::face::TestFace;
 use crate::lookups::run_stage;
@@ -49,7 +45,7 @@ pub struct TestLayout;
 
 /// The mask of a feature's value 1.
 fn one_mask(map: &TestMap, tag: u32) -> hb_mask_t
-    ensures { result ≡ one_mask_of map.now tag }
+    ensures { result ≡ Layouts.one_mask map.now tag }
 {
     match tag {
         _ if map.every_feature => 8,
@@ -62,7 +58,7 @@ fn one_mask(map: &TestMap, tag: u32) -> hb_mask_t
 }
 
 fn with_class(info: &hb_glyph_info_t) -> hb_glyph_info_t
-    ensures { result ≡ with_class_of_face info.now }
+    ensures { result ≡ Layouts.with_class_of_face info.now }
 {
     let mut info = *info;
     let class = if info.glyph_id == 9 {
@@ -76,7 +72,7 @@ fn with_class(info: &hb_glyph_info_t) -> hb_glyph_info_t
 
 /// The glyph that `morx` deletes.
 fn struck_glyph(features: &[Feature]) -> u32
-    ensures { result ≡ struck_glyph_of features.now }
+    ensures { result ≡ Layouts.struck_glyph features.now }
 {
     match features {
         [] => 0x78,
@@ -85,7 +81,7 @@ fn struck_glyph(features: &[Feature]) -> u32
 }
 
 fn struck(glyph: u32, info: &hb_glyph_info_t) -> hb_glyph_info_t
-    ensures { result ≡ struck_of glyph info.now }
+    ensures { result ≡ Layouts.struck glyph info.now }
 {
     let mut info = *info;
     if info.glyph_id == glyph {
@@ -96,14 +92,14 @@ fn struck(glyph: u32, info: &hb_glyph_info_t) -> hb_glyph_info_t
 }
 
 fn is_struck(info: &hb_glyph_info_t) -> bool
-    ensures { result ≡ is_struck_of info.now }
+    ensures { result ≡ Layouts.is_struck info.now }
 {
     info.glyph_id == STRUCK
 }
 
 /// The position with its horizontal advance greater by `n`.
 fn wider(n: i32, info: &hb_glyph_info_t, position: GlyphPosition) -> GlyphPosition
-    ensures { result ≡ wider_by n info.now position }
+    ensures { result ≡ Layouts.wider_by n info.now position }
 {
     GlyphPosition {
         x_advance: sum(position.x_advance, n),
@@ -114,11 +110,11 @@ fn wider(n: i32, info: &hb_glyph_info_t, position: GlyphPosition) -> GlyphPositi
 impl<'a> hb_ot_layout_t<TestFace<'a>> for TestLayout {
     type Map = TestMap;
 
-    ghost layout = { layout_of };
+    ghost layout = { Layouts.layout_of };
 
-    ghost masks = { masks_of };
+    ghost masks = { Layouts.masks_of };
 
-    ghost lookups = { λ _. lookups_of };
+    ghost lookups = { λ _. Layouts.lookups_of };
 
     fn chosen_script(
         face: &TestFace<'a>,
@@ -164,19 +160,19 @@ impl<'a> hb_ot_layout_t<TestFace<'a>> for TestLayout {
     }
 
     fn global_mask(map: &TestMap) -> hb_mask_t
-        ensures { result ≡ (masks_of map.now).global_mask }
+        ensures { result ≡ (Layouts.masks_of map.now).global_mask }
     {
         if map.global_bit { 8 } else { 0 }
     }
 
     fn get_1_mask(map: &TestMap, tag: hb_tag_t) -> hb_mask_t
-        ensures { result ≡ (masks_of map.now).one_mask tag }
+        ensures { result ≡ (Layouts.masks_of map.now).one_mask tag }
     {
         one_mask(map, tag.0)
     }
 
     fn get_mask(map: &TestMap, tag: hb_tag_t) -> (hb_mask_t, u32)
-        ensures { result ≡ (masks_of map.now).mask tag }
+        ensures { result ≡ (Layouts.masks_of map.now).mask tag }
     {
         match tag.0 {
             _ if map.every_feature => (8, 3),
@@ -186,7 +182,7 @@ impl<'a> hb_ot_layout_t<TestFace<'a>> for TestLayout {
     }
 
     fn get_feature_index(map: &TestMap, table: TableIndex, tag: hb_tag_t) -> Option<u16>
-        ensures { result ≡ (masks_of map.now).feature_index table tag }
+        ensures { result ≡ (Layouts.masks_of map.now).feature_index table tag }
     {
         match table {
             TableIndex::GPOS if map.gpos_kerns => Some(0),
@@ -199,7 +195,7 @@ impl<'a> hb_ot_layout_t<TestFace<'a>> for TestLayout {
     }
 
     fn stages(map: &TestMap) -> usize
-        ensures { result ≡ (masks_of map.now).stages }
+        ensures { result ≡ (Layouts.masks_of map.now).stages }
     {
         map.stages
     }
@@ -219,7 +215,7 @@ impl<'a> hb_ot_layout_t<TestFace<'a>> for TestLayout {
     }
 
     fn pause_after(map: &TestMap, i: usize) -> Option<u32>
-        ensures { result ≡ (masks_of map.now).pause_after i }
+        ensures { result ≡ (Layouts.masks_of map.now).pause_after i }
     {
         if i == 0 { map.pause } else { None }
     }
@@ -238,14 +234,14 @@ impl<'a> hb_ot_layout_t<TestFace<'a>> for TestLayout {
 
     fn aat_remove_deleted(buffer: &mut hb_buffer_t)
         ensures { (map : Compiled) (face : Face)
-            → Made (lookups_of face).aat_remove_deleted buffer.old buffer.new }
+            → Made (Layouts.lookups_of face).aat_remove_deleted buffer.old buffer.new }
     {
         buffer.delete_glyphs_inplace(|info| is_struck(info));
     }
 
     fn aat_zero_width_deleted(buffer: &mut hb_buffer_t)
         ensures { (map : Compiled) (face : Face)
-            → Made (lookups_of face).aat_zero_width_deleted buffer.old buffer.new }
+            → Made (Layouts.lookups_of face).aat_zero_width_deleted buffer.old buffer.new }
     {}
 
     fn position_start(_face: &TestFace<'a>, _buffer: &mut hb_buffer_t) {}
@@ -288,7 +284,7 @@ impl<'a> hb_ot_layout_t<TestFace<'a>> for TestLayout {
         Ok(())
     }
 
-    ghost lawful_masks = { masks_of-lawful };
+    ghost lawful_masks = { Layouts.masks_of-lawful };
 
-    ghost lawful_lookups = { λ _. lookups_of-lawful };
+    ghost lawful_lookups = { λ _. Layouts.lookups_of-lawful };
 }

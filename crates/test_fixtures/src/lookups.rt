@@ -2,11 +2,7 @@
 ghost use Rattle.std.specs.Prelude.{◌≡◌, ◌++◌, ◌+◌, ◌≤◌, true, length, OnOk};
 ghost use Rattle.shape_buffer.specs.Outcome.{IsWithinLimit, Made, Outcome, step};
 ghost use Rattle.shape_buffer.specs.Walks.{items_mapped};
-ghost use Rattle.test_fixtures.specs.Rules.{takes as takes_of, with_glyph as with_glyph_of};
-ghost use Rattle.test_fixtures.specs.Rules.{added as added_of, one_for_one as one_for_one_of};
-ghost use Rattle.test_fixtures.specs.Rules.{two_for_one as two_for_one_of, multiplied};
-ghost use Rattle.test_fixtures.specs.Rules.{begins_with_pair as begins_with_pair_of, made_one};
-ghost use Rattle.test_fixtures.specs.Rules.{ligated_at, ligated, stage_made};
+ghost use Rattle.test_fixtures.specs.Rules;
 
 use crate::rules::{Ligature, Multiple, Single, Stage};
 use shape_buffer::buffer::{ShapeError, hb_buffer_t, hb_glyph_info_t, hb_mask_t};
@@ -15,14 +11,14 @@ use std::alloc::{AllocError, Global};
 
 /// Whether a feature is on for an item of a glyph.
 fn takes(feature: hb_mask_t, glyph: u32, info: &hb_glyph_info_t) -> bool
-    ensures { result ≡ takes_of feature glyph info.now }
+    ensures { result ≡ Rules.takes feature glyph info.now }
 {
     (feature == 0 || info.mask & feature != 0) && info.glyph_id == glyph
 }
 
 /// The item with a glyph that a lookup has made.
 fn with_glyph(glyph: u32, info: &hb_glyph_info_t) -> hb_glyph_info_t
-    ensures { result ≡ with_glyph_of glyph info.now }
+    ensures { result ≡ Rules.with_glyph glyph info.now }
 {
     let mut info = *info;
     info.glyph_id = glyph;
@@ -31,13 +27,13 @@ fn with_glyph(glyph: u32, info: &hb_glyph_info_t) -> hb_glyph_info_t
 }
 
 fn added(number: u32, info: &hb_glyph_info_t) -> hb_glyph_info_t
-    ensures { result ≡ added_of number info.now }
+    ensures { result ≡ Rules.added number info.now }
 {
     with_glyph(info.glyph_id.wrapping_add(number), info)
 }
 
 fn one_for_one(rule: &Single, info: &hb_glyph_info_t) -> hb_glyph_info_t
-    ensures { result ≡ one_for_one_of rule.now info.now }
+    ensures { result ≡ Rules.one_for_one rule.now info.now }
 {
     if takes(rule.feature, rule.from, info) {
         with_glyph(rule.to, info)
@@ -52,7 +48,8 @@ fn append(
     rule: &Multiple,
     info: &hb_glyph_info_t,
 ) -> Result<(), AllocError>
-    ensures { OnOk result (infos.new.items ≡ infos.old.items ++ two_for_one_of rule.now info.now) }
+    ensures { OnOk result (infos.new.items
+        ≡ infos.old.items ++ Rules.two_for_one rule.now info.now) }
 {
     if takes(rule.feature, rule.from, info) {
         infos.push(with_glyph(rule.first, info))?;
@@ -66,7 +63,7 @@ fn append(
 /// Puts two glyphs in place of each that the rule takes.
 fn multiply(alloc: Global, rule: &Multiple, buffer: &mut hb_buffer_t) -> Result<(), ShapeError>
     requires { IsWithinLimit buffer.old }
-    ensures { Outcome (step (multiplied rule.now)) buffer.old buffer.new result }
+    ensures { Outcome (step (Rules.multiplied rule.now)) buffer.old buffer.new result }
 {
     let mut infos = Vec::new(alloc);
     for info in buffer.infos() {
@@ -77,7 +74,7 @@ fn multiply(alloc: Global, rule: &Multiple, buffer: &mut hb_buffer_t) -> Result<
 
 /// Whether a list begins with two items that the rule takes.
 fn begins_with_pair(rule: &Ligature, infos: &[hb_glyph_info_t]) -> bool
-    ensures value { result ≡ begins_with_pair_of rule.now infos.now }
+    ensures value { result ≡ Rules.begins_with_pair rule.now infos.now }
     ensures two { result ≡ true → 2 ≤ length infos.now }
 {
     match infos {
@@ -92,7 +89,7 @@ fn begins_with_pair(rule: &Ligature, infos: &[hb_glyph_info_t]) -> bool
 fn make_one(rule: &Ligature, start: usize, end: usize, buffer: &mut hb_buffer_t)
     requires two { end ≡ start + 2 }
     requires within { end ≤ length buffer.old.items }
-    ensures { Made (made_one rule.now start) buffer.old buffer.new }
+    ensures { Made (Rules.made_one rule.now start) buffer.old buffer.new }
 {
     buffer.merge_clusters(start, end);
     let info = with_glyph(rule.into, &buffer.infos()[start]);
@@ -102,7 +99,7 @@ fn make_one(rule: &Ligature, start: usize, end: usize, buffer: &mut hb_buffer_t)
 
 /// Makes one item of those at `i` and after it, if the rule takes them.
 fn ligate_at(rule: &Ligature, i: usize, buffer: &mut hb_buffer_t)
-    ensures { Made (ligated_at rule.now i) buffer.old buffer.new }
+    ensures { Made (Rules.ligated_at rule.now i) buffer.old buffer.new }
 {
     if i < buffer.len() && begins_with_pair(rule, &buffer.infos()[i..]) {
         make_one(rule, i, i + 2, buffer);
@@ -111,7 +108,7 @@ fn ligate_at(rule: &Ligature, i: usize, buffer: &mut hb_buffer_t)
 
 /// Makes one item of each two that the rule takes, from left to right.
 fn ligate(rule: &Ligature, buffer: &mut hb_buffer_t)
-    ensures { Made (ligated rule.now) buffer.old buffer.new }
+    ensures { Made (Rules.ligated rule.now) buffer.old buffer.new }
 {
     for i in 0..buffer.len() {
         ligate_at(rule, i, buffer);
@@ -125,7 +122,7 @@ pub(crate) fn run_stage(
     buffer: &mut hb_buffer_t,
 ) -> Result<(), ShapeError>
     requires { IsWithinLimit buffer.old }
-    ensures { Outcome (step (stage_made stage.now)) buffer.old buffer.new result }
+    ensures { Outcome (step (Rules.stage_made stage.now)) buffer.old buffer.new result }
 {
     match stage {
         Stage::Add(number) => {

@@ -1,27 +1,27 @@
 //! The rules LB4 to LB18: breaks that are mandatory, spaces, and what stands beside them.
 ghost use Rattle.std.specs.Prelude.{◌≡◌};
-ghost use Rattle.line_breaks.specs.Rules.{lb4 as lb4_of, lb5_crlf as lb5_crlf_of, lb5 as lb5_of, lb6 as lb6_of, lb7 as lb7_of, lb8 as lb8_of, lb8a as lb8a_of, lb11 as lb11_of, lb12 as lb12_of, lb12a as lb12a_of, lb13 as lb13_of, lb14 as lb14_of, lb15a as lb15a_of, lb15b as lb15b_of, lb15c as lb15c_of, lb15d as lb15d_of, lb16 as lb16_of, lb17 as lb17_of, lb18 as lb18_of};
+ghost use Rattle.line_breaks.specs.Rules;
 
 use super::Around;
 use ucd_breaks::LineBreak;
 
 /// LB4: BK !.
 pub(super) fn lb4(around: &Around) -> bool
-    ensures { result ≡ lb4_of around.now }
+    ensures { result ≡ Rules.lb4 around.now }
 {
     around.before.one.is(LineBreak::MandatoryBreak)
 }
 
 /// LB5: CR × LF.
 pub(super) fn lb5_crlf(around: &Around) -> bool
-    ensures { result ≡ lb5_crlf_of around.now }
+    ensures { result ≡ Rules.lb5_crlf around.now }
 {
     around.before.one.is(LineBreak::CarriageReturn) && around.after.is(LineBreak::LineFeed)
 }
 
 /// LB5: CR !, LF !, NL !.
 pub(super) fn lb5(around: &Around) -> bool
-    ensures { result ≡ lb5_of around.now }
+    ensures { result ≡ Rules.lb5 around.now }
 {
     around.before.one.is(LineBreak::CarriageReturn)
         || around.before.one.is(LineBreak::LineFeed)
@@ -30,7 +30,7 @@ pub(super) fn lb5(around: &Around) -> bool
 
 /// LB6: × (BK | CR | LF | NL).
 pub(super) fn lb6(around: &Around) -> bool
-    ensures { result ≡ lb6_of around.now }
+    ensures { result ≡ Rules.lb6 around.now }
 {
     around.after.is(LineBreak::MandatoryBreak)
         || around.after.is(LineBreak::CarriageReturn)
@@ -40,42 +40,42 @@ pub(super) fn lb6(around: &Around) -> bool
 
 /// LB7: × SP, × ZW.
 pub(super) fn lb7(around: &Around) -> bool
-    ensures { result ≡ lb7_of around.now }
+    ensures { result ≡ Rules.lb7 around.now }
 {
     around.after.is(LineBreak::Space) || around.after.is(LineBreak::ZWSpace)
 }
 
 /// LB8: ZW SP* ÷.
 pub(super) fn lb8(around: &Around) -> bool
-    ensures { result ≡ lb8_of around.now }
+    ensures { result ≡ Rules.lb8 around.now }
 {
     around.before.base.is(LineBreak::ZWSpace)
 }
 
 /// LB8a: ZWJ ×.
 pub(super) fn lb8a(around: &Around) -> bool
-    ensures { result ≡ lb8a_of around.now }
+    ensures { result ≡ Rules.lb8a around.now }
 {
     around.joined
 }
 
 /// LB11: × WJ, WJ ×.
 pub(super) fn lb11(around: &Around) -> bool
-    ensures { result ≡ lb11_of around.now }
+    ensures { result ≡ Rules.lb11 around.now }
 {
     around.after.is(LineBreak::WordJoiner) || around.before.one.is(LineBreak::WordJoiner)
 }
 
 /// LB12: GL ×.
 pub(super) fn lb12(around: &Around) -> bool
-    ensures { result ≡ lb12_of around.now }
+    ensures { result ≡ Rules.lb12 around.now }
 {
     around.before.one.is(LineBreak::Glue)
 }
 
 /// LB12a: [^SP BA HY HH] × GL.
 pub(super) fn lb12a(around: &Around) -> bool
-    ensures { result ≡ lb12a_of around.now }
+    ensures { result ≡ Rules.lb12a around.now }
 {
     around.after.is(LineBreak::Glue)
         && !(around.before.one.is(LineBreak::Space)
@@ -86,7 +86,7 @@ pub(super) fn lb12a(around: &Around) -> bool
 
 /// LB13: × CL, × CP, × EX, × SY.
 pub(super) fn lb13(around: &Around) -> bool
-    ensures { result ≡ lb13_of around.now }
+    ensures { result ≡ Rules.lb13 around.now }
 {
     around.after.is(LineBreak::ClosePunctuation)
         || around.after.is(LineBreak::CloseParenthesis)
@@ -96,14 +96,14 @@ pub(super) fn lb13(around: &Around) -> bool
 
 /// LB14: OP SP* ×.
 pub(super) fn lb14(around: &Around) -> bool
-    ensures { result ≡ lb14_of around.now }
+    ensures { result ≡ Rules.lb14 around.now }
 {
     around.before.base.is(LineBreak::OpenPunctuation)
 }
 
 /// LB15a: (sot | BK | CR | LF | NL | OP | QU | GL | SP | ZW) [Pi & QU] SP* ×.
 pub(super) fn lb15a(around: &Around) -> bool
-    ensures { result ≡ lb15a_of around.now }
+    ensures { result ≡ Rules.lb15a around.now }
 {
     around.before.base.is(LineBreak::Quotation)
         && around.before.base.opens
@@ -120,7 +120,7 @@ pub(super) fn lb15a(around: &Around) -> bool
 
 /// LB15b: × [Pf & QU] (SP | GL | WJ | CL | QU | CP | EX | IS | SY | BK | CR | LF | NL | ZW | eot).
 pub(super) fn lb15b(around: &Around) -> bool
-    ensures { result ≡ lb15b_of around.now }
+    ensures { result ≡ Rules.lb15b around.now }
 {
     around.after.is(LineBreak::Quotation)
         && around.after.closes
@@ -142,7 +142,7 @@ pub(super) fn lb15b(around: &Around) -> bool
 
 /// LB15c: SP ÷ IS NU.
 pub(super) fn lb15c(around: &Around) -> bool
-    ensures { result ≡ lb15c_of around.now }
+    ensures { result ≡ Rules.lb15c around.now }
 {
     around.before.one.is(LineBreak::Space)
         && around.after.is(LineBreak::InfixNumeric)
@@ -151,14 +151,14 @@ pub(super) fn lb15c(around: &Around) -> bool
 
 /// LB15d: × IS.
 pub(super) fn lb15d(around: &Around) -> bool
-    ensures { result ≡ lb15d_of around.now }
+    ensures { result ≡ Rules.lb15d around.now }
 {
     around.after.is(LineBreak::InfixNumeric)
 }
 
 /// LB16: (CL | CP) SP* × NS.
 pub(super) fn lb16(around: &Around) -> bool
-    ensures { result ≡ lb16_of around.now }
+    ensures { result ≡ Rules.lb16 around.now }
 {
     (around.before.base.is(LineBreak::ClosePunctuation)
         || around.before.base.is(LineBreak::CloseParenthesis))
@@ -167,14 +167,14 @@ pub(super) fn lb16(around: &Around) -> bool
 
 /// LB17: B2 SP* × B2.
 pub(super) fn lb17(around: &Around) -> bool
-    ensures { result ≡ lb17_of around.now }
+    ensures { result ≡ Rules.lb17 around.now }
 {
     around.before.base.is(LineBreak::BreakBoth) && around.after.is(LineBreak::BreakBoth)
 }
 
 /// LB18: SP ÷.
 pub(super) fn lb18(around: &Around) -> bool
-    ensures { result ≡ lb18_of around.now }
+    ensures { result ≡ Rules.lb18 around.now }
 {
     around.before.one.is(LineBreak::Space)
 }

@@ -1,13 +1,13 @@
 //! The rules LB19 to LB30b: between letters, numbers and signs.
 ghost use Rattle.std.specs.Prelude.{◌≡◌};
-ghost use Rattle.line_breaks.specs.Rules.{lb19 as lb19_of, lb19a as lb19a_of, lb20 as lb20_of, lb20a as lb20a_of, lb21 as lb21_of, lb21a as lb21a_of, lb21b as lb21b_of, lb22 as lb22_of, lb23 as lb23_of, lb23a as lb23a_of, lb24 as lb24_of, lb25_after as lb25_after_of, lb25_before as lb25_before_of, lb26 as lb26_of, lb27 as lb27_of, lb28 as lb28_of, lb28a_first as lb28a_first_of, lb28a_second as lb28a_second_of, lb29 as lb29_of, lb30 as lb30_of, lb30a as lb30a_of, lb30b as lb30b_of};
+ghost use Rattle.line_breaks.specs.Rules;
 
 use super::Around;
 use ucd_breaks::LineBreak;
 
 /// LB19: × [QU - Pi], [QU - Pf] ×.
 pub(super) fn lb19(around: &Around) -> bool
-    ensures { result ≡ lb19_of around.now }
+    ensures { result ≡ Rules.lb19 around.now }
 {
     around.after.is(LineBreak::Quotation) && !around.after.opens
         || around.before.one.is(LineBreak::Quotation) && !around.before.one.closes
@@ -15,7 +15,7 @@ pub(super) fn lb19(around: &Around) -> bool
 
 /// LB19a: [^EastAsian] × QU, × QU ([^EastAsian] | eot), QU × [^EastAsian], (sot | [^EastAsian]) QU ×.
 pub(super) fn lb19a(around: &Around) -> bool
-    ensures { result ≡ lb19a_of around.now }
+    ensures { result ≡ Rules.lb19a around.now }
 {
     around.after.is(LineBreak::Quotation) && (!around.before.one.wide || !around.next.wide)
         || around.before.one.is(LineBreak::Quotation)
@@ -24,14 +24,14 @@ pub(super) fn lb19a(around: &Around) -> bool
 
 /// LB20: ÷ CB, CB ÷.
 pub(super) fn lb20(around: &Around) -> bool
-    ensures { result ≡ lb20_of around.now }
+    ensures { result ≡ Rules.lb20 around.now }
 {
     around.after.is(LineBreak::ContingentBreak) || around.before.one.is(LineBreak::ContingentBreak)
 }
 
 /// LB20a: (sot | BK | CR | LF | NL | SP | ZW | CB | GL) (HY | HH) × (AL | HL).
 pub(super) fn lb20a(around: &Around) -> bool
-    ensures { result ≡ lb20a_of around.now }
+    ensures { result ≡ Rules.lb20a around.now }
 {
     (around.before.one.is(LineBreak::Hyphen) || around.before.one.is(LineBreak::UnambiguousHyphen))
         && (around.after.is(LineBreak::Alphabetic) || around.after.is(LineBreak::HebrewLetter))
@@ -47,7 +47,7 @@ pub(super) fn lb20a(around: &Around) -> bool
 
 /// LB21: × BA, × HH, × HY, × NS, BB ×.
 pub(super) fn lb21(around: &Around) -> bool
-    ensures { result ≡ lb21_of around.now }
+    ensures { result ≡ Rules.lb21 around.now }
 {
     around.after.is(LineBreak::BreakAfter)
         || around.after.is(LineBreak::UnambiguousHyphen)
@@ -58,7 +58,7 @@ pub(super) fn lb21(around: &Around) -> bool
 
 /// LB21a: HL (HY | HH) × [^HL].
 pub(super) fn lb21a(around: &Around) -> bool
-    ensures { result ≡ lb21a_of around.now }
+    ensures { result ≡ Rules.lb21a around.now }
 {
     around.before.two.is(LineBreak::HebrewLetter)
         && (around.before.one.is(LineBreak::Hyphen)
@@ -68,21 +68,21 @@ pub(super) fn lb21a(around: &Around) -> bool
 
 /// LB21b: SY × HL.
 pub(super) fn lb21b(around: &Around) -> bool
-    ensures { result ≡ lb21b_of around.now }
+    ensures { result ≡ Rules.lb21b around.now }
 {
     around.before.one.is(LineBreak::BreakSymbols) && around.after.is(LineBreak::HebrewLetter)
 }
 
 /// LB22: × IN.
 pub(super) fn lb22(around: &Around) -> bool
-    ensures { result ≡ lb22_of around.now }
+    ensures { result ≡ Rules.lb22 around.now }
 {
     around.after.is(LineBreak::Inseparable)
 }
 
 /// LB23: (AL | HL) × NU, NU × (AL | HL).
 pub(super) fn lb23(around: &Around) -> bool
-    ensures { result ≡ lb23_of around.now }
+    ensures { result ≡ Rules.lb23 around.now }
 {
     (around.before.one.is(LineBreak::Alphabetic) || around.before.one.is(LineBreak::HebrewLetter))
         && around.after.is(LineBreak::Numeric)
@@ -92,7 +92,7 @@ pub(super) fn lb23(around: &Around) -> bool
 
 /// LB23a: PR × (ID | EB | EM), (ID | EB | EM) × PO.
 pub(super) fn lb23a(around: &Around) -> bool
-    ensures { result ≡ lb23a_of around.now }
+    ensures { result ≡ Rules.lb23a around.now }
 {
     around.before.one.is(LineBreak::PrefixNumeric)
         && (around.after.is(LineBreak::Ideographic)
@@ -106,7 +106,7 @@ pub(super) fn lb23a(around: &Around) -> bool
 
 /// LB24: (PR | PO) × (AL | HL), (AL | HL) × (PR | PO).
 pub(super) fn lb24(around: &Around) -> bool
-    ensures { result ≡ lb24_of around.now }
+    ensures { result ≡ Rules.lb24 around.now }
 {
     (around.before.one.is(LineBreak::PrefixNumeric)
         || around.before.one.is(LineBreak::PostfixNumeric))
@@ -119,7 +119,7 @@ pub(super) fn lb24(around: &Around) -> bool
 
 /// LB25: NU (SY | IS)* (CL | CP)? × (PO | PR), NU (SY | IS)* × NU.
 pub(super) fn lb25_after(around: &Around) -> bool
-    ensures { result ≡ lb25_after_of around.now }
+    ensures { result ≡ Rules.lb25_after around.now }
 {
     (around.before.closed || around.before.number)
         && (around.after.is(LineBreak::PostfixNumeric) || around.after.is(LineBreak::PrefixNumeric))
@@ -128,7 +128,7 @@ pub(super) fn lb25_after(around: &Around) -> bool
 
 /// LB25: (PO | PR) × OP NU, (PO | PR) × OP IS NU, (PO | PR | HY | IS) × NU.
 pub(super) fn lb25_before(around: &Around) -> bool
-    ensures { result ≡ lb25_before_of around.now }
+    ensures { result ≡ Rules.lb25_before around.now }
 {
     (around.before.one.is(LineBreak::PostfixNumeric)
         || around.before.one.is(LineBreak::PrefixNumeric)
@@ -144,7 +144,7 @@ pub(super) fn lb25_before(around: &Around) -> bool
 
 /// LB26: JL × (JL | JV | H2 | H3), (JV | H2) × (JV | JT), (JT | H3) × JT.
 pub(super) fn lb26(around: &Around) -> bool
-    ensures { result ≡ lb26_of around.now }
+    ensures { result ≡ Rules.lb26 around.now }
 {
     around.before.one.is(LineBreak::Jl)
         && (around.after.is(LineBreak::Jl)
@@ -159,7 +159,7 @@ pub(super) fn lb26(around: &Around) -> bool
 
 /// LB27: (JL | JV | JT | H2 | H3) × PO, PR × (JL | JV | JT | H2 | H3).
 pub(super) fn lb27(around: &Around) -> bool
-    ensures { result ≡ lb27_of around.now }
+    ensures { result ≡ Rules.lb27 around.now }
 {
     (around.before.one.is(LineBreak::Jl)
         || around.before.one.is(LineBreak::Jv)
@@ -177,7 +177,7 @@ pub(super) fn lb27(around: &Around) -> bool
 
 /// LB28: (AL | HL) × (AL | HL).
 pub(super) fn lb28(around: &Around) -> bool
-    ensures { result ≡ lb28_of around.now }
+    ensures { result ≡ Rules.lb28 around.now }
 {
     (around.before.one.is(LineBreak::Alphabetic) || around.before.one.is(LineBreak::HebrewLetter))
         && (around.after.is(LineBreak::Alphabetic) || around.after.is(LineBreak::HebrewLetter))
@@ -185,7 +185,7 @@ pub(super) fn lb28(around: &Around) -> bool
 
 /// LB28a: AP × (AK | ◌ | AS), (AK | ◌ | AS) × (VF | VI).
 pub(super) fn lb28a_first(around: &Around) -> bool
-    ensures { result ≡ lb28a_first_of around.now }
+    ensures { result ≡ Rules.lb28a_first around.now }
 {
     around.before.one.is(LineBreak::AksaraPrebase)
         && (around.after.is(LineBreak::Aksara)
@@ -199,7 +199,7 @@ pub(super) fn lb28a_first(around: &Around) -> bool
 
 /// LB28a: (AK | ◌ | AS) VI × (AK | ◌), (AK | ◌ | AS) × (AK | ◌ | AS) VF.
 pub(super) fn lb28a_second(around: &Around) -> bool
-    ensures { result ≡ lb28a_second_of around.now }
+    ensures { result ≡ Rules.lb28a_second around.now }
 {
     (around.before.two.is(LineBreak::Aksara)
         || around.before.two.circle
@@ -217,7 +217,7 @@ pub(super) fn lb28a_second(around: &Around) -> bool
 
 /// LB29: IS × (AL | HL).
 pub(super) fn lb29(around: &Around) -> bool
-    ensures { result ≡ lb29_of around.now }
+    ensures { result ≡ Rules.lb29 around.now }
 {
     around.before.one.is(LineBreak::InfixNumeric)
         && (around.after.is(LineBreak::Alphabetic) || around.after.is(LineBreak::HebrewLetter))
@@ -225,7 +225,7 @@ pub(super) fn lb29(around: &Around) -> bool
 
 /// LB30: (AL | HL | NU) × [OP - EastAsian], [CP - EastAsian] × (AL | HL | NU).
 pub(super) fn lb30(around: &Around) -> bool
-    ensures { result ≡ lb30_of around.now }
+    ensures { result ≡ Rules.lb30 around.now }
 {
     (around.before.one.is(LineBreak::Alphabetic)
         || around.before.one.is(LineBreak::HebrewLetter)
@@ -241,14 +241,14 @@ pub(super) fn lb30(around: &Around) -> bool
 
 /// LB30a: sot (RI RI)* RI × RI, [^RI] (RI RI)* RI × RI.
 pub(super) fn lb30a(around: &Around) -> bool
-    ensures { result ≡ lb30a_of around.now }
+    ensures { result ≡ Rules.lb30a around.now }
 {
     around.before.odd && around.after.is(LineBreak::RegionalIndicator)
 }
 
 /// LB30b: EB × EM, [Extended_Pictographic & Cn] × EM.
 pub(super) fn lb30b(around: &Around) -> bool
-    ensures { result ≡ lb30b_of around.now }
+    ensures { result ≡ Rules.lb30b around.now }
 {
     (around.before.one.is(LineBreak::EBase) || around.before.one.reserved)
         && around.after.is(LineBreak::EModifier)

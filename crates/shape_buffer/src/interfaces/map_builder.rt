@@ -36,16 +36,7 @@ impl<'a> Model for hb_ot_map_builder_t<'a> {
 }
 
 impl<'a> hb_ot_map_builder_t<'a> {
-    ghost use Rattle.shape_buffer.specs.MapBuilder.{
-      new_builder,
-      chosen_script as chosen_script_of,
-      with_request,
-      feature,
-      feature_on,
-      feature_off,
-      pause,
-      pause_unless,
-    };
+    ghost use Rattle.shape_buffer.specs.MapBuilder;
 
     /// A builder without requests, for texts of this script and language. Asks the engine which scripts it
     /// takes.
@@ -56,7 +47,7 @@ impl<'a> hb_ot_map_builder_t<'a> {
         language: Option<&'a Language>,
     ) -> Self
         ensures { let name = option_map (λ l. string_bytes l.now.0) language.entry in
-            result ≡ new_builder name ((M.layout face.now).chosen_script script name) }
+            result ≡ MapBuilder.new_builder name ((M.layout face.now).chosen_script script name) }
     {
         hb_ot_map_builder_t {
             requests: Vec::new(alloc),
@@ -115,7 +106,8 @@ impl<'a> hb_ot_map_builder_t<'a> {
         flags: hb_ot_map_feature_flags_t,
         value: u32,
     ) -> Result<(), ShapeError>
-        ensures ok { OnOk result (self.new ≡ with_request self.old (feature tag flags value)) }
+        ensures ok { OnOk result (self.new
+            ≡ MapBuilder.with_request self.old (MapBuilder.feature tag flags value)) }
         ensures same { OnErr result (self.new ≡ self.old) }
         ensures memory { IsOkUnless result ShapeError.Memory }
     {
@@ -132,7 +124,8 @@ impl<'a> hb_ot_map_builder_t<'a> {
         flags: hb_ot_map_feature_flags_t,
         value: u32,
     ) -> Result<(), ShapeError>
-        ensures ok { OnOk result (self.new ≡ with_request self.old (feature_on tag flags value)) }
+        ensures ok { OnOk result (self.new
+            ≡ MapBuilder.with_request self.old (MapBuilder.feature_on tag flags value)) }
         ensures same { OnErr result (self.new ≡ self.old) }
         ensures memory { IsOkUnless result ShapeError.Memory }
     {
@@ -142,7 +135,8 @@ impl<'a> hb_ot_map_builder_t<'a> {
     /// Switches a feature off over the whole text: `add_feature` with value 0 and `F_GLOBAL`. Refuses as
     /// `add_feature` does.
     pub fn disable_feature(&mut self, tag: hb_tag_t) -> Result<(), ShapeError>
-        ensures ok { OnOk result (self.new ≡ with_request self.old (feature_off tag)) }
+        ensures ok { OnOk result (self.new
+            ≡ MapBuilder.with_request self.old (MapBuilder.feature_off tag)) }
         ensures same { OnErr result (self.new ≡ self.old) }
         ensures memory { IsOkUnless result ShapeError.Memory }
     {
@@ -153,7 +147,8 @@ impl<'a> hb_ot_map_builder_t<'a> {
     /// number, the shaper's hook `pause` is called with it there. Refuses with `Memory` if a growth was
     /// refused; a refused call changes nothing.
     pub fn add_gsub_pause(&mut self, number: Option<u32>) -> Result<(), ShapeError>
-        ensures ok { OnOk result (self.new ≡ with_request self.old (pause number)) }
+        ensures ok { OnOk result (self.new
+            ≡ MapBuilder.with_request self.old (MapBuilder.pause number)) }
         ensures same { OnErr result (self.new ≡ self.old) }
         ensures memory { IsOkUnless result ShapeError.Memory }
     {
@@ -165,7 +160,8 @@ impl<'a> hb_ot_map_builder_t<'a> {
     /// feature: where the language systems that the engine chose list it, there is no pause. Refuses with
     /// `Memory` if a growth was refused; a refused call changes nothing.
     pub fn add_gsub_pause_unless(&mut self, tag: hb_tag_t) -> Result<(), ShapeError>
-        ensures ok { OnOk result (self.new ≡ with_request self.old (pause_unless tag)) }
+        ensures ok { OnOk result (self.new
+            ≡ MapBuilder.with_request self.old (MapBuilder.pause_unless tag)) }
         ensures same { OnErr result (self.new ≡ self.old) }
         ensures memory { IsOkUnless result ShapeError.Memory }
     {
@@ -175,7 +171,7 @@ impl<'a> hb_ot_map_builder_t<'a> {
 
     /// The script that the engine chose for a table.
     pub fn chosen_script(&self, table: TableIndex) -> Option<hb_tag_t>
-        ensures { result ≡ chosen_script_of self.now table }
+        ensures { result ≡ MapBuilder.chosen_script self.now table }
     {
         match table {
             TableIndex::GSUB => self.gsub_script,

@@ -7,8 +7,7 @@ ghost use Rattle.std.specs.Prelude.{◌≡◌, ◌+◌, ◌-◌, ◌<◌, ◌≤
 ghost use Rattle.std.specs.List.{prefix_len};
 ghost use Rattle.shape_items.specs.Items.{is_mark_item};
 ghost use Rattle.shape_buffer.specs.Outcome.{Made};
-ghost use Rattle.shape_fallback.specs.Bases.{bases_positioned, position_span as position_span_of};
-ghost use Rattle.shape_fallback.specs.Bases.{positioned_at, begins_with_mark, marks_from};
+ghost use Rattle.shape_fallback.specs.Bases;
 
 use crate::ot_shape_fallback::marks::{
     MarkFrame, first_state, make_base, place_marks_of_base, zero_marks,
@@ -26,7 +25,7 @@ fn position_span<F: hb_font_t>(
 )
     requires ordered { start + 1 < end }
     requires within { end ≤ length buffer.old.items }
-    ensures { buffer.new ≡ position_span_of (F.face face.now) frame buffer.old
+    ensures { buffer.new ≡ Bases.position_span (F.face face.now) frame buffer.old
         (record { start = start; end = end }) }
 {
     buffer.unsafe_to_break(start, end);
@@ -56,7 +55,7 @@ fn marks_at_start(infos: &[hb_glyph_info_t]) -> usize
 /// Whether the item at a place is a mark.
 fn is_mark_at(infos: &[hb_glyph_info_t], i: usize) -> bool
     requires { i < length infos.now }
-    ensures { result ≡ begins_with_mark (drop i infos.now) }
+    ensures { result ≡ Bases.begins_with_mark (drop i infos.now) }
 {
     infos[i]._hb_glyph_info_is_unicode_mark()
 }
@@ -70,8 +69,8 @@ fn position_at<F: hb_font_t>(
     i: usize,
 ) -> usize
     requires { i < length buffer.old.items }
-    ensures placed { buffer.new ≡ positioned_at (F.face face.now) frame i buffer.old }
-    ensures end { result ≤ i + 1 + marks_from (i + 1) buffer.old }
+    ensures placed { buffer.new ≡ Bases.positioned_at (F.face face.now) frame i buffer.old }
+    ensures end { result ≤ i + 1 + Bases.marks_from (i + 1) buffer.old }
 {
     if buffer.infos()[i]._hb_glyph_info_is_unicode_mark() {
         return i + 1;
@@ -96,9 +95,9 @@ fn position_before<F: hb_font_t>(
 ) -> usize
     requires after { 0 < i }
     requires within { i < length buffer.old.items }
-    requires marks { done ≤ i - 1 + marks_from (i - 1) buffer.old }
-    ensures placed { buffer.new ≡ positioned_at (F.face face.now) frame (i - 1) buffer.old }
-    ensures end { result ≤ i + marks_from i buffer.old }
+    requires marks { done ≤ i - 1 + Bases.marks_from (i - 1) buffer.old }
+    ensures placed { buffer.new ≡ Bases.positioned_at (F.face face.now) frame (i - 1) buffer.old }
+    ensures end { result ≤ i + Bases.marks_from i buffer.old }
 {
     if i < done {
         return done;
@@ -112,7 +111,7 @@ fn position_before<F: hb_font_t>(
 /// Places the marks of all bases. A base is looked for only before a mark, and marks that were placed are
 /// skipped.
 pub(crate) fn position_bases<F: hb_font_t>(face: &F, frame: MarkFrame, buffer: &mut hb_buffer_t)
-    ensures { Made (bases_positioned (F.face face.now) frame) buffer.old buffer.new }
+    ensures { Made (Bases.bases_positioned (F.face face.now) frame) buffer.old buffer.new }
 {
     let mut done = 0;
     for i in 1..buffer.len() {

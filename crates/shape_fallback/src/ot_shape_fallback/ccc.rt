@@ -5,9 +5,7 @@
 //! gets the side that marks of the ccc stand at. Marks of Thai and Lao often have ccc 0, and get
 //! theirs by their character.
 ghost use Rattle.std.specs.Prelude.{◌≡◌};
-ghost use Rattle.shape_fallback.specs.Ccc.{ccc_in_thai_or_lao as ccc_in_thai_or_lao_of};
-ghost use Rattle.shape_fallback.specs.Ccc.{recategorized_ccc as recategorized_ccc_of};
-ghost use Rattle.shape_fallback.specs.Ccc.{fallback_ccc as fallback_ccc_of};
+ghost use Rattle.shape_fallback.specs.Ccc;
 
 use shape_buffer::interfaces::modified_combining_class as mcc;
 
@@ -31,7 +29,7 @@ const ABOVE_RIGHT: u8 = 232;
 
 /// The ccc of a mark of Thai or Lao, by the character.
 fn ccc_in_thai_or_lao(c: char, ccc: u8) -> u8
-    ensures { result ≡ ccc_in_thai_or_lao_of c ccc }
+    ensures { result ≡ Ccc.ccc_in_thai_or_lao c ccc }
 {
     match (ccc, c) {
         (0, '\u{E31}' | '\u{E34}'..='\u{E37}' | '\u{E47}' | '\u{E4C}'..='\u{E4E}') => ABOVE_RIGHT,
@@ -45,7 +43,7 @@ fn ccc_in_thai_or_lao(c: char, ccc: u8) -> u8
 /// The ccc that stands for a modified one: marks of Hebrew, Arabic and Syriac, Thai, Lao and Tibetan, in this
 /// order.
 fn recategorized_ccc(ccc: u8) -> u8
-    ensures { result ≡ recategorized_ccc_of ccc }
+    ensures { result ≡ Ccc.recategorized_ccc ccc }
 {
     match ccc {
         mcc::CCC10 | mcc::CCC11 | mcc::CCC12 | mcc::CCC13 | mcc::CCC14 | mcc::CCC15 => BELOW,
@@ -68,7 +66,7 @@ fn recategorized_ccc(ccc: u8) -> u8
 
 /// The ccc that a nonspacing mark is placed by.
 pub fn fallback_ccc(c: char, ccc: u8) -> u8
-    ensures { result ≡ fallback_ccc_of c ccc }
+    ensures { result ≡ Ccc.fallback_ccc c ccc }
 {
     if ccc >= 200 {
         return ccc;

@@ -1,8 +1,7 @@
 //! The frame that the marks of a buffer are placed in: how the line runs, how the components of
 //! ligatures run, and the gap between marks.
 ghost use Rattle.std.specs.Prelude.{◌≡◌};
-ghost use Rattle.shape_fallback.specs.Bases.{is_left_to_right as is_left_to_right_of};
-ghost use Rattle.shape_fallback.specs.Bases.{runs_to_right as runs_to_right_of, frame_of};
+ghost use Rattle.shape_fallback.specs.Bases;
 
 use crate::ot_shape_fallback::marks::MarkFrame;
 use crate::ot_shape_fallback::one_mark::Surroundings;
@@ -15,7 +14,7 @@ const GAPS_IN_EM: u16 = 16;
 
 /// Whether this is left to right.
 fn is_left_to_right(direction: Direction) -> bool
-    ensures { result ≡ is_left_to_right_of direction }
+    ensures { result ≡ Bases.is_left_to_right direction }
 {
     matches!(direction, Direction::LeftToRight)
 }
@@ -24,7 +23,7 @@ fn is_left_to_right(direction: Direction) -> bool
 /// else by the script's; to the right if none is known.
 #[tactic(auto, unfolding(crate::specs::Bases::runs_to_right))]
 fn runs_to_right<U: hb_unicode_funcs_t>(direction: Direction, script: Option<Script>) -> bool
-    ensures { result ≡ runs_to_right_of U.unicode direction script }
+    ensures { result ≡ Bases.runs_to_right U.unicode direction script }
 {
     if direction.is_horizontal() {
         return is_left_to_right(direction);
@@ -46,7 +45,7 @@ pub(crate) fn make_frame<U: hb_unicode_funcs_t, F: hb_font_t, S, P, D>(
     buffer: &hb_buffer_t,
     adjust: bool,
 ) -> MarkFrame
-    ensures { result ≡ frame_of U.unicode (F.face face.now) plan.now.direction plan.now.script
+    ensures { result ≡ Bases.frame_of U.unicode (F.face face.now) plan.now.direction plan.now.script
         adjust buffer.now }
 {
     let direction = buffer.direction();

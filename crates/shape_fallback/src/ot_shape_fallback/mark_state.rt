@@ -8,13 +8,7 @@
 //! Components run to the right by the plan's direction if that is horizontal, else by its
 //! script's. None and Invalid count as left to right, a vertical script's direction doesn't.
 ghost use Rattle.std.specs.Prelude.{◌≡◌, pos, ◌<◌};
-ghost use Rattle.shape_fallback.specs.MarkState.{component_of, place_of};
-ghost use Rattle.shape_fallback.specs.MarkState.{component_extents as component_extents_of};
-ghost use Rattle.shape_fallback.specs.MarkState.{at_component as at_component_of};
-ghost use Rattle.shape_fallback.specs.MarkState.{with_component as with_component_of};
-ghost use Rattle.shape_fallback.specs.MarkState.{at_ccc as at_ccc_of, moved_past as moved_past_of};
-ghost use Rattle.shape_fallback.specs.MarkState.{moved as moved_of, place_in as place_in_of};
-ghost use Rattle.shape_fallback.specs.MarkState.{place_mark as place_mark_of};
+ghost use Rattle.shape_fallback.specs.MarkState as mark_state_rules;
 
 use crate::ot_shape_fallback::one_mark::{PlacedMark, Surroundings, position_mark};
 use shape_buffer::buffer::{GlyphId, GlyphPosition, hb_glyph_info_t};
@@ -59,7 +53,7 @@ pub struct MarkStep {
 /// The component of the base that a mark belongs to.
 #[tactic(auto, using(shape_common::proofs::WrappingLemmas::kept_bits), unfolding(crate::specs::MarkState::component_of))]
 fn mark_component(base: &Base, info: &hb_glyph_info_t) -> i32
-    ensures { result ≡ component_of base.now info.now }
+    ensures { result ≡ mark_state_rules.component_of base.now info.now }
 {
     let component = difference(i32::from(info._hb_glyph_info_get_ligature_component()), 1);
     if base.ligature_id == 0
@@ -74,7 +68,7 @@ fn mark_component(base: &Base, info: &hb_glyph_info_t) -> i32
 /// Which part of the base from its left a component is.
 #[tactic(auto, using(shape_common::proofs::WrappingLemmas::kept_bits), unfolding(crate::specs::MarkState::place_of))]
 fn place_of_component(base: &Base, component: i32) -> i32
-    ensures { result ≡ place_of base.now component }
+    ensures { result ≡ mark_state_rules.place_of base.now component }
 {
     if base.left_to_right {
         return component;
@@ -89,7 +83,7 @@ fn place_of_component(base: &Base, component: i32) -> i32
 #[tactic(auto, using(shape_common::proofs::WrappingLemmas::kept_bits), unfolding(crate::specs::MarkState::component_extents))]
 fn component_extents(base: &Base, component: i32) -> hb_glyph_extents_t
     requires { 0 < base.now.number_of_components }
-    ensures { result ≡ component_extents_of base.now component }
+    ensures { result ≡ mark_state_rules.component_extents base.now component }
 {
     let n = i32::from(base.number_of_components);
     let mut extents = base.extents;
@@ -106,7 +100,7 @@ fn component_extents(base: &Base, component: i32) -> hb_glyph_extents_t
 #[tactic(auto, using(shape_common::proofs::WrappingLemmas::kept_bits), unfolding(crate::specs::MarkState::at_component))]
 fn at_component(base: &Base, info: &hb_glyph_info_t, state: &mut MarkState)
     requires { 0 < base.now.number_of_components }
-    ensures { state.new ≡ at_component_of base.now info.now state.old }
+    ensures { state.new ≡ mark_state_rules.at_component base.now info.now state.old }
 {
     let component = mark_component(base, info);
     if component == state.component {
@@ -120,7 +114,7 @@ fn at_component(base: &Base, info: &hb_glyph_info_t, state: &mut MarkState)
 /// The same, if the base has several components.
 #[tactic(auto, using(shape_common::proofs::WrappingLemmas::kept_bits), unfolding(crate::specs::MarkState::with_component))]
 fn with_component(base: &Base, info: &hb_glyph_info_t, state: &mut MarkState)
-    ensures { state.new ≡ with_component_of base.now info.now state.old }
+    ensures { state.new ≡ mark_state_rules.with_component base.now info.now state.old }
 {
     if base.number_of_components > 1 {
         at_component(base, info, state);
@@ -130,7 +124,7 @@ fn with_component(base: &Base, info: &hb_glyph_info_t, state: &mut MarkState)
 /// The state at a mark of this ccc: another ccc than the last begins at the component's extents again.
 #[tactic(auto, using(shape_common::proofs::WrappingLemmas::kept_bits), unfolding(crate::specs::MarkState::at_ccc))]
 fn at_ccc(ccc: u8, state: &mut MarkState)
-    ensures { state.new ≡ at_ccc_of ccc state.old }
+    ensures { state.new ≡ mark_state_rules.at_ccc ccc state.old }
 {
     if ccc == state.ccc {
         return;
@@ -142,7 +136,7 @@ fn at_ccc(ccc: u8, state: &mut MarkState)
 /// Moves past a mark without a ccc.
 #[tactic(auto, using(shape_common::proofs::WrappingLemmas::kept_bits), unfolding(crate::specs::MarkState::moved_past))]
 fn move_past(forward: bool, position: GlyphPosition, state: &mut MarkState)
-    ensures { state.new ≡ moved_past_of forward position state.old }
+    ensures { state.new ≡ mark_state_rules.moved_past forward position state.old }
 {
     if forward {
         state.x_offset = difference(state.x_offset, position.x_advance);
@@ -156,7 +150,7 @@ fn move_past(forward: bool, position: GlyphPosition, state: &mut MarkState)
 /// A position without advances, moved by the running offset.
 #[tactic(auto, using(shape_common::proofs::WrappingLemmas::kept_bits), unfolding(crate::specs::MarkState::moved))]
 fn moved(mut position: GlyphPosition, state: &MarkState) -> GlyphPosition
-    ensures { result ≡ moved_of position state.now }
+    ensures { result ≡ mark_state_rules.moved position state.now }
 {
     position.x_advance = 0;
     position.y_advance = 0;
@@ -169,7 +163,8 @@ fn moved(mut position: GlyphPosition, state: &MarkState) -> GlyphPosition
 #[tactic(auto, using(shape_common::proofs::WrappingLemmas::kept_bits), unfolding(crate::specs::MarkState::place_in))]
 fn place_in<F: hb_font_t>(face: &F, base: &Base, info: &hb_glyph_info_t, step: &mut MarkStep)
     ensures { step.new
-        ≡ place_in_of (F.face face.now) base.now step.old.state info.now step.old.position }
+        ≡ mark_state_rules.place_in
+        (F.face face.now) base.now step.old.state info.now step.old.position }
 {
     let placed = position_mark(
         face,
@@ -189,7 +184,8 @@ fn place_in<F: hb_font_t>(face: &F, base: &Base, info: &hb_glyph_info_t, step: &
 #[tactic(auto, using(shape_common::proofs::WrappingLemmas::kept_bits), unfolding(crate::specs::MarkState::place_mark))]
 pub fn place_mark<F: hb_font_t>(face: &F, base: &Base, info: &hb_glyph_info_t, step: &mut MarkStep)
     ensures { step.new
-        ≡ place_mark_of (F.face face.now) base.now step.old.state info.now step.old.position }
+        ≡ mark_state_rules.place_mark
+        (F.face face.now) base.now step.old.state info.now step.old.position }
 {
     let ccc = info._hb_glyph_info_get_modified_combining_class();
     if ccc == 0 {

@@ -4,9 +4,7 @@
 //! takes the advances of its nonspacing marks.
 ghost use Rattle.std.specs.Prelude.{◌≡◌, ◌≤◌, length};
 ghost use Rattle.shape_buffer.specs.PositionWalks.{positions_over};
-ghost use Rattle.shape_fallback.specs.Marks.{base_of, first_state as first_state_of, marks_placed};
-ghost use Rattle.shape_fallback.specs.Marks.{zeroed_position as zeroed_position_of};
-ghost use Rattle.shape_fallback.specs.Marks.{zeroed as zeroed_of};
+ghost use Rattle.shape_fallback.specs.Marks;
 ghost use Rattle.shape_fallback.specs.Positions.{with_positions};
 
 use crate::ot_shape_fallback::mark_state::{Base, MarkState, MarkStep, NO_LAST_CCC, place_mark};
@@ -27,7 +25,7 @@ pub struct MarkFrame {
 /// A position without its advances.
 #[tactic(auto, using(shape_common::proofs::WrappingLemmas::kept_bits), unfolding(crate::specs::Marks::zeroed_position))]
 pub(crate) fn zeroed_position(adjust: bool, mut position: GlyphPosition) -> GlyphPosition
-    ensures { result ≡ zeroed_position_of adjust position }
+    ensures { result ≡ Marks.zeroed_position adjust position }
 {
     if adjust {
         position.x_offset = difference(position.x_offset, position.x_advance);
@@ -53,7 +51,7 @@ pub(crate) fn place_marks_of_base<F: hb_font_t>(
     requires ordered { from ≤ to }
     requires within { to ≤ length buffer.old.items }
     ensures { buffer.new
-        ≡ with_positions (marks_placed (F.face face.now) base first) from to buffer.old }
+        ≡ with_positions (Marks.marks_placed (F.face face.now) base first) from to buffer.old }
 {
     let mut step = MarkStep {
         position: GlyphPosition::zero(),
@@ -69,7 +67,7 @@ pub(crate) fn place_marks_of_base<F: hb_font_t>(
 /// A nonspacing mark loses its advances.
 #[tactic(auto, unfolding(crate::specs::Marks::zeroed))]
 fn zeroed(adjust: bool, info: &hb_glyph_info_t, position: GlyphPosition) -> GlyphPosition
-    ensures { result ≡ zeroed_of adjust info.now position }
+    ensures { result ≡ Marks.zeroed adjust info.now position }
 {
     if is_nonspacing(info) {
         return zeroed_position(adjust, position);
@@ -81,7 +79,8 @@ fn zeroed(adjust: bool, info: &hb_glyph_info_t, position: GlyphPosition) -> Glyp
 pub(crate) fn zero_marks(adjust: bool, buffer: &mut hb_buffer_t, from: usize, to: usize)
     requires ordered { from ≤ to }
     requires within { to ≤ length buffer.old.items }
-    ensures { buffer.new ≡ with_positions (positions_over (zeroed_of adjust)) from to buffer.old }
+    ensures { buffer.new ≡ with_positions (positions_over
+        (Marks.zeroed adjust)) from to buffer.old }
 {
     for i in from..to {
         let info = buffer.infos()[i];
@@ -100,7 +99,7 @@ pub(crate) fn make_base<F: hb_font_t>(
     position: GlyphPosition,
     mut extents: hb_glyph_extents_t,
 ) -> Base
-    ensures { result ≡ base_of (F.face face.now) frame info.now position extents }
+    ensures { result ≡ Marks.base_of (F.face face.now) frame info.now position extents }
 {
     extents.x_bearing = 0;
     extents.y_bearing = sum(extents.y_bearing, position.y_offset);
@@ -117,7 +116,7 @@ pub(crate) fn make_base<F: hb_font_t>(
 /// The state at the first mark.
 #[tactic(auto, using(shape_common::proofs::WrappingLemmas::kept_bits), unfolding(crate::specs::Marks::first_state))]
 pub(crate) fn first_state(base: Base, position: GlyphPosition) -> MarkState
-    ensures { result ≡ first_state_of base position }
+    ensures { result ≡ Marks.first_state base position }
 {
     let mut state = MarkState {
         component: -1,

@@ -8,15 +8,7 @@
 ghost use Rattle.std.specs.Prelude.{◌≡◌, if◌then◌else◌, neg_ℤ, pos};
 ghost use Rattle.shape_fallback.specs.Exact.{Fits32, StackedFits, XOffsetFits, exact_hung};
 ghost use Rattle.shape_fallback.specs.Exact.{exact_piled, exact_x_offset, hung_at, piled_at};
-ghost use Rattle.shape_fallback.specs.OneMark.{is_double as is_double_of, is_left as is_left_of};
-ghost use Rattle.shape_fallback.specs.OneMark.{is_right as is_right_of};
-ghost use Rattle.shape_fallback.specs.OneMark.{mark_x_offset as mark_x_offset_of};
-ghost use Rattle.shape_fallback.specs.OneMark.{agree as agree_of, is_below as is_below_of};
-ghost use Rattle.shape_fallback.specs.OneMark.{is_above as is_above_of};
-ghost use Rattle.shape_fallback.specs.OneMark.{is_attached as is_attached_of, hung as hung_of};
-ghost use Rattle.shape_fallback.specs.OneMark.{lowered as lowered_of, piled as piled_of};
-ghost use Rattle.shape_fallback.specs.OneMark.{raised as raised_of, stacked as stacked_of};
-ghost use Rattle.shape_fallback.specs.OneMark.{mark_placed as mark_placed_of};
+ghost use Rattle.shape_fallback.specs.OneMark;
 
 use shape_buffer::buffer::{GlyphId, GlyphPosition};
 use shape_buffer::interfaces::{hb_font_t, hb_glyph_extents_t};
@@ -25,7 +17,7 @@ use shape_buffer::wrapping::{difference, half, negative, sum};
 /// Whether the ccc is of marks over two letters: 233 below them, 234 above.
 #[tactic(auto, unfolding(crate::specs::OneMark::is_double))]
 fn is_double(ccc: u8) -> bool
-    ensures { result ≡ is_double_of ccc }
+    ensures { result ≡ OneMark.is_double ccc }
 {
     matches!(ccc, 233 | 234)
 }
@@ -33,7 +25,7 @@ fn is_double(ccc: u8) -> bool
 /// Whether the ccc is of marks at the left: 200 and 218 below, 228 above.
 #[tactic(auto, unfolding(crate::specs::OneMark::is_left))]
 fn is_left(ccc: u8) -> bool
-    ensures { result ≡ is_left_of ccc }
+    ensures { result ≡ OneMark.is_left ccc }
 {
     matches!(ccc, 200 | 218 | 228)
 }
@@ -41,7 +33,7 @@ fn is_left(ccc: u8) -> bool
 /// Whether the ccc is of marks at the right: 222 below, 216 and 232 above.
 #[tactic(auto, unfolding(crate::specs::OneMark::is_right))]
 fn is_right(ccc: u8) -> bool
-    ensures { result ≡ is_right_of ccc }
+    ensures { result ≡ OneMark.is_right ccc }
 {
     matches!(ccc, 216 | 222 | 232)
 }
@@ -62,7 +54,7 @@ pub(crate) fn mark_x_offset(
     base: hb_glyph_extents_t,
     mark: hb_glyph_extents_t,
 ) -> i32
-    ensures value { result ≡ mark_x_offset_of horizontal forward ccc base mark }
+    ensures value { result ≡ OneMark.mark_x_offset horizontal forward ccc base mark }
     ensures exact { XOffsetFits horizontal forward ccc base mark
         → result ≡ exact_x_offset horizontal forward ccc base mark }
 {
@@ -84,7 +76,7 @@ pub(crate) fn mark_x_offset(
 /// Whether both numbers are positive, or neither.
 #[tactic(auto, unfolding(crate::specs::OneMark::agree))]
 fn agree(a: i32, b: i32) -> bool
-    ensures { result ≡ agree_of a b }
+    ensures { result ≡ OneMark.agree a b }
 {
     (a > 0) == (b > 0)
 }
@@ -92,7 +84,7 @@ fn agree(a: i32, b: i32) -> bool
 /// Whether the ccc is of marks below the base.
 #[tactic(auto, unfolding(crate::specs::OneMark::is_below))]
 fn is_below(ccc: u8) -> bool
-    ensures { result ≡ is_below_of ccc }
+    ensures { result ≡ OneMark.is_below ccc }
 {
     matches!(ccc, 233 | 218 | 220 | 222 | 200 | 202)
 }
@@ -100,7 +92,7 @@ fn is_below(ccc: u8) -> bool
 /// Whether the ccc is of marks above the base.
 #[tactic(auto, unfolding(crate::specs::OneMark::is_above))]
 fn is_above(ccc: u8) -> bool
-    ensures { result ≡ is_above_of ccc }
+    ensures { result ≡ OneMark.is_above ccc }
 {
     matches!(ccc, 234 | 228 | 230 | 232 | 214 | 216)
 }
@@ -108,7 +100,7 @@ fn is_above(ccc: u8) -> bool
 /// Whether the ccc is of marks that touch the base, so that there is no gap.
 #[tactic(auto, unfolding(crate::specs::OneMark::is_attached))]
 fn is_attached(ccc: u8) -> bool
-    ensures { result ≡ is_attached_of ccc }
+    ensures { result ≡ OneMark.is_attached ccc }
 {
     matches!(ccc, 200 | 202 | 214 | 216)
 }
@@ -123,7 +115,7 @@ pub struct Stacked {
 /// The mark under a base whose gap is taken into account: never moved up.
 #[tactic(auto, using(shape_common::proofs::WrappingLemmas::kept_bits))]
 fn hung(gap: i32, mark: hb_glyph_extents_t, mut base: hb_glyph_extents_t) -> Stacked
-    ensures value { result ≡ hung_of gap mark base }
+    ensures value { result ≡ OneMark.hung gap mark base }
     ensures exact { Fits32 (hung_at mark base) → StackedFits (exact_hung gap mark base)
         → result ≡ exact_hung gap mark base }
 {
@@ -139,7 +131,7 @@ fn hung(gap: i32, mark: hb_glyph_extents_t, mut base: hb_glyph_extents_t) -> Sta
 /// The mark on a base whose gap is taken into account: not moved down too much.
 #[tactic(auto, using(shape_common::proofs::WrappingLemmas::kept_bits))]
 fn piled(gap: i32, mark: hb_glyph_extents_t, mut base: hb_glyph_extents_t) -> Stacked
-    ensures value { result ≡ piled_of gap mark base }
+    ensures value { result ≡ OneMark.piled gap mark base }
     ensures exact { Fits32 (piled_at mark base) → Fits32 (neg_ℤ (piled_at mark base))
         → StackedFits (exact_piled gap mark base) → result ≡ exact_piled gap mark base }
 {
@@ -161,7 +153,7 @@ fn piled(gap: i32, mark: hb_glyph_extents_t, mut base: hb_glyph_extents_t) -> St
 /// A base with a gap below it, except for marks that touch it.
 #[tactic(auto, using(shape_common::proofs::WrappingLemmas::kept_bits), unfolding(crate::specs::OneMark::lowered))]
 fn lowered(gap: i32, ccc: u8, mut base: hb_glyph_extents_t) -> hb_glyph_extents_t
-    ensures { result ≡ lowered_of gap ccc base }
+    ensures { result ≡ OneMark.lowered gap ccc base }
 {
     if is_attached(ccc) {
         return base;
@@ -173,7 +165,7 @@ fn lowered(gap: i32, ccc: u8, mut base: hb_glyph_extents_t) -> hb_glyph_extents_
 /// A base with a gap above it, except for marks that touch it.
 #[tactic(auto, using(shape_common::proofs::WrappingLemmas::kept_bits), unfolding(crate::specs::OneMark::raised))]
 fn raised(gap: i32, ccc: u8, mut base: hb_glyph_extents_t) -> hb_glyph_extents_t
-    ensures { result ≡ raised_of gap ccc base }
+    ensures { result ≡ OneMark.raised gap ccc base }
 {
     if is_attached(ccc) {
         return base;
@@ -190,7 +182,7 @@ pub(crate) fn stack_mark(
     base: hb_glyph_extents_t,
     mark: hb_glyph_extents_t,
 ) -> Stacked
-    ensures { result ≡ stacked_of gap ccc base mark }
+    ensures { result ≡ OneMark.stacked gap ccc base mark }
 {
     if is_below(ccc) {
         return hung(gap, mark, lowered(gap, ccc, base));
@@ -225,7 +217,8 @@ pub fn position_mark<F: hb_font_t>(
     ccc: u8,
     mut placed: PlacedMark,
 ) -> PlacedMark
-    ensures { result ≡ mark_placed_of surroundings ((F.face face.now).extents glyph) ccc placed }
+    ensures { result ≡ OneMark.mark_placed surroundings
+        ((F.face face.now).extents glyph) ccc placed }
 {
     let Some(mark) = face.glyph_extents(glyph) else {
         return placed;

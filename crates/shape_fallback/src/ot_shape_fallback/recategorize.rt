@@ -2,8 +2,7 @@
 ghost use Rattle.std.specs.Prelude.{◌≡◌, ◌<◌, length, slice_index_or, slice_set};
 ghost use Rattle.shape_items.specs.Items.{Item};
 ghost use Rattle.shape_buffer.specs.Outcome.{Made};
-ghost use Rattle.shape_fallback.specs.Recategorized.{is_nonspacing as is_nonspacing_of};
-ghost use Rattle.shape_fallback.specs.Recategorized.{recategorized, recategorized_item};
+ghost use Rattle.shape_fallback.specs.Recategorized;
 
 use crate::ot_shape_fallback::ccc::fallback_ccc;
 use shape_buffer::buffer::{hb_buffer_t, hb_glyph_info_t, hb_unicode_general_category_t};
@@ -11,7 +10,7 @@ use shape_buffer::buffer::{hb_buffer_t, hb_glyph_info_t, hb_unicode_general_cate
 /// Whether an item is a nonspacing mark.
 #[tactic(auto, unfolding(crate::specs::Recategorized::is_nonspacing))]
 pub(crate) fn is_nonspacing(info: &hb_glyph_info_t) -> bool
-    ensures { result ≡ is_nonspacing_of info.now }
+    ensures { result ≡ Recategorized.is_nonspacing info.now }
 {
     matches!(
         info._hb_glyph_info_get_general_category(),
@@ -24,7 +23,10 @@ pub(crate) fn is_nonspacing(info: &hb_glyph_info_t) -> bool
 fn recategorize_at(buffer: &mut hb_buffer_t, i: usize)
     requires { i < length buffer.old.items }
     ensures { (x : Item) → x ≡ slice_index_or buffer.old.items i x → buffer.new
-        ≡ record buffer.old { items = slice_set buffer.old.items i (recategorized_item x) } }
+        ≡ record buffer.old {
+          items = slice_set buffer.old.items i
+              (Recategorized.recategorized_item x);
+        } }
 {
     let mut info = buffer.infos()[i];
     if !is_nonspacing(&info) {
@@ -40,7 +42,7 @@ fn recategorize_at(buffer: &mut hb_buffer_t, i: usize)
 
 /// Gives every nonspacing mark the ccc that it is placed by.
 pub(crate) fn recategorize_items(buffer: &mut hb_buffer_t)
-    ensures { Made recategorized buffer.old buffer.new }
+    ensures { Made Recategorized.recategorized buffer.old buffer.new }
 {
     for i in 0..buffer.len() {
         recategorize_at(buffer, i);

@@ -5,13 +5,7 @@
 //! meant to be; here the glyph gets that advance, along the line alone.
 ghost use Rattle.std.specs.Prelude.{◌≡◌, ◌<◌, false, neg_ℤ, pos};
 ghost use Rattle.shape_buffer.specs.Outcome.{Made};
-ghost use Rattle.shape_fallback.specs.Spaces.{as_wide_as as as_wide_as_of};
-ghost use Rattle.shape_fallback.specs.Spaces.{em_advance as em_advance_of, em_fraction as em_fraction_of};
-ghost use Rattle.shape_fallback.specs.Spaces.{first_glyph as first_glyph_of};
-ghost use Rattle.shape_fallback.specs.Spaces.{is_em_fraction as is_em_fraction_of};
-ghost use Rattle.shape_fallback.specs.Spaces.{is_lone_space as is_lone_space_of, item_spaced};
-ghost use Rattle.shape_fallback.specs.Spaces.{space_advance as space_advance_of, space_positioned};
-ghost use Rattle.shape_fallback.specs.Spaces.{spaces_placed};
+ghost use Rattle.shape_fallback.specs.Spaces;
 
 use shape_buffer::buffer::{
     GlyphId, GlyphPosition, hb_buffer_t, hb_glyph_info_t, hb_unicode_general_category_t,
@@ -33,7 +27,7 @@ const STOPS: [char; 2] = ['.', ','];
 /// Whether a type of space is a part of the em square.
 #[tactic(auto, unfolding(crate::specs::Spaces::is_em_fraction))]
 fn is_em_fraction(space_type: space_t) -> bool
-    ensures { result ≡ is_em_fraction_of space_type }
+    ensures { result ≡ Spaces.is_em_fraction space_type }
 {
     matches!(
         space_type,
@@ -53,7 +47,7 @@ fn is_em_fraction(space_type: space_t) -> bool
 #[tactic(auto, unfolding(crate::specs::Spaces::em_fraction))]
 fn em_fraction(units_per_em: u16, space_type: space_t) -> i32
     requires { 0 < space_type }
-    ensures { result ≡ pos (em_fraction_of units_per_em space_type) }
+    ensures { result ≡ pos (Spaces.em_fraction units_per_em space_type) }
 {
     let units = u32::from(units_per_em);
     let part = u32::from(space_type);
@@ -67,8 +61,10 @@ fn em_fraction(units_per_em: u16, space_type: space_t) -> i32
 #[tactic(auto, using(shape_common::proofs::WrappingLemmas::kept_bits), unfolding(crate::specs::Spaces::em_advance))]
 fn em_advance(horizontal: bool, units_per_em: u16, space_type: space_t) -> i32
     requires { 0 < space_type }
-    ensures value { result ≡ em_advance_of horizontal (em_fraction_of units_per_em space_type) }
-    ensures exact { horizontal ≡ false → result ≡ neg_ℤ (pos (em_fraction_of units_per_em space_type)) }
+    ensures value { result ≡ Spaces.em_advance horizontal
+        (Spaces.em_fraction units_per_em space_type) }
+    ensures exact { horizontal ≡ false
+        → result ≡ neg_ℤ (pos (Spaces.em_fraction units_per_em space_type)) }
 {
     let length = em_fraction(units_per_em, space_type);
     if horizontal {
@@ -79,7 +75,7 @@ fn em_advance(horizontal: bool, units_per_em: u16, space_type: space_t) -> i32
 
 /// The glyph of the first of some characters that has one.
 fn first_glyph<F: hb_font_t>(face: &F, characters: &[char]) -> Option<GlyphId>
-    ensures { result ≡ first_glyph_of (F.face face.now) characters.now }
+    ensures { result ≡ Spaces.first_glyph (F.face face.now) characters.now }
 {
     for c in characters {
         if let Some(glyph) = face.get_nominal_glyph(*c) {
@@ -92,7 +88,7 @@ fn first_glyph<F: hb_font_t>(face: &F, characters: &[char]) -> Option<GlyphId>
 /// The advance of the first of some characters that has a glyph; if none has, the one before.
 #[tactic(auto, using(shape_common::proofs::WrappingLemmas::kept_bits), unfolding(crate::specs::Spaces::as_wide_as))]
 fn as_wide_as<F: hb_font_t>(face: &F, horizontal: bool, characters: &[char], before: i32) -> i32
-    ensures { result ≡ as_wide_as_of (F.face face.now) horizontal characters.now before }
+    ensures { result ≡ Spaces.as_wide_as (F.face face.now) horizontal characters.now before }
 {
     let Some(glyph) = first_glyph(face, characters) else {
         return before;
@@ -106,7 +102,7 @@ fn as_wide_as<F: hb_font_t>(face: &F, horizontal: bool, characters: &[char], bef
 /// The advance along the line of a space of a type, which had another one before.
 #[tactic(auto, using(shape_common::proofs::WrappingLemmas::kept_bits), unfolding(crate::specs::Spaces::space_advance))]
 fn space_advance<F: hb_font_t>(face: &F, horizontal: bool, space_type: space_t, before: i32) -> i32
-    ensures { result ≡ space_advance_of (F.face face.now) horizontal space_type before }
+    ensures { result ≡ Spaces.space_advance (F.face face.now) horizontal space_type before }
 {
     if is_em_fraction(space_type) {
         return em_advance(horizontal, face.units_per_em(), space_type);
@@ -127,7 +123,7 @@ fn position_space<F: hb_font_t>(
     space_type: space_t,
     mut position: GlyphPosition,
 ) -> GlyphPosition
-    ensures { result ≡ space_positioned (F.face face.now) horizontal space_type position }
+    ensures { result ≡ Spaces.space_positioned (F.face face.now) horizontal space_type position }
 {
     if horizontal {
         position.x_advance = space_advance(face, true, space_type, position.x_advance);
@@ -140,7 +136,7 @@ fn position_space<F: hb_font_t>(
 /// Whether an item is a space separator that no lookup has made a part of a ligature.
 #[tactic(auto, unfolding(crate::specs::Spaces::is_lone_space))]
 fn is_lone_space(info: &hb_glyph_info_t) -> bool
-    ensures { result ≡ is_lone_space_of info.now }
+    ensures { result ≡ Spaces.is_lone_space info.now }
 {
     matches!(
         info._hb_glyph_info_get_general_category(),
@@ -156,7 +152,7 @@ fn space_item<F: hb_font_t>(
     info: &hb_glyph_info_t,
     position: GlyphPosition,
 ) -> GlyphPosition
-    ensures { result ≡ item_spaced (F.face face.now) horizontal info.now position }
+    ensures { result ≡ Spaces.item_spaced (F.face face.now) horizontal info.now position }
 {
     if is_lone_space(info) {
         return position_space(
@@ -172,7 +168,7 @@ fn space_item<F: hb_font_t>(
 /// Gives every lone space of the buffer its advance.
 #[tactic(auto, unfolding(crate::specs::Spaces::spaces_placed))]
 pub(crate) fn put_space_advances<F: hb_font_t>(face: &F, buffer: &mut hb_buffer_t)
-    ensures { Made (spaces_placed (F.face face.now)) buffer.old buffer.new }
+    ensures { Made (Spaces.spaces_placed (F.face face.now)) buffer.old buffer.new }
 {
     let horizontal = buffer.direction().is_horizontal();
     update_positions(

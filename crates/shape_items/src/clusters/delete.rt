@@ -16,8 +16,7 @@ ghost use Rattle.std.specs.Fn.{FnReturnsAt};
 ghost use Rattle.shape_items.specs.Items.{Item};
 ghost use Rattle.shape_items.specs.Buffer.{Buffer};
 ghost use Rattle.shape_items.specs.BufferClusters.{merge_clusters};
-ghost use Rattle.shape_items.specs.Delete.{hand_on as hand_on_of, begins_in as begins_in_of};
-ghost use Rattle.shape_items.specs.Delete.{deleted};
+ghost use Rattle.shape_items.specs.Delete;
 ghost use Rattle.shape_items.specs.Unwritten.{StandsFor};
 
 use crate::clusters::unwritten::{give_to_last, open_run, write_runs};
@@ -63,7 +62,7 @@ fn hand_on(
         → (left : List Item) × StandsFor (take kept infos.new) (take result starts.now) left
         × ((b : Buffer) → b.cluster_level ≡ level
         → record b { items = left ++ drop i infos.new; scratch_flags = scratch_flags.new }
-        ≡ hand_on_of kept picked.now (drop (i + 1) infos.old)
+        ≡ Delete.hand_on kept picked.now (drop (i + 1) infos.old)
         (record b { items = given ++ drop i infos.old; scratch_flags = scratch_flags.old })) }
     ensures as_many { length infos.new ≡ length infos.old }
     ensures at_most { result ≤ length starts.now }
@@ -83,7 +82,7 @@ fn hand_on(
 
 /// Whether the first item is in the cluster.
 fn begins_in(infos: &[hb_glyph_info_t], cluster: u32) -> bool
-    ensures { result ≡ begins_in_of cluster infos.now }
+    ensures { result ≡ Delete.begins_in cluster infos.now }
 {
     match infos.split_first() {
         None => false,
@@ -113,7 +112,7 @@ where
           items = infos.new.items;
           positions = positions.new.items;
           scratch_flags = scratch_flags.new;
-        } ≡ deleted picks (record b {
+        } ≡ Delete.deleted picks (record b {
           items = infos.old.items;
           positions = positions.old.items;
           scratch_flags = scratch_flags.old;

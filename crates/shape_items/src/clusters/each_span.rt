@@ -6,7 +6,7 @@
 ghost use Rattle.std.specs.Prelude.{◌≡◌, ◌≤◌, List, ◌++◌, length, take, drop, map, slice_range};
 ghost use Rattle.shape_items.specs.Items.{Item};
 ghost use Rattle.shape_items.specs.Clusters.{merge};
-ghost use Rattle.shape_items.specs.Spans.{AreSpansInOrder, grown_left, merge_each as merge_each_of};
+ghost use Rattle.shape_items.specs.Spans;
 ghost use Rattle.shape_items.specs.GraphemeSpans.{is_continuation, ends, grapheme_spans};
 ghost use Rattle.shape_items.specs.Unwritten.{StandsFor};
 
@@ -46,7 +46,7 @@ fn open_runs(
 fn grow_left(kept: &mut [hb_glyph_info_t], starts: &[usize], first: u32, least: u32) -> usize
     requires { (given : List Item) × StandsFor kept.old starts.now given }
     ensures stands { (given : List Item) → StandsFor kept.old starts.now given
-        → StandsFor kept.new (take result starts.now) (grown_left first least given) }
+        → StandsFor kept.new (take result starts.now) (Spans.grown_left first least given) }
     ensures as_many { length kept.new ≡ length kept.old }
     ensures runs { result ≤ length starts.now }
 {
@@ -91,9 +91,9 @@ fn merge_after(infos: &mut [hb_glyph_info_t], starts: &[usize], start: usize, en
 
 /// Merges the spans, in order. `starts` has room for a number for each item.
 pub fn merge_each(infos: &mut [hb_glyph_info_t], starts: &mut [usize], spans: &[(usize, usize)])
-    requires in_order { AreSpansInOrder 0 (length infos.old) spans.now }
+    requires in_order { Spans.AreSpansInOrder 0 (length infos.old) spans.now }
     requires room { length infos.old ≤ length starts.old }
-    ensures merged { infos.new ≡ merge_each_of spans.now infos.old }
+    ensures merged { infos.new ≡ Spans.merge_each spans.now infos.old }
     ensures room { length starts.new ≡ length starts.old }
 {
     let mut kept = 0;
@@ -117,7 +117,7 @@ fn ends_grapheme(infos: &[hb_glyph_info_t], end: usize) -> bool
 /// Merges each grapheme, in order; one of a single item is passed over. `starts` has room for a number for each item.
 pub fn merge_graphemes(infos: &mut [hb_glyph_info_t], starts: &mut [usize])
     requires { length infos.old ≤ length starts.old }
-    ensures merged { infos.new ≡ merge_each_of (grapheme_spans infos.old) infos.old }
+    ensures merged { infos.new ≡ Spans.merge_each (grapheme_spans infos.old) infos.old }
     ensures room { length starts.new ≡ length starts.old }
 {
     let mut kept = 0;

@@ -2,10 +2,7 @@
 ghost use Rattle.std.specs.Prelude.{◌≡◌, ◌≤◌, length, slice_range, IfOk};
 ghost use Rattle.shape_common.specs.FlagNames.{UNSAFE_TO_BREAK};
 ghost use Rattle.shape_items.specs.Flags.{cluster_runs};
-ghost use Rattle.shape_items.specs.GlyphClusters.{advance_along as advance_along_of, clusters_of};
-ghost use Rattle.shape_items.specs.GlyphClusters.{advance_over as advance_over_of, cluster_of};
-ghost use Rattle.shape_items.specs.GlyphClusters.{first_cluster as first_cluster_of};
-ghost use Rattle.shape_items.specs.GlyphClusters.{run_length as run_length_of};
+ghost use Rattle.shape_items.specs.GlyphClusters;
 ghost use Rattle.shape_items.specs.PreservesFlags.{some_has};
 
 use crate::clusters::count_at_start;
@@ -38,7 +35,7 @@ pub fn clusters_in_order(
 ) -> Result<Vec<GlyphCluster>, AllocError>
     requires { length positions.now ≡ length infos.now }
     ensures { IfOk result (λ clusters. clusters.items
-        ≡ clusters_of direction positions.now 0 (cluster_runs infos.now)) }
+        ≡ GlyphClusters.clusters_of direction positions.now 0 (cluster_runs infos.now)) }
 {
     let mut clusters: Vec<GlyphCluster> = Vec::new(alloc);
     let mut start = 0;
@@ -55,7 +52,7 @@ pub fn clusters_in_order(
 
 /// How many glyphs from the first one on have its cluster.
 fn run_length(infos: &[hb_glyph_info_t]) -> usize
-    ensures value { result ≡ run_length_of infos.now }
+    ensures value { result ≡ GlyphClusters.run_length infos.now }
     ensures within { result ≤ length infos.now }
 {
     match infos.first() {
@@ -76,7 +73,7 @@ fn cluster_between(
     requires within { end ≤ length infos.now }
     requires as_many { length positions.now ≡ length infos.now }
     ensures { result
-        ≡ cluster_of direction positions.now start (slice_range infos.now start end) }
+        ≡ GlyphClusters.cluster_of direction positions.now start (slice_range infos.now start end) }
 {
     let run = &infos[start..end];
     GlyphCluster {
@@ -97,7 +94,7 @@ fn any_unsafe(infos: &[hb_glyph_info_t]) -> bool
 
 /// The cluster of the first of some glyphs, 0 for none.
 fn first_cluster(infos: &[hb_glyph_info_t]) -> u32
-    ensures { result ≡ first_cluster_of infos.now }
+    ensures { result ≡ GlyphClusters.first_cluster infos.now }
 {
     match infos.first() {
         None => 0,
@@ -107,7 +104,7 @@ fn first_cluster(infos: &[hb_glyph_info_t]) -> u32
 
 /// How far some positions move the pen along a line, modulo 2^32.
 fn advance_over(direction: Direction, positions: &[GlyphPosition]) -> i32
-    ensures { result ≡ advance_over_of direction positions.now }
+    ensures { result ≡ GlyphClusters.advance_over direction positions.now }
 {
     let mut total = 0;
     for position in positions {
@@ -118,7 +115,7 @@ fn advance_over(direction: Direction, positions: &[GlyphPosition]) -> i32
 
 /// How far a position moves the pen along a line.
 fn advance_along(direction: Direction, position: &GlyphPosition) -> i32
-    ensures { result ≡ advance_along_of direction position.now }
+    ensures { result ≡ GlyphClusters.advance_along direction position.now }
 {
     if direction.is_vertical() {
         position.y_advance

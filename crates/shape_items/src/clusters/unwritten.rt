@@ -5,14 +5,14 @@
 //! ends in a smaller cluster than its own has taken that one's: it is written at the end.
 ghost use Rattle.std.specs.Prelude.{◌≡◌, ◌+◌, ◌<◌, ◌≤◌, List, [], ◌∷◌, ◌++◌, length, take};
 ghost use Rattle.shape_items.specs.Items.{Item};
-ghost use Rattle.shape_items.specs.Delete.{give_to_kept, hand_over as hand_over_of};
-ghost use Rattle.shape_items.specs.Unwritten.{StandsFor, follow as follow_of, written};
+ghost use Rattle.shape_items.specs.Delete;
+ghost use Rattle.shape_items.specs.Unwritten;
 
 use crate::items::{DEFINED, hb_glyph_info_t};
 
 /// Gives the picked item's cluster and flags to an item.
 fn hand_over(info: &mut hb_glyph_info_t, picked: &hb_glyph_info_t)
-    ensures { info.new ≡ hand_over_of picked.now info.old }
+    ensures { info.new ≡ Delete.hand_over picked.now info.old }
 {
     info.cluster = picked.cluster;
     info.mask = (info.mask & !DEFINED) | (picked.mask & DEFINED);
@@ -20,7 +20,7 @@ fn hand_over(info: &mut hb_glyph_info_t, picked: &hb_glyph_info_t)
 
 /// Writes the item before one that is written: it takes that one's cluster if it is smaller.
 fn follow(info: &mut hb_glyph_info_t, next: &hb_glyph_info_t)
-    ensures { info.new ≡ follow_of info.old (next.now ∷ []) }
+    ensures { info.new ≡ Unwritten.follow info.old (next.now ∷ []) }
 {
     if next.cluster < info.cluster {
         hand_over(info, next);
@@ -29,7 +29,7 @@ fn follow(info: &mut hb_glyph_info_t, next: &hb_glyph_info_t)
 
 /// Writes a run, from its end.
 fn write_run(infos: &mut [hb_glyph_info_t])
-    ensures { infos.new ≡ written infos.old }
+    ensures { infos.new ≡ Unwritten.written infos.old }
 {
     let mut i = infos.len();
     while 1 < i {
@@ -41,8 +41,9 @@ fn write_run(infos: &mut [hb_glyph_info_t])
 
 /// Writes every run of kept items.
 pub(super) fn write_runs(infos: &mut [hb_glyph_info_t], starts: &[usize])
-    requires { (given : List Item) × StandsFor infos.old starts.now given }
-    ensures { (given : List Item) → StandsFor infos.old starts.now given → infos.new ≡ given }
+    requires { (given : List Item) × Unwritten.StandsFor infos.old starts.now given }
+    ensures { (given : List Item) → Unwritten.StandsFor infos.old starts.now given
+        → infos.new ≡ given }
 {
     let mut end = infos.len();
     let mut count = starts.len();
@@ -63,8 +64,8 @@ pub(super) fn open_run(
 ) -> usize
     requires { count < length starts.old }
     ensures stands { (x : Item) → x.cluster ≡ cluster → (given : List Item)
-        → StandsFor kept.now (take count starts.old) given
-        → StandsFor (kept.now ++ x ∷ []) (take result starts.new) (given ++ x ∷ []) }
+        → Unwritten.StandsFor kept.now (take count starts.old) given
+        → Unwritten.StandsFor (kept.now ++ x ∷ []) (take result starts.new) (given ++ x ∷ []) }
     ensures at_most { result ≤ count + 1 }
     ensures as_many { length starts.new ≡ length starts.old }
 {
@@ -88,10 +89,10 @@ pub(super) fn give_to_last(
     picked: &hb_glyph_info_t,
 ) -> usize
     requires some { 0 < length infos.old }
-    requires stands { (given : List Item) × StandsFor infos.old starts.now given }
-    ensures stands { (given : List Item) → StandsFor infos.old starts.now given
-        → StandsFor infos.new (take result starts.now)
-        (give_to_kept (length infos.old) picked.now given) }
+    requires stands { (given : List Item) × Unwritten.StandsFor infos.old starts.now given }
+    ensures stands { (given : List Item) → Unwritten.StandsFor infos.old starts.now given
+        → Unwritten.StandsFor infos.new (take result starts.now)
+        (Delete.give_to_kept (length infos.old) picked.now given) }
     ensures as_many { length infos.new ≡ length infos.old }
     ensures at_most { result ≤ length starts.now }
 {

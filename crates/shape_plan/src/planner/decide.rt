@@ -6,25 +6,8 @@
 //!
 //! Questions to the face and the engine have no effect, so all are asked of every face.
 ghost use Rattle.std.specs.Prelude.{◌≡◌};
-ghost use Rattle.shape_plan.specs.Decisions.{
-  is_on as is_on_of,
-  has_frac as has_frac_of,
-  apply_trak as apply_trak_of,
-  has_gsub as has_gsub_of,
-  has_gpos as has_gpos_of,
-  prefers_kerx as prefers_kerx_of,
-  apply_gpos as apply_gpos_of,
-  lacks_kerning as lacks_kerning_of,
-  apply_kerx as apply_kerx_of,
-  apply_kern as apply_kern_of,
-  apply_fallback_kern as apply_fallback_kern_of,
-  zero_marks as zero_marks_of,
-  adjusts as adjusts_of,
-  fallback_mark_positioning as fallback_mark_positioning_of,
-  adjust_when_zeroing as adjust_when_zeroing_of,
-  decided,
-};
-ghost use Rattle.shape_plan.specs.Planner.{facts_of, kern_tag as kern_tag_of, is_gpos_disabled};
+ghost use Rattle.shape_plan.specs.Decisions as decision_rules;
+ghost use Rattle.shape_plan.specs.Planner;
 ghost use Rattle.shape_plan.specs.Plan.{given_shaper};
 
 use crate::decisions::{Decisions, PlanFacts};
@@ -37,7 +20,7 @@ use shape_buffer::interfaces::{TableIndex, hb_font_t, hb_ot_layout_t};
 
 /// The feature that kerns texts of a direction.
 fn kern_tag(direction: Direction) -> hb_tag_t
-    ensures { result ≡ kern_tag_of direction }
+    ensures { result ≡ Planner.kern_tag direction }
 {
     if direction.is_horizontal() {
         tags::KERN
@@ -52,7 +35,7 @@ fn disables_gpos<S>(
     shaper: ChosenShaper<'_, S>,
     chosen: Option<hb_tag_t>,
 ) -> bool
-    ensures { result ≡ is_gpos_disabled gpos_tag (given_shaper shaper.entry) chosen }
+    ensures { result ≡ Planner.is_gpos_disabled gpos_tag (given_shaper shaper.entry) chosen }
 {
     match (shaper, gpos_tag) {
         (ChosenShaper::Given(_), Some(tag)) => chosen != Some(tag),
@@ -66,7 +49,7 @@ pub(crate) fn facts<T: ShapingTypes>(
     planner: &hb_ot_shape_planner_t<'_, '_, T::Face, T::Shaper>,
     map: &MapOf<T>,
 ) -> PlanFacts
-    ensures { result ≡ facts_of ⟦<T::Shaper as Plans<T::Unicode, T::Face, T::Engine>>⟧.planning
+    ensures { result ≡ Planner.facts_of ⟦<T::Shaper as Plans<T::Unicode, T::Face, T::Engine>>⟧.planning
         planner.now (T.Engine.masks map.now) }
 {
     let kern_tag = kern_tag(planner.direction);
@@ -98,7 +81,7 @@ pub(crate) fn facts<T: ShapingTypes>(
 
 /// Whether a feature has lookups: its mask isn't 0.
 fn is_on(mask: hb_mask_t) -> bool
-    ensures { result ≡ is_on_of mask }
+    ensures { result ≡ decision_rules.is_on mask }
 {
     mask != 0
 }
@@ -106,72 +89,72 @@ fn is_on(mask: hb_mask_t) -> bool
 impl PlanFacts {
     /// Fractions have their own feature, or one for each side.
     fn has_frac(&self) -> bool
-        ensures { result ≡ has_frac_of self.now }
+        ensures { result ≡ decision_rules.has_frac self.now }
     {
         is_on(self.frac_mask) || (is_on(self.numr_mask) && is_on(self.dnom_mask))
     }
 
     /// Tracking is asked for, and the face has its table.
     fn apply_trak(&self) -> bool
-        ensures { result ≡ apply_trak_of self.now }
+        ensures { result ≡ decision_rules.apply_trak self.now }
     {
         is_on(self.trak_mask) && self.tables.trak
     }
 
     /// `GSUB` substitutes if `morx` doesn't.
     fn has_gsub(&self) -> bool
-        ensures { result ≡ has_gsub_of self.now }
+        ensures { result ≡ decision_rules.has_gsub self.now }
     {
         !self.apply_morx && self.tables.gsub
     }
 
     fn has_gpos(&self) -> bool
-        ensures { result ≡ has_gpos_of self.now }
+        ensures { result ≡ decision_rules.has_gpos self.now }
     {
         !self.disable_gpos && self.tables.gpos
     }
 
     /// `kerx` goes before `GPOS`, unless `GSUB` and `GPOS` go together.
     fn prefers_kerx(&self) -> bool
-        ensures { result ≡ prefers_kerx_of self.now }
+        ensures { result ≡ decision_rules.prefers_kerx self.now }
     {
         self.tables.kerx && !(self.has_gsub() && self.has_gpos())
     }
 
     fn apply_gpos(&self) -> bool
-        ensures { result ≡ apply_gpos_of self.now }
+        ensures { result ≡ decision_rules.apply_gpos self.now }
     {
         !self.prefers_kerx() && self.has_gpos()
     }
 
     /// Neither `kerx` nor a feature of `GPOS` kerns yet.
     fn lacks_kerning(&self) -> bool
-        ensures { result ≡ lacks_kerning_of self.now }
+        ensures { result ≡ decision_rules.lacks_kerning self.now }
     {
         !self.prefers_kerx() && (!self.has_gpos_kern || !self.apply_gpos())
     }
 
     fn apply_kerx(&self) -> bool
-        ensures { result ≡ apply_kerx_of self.now }
+        ensures { result ≡ decision_rules.apply_kerx self.now }
     {
         self.prefers_kerx() || (self.lacks_kerning() && self.tables.kerx)
     }
 
     fn apply_kern(&self) -> bool
-        ensures { result ≡ apply_kern_of self.now }
+        ensures { result ≡ decision_rules.apply_kern self.now }
     {
         self.lacks_kerning() && (!self.tables.kerx && self.has_kerning)
     }
 
     fn apply_fallback_kern(&self) -> bool
-        ensures { result ≡ apply_fallback_kern_of self.now }
+        ensures { result ≡ decision_rules.apply_fallback_kern self.now }
     {
         !(self.apply_gpos() || (self.apply_kerx() || self.apply_kern()))
     }
 
     /// As the given shaper prefers; but `kerx`, and `kern` with a state machine, see to marks themselves.
     fn zero_marks(&self) -> bool
-        ensures { result ≡ zero_marks_of self.now }
+        ensures { result ≡ decision_rules.zero_marks self.now }
     {
         self.script_zero_marks
             && (!self.apply_kerx() && (!self.apply_kern() || !self.has_machine_kerning))
@@ -179,21 +162,21 @@ impl PlanFacts {
 
     /// Nothing places marks: neither `GPOS` nor `kerx` nor a `kern` that moves glyphs across the line.
     fn adjusts(&self) -> bool
-        ensures { result ≡ adjusts_of self.now }
+        ensures { result ≡ decision_rules.adjusts self.now }
     {
         !self.apply_gpos()
             && (!self.apply_kerx() && (!self.apply_kern() || !self.has_cross_kerning))
     }
 
     fn fallback_mark_positioning(&self) -> bool
-        ensures { result ≡ fallback_mark_positioning_of self.now }
+        ensures { result ≡ decision_rules.fallback_mark_positioning self.now }
     {
         self.adjusts() && self.script_fallback_mark_positioning
     }
 
     /// Faces with `morx` count on marks that are not moved back.
     fn adjust_when_zeroing(&self) -> bool
-        ensures { result ≡ adjust_when_zeroing_of self.now }
+        ensures { result ≡ decision_rules.adjust_when_zeroing self.now }
     {
         self.adjusts() && !self.apply_morx
     }
@@ -201,7 +184,7 @@ impl PlanFacts {
     /// All decisions.
     #[tactic(auto, unfolding(crate::specs::Decisions::decided))]
     pub(crate) fn decide(&self) -> Decisions
-        ensures { result ≡ decided self.now }
+        ensures { result ≡ decision_rules.decided self.now }
     {
         Decisions {
             apply_morx: self.apply_morx,

@@ -7,23 +7,7 @@
 //! the order to a builder; what it appends stands in its contract.
 ghost use Rattle.std.specs.Prelude.{◌≡◌, OnOk, IsOkUnless, map};
 ghost use Rattle.shape_buffer.specs.MapBuilder.{with_requests};
-ghost use Rattle.shape_plan.specs.Requests.{
-  variations,
-  forms,
-  fractions,
-  random,
-  tracking,
-  after_script,
-  add as asked,
-  common,
-  directed,
-  user_request,
-  hook_of,
-  hooked,
-  begun_requests,
-  collected as collected_of,
-  widened,
-};
+ghost use Rattle.shape_plan.specs.Requests;
 ghost use Rattle.shape_plan.specs.Plan.{given_shaper};
 
 use crate::ot_shape_plan::ChosenShaper;
@@ -64,7 +48,7 @@ const HORIZONTAL_FEATURES: [(hb_tag_t, hb_ot_map_feature_flags_t); 7] = [
 
 /// Variations, and a pause after them.
 fn add_variations(builder: &mut hb_ot_map_builder_t) -> Result<(), ShapeError>
-    ensures ok { OnOk result (builder.new ≡ with_requests builder.old variations) }
+    ensures ok { OnOk result (builder.new ≡ with_requests builder.old Requests.variations) }
     ensures memory { IsOkUnless result ShapeError.Memory }
 {
     builder.enable_feature(tags::RVRN, F_NONE, 1)?;
@@ -73,7 +57,7 @@ fn add_variations(builder: &mut hb_ot_map_builder_t) -> Result<(), ShapeError>
 
 /// The forms of a direction of horizontal text.
 fn add_forms(builder: &mut hb_ot_map_builder_t, direction: Direction) -> Result<(), ShapeError>
-    ensures ok { OnOk result (builder.new ≡ with_requests builder.old (forms direction)) }
+    ensures ok { OnOk result (builder.new ≡ with_requests builder.old (Requests.forms direction)) }
     ensures memory { IsOkUnless result ShapeError.Memory }
 {
     match direction {
@@ -91,7 +75,7 @@ fn add_forms(builder: &mut hb_ot_map_builder_t, direction: Direction) -> Result<
 
 /// Fractions.
 fn add_fractions(builder: &mut hb_ot_map_builder_t) -> Result<(), ShapeError>
-    ensures ok { OnOk result (builder.new ≡ with_requests builder.old fractions) }
+    ensures ok { OnOk result (builder.new ≡ with_requests builder.old Requests.fractions) }
     ensures memory { IsOkUnless result ShapeError.Memory }
 {
     builder.add_feature(tags::FRAC, F_NONE, 1)?;
@@ -101,7 +85,7 @@ fn add_fractions(builder: &mut hb_ot_map_builder_t) -> Result<(), ShapeError>
 
 /// Alternates at random.
 fn add_random(builder: &mut hb_ot_map_builder_t) -> Result<(), ShapeError>
-    ensures ok { OnOk result (builder.new ≡ with_requests builder.old random) }
+    ensures ok { OnOk result (builder.new ≡ with_requests builder.old Requests.random) }
     ensures memory { IsOkUnless result ShapeError.Memory }
 {
     builder.enable_feature(tags::RAND, F_RANDOM, MAX_VALUE)
@@ -110,7 +94,7 @@ fn add_random(builder: &mut hb_ot_map_builder_t) -> Result<(), ShapeError>
 /// Tracking, which a user switches off like a feature though a table of its own does it, and two features of
 /// faces.
 fn add_tracking(builder: &mut hb_ot_map_builder_t) -> Result<(), ShapeError>
-    ensures ok { OnOk result (builder.new ≡ with_requests builder.old tracking) }
+    ensures ok { OnOk result (builder.new ≡ with_requests builder.old Requests.tracking) }
     ensures memory { IsOkUnless result ShapeError.Memory }
 {
     builder.enable_feature(tags::TRAK, F_HAS_FALLBACK, 1)?;
@@ -123,7 +107,7 @@ pub(crate) fn begin(
     builder: &mut hb_ot_map_builder_t,
     direction: Direction,
 ) -> Result<(), ShapeError>
-    ensures ok { OnOk result (builder.new ≡ begun_requests direction builder.old) }
+    ensures ok { OnOk result (builder.new ≡ Requests.begun_requests direction builder.old) }
     ensures memory { IsOkUnless result ShapeError.Memory }
 {
     builder.set_simple(true);
@@ -143,8 +127,8 @@ pub(crate) fn collect<T: ShapingTypes>(
     direction: Direction,
     script: Option<Script>,
 ) -> Result<(), ShapeError>
-    ensures ok { OnOk result (builder.new ≡ collected_of
-        (hook_of T.Shaper.constants.has_collect_features T.Shaper.collected
+    ensures ok { OnOk result (builder.new ≡ Requests.collected
+        (Requests.hook_of T.Shaper.constants.has_collect_features T.Shaper.collected
         (given_shaper shaper.entry)) direction script builder.old) }
     ensures memory { IsOkUnless result ShapeError.Memory }
 {
@@ -159,7 +143,7 @@ pub(crate) fn collect<T: ShapingTypes>(
 
 /// Two features of faces that come after a script's own.
 fn add_after_script(builder: &mut hb_ot_map_builder_t) -> Result<(), ShapeError>
-    ensures ok { OnOk result (builder.new ≡ with_requests builder.old after_script) }
+    ensures ok { OnOk result (builder.new ≡ with_requests builder.old Requests.after_script) }
     ensures memory { IsOkUnless result ShapeError.Memory }
 {
     builder.enable_feature(tags::BUZZ, F_NONE, 1)?;
@@ -172,7 +156,7 @@ fn add_features(
     features: &[(hb_tag_t, hb_ot_map_feature_flags_t)],
 ) -> Result<(), ShapeError>
     ensures ok { OnOk result (builder.new
-        ≡ with_requests builder.old (map (λ f. asked f.0 f.1) features.now)) }
+        ≡ with_requests builder.old (map (λ f. Requests.add f.0 f.1) features.now)) }
     ensures memory { IsOkUnless result ShapeError.Memory }
 {
     for &(tag, flags) in features {
@@ -183,7 +167,7 @@ fn add_features(
 
 /// Those of every text.
 fn add_common(builder: &mut hb_ot_map_builder_t) -> Result<(), ShapeError>
-    ensures ok { OnOk result (builder.new ≡ with_requests builder.old common) }
+    ensures ok { OnOk result (builder.new ≡ with_requests builder.old Requests.common) }
     ensures memory { IsOkUnless result ShapeError.Memory }
 {
     add_features(builder, &COMMON_FEATURES)
@@ -192,7 +176,8 @@ fn add_common(builder: &mut hb_ot_map_builder_t) -> Result<(), ShapeError>
 /// Those of a direction. Vertical forms are taken from any script that has them, since few faces list them
 /// under each.
 fn add_directed(builder: &mut hb_ot_map_builder_t, direction: Direction) -> Result<(), ShapeError>
-    ensures ok { OnOk result (builder.new ≡ with_requests builder.old (directed direction)) }
+    ensures ok { OnOk result (builder.new
+        ≡ with_requests builder.old (Requests.directed direction)) }
     ensures memory { IsOkUnless result ShapeError.Memory }
 {
     if direction.is_horizontal() {
@@ -208,7 +193,7 @@ fn add_user_features(
     features: &[Feature],
 ) -> Result<(), ShapeError>
     ensures ok { OnOk result (builder.new
-        ≡ with_requests builder.old (map user_request features.now)) }
+        ≡ with_requests builder.old (map Requests.user_request features.now)) }
     ensures memory { IsOkUnless result ShapeError.Memory }
 {
     for feature in features {
@@ -229,7 +214,7 @@ pub(crate) fn widen(
     direction: Direction,
     features: &[Feature],
 ) -> Result<(), ShapeError>
-    ensures ok { OnOk result (builder.new ≡ widened direction features.now builder.old) }
+    ensures ok { OnOk result (builder.new ≡ Requests.widened direction features.now builder.old) }
     ensures memory { IsOkUnless result ShapeError.Memory }
 {
     if !features.is_empty() {
@@ -249,8 +234,8 @@ pub(crate) fn override_features<T: ShapingTypes>(
     direction: Direction,
     script: Option<Script>,
 ) -> Result<(), ShapeError>
-    ensures ok { OnOk result (builder.new ≡ hooked
-        (hook_of T.Shaper.constants.has_override_features T.Shaper.overriding
+    ensures ok { OnOk result (builder.new ≡ Requests.hooked
+        (Requests.hook_of T.Shaper.constants.has_override_features T.Shaper.overriding
         (given_shaper shaper.entry)) direction script builder.old) }
     ensures memory { IsOkUnless result ShapeError.Memory }
 {

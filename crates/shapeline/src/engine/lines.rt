@@ -2,7 +2,7 @@
 ghost use Rattle.shape_lines.specs.CanCut.{CanCut};
 ghost use Rattle.shape_sessions.specs.Lines.{IsAnswered};
 ghost use Rattle.shape_sessions.specs.Text.{IsText, IsWidthAndText};
-ghost use Rattle.shape_sessions.specs.Words.{words as words_of};
+ghost use Rattle.shape_sessions.specs.Words as word_rules;
 
 use crate::engine::answers;
 use crate::engine::shapers::{ShaperTask, with_shaper};
@@ -29,7 +29,7 @@ pub fn answer<W: Write>(
     mut words: Words,
     writer: &mut W,
 ) -> Outcome
-    ensures { IsAnswered (IsWidthAndText (words_of words.entry.rest.now)) result }
+    ensures { IsAnswered (IsWidthAndText (word_rules.words words.entry.rest.now)) result }
 {
     let Some(word) = words.next() else {
         return Outcome::Malformed;
@@ -59,7 +59,7 @@ fn lines(
     text_end: u32,
     width: u32,
 ) -> Result<String, ShapeError>
-    requires { IsText (words_of words.rest.now) }
+    requires { IsText (word_rules.words words.rest.now) }
 {
     let text = filled(alloc, text_settings, words)?;
     with_shaper(

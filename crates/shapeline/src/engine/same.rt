@@ -1,7 +1,7 @@
 //! The line `same C .. / C ..`: says whether two texts have the same normalised characters.
 ghost use Rattle.shape_sessions.specs.Lines.{IsAnswered};
 ghost use Rattle.shape_sessions.specs.Text.{IsText, IsPair};
-ghost use Rattle.shape_sessions.specs.Words.{words as words_of};
+ghost use Rattle.shape_sessions.specs.Words as word_rules;
 
 use crate::engine::answers;
 use crate::engine::shapers::{ShaperTask, with_shaper};
@@ -25,7 +25,7 @@ pub fn answer<W: Write>(
     words: Words,
     writer: &mut W,
 ) -> Outcome
-    ensures { IsAnswered (IsPair (words_of words.entry.rest.now)) result }
+    ensures { IsAnswered (IsPair (word_rules.words words.entry.rest.now)) result }
 {
     let Some((first, second)) = words.parted() else {
         return Outcome::Malformed;
@@ -52,8 +52,8 @@ fn are_same(
     first: Words,
     second: Words,
 ) -> Result<bool, ShapeError>
-    requires first { IsText (words_of first.rest.now) }
-    requires second { IsText (words_of second.rest.now) }
+    requires first { IsText (word_rules.words first.rest.now) }
+    requires second { IsText (word_rules.words second.rest.now) }
 {
     let a = in_common(alloc, text_settings, first)?;
     let b = in_common(alloc, text_settings, second)?;
@@ -66,7 +66,7 @@ fn in_common(
     text_settings: TextSettings,
     words: Words,
 ) -> Result<UnicodeBuffer, ShapeError>
-    requires { IsText (words_of words.rest.now) }
+    requires { IsText (word_rules.words words.rest.now) }
 {
     let mut text = filled(alloc, text_settings, words)?;
     if text.direction() == Direction::Invalid {

@@ -8,7 +8,7 @@ ghost use Rattle.shape_items.specs.Buffer.{new_buffer};
 ghost use Rattle.shape_buffer.specs.Text.{items_from};
 ghost use Rattle.shape_sessions.specs.Lines.{IsAnswered};
 ghost use Rattle.shape_sessions.specs.Text.{IsText, characters, utf8_len};
-ghost use Rattle.shape_sessions.specs.Words.{words as words_of};
+ghost use Rattle.shape_sessions.specs.Words as word_rules;
 
 use crate::engine::answers;
 use crate::engine::shapers::{ShaperTask, with_shaper};
@@ -34,7 +34,7 @@ pub fn answer<W: Write>(
     words: Words,
     writer: &mut W,
 ) -> Outcome
-    ensures { IsAnswered (IsText (words_of words.entry.rest.now)) result }
+    ensures { IsAnswered (IsText (word_rules.words words.entry.rest.now)) result }
 {
     if text_len(words).is_none() {
         return Outcome::Malformed;
@@ -60,8 +60,8 @@ pub(super) fn write_refusal<W: Write>(cause: ShapeError, writer: &mut W) -> io::
 /// How many bytes a text takes in UTF-8, if each word is a character and 32 bits can count them. Takes
 /// no memory, so that a malformed text is malformed however little there is.
 pub(super) fn text_len(words: Words) -> Option<u32>
-    ensures { SomeIff result (IsText (words_of words.entry.rest.now))
-        (utf8_len (words_of words.entry.rest.now)) }
+    ensures { SomeIff result (IsText (word_rules.words words.entry.rest.now))
+        (utf8_len (word_rules.words words.entry.rest.now)) }
 {
     let mut len: u32 = 0;
     for word in words {
@@ -77,9 +77,9 @@ pub(super) fn filled(
     text_settings: TextSettings,
     words: Words,
 ) -> Result<UnicodeBuffer, ShapeError>
-    requires { IsText (words_of words.rest.now) }
+    requires { IsText (word_rules.words words.rest.now) }
     ensures items { IfOk result (λ buffer. buffer.items
-        ≡ items_from 0 (characters (words_of words.entry.rest.now))) }
+        ≡ items_from 0 (characters (word_rules.words words.entry.rest.now))) }
     ensures settings { IfOk result (λ buffer. record buffer { items = []; positions = [] }
         ≡ record new_buffer {
           direction = text_settings.direction;
@@ -109,7 +109,7 @@ fn lines(
     text_settings: TextSettings,
     words: Words,
 ) -> Result<String, ShapeError>
-    requires { IsText (words_of words.rest.now) }
+    requires { IsText (word_rules.words words.rest.now) }
 {
     let text = filled(alloc, text_settings, words)?;
     let again = filled(alloc, text_settings, words)?;

@@ -4,8 +4,7 @@
 //! the call does that.
 ghost use Rattle.std.specs.Prelude.{◌≡◌, ◌++◌, ℕ, OnOk};
 ghost use Rattle.shape_buffer.specs.Outcome.{IsWithinLimit, Made, Outcome, step};
-ghost use Rattle.test_programs.specs.Changes.{kept, made, placed, times, copies};
-ghost use Rattle.test_programs.specs.Changes.{edited as edited_of, moved as moved_of};
+ghost use Rattle.test_programs.specs.Changes;
 
 use shape_buffer::buffer::{
     BufferClusterLevel, BufferFlags, Direction, GlyphId, GlyphPosition, GlyphPropsFlags,
@@ -67,7 +66,7 @@ pub enum Call {
 
 /// The item with its edit, if it has the character.
 fn edited(character: char, edit: Edit, info: &hb_glyph_info_t) -> hb_glyph_info_t
-    ensures { result ≡ edited_of character edit info.now }
+    ensures { result ≡ Changes.edited character edit info.now }
 {
     let mut info = *info;
     if info.codepoint == character {
@@ -84,7 +83,7 @@ fn edited(character: char, edit: Edit, info: &hb_glyph_info_t) -> hb_glyph_info_
 
 /// The position with this value in place of its four numbers.
 fn moved(value: i32, position: GlyphPosition) -> GlyphPosition
-    ensures { result ≡ moved_of value position }
+    ensures { result ≡ Changes.moved value position }
 {
     GlyphPosition {
         x_advance: value,
@@ -97,7 +96,7 @@ fn moved(value: i32, position: GlyphPosition) -> GlyphPosition
 
 /// Makes a change.
 fn make_change(what: Change, buffer: &mut hb_buffer_t)
-    ensures { buffer.new ≡ kept what buffer.old }
+    ensures { buffer.new ≡ Changes.kept what buffer.old }
 {
     match what {
         Change::Nothing => {}
@@ -120,7 +119,7 @@ fn make_change(what: Change, buffer: &mut hb_buffer_t)
 
 /// Makes a change, as a call that is never refused.
 pub(crate) fn keep(what: Change, buffer: &mut hb_buffer_t)
-    ensures { Made (kept what) buffer.old buffer.new }
+    ensures { Made (Changes.kept what) buffer.old buffer.new }
 {
     make_change(what, buffer);
 }
@@ -128,7 +127,7 @@ pub(crate) fn keep(what: Change, buffer: &mut hb_buffer_t)
 /// Makes a change, or says that memory was refused, as a call that preserves the number of items.
 pub(crate) fn place(what: Option<Change>, buffer: &mut hb_buffer_t) -> Result<(), ShapeError>
     requires { IsWithinLimit buffer.old }
-    ensures { Outcome (step (placed what)) buffer.old buffer.new result }
+    ensures { Outcome (step (Changes.placed what)) buffer.old buffer.new result }
 {
     match what {
         Some(change) => {
@@ -145,7 +144,7 @@ fn append(
     count: u16,
     info: &hb_glyph_info_t,
 ) -> Result<(), AllocError>
-    ensures { OnOk result (infos.new.items ≡ infos.old.items ++ copies count info.now) }
+    ensures { OnOk result (infos.new.items ≡ infos.old.items ++ Changes.copies count info.now) }
 {
     for _ in 0..count {
         infos.push(*info)?;
@@ -156,7 +155,7 @@ fn append(
 /// Puts so many copies of each item in place of it.
 fn repeat(alloc: Global, count: u16, buffer: &mut hb_buffer_t) -> Result<(), ShapeError>
     requires { IsWithinLimit buffer.old }
-    ensures { Outcome (step (times count)) buffer.old buffer.new result }
+    ensures { Outcome (step (Changes.times count)) buffer.old buffer.new result }
 {
     let mut infos = Vec::new(alloc);
     for info in buffer.infos() {
@@ -168,7 +167,7 @@ fn repeat(alloc: Global, count: u16, buffer: &mut hb_buffer_t) -> Result<(), Sha
 /// Does what a call does that may be refused.
 pub(crate) fn make(alloc: Global, call: Call, buffer: &mut hb_buffer_t) -> Result<(), ShapeError>
     requires { IsWithinLimit buffer.old }
-    ensures { Outcome (step (made call)) buffer.old buffer.new result }
+    ensures { Outcome (step (Changes.made call)) buffer.old buffer.new result }
 {
     match call {
         Call::Keep(change) => {

@@ -1,7 +1,6 @@
 //! The engine whose lookups do what a universe draws for them.
 ghost use Rattle.std.specs.Prelude.{◌≡◌, None};
-ghost use Rattle.test_programs.specs.Layouts.{odd_layout, odd_masks, odd_masks-lawful};
-ghost use Rattle.test_programs.specs.Layouts.{odd_lookups, is_struck as is_struck_of};
+ghost use Rattle.test_programs.specs.Layouts;
 ghost use Rattle.test_programs.specs.PreservedCounts.{odd_lookups-lawful};
 
 use crate::search::change::{Change, keep, make, place};
@@ -26,7 +25,7 @@ pub struct OddMap {
 const STRUCK: u32 = 0xFFFF;
 
 fn is_struck(info: &hb_glyph_info_t) -> bool
-    ensures { result ≡ is_struck_of info.now }
+    ensures { result ≡ Layouts.is_struck info.now }
 {
     info.glyph_id == STRUCK
 }
@@ -37,11 +36,11 @@ pub struct OddLayout;
 impl hb_ot_layout_t<OddFace> for OddLayout {
     type Map = OddMap;
 
-    ghost layout = { odd_layout };
+    ghost layout = { Layouts.odd_layout };
 
-    ghost masks = { odd_masks };
+    ghost masks = { Layouts.odd_masks };
 
-    ghost lookups = { λ _. odd_lookups };
+    ghost lookups = { λ _. Layouts.odd_lookups };
 
     fn chosen_script(
         face: &OddFace,
@@ -184,7 +183,7 @@ impl hb_ot_layout_t<OddFace> for OddLayout {
         place(face.calls.kern, buffer)
     }
 
-    ghost lawful_masks = { odd_masks-lawful };
+    ghost lawful_masks = { Layouts.odd_masks-lawful };
 
     ghost lawful_lookups = { λ _. odd_lookups-lawful };
 }

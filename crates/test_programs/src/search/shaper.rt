@@ -5,9 +5,7 @@
 //! order as they are met.
 ghost use Rattle.std.specs.Prelude.{◌≡◌, true, false};
 ghost use Rattle.test_programs.specs.Changes.{made};
-ghost use Rattle.test_programs.specs.Hooks.{odd_split as odd_split_of, odd_split-falls, odd_composite};
-ghost use Rattle.test_programs.specs.Hooks.{all_masked, all_masked-alone, ends_exchanged};
-ghost use Rattle.test_programs.specs.Hooks.{ends_exchanged-reorders, masked as masked_of};
+ghost use Rattle.test_programs.specs.Hooks;
 
 use crate::search::change::make;
 use crate::search::face::OddFace;
@@ -30,7 +28,7 @@ pub struct odd_hooks;
 
 /// Splits each character past U+F0000 into the one before it and the second part, and U+00E9 into U+0061 and that part.
 fn odd_split(second: char, c: char) -> Option<(char, char)>
-    ensures { result ≡ odd_split_of second c }
+    ensures { result ≡ Hooks.odd_split second c }
 {
     let code = u32::from(c);
     if code == 0xE9 {
@@ -46,7 +44,7 @@ fn odd_split(second: char, c: char) -> Option<(char, char)>
 }
 
 fn masked(mask: hb_mask_t, info: &hb_glyph_info_t) -> hb_glyph_info_t
-    ensures { result ≡ masked_of mask info.now }
+    ensures { result ≡ Hooks.masked mask info.now }
 {
     let mut info = *info;
     info.mask |= mask;
@@ -55,7 +53,7 @@ fn masked(mask: hb_mask_t, info: &hb_glyph_info_t) -> hb_glyph_info_t
 
 impl<S, D, U: hb_unicode_funcs_t, M: hb_ot_layout_t<OddFace>> decompose_hook<S, D, U, OddFace, M>
     for odd_hooks {
-    ghost split = { λ _ _ face. odd_split_of face.calls.second_part };
+    ghost split = { λ _ _ face. Hooks.odd_split face.calls.second_part };
 
     ghost height = { λ _ _ _ c. c };
 
@@ -72,12 +70,12 @@ impl<S, D, U: hb_unicode_funcs_t, M: hb_ot_layout_t<OddFace>> decompose_hook<S, 
         odd_split(face.calls.second_part, c)
     }
 
-    ghost falls = { λ _ _ face. odd_split-falls face.calls.second_part };
+    ghost falls = { λ _ _ face. Hooks.odd_split-falls face.calls.second_part };
 }
 
 impl<S, D, U: hb_unicode_funcs_t, M: hb_ot_layout_t<OddFace>> compose_hook<S, D, U, OddFace, M>
     for odd_hooks {
-    ghost compose = { λ _ _ face. odd_composite face.calls.composite };
+    ghost compose = { λ _ _ face. Hooks.odd_composite face.calls.composite };
 
     ghost GIVEN = { true };
 
@@ -100,7 +98,7 @@ impl<S, D, U: hb_unicode_funcs_t, M: hb_ot_layout_t<OddFace>> compose_hook<S, D,
 
 impl<S, D, U: hb_unicode_funcs_t, F, M: hb_ot_layout_t<F>> reorder_marks_hook<S, D, U, F, M>
     for odd_hooks {
-    ghost reordered = { λ _ _. ends_exchanged };
+    ghost reordered = { λ _ _. Hooks.ends_exchanged };
 
     ghost GIVEN = { true };
 
@@ -116,12 +114,12 @@ impl<S, D, U: hb_unicode_funcs_t, F, M: hb_ot_layout_t<F>> reorder_marks_hook<S,
         buffer.swap_infos(start, end - 1);
     }
 
-    ghost reorders = { λ _ _. ends_exchanged-reorders };
+    ghost reorders = { λ _ _. Hooks.ends_exchanged-reorders };
 }
 
 impl<S, D, U: hb_unicode_funcs_t, M: hb_ot_layout_t<OddFace>> setup_masks_hook<S, D, U, OddFace, M>
     for odd_hooks {
-    ghost masked = { λ _ _ face. all_masked face.calls.masks };
+    ghost masked = { λ _ _ face. Hooks.all_masked face.calls.masks };
 
     ghost GIVEN = { true };
 
@@ -137,7 +135,7 @@ impl<S, D, U: hb_unicode_funcs_t, M: hb_ot_layout_t<OddFace>> setup_masks_hook<S
         update_items(buffer, |info| masked(mask, info));
     }
 
-    ghost masks_alone = { λ _ _ face. all_masked-alone face.calls.masks };
+    ghost masks_alone = { λ _ _ face. Hooks.all_masked-alone face.calls.masks };
 }
 
 impl<S, D, U: hb_unicode_funcs_t, M: hb_ot_layout_t<OddFace>> preprocess_text_hook<

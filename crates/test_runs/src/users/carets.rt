@@ -1,9 +1,7 @@
 //! Carets, clicks and selections. The numbers were worked out by hand.
 
 use shape_buffer::buffer::{Direction, GlyphCluster, ShapeError};
-use shape_carets::{
-    Caret, Span, caret_of_offset, carets, offset_of_x, selection, stops_rise,
-};
+use shape_carets::{Caret, Span, caret_of_offset, carets, offset_of_x, selection, stops_rise};
 use std::alloc::Global;
 
 /// A cluster of this advance.

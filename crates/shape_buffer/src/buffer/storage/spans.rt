@@ -1,21 +1,14 @@
 //! Merging, marking and deleting: what changes clusters and flags of spans of items.
 ghost use Rattle.std.specs.Prelude.{◌≡◌, ◌≤◌, [], Bool, length};
 ghost use Rattle.std.specs.Fn.{FnReturnsAt};
-ghost use Rattle.shape_items.specs.BufferClusters.{merge_clusters as merge_clusters_of};
-ghost use Rattle.shape_items.specs.BufferClusters.{merge_out_clusters as merge_out_clusters_of};
-ghost use Rattle.shape_items.specs.BufferClusters.{safe_to_insert_tatweel as safe_to_insert_tatweel_of};
-ghost use Rattle.shape_items.specs.BufferClusters.{tatweel_marked};
-ghost use Rattle.shape_items.specs.BufferClusters.{unsafe_to_break as unsafe_to_break_of};
-ghost use Rattle.shape_items.specs.BufferClusters.{unsafe_to_concat as unsafe_to_concat_of};
+ghost use Rattle.shape_items.specs.BufferClusters;
 ghost use Rattle.shape_items.specs.ClusterOrder.{PreservesClusters};
 ghost use Rattle.shape_items.specs.Clusters.{clusters};
 ghost use Rattle.shape_items.specs.Delete.{deleted};
 ghost use Rattle.shape_items.specs.GraphemeSpans.{grapheme_spans};
 ghost use Rattle.shape_items.specs.Items.{Item};
 ghost use Rattle.shape_items.specs.PreservesFlags.{PreservesFlags};
-ghost use Rattle.shape_items.specs.Spans.{AreSpansInOrder, all_merged};
-ghost use Rattle.shape_items.specs.Spans.{merge_each as merge_each_of};
-ghost use Rattle.shape_items.specs.Spans.{spans_merged_out as spans_merged_out_of};
+ghost use Rattle.shape_items.specs.Spans;
 
 use crate::buffer::storage::hb_buffer_t;
 use bitflags::Flags;
@@ -37,7 +30,7 @@ impl hb_buffer_t {
     pub fn merge_clusters(&mut self, start: usize, end: usize)
         requires ordered { start ≤ end }
         requires within { end ≤ length self.old.items }
-        ensures merged { self.new ≡ merge_clusters_of start end self.old }
+        ensures merged { self.new ≡ BufferClusters.merge_clusters start end self.old }
         ensures len { length self.new.items ≡ length self.old.items }
         ensures preserves { PreservesClusters (clusters self.old.items) (clusters self.new.items)
             × PreservesFlags self.old self.new }
@@ -53,7 +46,7 @@ impl hb_buffer_t {
     pub fn merge_out_clusters(&mut self, start: usize, end: usize)
         requires ordered { start ≤ end }
         requires within { end ≤ length self.old.items }
-        ensures merged { self.new ≡ merge_out_clusters_of start end self.old }
+        ensures merged { self.new ≡ BufferClusters.merge_out_clusters start end self.old }
         ensures len { length self.new.items ≡ length self.old.items }
         ensures preserves { PreservesClusters (clusters self.old.items) (clusters self.new.items)
             × PreservesFlags self.old self.new }
@@ -68,8 +61,8 @@ impl hb_buffer_t {
     /// with the list and the lengths of the spans, whatever the clusters are (measured, not proved). Few
     /// spans, as those of one run of marks, are merged one by one: the items before them aren't walked over.
     pub fn merge_spans(&mut self, spans: &[(usize, usize)])
-        requires in_order { AreSpansInOrder 0 (length self.old.items) spans.now }
-        ensures merged { self.new ≡ all_merged spans.now self.old }
+        requires in_order { Spans.AreSpansInOrder 0 (length self.old.items) spans.now }
+        ensures merged { self.new ≡ Spans.all_merged spans.now self.old }
         ensures len { length self.new.items ≡ length self.old.items }
         ensures preserves { PreservesClusters (clusters self.old.items) (clusters self.new.items)
             × PreservesFlags self.old self.new }
@@ -87,8 +80,8 @@ impl hb_buffer_t {
 
     /// Merges as `merge_spans` does, but changes nothing at level CHARACTERS.
     pub fn merge_spans_out(&mut self, spans: &[(usize, usize)])
-        requires in_order { AreSpansInOrder 0 (length self.old.items) spans.now }
-        ensures merged { self.new ≡ spans_merged_out_of spans.now self.old }
+        requires in_order { Spans.AreSpansInOrder 0 (length self.old.items) spans.now }
+        ensures merged { self.new ≡ Spans.spans_merged_out spans.now self.old }
         ensures len { length self.new.items ≡ length self.old.items }
         ensures preserves { PreservesClusters (clusters self.old.items) (clusters self.new.items)
             × PreservesFlags self.old self.new }
@@ -104,7 +97,7 @@ impl hb_buffer_t {
     /// memory; the time is in step with the list, whatever the clusters are (measured, not proved).
     pub fn merge_graphemes(&mut self)
         ensures merged { self.new
-            ≡ spans_merged_out_of (grapheme_spans self.old.items) self.old }
+            ≡ Spans.spans_merged_out (grapheme_spans self.old.items) self.old }
         ensures len { length self.new.items ≡ length self.old.items }
         ensures preserves { PreservesClusters (clusters self.old.items) (clusters self.new.items)
             × PreservesFlags self.old self.new }
@@ -117,8 +110,8 @@ impl hb_buffer_t {
 
     /// Merges the spans, whatever the level is.
     fn merge_at_once(&mut self, spans: &[(usize, usize)])
-        requires { AreSpansInOrder 0 (length self.old.items) spans.now }
-        ensures { self.new ≡ record self.old { items = merge_each_of spans.now self.old.items } }
+        requires { Spans.AreSpansInOrder 0 (length self.old.items) spans.now }
+        ensures { self.new ≡ record self.old { items = Spans.merge_each spans.now self.old.items } }
     {
         let starts = self.run_starts.as_mut_slice();
         merge_each(self.infos.as_mut_slice(), starts, spans);
@@ -127,7 +120,7 @@ impl hb_buffer_t {
     /// Merges the graphemes, whatever the level is.
     fn merge_graphemes_at_once(&mut self)
         ensures { self.new ≡ record self.old {
-          items = merge_each_of (grapheme_spans self.old.items) self.old.items;
+          items = Spans.merge_each (grapheme_spans self.old.items) self.old.items;
         } }
     {
         let starts = self.run_starts.as_mut_slice();
@@ -136,8 +129,8 @@ impl hb_buffer_t {
 
     /// Merges span by span. At level CHARACTERS each merge marks its span and touches no more.
     fn merge_one_by_one(&mut self, spans: &[(usize, usize)])
-        requires { AreSpansInOrder 0 (length self.old.items) spans.now }
-        ensures { self.new ≡ all_merged spans.now self.old }
+        requires { Spans.AreSpansInOrder 0 (length self.old.items) spans.now }
+        ensures { self.new ≡ Spans.all_merged spans.now self.old }
     {
         for (start, end) in spans {
             self.merge_clusters(*start, *end);
@@ -150,7 +143,7 @@ impl hb_buffer_t {
     pub fn unsafe_to_break(&mut self, start: usize, end: usize)
         requires ordered { start ≤ end }
         requires within { end ≤ length self.old.items }
-        ensures marked { self.new ≡ unsafe_to_break_of start end self.old }
+        ensures marked { self.new ≡ BufferClusters.unsafe_to_break start end self.old }
         ensures preserves { PreservesFlags self.old self.new }
     {
         if end - start < 2 {
@@ -167,7 +160,7 @@ impl hb_buffer_t {
     pub fn safe_to_insert_tatweel(&mut self, start: usize, end: usize)
         requires ordered { start ≤ end }
         requires within { end ≤ length self.old.items }
-        ensures marked { self.new ≡ safe_to_insert_tatweel_of start end self.old }
+        ensures marked { self.new ≡ BufferClusters.safe_to_insert_tatweel start end self.old }
         ensures preserves { PreservesFlags self.old self.new }
     {
         if self
@@ -184,7 +177,7 @@ impl hb_buffer_t {
     fn mark_tatweel(&mut self, start: usize, end: usize)
         requires ordered { start ≤ end }
         requires within { end ≤ length self.old.items }
-        ensures marked { self.new ≡ tatweel_marked start end self.old }
+        ensures marked { self.new ≡ BufferClusters.tatweel_marked start end self.old }
         ensures preserves { PreservesFlags self.old self.new }
     {
         if end - start < 2 {
@@ -199,7 +192,7 @@ impl hb_buffer_t {
     pub fn unsafe_to_concat(&mut self, start: usize, end: usize)
         requires ordered { start ≤ end }
         requires within { end ≤ length self.old.items }
-        ensures marked { self.new ≡ unsafe_to_concat_of start end self.old }
+        ensures marked { self.new ≡ BufferClusters.unsafe_to_concat start end self.old }
         ensures preserves { PreservesFlags self.old self.new }
     {
         if !self.flags.contains(BufferFlags::PRODUCE_UNSAFE_TO_CONCAT) {
