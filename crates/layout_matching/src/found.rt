@@ -6,7 +6,7 @@ ghost use Rattle.std.specs.Option.{IfSome};
 ghost use Rattle.layout_matching.specs.Found as found_rules;
 
 use crate::lookup::Lookup;
-use crate::rules::{FAR, Rule, Test, chain, is_inside, plain, rule_at, rules};
+use crate::rules::{FAR, RowTests, Rule, Test, chain, is_inside, plain, rule_at, rules};
 use crate::spans::{Origin, Span, span_at};
 use layout_buffer::ItemList;
 use layout_tables::classes::class;
@@ -70,13 +70,25 @@ fn found_if(lookup: &Lookup<'_>, items: &ItemList<'_>, origin: Origin, rule: Rul
     }
 }
 
+/// Rows whose glyphs or lists stand from one place on.
+fn from_one_place(test: Test, start: usize) -> RowTests
+    ensures { result ≡ record { test = test; before = start; input = start; after = start } }
+{
+    RowTests {
+        test,
+        before: start,
+        input: start,
+        after: start,
+    }
+}
+
 /// The one rule of a subtable of format 3.
 pub(crate) fn whole_rule(table: &[u8], is_chain: bool, start: usize) -> Rule
     requires { start < 2 ^ 35 }
     ensures { result ≡ found_rules.whole_rule table.now is_chain start }
 {
     if is_chain {
-        chain(table, Test::Coverage, start, start, start, 1, start + 2)
+        chain(table, from_one_place(Test::Coverage, start), 1, start + 2)
     } else {
         plain(table, Test::Coverage, start, start + 2, start + 8)
     }
@@ -171,22 +183,20 @@ pub(crate) fn rule_by(table: &[u8], is_chain: bool, start: usize, at: usize) -> 
 {
     if u16_at(table, start) == 1 {
         if is_chain {
-            return chain(table, Test::Glyph, start, start, start, 0, at);
+            return chain(table, from_one_place(Test::Glyph, start), 0, at);
         }
         return plain(table, Test::Glyph, start, at, at + 4);
     }
     if !is_chain {
         return plain(table, Test::Class, class_place(table, start, 4), at, at + 4);
     }
-    chain(
-        table,
-        Test::Class,
-        class_place(table, start, 4),
-        class_place(table, start, 6),
-        class_place(table, start, 8),
-        0,
-        at,
-    )
+    let rows = RowTests {
+        test: Test::Class,
+        before: class_place(table, start, 4),
+        input: class_place(table, start, 6),
+        after: class_place(table, start, 8),
+    };
+    chain(table, rows, 0, at)
 }
 
 /// Rule `r` of those at `set`, if it matches.

@@ -128,26 +128,27 @@ pub fn plain(table: &[u8], test: Test, from: usize, at: usize, values: usize) ->
     }
 }
 
+/// What the values of a chained rule's rows say of a glyph, and where the classes or lists of each row stand.
+#[derive(Clone, Copy)]
+pub struct RowTests {
+    pub test: Test,
+    pub before: usize,
+    pub input: usize,
+    pub after: usize,
+}
+
 /// A rule with what stands before and after. `whole` is 1 if the first glyph has a value too, else 0.
-pub fn chain(
-    table: &[u8],
-    test: Test,
-    from_before: usize,
-    from_input: usize,
-    from_after: usize,
-    whole: usize,
-    at: usize,
-) -> Rule
+pub fn chain(table: &[u8], rows: RowTests, whole: usize, at: usize) -> Rule
     requires at { at < 2 ^ 38 }
     requires whole { whole < 2 }
-    ensures { result ≡ Rules.chained table.now test from_before from_input from_after whole at }
+    ensures { result ≡ Rules.chained table.now rows.test rows.before rows.input rows.after whole at }
 {
-    let before = row_of(test, from_before, u16_at(table, at), at + 2);
+    let before = row_of(rows.test, rows.before, u16_at(table, at), at + 2);
     let middle = at + 2 + 2 * usize::from(before.count);
     let count = u16_at(table, middle);
-    let input = row_of(test, from_input, count, middle + 2 + 2 * whole);
+    let input = row_of(rows.test, rows.input, count, middle + 2 + 2 * whole);
     let follows = middle + 2 + 2 * whole + 2 * usize::from(count.saturating_sub(1));
-    let after = row_of(test, from_after, u16_at(table, follows), follows + 2);
+    let after = row_of(rows.test, rows.after, u16_at(table, follows), follows + 2);
     let last = follows + 2 + 2 * usize::from(after.count);
     Rule {
         before,

@@ -44,29 +44,37 @@ fn merge_first_two(
     }
 }
 
-/// Hands the cluster of the picked glyph at `i` on, if the first `kept` items stand as runs that begin
-/// at `starts`; gives how many runs there are.
+/// Where a walk stands: how many items it has kept, and the place that it looks at.
+#[derive(Clone, Copy)]
+struct Spot {
+    kept: usize,
+    at: usize,
+}
+
+/// Hands the cluster of the picked glyph at a spot on, if the items that were kept stand as runs that
+/// begin at `starts`; gives how many runs there are.
 fn hand_on(
     infos: &mut [hb_glyph_info_t],
     starts: &[usize],
     scratch_flags: &mut ScratchFlags,
     level: BufferClusterLevel,
-    kept: usize,
-    i: usize,
+    spot: Spot,
     picked: &hb_glyph_info_t,
 ) -> usize
-    requires kept_le { kept ≤ i }
-    requires within { i < length infos.old }
-    requires stands { (given : List Item) × StandsFor (take kept infos.old) starts.now given }
-    ensures handed { (given : List Item) → StandsFor (take kept infos.old) starts.now given
-        → (left : List Item) × StandsFor (take kept infos.new) (take result starts.now) left
+    requires kept_le { spot.kept ≤ spot.at }
+    requires within { spot.at < length infos.old }
+    requires stands { (given : List Item) × StandsFor (take spot.kept infos.old) starts.now given }
+    ensures handed { (given : List Item) → StandsFor (take spot.kept infos.old) starts.now given
+        → (left : List Item) × StandsFor (take spot.kept infos.new) (take result starts.now) left
         × ((b : Buffer) → b.cluster_level ≡ level
-        → record b { items = left ++ drop i infos.new; scratch_flags = scratch_flags.new }
-        ≡ Delete.hand_on kept picked.now (drop (i + 1) infos.old)
-        (record b { items = given ++ drop i infos.old; scratch_flags = scratch_flags.old })) }
+        → record b { items = left ++ drop spot.at infos.new; scratch_flags = scratch_flags.new }
+        ≡ Delete.hand_on spot.kept picked.now (drop (spot.at + 1) infos.old)
+        (record b { items = given ++ drop spot.at infos.old; scratch_flags = scratch_flags.old })) }
     ensures as_many { length infos.new ≡ length infos.old }
     ensures at_most { result ≤ length starts.now }
 {
+    let kept = spot.kept;
+    let i = spot.at;
     let items: &[hb_glyph_info_t] = infos;
     if begins_in(&items[i + 1..], picked.cluster) {
         return starts.len();
@@ -138,8 +146,7 @@ where
             &starts[..runs],
             scratch_flags,
             level,
-            kept,
-            i,
+            Spot { kept, at: i },
             &info,
         );
     }
