@@ -1,16 +1,19 @@
 -- One word more is looked at.
 use Rattle.std.proofs.Common.{◌≡◌, ℕ, ◌+◌, ◌<◌, ◌≤◌, ◌^◌, ◌⊎◌, List, [], ◌∷◌, ◌++◌, length, get_or, Option, Some, None, Result, Ok, Err, IsErrAnd, refl, inl, inr, ap, sym, ◌∙◌, subst, arith}
 use Rattle.std.proofs.lemmas.List.{get_or_default, get_or_push, length-append}
-use Rattle.std.specs.Prelude.{IfSome, IfNone, string_bytes}
-use Rattle.shape_items.specs.Buffer.{Buffer}
+use Rattle.std.specs.Prelude.{◌↔◌, Bool, IsTrue, IfSome, IfNone, string_bytes}
+use Rattle.shape_items.specs.Buffer.{Buffer, limit_of}
 use Rattle.shape_buffer.specs.Outcome.{Step, EachWithin, SomePast}
 use Rattle.shape_buffer.specs.declared.buffer.error.ShapeError.{ShapeError}
 use Rattle.shape_buffer.specs.declared.buffer.error.ShapeError.TheVariants.{Length}
 use Rattle.shape_plan.specs.Run.{Run}
-use Rattle.shape_pipeline.specs.Headline.{target_of}
+use Rattle.shape_normalize.specs.CanonicalForm.{text_of, AreEquivalent}
+use Rattle.shape_normalize.specs.RoundOne.{round_one}
+use Rattle.shape_plan.specs.Rules.{Rules}
+use Rattle.shape_pipeline.specs.Headline.{target_of, prepared_text}
 use Rattle.shape_pipeline.specs.Shaped.{Shapes, all_steps, entered}
 use Rattle.shape_buffer.specs.Guess.{guessed}
-use Rattle.shape_users.specs.Words.{spelled, AreSpelledAlike, IsNowhere, IsPlaceOf, IsTooLong, IsTooLongToShape, FindsTooLong, KeepsTooLong}
+use Rattle.shape_users.specs.Words.{spelled, AreSpelledAlike, IsNowhere, IsPlaceOf, IsTooLong, IsTooLongToPrepare, IsTooLongToShape, FindsTooLong, KeepsTooLong}
 use Rattle.shape_users.specs.declared.words.Word.{Word}
 use Rattle.shape_users.proofs.ParagraphLemmas.{split}
 
@@ -152,3 +155,20 @@ place_pushed run words more word place spelling pushed last spells =
           ∙ spells in
           subst (λ (s : List ℕ). AreSpelledAlike run s spelling) (sym spelled) refl,
     )
+
+-- a spelling that was prepared, and whose expanded list was within the limit, isn't too long
+pub not_too_long : {P : Type 0} (run : Run) (spelling : List ℕ) (b : Buffer) → (IsTooLongToPrepare run spelling → P)
+    → b ≡ prepared_text run (spelled spelling) → length (round_one run.rules b).items ≤ limit_of b → IsTooLong run spelling → P
+not_too_long run spelling b prepares is counted (inl long) = prepares long
+not_too_long run spelling b prepares is counted (inr over) =
+    let text = prepared_text run (spelled spelling) in
+    let within : length (round_one run.rules text).items ≤ limit_of text =
+    subst (λ (b : Buffer). length (round_one run.rules b).items ≤ limit_of b) is counted in
+    absurd (omega (arith, within, over))
+
+-- what comparing two buffers says of them, it says of the texts that they are
+pub compared-texts : (rules : Rules) (same : Bool) {a b first second : Buffer} → a ≡ first → b ≡ second
+    → IsTrue same ↔ AreEquivalent rules (text_of a) (text_of b) → IsTrue same ↔ AreEquivalent rules (text_of first) (text_of second)
+compared-texts rules same {a} {b} {first} {second} is_first is_second says =
+    subst (λ (x : Buffer). IsTrue same ↔ AreEquivalent rules (text_of x) (text_of second)) is_first
+    (subst (λ (y : Buffer). IsTrue same ↔ AreEquivalent rules (text_of a) (text_of y)) is_second says)
