@@ -32,9 +32,10 @@ with open(f"{sys.argv[1]}/text", "w") as file:
     file.write("".join(" " if at % 6 == 5 else rng.choice("abcde") for at in range(100000)))
 P
 
-# Instructions of so many times.
+# Instructions of so many times, of words in these functions alone: asking whether the plan fits is left out.
 instructions() {
-    valgrind --tool=callgrind --callgrind-out-file=/dev/null "$work/users" "$1" "$font" "$2" "$3" 2>&1 > /dev/null |
+    case $1 in find) inside='*find_word*' ;; normalise) inside='*normalise_word*' ;; *) inside= ;; esac
+    valgrind --tool=callgrind --callgrind-out-file=/dev/null ${inside:+--toggle-collect="$inside"} "$work/users" "$1" "$font" "$2" "$3" 2>&1 > /dev/null |
         sed -n 's/.*Collected : //p'
 }
 
