@@ -1,8 +1,9 @@
 -- What a rule or a ligature matches, from its first glyph on.
 use Rattle.std.specs.Prelude.{ℕ, Bool, true, false, List, Option, Some, None, ◌-◌, ◌&&◌, ◌||◌, not, nat_eq, nat_lt, if◌then◌else◌}
-use Rattle.std.specs.Option.{option_and_then, unwrap_or}
+use Rattle.std.specs.Option.{option_and_then, option_map_or, unwrap_or}
+use Rattle.shape_font.specs.Search.{first_at}
 use Rattle.shape_items.specs.Items.{Item}
-use Rattle.layout_matching.specs.Loops.{steps, first_some}
+use Rattle.layout_matching.specs.Loops.{steps}
 use Rattle.layout_matching.specs.Seeking.{next_place}
 use Rattle.layout_matching.specs.Skipping.{nth, shares, is_skipped, syllable_of}
 use Rattle.layout_matching.specs.declared.input.Matched.{Matched}
@@ -10,28 +11,45 @@ use Rattle.layout_matching.specs.declared.lookup.Lookup.{Lookup}
 use Rattle.layout_matching.specs.declared.rules.Row.{Row}
 use Rattle.layout_matching.specs.declared.seeking.Seek.{Seek}
 
--- whether the base of the ligature `id` is skipped, as far as one glyph shows it: the base is its glyph of component 0
-abbrev pub base_of : Lookup → ℕ → Item → Option Bool
-base_of l id item = if not (nat_eq item.properties.ligature_id id) then Some false
-    else (if nat_eq item.properties.ligature_component 0 then Some (is_skipped l item) else None)
+-- a mark on a component of a ligature, whose components count from 1
+abbrev pub is_on_component : Item → Bool
+is_on_component item = nat_lt 0 item.properties.ligature_id && nat_lt 0 item.properties.ligature_component
 
--- the same by the nearest glyph before a place that shows it
-abbrev pub base_before : Lookup → List Item → ℕ → ℕ → Option Bool
-base_before l items id at = first_some (λ k. base_of l id (nth items (at - k - 1))) at 0
+-- what ends a row of marks on components of the ligature `id`: another glyph, or the ligature, its glyph of component 0
+abbrev pub ends_marks : ℕ → Item → Bool
+ends_marks id item = not (nat_eq item.properties.ligature_id id) || nat_eq item.properties.ligature_component 0
+
+-- how many such marks stand in a row before a place; none if the list begins with them
+abbrev pub marks_back : List Item → ℕ → ℕ → Option ℕ
+marks_back items id at = first_at (λ k. ends_marks id (nth items (at - 1 - k))) at 0
+
+abbrev pub skips_base : Lookup → ℕ → Item → Bool
+skips_base l id item = nat_eq item.properties.ligature_id id && is_skipped l item
 
 -- positioning looks for no base: HarfBuzz walks over what substitution put out, and positioning puts out nothing
 abbrev pub base_is_skipped : Lookup → List Item → ℕ → ℕ → Bool
-base_is_skipped l items id at = not l.positioning && unwrap_or (base_before l items id at) false
+base_is_skipped l items id at = if l.positioning then false
+    else option_map_or (λ k. skips_base l id (nth items (at - 1 - k))) (marks_back items id at) false
+
+-- a mark on a component matches with any mark if the ligature is skipped
+abbrev pub joins_all : Lookup → List Item → ℕ → Bool
+joins_all l items at = let first = nth items at in is_on_component first && base_is_skipped l items first.properties.ligature_id at
+
+-- how many marks are looked at for the ligature
+abbrev pub marks_passed : Lookup → List Item → ℕ → ℕ
+marks_passed l items at = let first = nth items at in
+    (if l.positioning || not (is_on_component first) then 0 else unwrap_or (marks_back items first.properties.ligature_id at) at)
 
 -- marks on a component of a ligature match with marks on the same component, or with any if the ligature is skipped;
 -- other glyphs match with no mark on a component of another ligature
+abbrev pub joins_by : Bool → Item → Item → Bool
+joins_by all first item = if is_on_component first
+    then all || (nat_eq item.properties.ligature_id first.properties.ligature_id
+    && nat_eq item.properties.ligature_component first.properties.ligature_component)
+    else nat_eq item.properties.ligature_id first.properties.ligature_id || not (is_on_component item)
+
 abbrev pub joins : Lookup → List Item → ℕ → Item → Bool
-joins l items at item = let first = (nth items at).properties in
-    (if nat_lt 0 first.ligature_id && nat_lt 0 first.ligature_component
-    then (nat_eq item.properties.ligature_id first.ligature_id && nat_eq item.properties.ligature_component first.ligature_component)
-    || base_is_skipped l items first.ligature_id at
-    else not (nat_lt 0 item.properties.ligature_id && nat_lt 0 item.properties.ligature_component
-    && not (nat_eq item.properties.ligature_id first.ligature_id)))
+joins l items at item = joins_by (joins_all l items at) (nth items at) item
 
 abbrev pub is_mark_glyph : Item → Bool
 is_mark_glyph item = shares item.properties.glyph_class.0 8

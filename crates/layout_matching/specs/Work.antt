@@ -9,6 +9,7 @@ use Rattle.shape_items.specs.Items.{Item}
 use Rattle.layout_tables.specs.Lookups.{lookup_type_of, subtable_count_of}
 use Rattle.layout_tables.specs.declared.lookups.LookupSubtable.{LookupSubtable}
 use Rattle.layout_matching.specs.Found.{is_chained, is_context, is_context_subtable, whole_rule, is_first, set_for, rule_of, number_of, subtable_at}
+use Rattle.layout_matching.specs.Input.{marks_passed}
 use Rattle.layout_matching.specs.Loops.{steps}
 use Rattle.layout_matching.specs.Rules.{rules_at, row, rule_place}
 use Rattle.layout_matching.specs.Skipping.{nth, is_skipped, is_transparent}
@@ -62,10 +63,16 @@ tallied rule s left = record {
 abbrev pub rule_counted : Rule → Tally → Option Tally
 rule_counted rule s = option_map (tallied rule s) (charged (rule_work rule) s.left)
 
--- each time, what the lookup passes over is looked at too
+-- what is passed over, and the marks that are looked at for the ligature that a mark stands on
+abbrev pub passed_beside : Lookup → List Item → ℕ → Tally → ℕ
+passed_beside l items at s = min (passed_after l items at s.after + passed_before l items at s.before) most_countable
+
+abbrev pub passed : Lookup → List Item → ℕ → Tally → ℕ
+passed l items at s = min (passed_beside l items at s + marks_passed l items at) most_countable
+
+-- each time that is looked at too
 abbrev pub passed_charged : Lookup → List Item → ℕ → Tally → Option ℕ
-passed_charged l items at s =
-    charged (min (s.tries * min (passed_after l items at s.after + passed_before l items at s.before) most_countable) most_countable) s.left
+passed_charged l items at s = charged (min (s.tries * passed l items at s) most_countable) s.left
 
 abbrev pub rule_charged : Lookup → List Item → ℕ → Rule → ℕ → Option ℕ
 rule_charged l items at rule left = option_and_then (passed_charged l items at) (rule_counted rule (uncounted left))

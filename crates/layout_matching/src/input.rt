@@ -25,65 +25,107 @@ pub struct Matched {
     pub all_marks: bool,
 }
 
-/// Whether the base of the ligature `id` is skipped, as far as one glyph shows it.
-fn base(lookup: &Lookup<'_>, id: u8, there: &hb_glyph_info_t) -> Option<bool>
-    ensures { result ≡ Input.base_of lookup.now id there.now }
-{
-    if there._hb_glyph_info_get_ligature_id() != id {
-        return Some(false);
-    }
-    if there._hb_glyph_info_get_ligature_component() == 0 {
-        Some(is_skipped(lookup, there))
-    } else {
-        None
-    }
+/// The first glyph of a match: where it stands, and whether it matches with marks on any component of its ligature. That is
+/// found once for all glyphs of a rule.
+#[derive(Clone, Copy)]
+pub struct First {
+    pub at: usize,
+    pub joins_all: bool,
 }
 
-/// The same, by the item at a place.
-fn base_at(lookup: &Lookup<'_>, items: &ItemList<'_>, id: u8, i: usize) -> Option<bool>
-    ensures { result ≡ Input.base_of lookup.now id (nth items.now i) }
+/// Whether a glyph is a mark on a component of a ligature.
+fn is_on_component(item: &hb_glyph_info_t) -> bool
+    ensures { result ≡ Input.is_on_component item.now }
 {
-    base(lookup, id, &items.item(i))
+    0 < item._hb_glyph_info_get_ligature_id() && 0 < item._hb_glyph_info_get_ligature_component()
 }
 
-/// The same, by the nearest glyph before `at` that shows it.
-#[tactic(auto, using(crate::proofs::LoopLemmas::first_some_next, crate::proofs::LoopLemmas::first_some_found, crate::proofs::LoopLemmas::first_some_end))]
-fn base_before(lookup: &Lookup<'_>, items: &ItemList<'_>, id: u8, at: usize) -> Option<bool>
-    ensures { result ≡ Input.base_before lookup.now items.now id at }
+/// Whether a glyph is no mark on a component of the ligature `id`: the ligature itself, or another glyph.
+fn ends_marks(id: u8, item: &hb_glyph_info_t) -> bool
+    ensures { result ≡ Input.ends_marks id item.now }
+{
+    item._hb_glyph_info_get_ligature_id() != id || item._hb_glyph_info_get_ligature_component() == 0
+}
+
+/// The same, of the glyph at a place.
+fn ends_marks_at(items: &ItemList<'_>, id: u8, i: usize) -> bool
+    ensures { result ≡ Input.ends_marks id (nth items.now i) }
+{
+    ends_marks(id, &items.item(i))
+}
+
+/// How many marks on components of the ligature `id` stand in a row before `at`; none if that is all.
+#[tactic(auto, using(shape_font::proofs::SearchLemmas::first_at_next, shape_font::proofs::SearchLemmas::first_at_found, shape_font::proofs::SearchLemmas::first_at_end))]
+fn marks_back(items: &ItemList<'_>, id: u8, at: usize) -> Option<usize>
+    ensures { result ≡ Input.marks_back items.now id at }
 {
     for k in 0..at {
-        if let Some(skipped) = base_at(lookup, items, id, at - k - 1) {
-            return Some(skipped);
+        if ends_marks_at(items, id, at - 1 - k) {
+            return Some(k);
         }
     }
     None
+}
+
+/// Whether the lookup skips the glyph at a place, and that is the ligature `id`.
+fn skips_base(lookup: &Lookup<'_>, items: &ItemList<'_>, id: u8, i: usize) -> bool
+    ensures { result ≡ Input.skips_base lookup.now id (nth items.now i) }
+{
+    let item = items.item(i);
+    item._hb_glyph_info_get_ligature_id() == id && is_skipped(lookup, &item)
 }
 
 /// Whether the lookup skips the base of the ligature `id` before `at`.
 fn base_is_skipped(lookup: &Lookup<'_>, items: &ItemList<'_>, id: u8, at: usize) -> bool
     ensures { result ≡ Input.base_is_skipped lookup.now items.now id at }
 {
-    !lookup.positioning && base_before(lookup, items, id, at).unwrap_or(false)
+    if lookup.positioning {
+        return false;
+    }
+    match marks_back(items, id, at) {
+        Some(k) => skips_base(lookup, items, id, at.saturating_sub(1).saturating_sub(k)),
+        None => false,
+    }
 }
 
-/// Whether a glyph may match together with the one at `at`, by the ligatures that they belong to.
-#[inline(always)]
-fn joins(lookup: &Lookup<'_>, items: &ItemList<'_>, at: usize, there: &hb_glyph_info_t) -> bool
-    ensures { result ≡ Input.joins lookup.now items.now at there.now }
+/// What the lookup sees of the first glyph of a match.
+pub(crate) fn first_glyph(lookup: &Lookup<'_>, items: &ItemList<'_>, at: usize) -> First
+    ensures at { result.at ≡ at }
+    ensures joins { result.joins_all ≡ Input.joins_all lookup.now items.now at }
 {
     let first = items.item(at);
-    let (id, component) = (
-        first._hb_glyph_info_get_ligature_id(),
-        first._hb_glyph_info_get_ligature_component(),
-    );
-    let (other, other_component) = (
-        there._hb_glyph_info_get_ligature_id(),
-        there._hb_glyph_info_get_ligature_component(),
-    );
-    if 0 < id && 0 < component {
-        (other == id && other_component == component) || base_is_skipped(lookup, items, id, at)
+    let id = first._hb_glyph_info_get_ligature_id();
+    First {
+        at,
+        joins_all: is_on_component(&first) && base_is_skipped(lookup, items, id, at),
+    }
+}
+
+/// How many marks on components are looked at before a place for the ligature that a mark there stands on.
+pub(crate) fn marks_passed(lookup: &Lookup<'_>, items: &ItemList<'_>, at: usize) -> usize
+    ensures { result ≡ Input.marks_passed lookup.now items.now at }
+{
+    let first = items.item(at);
+    if lookup.positioning || !is_on_component(&first) {
+        return 0;
+    }
+    marks_back(items, first._hb_glyph_info_get_ligature_id(), at).unwrap_or(at)
+}
+
+/// Whether a glyph may match together with the first one, by the ligatures that they belong to.
+#[inline(always)]
+fn joins(items: &ItemList<'_>, first: First, there: &hb_glyph_info_t) -> bool
+    ensures { result ≡ Input.joins_by first.joins_all (nth items.now first.at) there.now }
+{
+    let begin = items.item(first.at);
+    let id = begin._hb_glyph_info_get_ligature_id();
+    let other = there._hb_glyph_info_get_ligature_id();
+    if is_on_component(&begin) {
+        let component = there._hb_glyph_info_get_ligature_component();
+        first.joins_all
+            || (other == id && component == begin._hb_glyph_info_get_ligature_component())
     } else {
-        !(0 < other && 0 < other_component && other != id)
+        other == id || !is_on_component(there)
     }
 }
 
@@ -99,15 +141,16 @@ pub fn is_mark_glyph(there: &hb_glyph_info_t) -> bool
 fn with_glyph_at(
     lookup: &Lookup<'_>,
     items: &ItemList<'_>,
-    at: usize,
+    first: First,
     found: Matched,
     j: usize,
 ) -> Option<Matched>
-    ensures value { result ≡ Input.with_glyph_at lookup.now items.now at found j }
+    requires { first.joins_all ≡ Input.joins_all lookup.now items.now first.at }
+    ensures value { result ≡ Input.with_glyph_at lookup.now items.now first.at found j }
     ensures last { IfSome result (λ m. m.last ≡ j) }
 {
     let there = items.item(j);
-    if !joins(lookup, items, at, &there) {
+    if !joins(items, first, &there) {
         return None;
     }
     Some(Matched {
@@ -122,16 +165,17 @@ pub(crate) fn input_step(
     lookup: &Lookup<'_>,
     seek: &Seek,
     items: &ItemList<'_>,
-    at: usize,
+    first: First,
     k: u32,
     found: Matched,
 ) -> Option<Matched>
-    requires { found.last < length items.now }
-    ensures value { result ≡ Input.input_step lookup.now seek.now items.now at k found }
+    requires joins { first.joins_all ≡ Input.joins_all lookup.now items.now first.at }
+    requires last { found.last < length items.now }
+    ensures value { result ≡ Input.input_step lookup.now seek.now items.now first.at k found }
     ensures inside { IfSome result (λ m. m.last < length items.now) }
 {
     match next(lookup, seek, items, k, found.last) {
-        Some(j) => with_glyph_at(lookup, items, at, found, j),
+        Some(j) => with_glyph_at(lookup, items, first, found, j),
         None => None,
     }
 }
@@ -150,12 +194,13 @@ fn all_glyphs(
         (record { last = at; all_marks = true }) }
     ensures inside { IfSome result (λ m. m.last < length items.now) }
 {
+    let first = first_glyph(lookup, items, at);
     let mut found = Matched {
         last: at,
         all_marks: true,
     };
     for k in 0..n {
-        match input_step(lookup, seek, items, at, k, found) {
+        match input_step(lookup, seek, items, first, k, found) {
             Some(more) => found = more,
             None => return None,
         }

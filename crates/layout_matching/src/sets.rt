@@ -3,6 +3,7 @@ ghost use Rattle.std.specs.Prelude.{◌≡◌, ◌<◌, ◌^◌, length};
 ghost use Rattle.layout_matching.specs.Work;
 
 use crate::found::{is_chained, is_context_subtable, rule_by};
+use crate::input::marks_passed;
 use crate::lookup::Lookup;
 use crate::passing::{passed_after, passed_before};
 use crate::rules::{Rule, rule_at};
@@ -22,7 +23,8 @@ pub(crate) fn passed_charged(
     ensures { result ≡ Work.passed_charged lookup.now items.now at count }
 {
     let before = passed_before(lookup, items, at, count.before);
-    let passed = passed_after(lookup, items, at, count.after).saturating_add(before);
+    let beside = passed_after(lookup, items, at, count.after).saturating_add(before);
+    let passed = beside.saturating_add(marks_passed(lookup, items, at));
     charged(count.tries.saturating_mul(passed), count.left)
 }
 

@@ -16,7 +16,7 @@ pub struct Tally {
 }
 
 /// What is left after so much, if it suffices.
-pub(crate) fn charged(work: usize, left: usize) -> Option<usize>
+pub fn charged(work: usize, left: usize) -> Option<usize>
     ensures { result ≡ Work.charged work left }
 {
     if left < work { None } else { Some(left - work) }

@@ -8,7 +8,7 @@ ghost use Rattle.layout_matching.specs.Loops.{stopped};
 ghost use Rattle.layout_matching.specs.Input;
 ghost use Rattle.layout_matching.specs.Tried;
 
-use crate::input::{MAX_CONTEXT_LENGTH, Matched, input_step, seek_input};
+use crate::input::{MAX_CONTEXT_LENGTH, Matched, first_glyph, input_step, seek_input};
 use crate::lookup::Lookup;
 use crate::rules::Row;
 use crate::seeking::{Seek, distance_back, next, place_from, prev};
@@ -116,12 +116,13 @@ fn glyphs_stop(lookup: &Lookup<'_>, seek: &Seek, items: &ItemList<'_>, at: usize
         (Tried.input_stop lookup.now seek.now items.now) n 0
         (record { last = at; all_marks = true }) }
 {
+    let first = first_glyph(lookup, items, at);
     let mut found = Matched {
         last: at,
         all_marks: true,
     };
     for k in 0..n {
-        match input_step(lookup, seek, items, at, k, found) {
+        match input_step(lookup, seek, items, first, k, found) {
             Some(more) => found = more,
             None => return input_stop(lookup, seek, items, k, found),
         }
