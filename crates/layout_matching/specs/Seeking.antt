@@ -6,7 +6,7 @@ use Rattle.shape_font.specs.Search.{first_at}
 use Rattle.shape_items.specs.Items.{Item}
 use Rattle.layout_matching.specs.Loops.{steps}
 use Rattle.layout_matching.specs.Rules.{fits_row}
-use Rattle.layout_matching.specs.Skipping.{nth, shares, is_skipped, is_transparent}
+use Rattle.layout_matching.specs.Skipping.{nth, shares, is_skipped, is_transparent, passes_ignorable}
 use Rattle.layout_matching.specs.declared.lookup.Lookup.{Lookup}
 use Rattle.layout_matching.specs.declared.seeking.Seek.{Seek}
 
@@ -18,6 +18,10 @@ mask_of l seek = if seek.is_input then l.mask else 0xFFFFFFFF
 abbrev pub fits : Lookup → Seek → ℕ → Item → Bool
 fits l seek k item = shares item.mask (mask_of l seek) && (nat_eq seek.syllable 0 || nat_eq item.properties.syllable seek.syllable)
     && fits_row l.table.now seek.row k item.glyph_id
+
+-- a default ignorable that is passed over, unless it is what is looked for
+abbrev pub lets_past : Lookup → Seek → ℕ → Item → Bool
+lets_past l seek k item = passes_ignorable l seek.is_input item && not (fits l seek k item)
 
 -- a glyph that may stand between the last one found and the one that is looked for
 abbrev pub is_between : Lookup → Seek → ℕ → Item → Bool

@@ -32,6 +32,11 @@ passes_zwnj l is_input = l.positioning || (not is_input && l.auto_zwnj)
 abbrev pub passes_zwj : Lookup → Bool → Bool
 passes_zwj l is_input = not is_input || l.auto_zwj
 
+-- which default ignorables are passed over
+abbrev pub passes_ignorable : Lookup → Bool → Item → Bool
+passes_ignorable l is_input item = (passes_zwnj l is_input || not item.properties.zwnj)
+    && (passes_zwj l is_input || not item.properties.zwj) && (l.positioning || not item.properties.hidden)
+
 -- a default ignorable that is passed over unless it is what is looked for; hidden ones by positioning alone
 abbrev pub is_transparent : Lookup → Bool → Item → Bool
 is_transparent l is_input item = is_ignorable_item item && (passes_zwnj l is_input || not item.properties.zwnj)

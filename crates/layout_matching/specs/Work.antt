@@ -1,6 +1,6 @@
 -- What a lookup is charged for at a place before it is tried there: one for each glyph that it may have to look at, so that time is
 -- in step with what was charged.
-use Rattle.std.specs.Prelude.{ℕ, List, Bool, false, Option, Some, None, ◌+◌, ◌-◌, ◌*◌, ◌&&◌, ◌||◌, not, max, min, length, nat_eq, nat_lt, if◌then◌else◌}
+use Rattle.std.specs.Prelude.{ℕ, List, Bool, false, Option, Some, None, ◌+◌, ◌-◌, ◌*◌, ◌/◌, ◌&&◌, ◌||◌, not, max, min, length, nat_eq, nat_lt, if◌then◌else◌}
 use Rattle.std.specs.Option.{option_and_then, option_map, option_map_or}
 use Rattle.shape_font.specs.Bytes.{u16_of, fitting}
 use Rattle.shape_font.specs.Search.{first_at}
@@ -63,12 +63,12 @@ tallied rule s left = record {
 abbrev pub rule_counted : Rule → Tally → Option Tally
 rule_counted rule s = option_map (tallied rule s) (charged (rule_work rule) s.left)
 
--- what is passed over, and the marks that are looked at for the ligature that a mark stands on
+-- what is passed over, and one for every four marks that are looked at for the ligature that a mark stands on
 abbrev pub passed_beside : Lookup → List Item → ℕ → Tally → ℕ
 passed_beside l items at s = min (passed_after l items at s.after + passed_before l items at s.before) most_countable
 
 abbrev pub passed : Lookup → List Item → ℕ → Tally → ℕ
-passed l items at s = min (passed_beside l items at s + marks_passed l items at) most_countable
+passed l items at s = min (passed_beside l items at s + marks_passed l items at / 4) most_countable
 
 -- each time that is looked at too
 abbrev pub passed_charged : Lookup → List Item → ℕ → Tally → Option ℕ

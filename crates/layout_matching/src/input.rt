@@ -115,12 +115,13 @@ pub(crate) fn marks_passed(lookup: &Lookup<'_>, items: &ItemList<'_>, at: usize)
 /// Whether a glyph may match together with the first one, by the ligatures that they belong to.
 #[inline(always)]
 fn joins(items: &ItemList<'_>, first: First, there: &hb_glyph_info_t) -> bool
+    requires { first.at < length items.now }
     ensures { result ≡ Input.joins_by first.joins_all (nth items.now first.at) there.now }
 {
-    let begin = items.item(first.at);
+    let begin = items.at(first.at);
     let id = begin._hb_glyph_info_get_ligature_id();
     let other = there._hb_glyph_info_get_ligature_id();
-    if is_on_component(&begin) {
+    if is_on_component(begin) {
         let component = there._hb_glyph_info_get_ligature_component();
         first.joins_all
             || (other == id && component == begin._hb_glyph_info_get_ligature_component())
@@ -145,17 +146,19 @@ fn with_glyph_at(
     found: Matched,
     j: usize,
 ) -> Option<Matched>
-    requires { first.joins_all ≡ Input.joins_all lookup.now items.now first.at }
+    requires joins { first.joins_all ≡ Input.joins_all lookup.now items.now first.at }
+    requires inside { first.at < length items.now }
+    requires there { j < length items.now }
     ensures value { result ≡ Input.with_glyph_at lookup.now items.now first.at found j }
     ensures last { IfSome result (λ m. m.last ≡ j) }
 {
-    let there = items.item(j);
-    if !joins(items, first, &there) {
+    let there = items.at(j);
+    if !joins(items, first, there) {
         return None;
     }
     Some(Matched {
         last: j,
-        all_marks: found.all_marks && is_mark_glyph(&there),
+        all_marks: found.all_marks && is_mark_glyph(there),
     })
 }
 
@@ -170,6 +173,7 @@ pub(crate) fn input_step(
     found: Matched,
 ) -> Option<Matched>
     requires joins { first.joins_all ≡ Input.joins_all lookup.now items.now first.at }
+    requires inside { first.at < length items.now }
     requires last { found.last < length items.now }
     ensures value { result ≡ Input.input_step lookup.now seek.now items.now first.at k found }
     ensures inside { IfSome result (λ m. m.last < length items.now) }

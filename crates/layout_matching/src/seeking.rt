@@ -10,7 +10,7 @@ ghost use Rattle.layout_matching.specs.Seeking;
 
 use crate::lookup::Lookup;
 use crate::rules::{Row, fits_row};
-use crate::skipping::{is_skipped, is_transparent};
+use crate::skipping::{is_skipped, passes_ignorable};
 use layout_buffer::ItemList;
 use shape_buffer::{ShapeError, hb_glyph_info_t};
 
@@ -43,13 +43,21 @@ pub fn fits(lookup: &Lookup<'_>, seek: &Seek, k: u32, there: &hb_glyph_info_t) -
         && fits_row(lookup.table, &seek.row, k, there.glyph_id)
 }
 
+/// Whether a default ignorable may stand before the glyph that is looked for. Few glyphs are, so this isn't inlined.
+#[inline(never)]
+fn lets_past(lookup: &Lookup<'_>, seek: &Seek, k: u32, there: &hb_glyph_info_t) -> bool
+    ensures { result ≡ Seeking.lets_past lookup.now seek.now k there.now }
+{
+    passes_ignorable(lookup, seek.is_input, there) && !fits(lookup, seek, k, there)
+}
+
 /// Whether a glyph may stand before the one that is looked for.
 #[inline(always)]
 pub fn is_between(lookup: &Lookup<'_>, seek: &Seek, k: u32, there: &hb_glyph_info_t) -> bool
     ensures { result ≡ Seeking.is_between lookup.now seek.now k there.now }
 {
     is_skipped(lookup, there)
-        || (is_transparent(lookup, seek.is_input, there) && !fits(lookup, seek, k, there))
+        || (there._hb_glyph_info_is_default_ignorable() && lets_past(lookup, seek, k, there))
 }
 
 /// The place, if its glyph is the one that is looked for.

@@ -12,6 +12,9 @@ use layout_buffer::ItemList;
 use layout_tables::lookups::LookupSubtable;
 use shape_font::bytes::{records, u16_at};
 
+/// How many marks cost one that are looked at for the ligature that a mark stands on: nothing but their ligature is read.
+const MARKS_PART: usize = 4;
+
 /// What is left after what a rule or a set passes over, which is looked at each time.
 pub(crate) fn passed_charged(
     lookup: &Lookup<'_>,
@@ -24,7 +27,7 @@ pub(crate) fn passed_charged(
 {
     let before = passed_before(lookup, items, at, count.before);
     let beside = passed_after(lookup, items, at, count.after).saturating_add(before);
-    let passed = beside.saturating_add(marks_passed(lookup, items, at));
+    let passed = beside.saturating_add(marks_passed(lookup, items, at) / MARKS_PART);
     charged(count.tries.saturating_mul(passed), count.left)
 }
 

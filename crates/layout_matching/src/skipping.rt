@@ -2,6 +2,8 @@
 //!
 //! A glyph is skipped by the lookup's flags, whatever is looked for. A default ignorable is transparent: it is passed over
 //! unless it is the very glyph that is looked for. Positioning passes over more of them than substitution does.
+//!
+//! These are asked of each glyph that a rule looks at, so what most glyphs need is inlined, and the rest isn't.
 ghost use Rattle.std.specs.Prelude.{◌≡◌};
 ghost use Rattle.layout_matching.specs.Skipping;
 
@@ -21,6 +23,7 @@ pub fn item_at(items: &[hb_glyph_info_t], i: usize) -> hb_glyph_info_t
 }
 
 /// Whether a mark is out of the lookup's set of marks, or of another class of marks than the lookup's.
+#[inline(never)]
 fn mark_is_left_out(lookup: &Lookup<'_>, item: &hb_glyph_info_t) -> bool
     ensures { result ≡ Skipping.is_mark_left_out lookup.now item.now }
 {
@@ -32,6 +35,7 @@ fn mark_is_left_out(lookup: &Lookup<'_>, item: &hb_glyph_info_t) -> bool
 }
 
 /// Whether the lookup's flags skip the glyph.
+#[inline(always)]
 pub fn is_skipped(lookup: &Lookup<'_>, item: &hb_glyph_info_t) -> bool
     ensures { result ≡ Skipping.is_skipped lookup.now item.now }
 {
@@ -51,14 +55,22 @@ fn passes_zwj(lookup: &Lookup<'_>, is_input: bool) -> bool
     !is_input || lookup.auto_zwj
 }
 
+/// Whether a default ignorable is of a kind that is passed over.
+#[inline(never)]
+pub(crate) fn passes_ignorable(lookup: &Lookup<'_>, is_input: bool, item: &hb_glyph_info_t) -> bool
+    ensures { result ≡ Skipping.passes_ignorable lookup.now is_input item.now }
+{
+    (passes_zwnj(lookup, is_input) || !item._hb_glyph_info_get_zwnj())
+        && (passes_zwj(lookup, is_input) || !item._hb_glyph_info_get_zwj())
+        && (lookup.positioning || !item._hb_glyph_info_get_hidden())
+}
+
 /// Whether a default ignorable is passed over unless it is looked for. `is_input` within what is matched, else around it.
+#[inline(always)]
 pub fn is_transparent(lookup: &Lookup<'_>, is_input: bool, item: &hb_glyph_info_t) -> bool
     ensures { result ≡ Skipping.is_transparent lookup.now is_input item.now }
 {
-    item._hb_glyph_info_is_default_ignorable()
-        && (passes_zwnj(lookup, is_input) || !item._hb_glyph_info_get_zwnj())
-        && (passes_zwj(lookup, is_input) || !item._hb_glyph_info_get_zwj())
-        && (lookup.positioning || !item._hb_glyph_info_get_hidden())
+    item._hb_glyph_info_is_default_ignorable() && passes_ignorable(lookup, is_input, item)
 }
 
 /// Whether the lookup may begin at the glyph.

@@ -57,6 +57,9 @@ a_mark = record (plain 9) { properties = record new_properties { glyph_class = r
 abbrev pub on_component : Item
 on_component = record (plain 5) { properties = record new_properties { ligature_id = 3; ligature_component = 1 } }
 
+abbrev pub eight_marks : List Item → List Item
+eight_marks rest = on_component ∷ on_component ∷ on_component ∷ on_component ∷ on_component ∷ on_component ∷ on_component ∷ on_component ∷ rest
+
 -- the ligature
 abbrev pub ligature_three : Item
 ligature_three = record (plain 8) { properties = record new_properties { ligature_id = 3 } }
@@ -87,15 +90,15 @@ pub record WorkedWork : Type 0 where
   pub rules : Leaves shared_rules (plain 5 ∷ []) 0 84
   -- each of them looks over the mark for itself and for its lookup
   pub rules_over_a_mark : Leaves shared_rules (plain 5 ∷ a_mark ∷ plain 6 ∷ []) 0 80
-  -- each looks over two marks for the ligature that its first glyph stands on, once for itself and once for its lookup
-  pub rules_of_marks : Leaves shared_rules (ligature_three ∷ on_component ∷ on_component ∷ on_component ∷ []) 3 76
-  pub rules_of_the_first_mark : Leaves shared_rules (ligature_three ∷ on_component ∷ []) 1 84
-  pub marks_of_another_ligature : Leaves shared_rules (ligature_three ∷ on_component
-      ∷ record on_component { properties = record on_component.properties { ligature_id = 4 } } ∷ []) 2 84
-  pub marks_from_the_start : Leaves shared_rules (on_component ∷ on_component ∷ on_component ∷ []) 2 76
+  -- each looks over eight marks for the ligature that its first glyph stands on, once for itself and once for its lookup
+  pub rules_of_marks : Leaves shared_rules (ligature_three ∷ eight_marks (on_component ∷ [])) 9 76
+  pub rules_of_three_marks : Leaves shared_rules (ligature_three ∷ on_component ∷ on_component ∷ on_component ∷ on_component ∷ []) 4 84
+  pub marks_of_another_ligature : Leaves shared_rules (ligature_three ∷ eight_marks (
+      record on_component { properties = record on_component.properties { ligature_id = 4 } } ∷ [])) 9 84
+  pub marks_from_the_start : Leaves shared_rules (eight_marks (on_component ∷ [])) 8 76
   -- positioning doesn't look for it
   pub positions_of_marks : (l : Lookup) → l.table.now ≡ context_of_positions
-      → lookup_charged (of_positions l) (ligature_three ∷ on_component ∷ on_component ∷ []) 2 100 ≡ Some 88
+      → lookup_charged (of_positions l) (ligature_three ∷ eight_marks (on_component ∷ [])) 9 100 ≡ Some 88
   pub whole_rule : Leaves one_rule (plain 5 ∷ []) 0 88
   pub not_its_first_glyph : Leaves one_rule (plain 6 ∷ []) 0 100
   pub backwards : Leaves backward_table (plain 5 ∷ []) 0 87
@@ -139,7 +142,7 @@ worked_work = record {
   rules = λ l t. rw t refl;
   rules_over_a_mark = λ l t. rw t refl;
   rules_of_marks = λ l t. rw t refl;
-  rules_of_the_first_mark = λ l t. rw t refl;
+  rules_of_three_marks = λ l t. rw t refl;
   marks_of_another_ligature = λ l t. rw t refl;
   marks_from_the_start = λ l t. rw t refl;
   positions_of_marks = λ l t. rw t refl;
