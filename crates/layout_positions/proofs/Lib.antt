@@ -10,4 +10,5 @@ pub mod NestedSteps
 pub mod PreservationLemmas
 pub mod UncoveredLemmas
 pub mod DigestLemmas
+pub mod GlyphLemmas
 pub mod MadeLemmas

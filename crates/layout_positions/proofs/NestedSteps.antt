@@ -121,7 +121,7 @@ module _ (P : Buffer → Buffer → Type 0) (same : (b : Buffer) → P b b) (aft
   step-over : (l : Lookup) (s : Budgeted) → P s.buffer (gone_over s l).buffer
   step-over l s = times-step (λ (w : Walk). w.buffer) (lookup_step l) (step-walk l) (length s.buffer.items) (first_walk s)
 
-  step-lookup : (l : Lookup) (s : Budgeted) → P s.buffer (lookup_applied s l).buffer
+  pub step-lookup : (l : Lookup) (s : Budgeted) → P s.buffer (lookup_applied s l).buffer
   step-lookup l s =
       let t = walk_charged s l in
       elim (nat_lt s.left (walk_work l (length s.buffer.items))) as (λ u. P s.buffer (if u then t else gone_over t l).buffer)

@@ -114,7 +114,7 @@ started-kept b = record {
 
 pub positioned-kept : (lookups : List Lookup) (b : Buffer) → Kept b (positioned lookups b)
 positioned-kept = step-positioned Kept Kept-same Kept-then Kept-broken Kept-concat_marked
-    (λ l i left seen b. step-tried Kept Kept-same Kept-then Kept-broken Kept-concat_marked Kept-put l i seen b)
+    (λ l i left seen b. step-tried Kept Kept-same Kept-then Kept-broken Kept-concat_marked Kept-put l i left seen b)
 
 pub finished-kept : (b : Buffer) → Kept b (offsets_finished b)
 finished-kept = step-finished Kept Kept-same Kept-then Kept-broken Kept-concat_marked Kept-put

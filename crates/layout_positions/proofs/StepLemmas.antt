@@ -21,7 +21,7 @@ use Rattle.layout_positions.specs.Lookups.{Applied, unapplied, glyph_after, end_
 use Rattle.layout_positions.specs.Marks.{mark_put, mark_array, base_anchor, mark_attached, mark_number, row_of, mark_on_row, mark_on_glyph, mark_base_at, mark_base_applied, ligature_matrix, component_of, mark_on_matrix, mark_on_ligature, mark_ligature_at, mark_ligature_applied, for_marks, are_together, mark_on_mark, mark_mark_at, mark_mark_applied}
 use Rattle.layout_positions.specs.Pairs.{glyph_adjusted, single_of, single_put, single_applied, pair_of, pair_marked, pair_ended, pair_moves, pair_put, pair_with, pair_at_number, has_pairs, pair_applied}
 use Rattle.layout_positions.specs.Turning.{Turn, turn_next, turn_at, turn_step, turned, follows, parent_freed, link_put, attached}
-use Rattle.layout_positions.specs.Subtables.{if_first_format, kind_applied, seen_at, Trial, subtable_tried, next_tried, trial_step, lookup_tried}
+use Rattle.layout_positions.specs.Subtables.{if_first_format, kind_applied, unplaced, sought, kind_placed, Trial, trial_of, subtable_tried, next_tried, trial_step, lookup_tried}
 use Rattle.layout_positions.specs.declared.anchors.Anchor.{Anchor}
 use Rattle.layout_positions.specs.declared.bases.BaseSeen.{BaseSeen}
 use Rattle.layout_positions.specs.declared.pairs.PairValues.{PairValues}
@@ -222,10 +222,16 @@ module _ (P : Buffer → Buffer → Type 0) (same : (b : Buffer) → P b b) (aft
       (applied-if (nat_eq subtable.kind 5) b _ _ (step-format l subtable.start b _ (step-ligature l subtable.start base i b))
       (applied-if (nat_eq subtable.kind 6) b _ _ (step-format l subtable.start b _ (step-mark l subtable.start i b)) (same b))))))
 
+  step-sought : (l : Lookup) (subtable : LookupSubtable) (i : ℕ) (b : Buffer) (seen : BaseSeen) (o : Option ℕ)
+      → P b (option_map_or (kind_placed l subtable i b seen) o (unplaced 0 seen b)).buffer
+  step-sought l subtable i b seen None = same b
+  step-sought l subtable i b seen (Some left) = step-kind l subtable seen.place i b
+
   step-next : (l : Lookup) (i : ℕ) (s : Trial) (o : Option LookupSubtable)
-      → P s.buffer (option_map_or (subtable_tried l i s) o (record { buffer = s.buffer; next = None; seen = s.seen; subtable = s.subtable + 1 })).buffer
+      → P s.buffer (option_map_or (subtable_tried l i s) o (trial_of s (unplaced s.left s.seen s.buffer))).buffer
   step-next l i s None = same s.buffer
-  step-next l i s (Some subtable) = step-kind l subtable (seen_at l subtable i s.buffer s.seen).place i s.buffer
+  step-next l i s (Some subtable) =
+      let found = sought l subtable i s.buffer s.seen s.left in step-sought l subtable i s.buffer found.seen found.left
 
   trial-if : (t : Bool) (b : Buffer) (x y : Trial) → P b x.buffer → P b y.buffer → P b (if t then x else y).buffer
   trial-if true b x y k m = k
@@ -236,10 +242,10 @@ module _ (P : Buffer → Buffer → Type 0) (same : (b : Buffer) → P b b) (aft
       trial-if (is_some s.next) s.buffer (record s { subtable = s.subtable + 1 }) (next_tried l i s) (same s.buffer)
       (step-next l i s (subtable_of l.table.now 9 l.place s.subtable))
 
-  pub step-tried : (l : Lookup) (i : ℕ) (seen : BaseSeen) (b : Buffer) → P b (lookup_tried l i seen b).buffer
-  step-tried l i seen b =
+  pub step-tried : (l : Lookup) (i left : ℕ) (seen : BaseSeen) (b : Buffer) → P b (lookup_tried l i left seen b).buffer
+  step-tried l i left seen b =
       step-times (λ (s : Trial). s.buffer) (trial_step l i) (step-trial l i) (subtable_count_of l.table.now l.place)
-      (record { buffer = b; next = None; seen = seen; subtable = 0 })
+      (record { buffer = b; next = None; seen = seen; left = left; subtable = 0 })
 
   -- ---- offsets
 

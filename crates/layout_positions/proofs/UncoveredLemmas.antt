@@ -25,10 +25,11 @@ use Rattle.layout_positions.specs.Lookups.{Applied, unapplied}
 use Rattle.layout_positions.specs.Marks.{mark_base_at, mark_base_applied, mark_number, base_seen, mark_ligature_at, mark_ligature_applied, mark_mark_at, mark_mark_applied}
 use Rattle.layout_positions.specs.Nested.{rule_placed, origin_at, tried_concat_marked, first_rule_placed, level_placed, nested_placed, LEVELS}
 use Rattle.layout_positions.specs.Pairs.{single_value, single_put, single_applied, pair_at_number, has_pairs, pair_applied}
-use Rattle.layout_positions.specs.Subtables.{if_first_format, kind_applied, looks_for_base, seen_at, Trial, subtable_tried, next_tried, trial_of, trial_step, lookup_tried, Placing, unplaced, placed_by, lookup_placed}
+use Rattle.layout_positions.specs.Subtables.{if_first_format, kind_applied, looks_for_base, sought_from, sought, subtable_placed, Trial, subtable_tried, next_tried, trial_of, trial_step, lookup_tried, Placing, unplaced, placed_by, lookup_placed}
 use Rattle.layout_positions.specs.Uncovered.{is_listed_at, rule_lists, subtable_lists, IsUnlisted, IsUncovered}
 use Rattle.layout_positions.specs.Walk.{Walk, gone_on, tried_within, tried, lookup_step, Budgeted, first_walk, gone_over, walk_charged, lookup_applied, budgeted, positioned}
 use Rattle.layout_positions.specs.declared.bases.BaseSeen.{BaseSeen}
+use Rattle.layout_positions.specs.declared.subtables.Sought.{Sought}
 
 same-if : {X : Type 0} (t : Bool) (x y z : X) → x ≡ z → y ≡ z → (if t then x else y) ≡ z
 same-if true x y z a b = a
@@ -99,13 +100,13 @@ last-out true false z p q is = refl
 last-out false y z p q is = refl
 
 -- and looks for no base
-seen-un : (l : Lookup) (subtable : LookupSubtable) (i : ℕ) (b : Buffer) (seen : BaseSeen) → l.positioning ≡ true
-    → subtable_lists l subtable (nth b.items i).glyph_id ≡ false → seen_at l subtable i b seen ≡ seen
-seen-un l subtable i b seen gpos un = by_kind (is_context_subtable l subtable) refl un
+seen-un : (l : Lookup) (subtable : LookupSubtable) (i : ℕ) (b : Buffer) (seen : BaseSeen) (left : ℕ) → l.positioning ≡ true
+    → subtable_lists l subtable (nth b.items i).glyph_id ≡ false → sought l subtable i b seen left ≡ record { seen = seen; left = Some left }
+seen-un l subtable i b seen left gpos un = by_kind (is_context_subtable l subtable) refl un
   where
     by_kind : (t : Bool) → is_context_subtable l subtable ≡ t
         → (if t then rule_lists l subtable (nth b.items i).glyph_id else is_listed_at l subtable (nth b.items i).glyph_id) ≡ false
-        → seen_at l subtable i b seen ≡ seen
+        → sought l subtable i b seen left ≡ record { seen = seen; left = Some left }
     by_kind true is none =
         let kinds : (nat_eq subtable.kind 7 || nat_eq subtable.kind 8) ≡ true =
         subst (λ t. (nat_eq subtable.kind (if t then 7 else 5) || nat_eq subtable.kind (if t then 8 else 6)) ≡ true) gpos is in
@@ -113,31 +114,35 @@ seen-un l subtable i b seen gpos un = by_kind (is_context_subtable l subtable) r
         let five : nat_eq subtable.kind 5 ≡ false = grind (arith, nat_tests, kinds) in
         rw four (rw five refl)
     by_kind false is none = last-out (nat_eq subtable.kind 4 || nat_eq subtable.kind 5) (nat_eq (u16_of l.table.now subtable.start) 1)
-        (is_some (mark_number l subtable.start i b)) (base_seen l subtable b.items i seen) seen none
+        (is_some (mark_number l subtable.start i b)) (sought_from i seen left (base_seen l subtable b.items i seen))
+        (record { seen = seen; left = Some left }) none
 
 -- ---- a lookup at a place
 
 -- nothing has been done by so many subtables
-abbrev still : BaseSeen → Buffer → ℕ → Trial
-still seen b n = record { buffer = b; next = None; seen = seen; subtable = n }
+abbrev still : ℕ → BaseSeen → Buffer → ℕ → Trial
+still left seen b n = record { buffer = b; next = None; seen = seen; left = left; subtable = n }
 
-tried-un : (l : Lookup) (b : Buffer) (i n : ℕ) (seen : BaseSeen) → l.positioning ≡ true → IsUnlisted l (nth b.items i).glyph_id
+tried-un : (l : Lookup) (b : Buffer) (i n left : ℕ) (seen : BaseSeen) → l.positioning ≡ true → IsUnlisted l (nth b.items i).glyph_id
     → n < subtable_count_of l.table.now l.place → (o : Option LookupSubtable) → subtable_of l.table.now 9 l.place n ≡ o
-    → option_map_or (subtable_tried l i (still seen b n)) o (trial_of (still seen b n) (unapplied b) seen) ≡ still seen b (n + 1)
-tried-un l b i n seen gpos un below None e = refl
-tried-un l b i n seen gpos un below (Some subtable) e =
-    let same : seen_at l subtable i b seen ≡ seen = seen-un l subtable i b seen gpos (un n subtable below e) in
-    ap (λ (s : BaseSeen). trial_of (still seen b n) (kind_applied l subtable s.place i b) s) same
-    ∙ ap (λ (a : Applied). trial_of (still seen b n) a seen) (subtable-un l b i gpos un n subtable below e seen.place)
+    → option_map_or (subtable_tried l i (still left seen b n)) o (trial_of (still left seen b n) (unplaced left seen b))
+    ≡ still left seen b (n + 1)
+tried-un l b i n left seen gpos un below None e = refl
+tried-un l b i n left seen gpos un below (Some subtable) e =
+    let same : sought l subtable i b seen left ≡ record { seen = seen; left = Some left } =
+    seen-un l subtable i b seen left gpos (un n subtable below e) in
+    ap (λ (s : Sought). trial_of (still left seen b n) (subtable_placed l subtable i b s)) same
+    ∙ ap (λ (a : Applied). trial_of (still left seen b n) (record { buffer = a.buffer; next = a.next; seen = seen; left = left }))
+    (subtable-un l b i gpos un n subtable below e seen.place)
 
-times-un : (l : Lookup) (b : Buffer) (i : ℕ) (seen : BaseSeen) → l.positioning ≡ true → IsUnlisted l (nth b.items i).glyph_id
-    → (n : ℕ) → n ≤ subtable_count_of l.table.now l.place → times (trial_step l i) n (still seen b 0) ≡ still seen b n
-times-un l b i seen gpos un zero within = refl
-times-un l b i seen gpos un (suc n) within =
+times-un : (l : Lookup) (b : Buffer) (i left : ℕ) (seen : BaseSeen) → l.positioning ≡ true → IsUnlisted l (nth b.items i).glyph_id
+    → (n : ℕ) → n ≤ subtable_count_of l.table.now l.place → times (trial_step l i) n (still left seen b 0) ≡ still left seen b n
+times-un l b i left seen gpos un zero within = refl
+times-un l b i left seen gpos un (suc n) within =
     let e : n + 1 ≡ suc n = omega arith in
-    ap (trial_step l i) (times-un l b i seen gpos un n (omega (arith, within)))
-    ∙ tried-un l b i n seen gpos un (omega (arith, within)) (subtable_of l.table.now 9 l.place n) refl
-    ∙ ap (still seen b) e
+    ap (trial_step l i) (times-un l b i left seen gpos un n (omega (arith, within)))
+    ∙ tried-un l b i n left seen gpos un (omega (arith, within)) (subtable_of l.table.now 9 l.place n) refl
+    ∙ ap (still left seen b) e
 
 -- ---- rules at a place
 
@@ -238,7 +243,7 @@ level-un next l i left seen b gpos un =
     same-if (is_context l) _ (lookup_placed l i left seen b) (unplaced left seen b)
     (ap (first_rule_placed next l i left seen) (tried-none l i b gpos un)
     ∙ ap (λ o. option_map_or (rule_placed next l i left seen b) o (unplaced left seen b)) (found-un l b.items (origin_at i) gpos un))
-    (ap (placed_by left) (times-un l b i seen gpos un (subtable_count_of l.table.now l.place) (omega arith)))
+    (ap placed_by (times-un l b i left seen gpos un (subtable_count_of l.table.now l.place) (omega arith)))
 
 -- nothing is done, and the lookup goes on to the next glyph
 nested-un : (level : ℕ) (l : Lookup) (i left : ℕ) (seen : BaseSeen) (b : Buffer) → l.positioning ≡ true

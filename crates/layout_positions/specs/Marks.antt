@@ -1,12 +1,12 @@
 -- Marks attached to bases, to ligatures and to marks (OpenType, `GPOS`, lookup types 4, 5 and 6).
-use Rattle.std.specs.Prelude.{ℕ, Bool, true, List, Option, Some, None, ◌+◌, ◌-◌, ◌*◌, ◌&&◌, ◌||◌, not, min, is_some, nat_eq, nat_lt, if◌then◌else◌}
+use Rattle.std.specs.Prelude.{ℕ, Bool, true, List, Option, Some, None, ◌+◌, ◌-◌, ◌*◌, ◌/◌, ◌&&◌, ◌||◌, not, max, min, is_some, unwrap_or, nat_eq, nat_lt, if◌then◌else◌}
 use Rattle.std.specs.Option.{option_map, option_map_or, option_and_then, option_or}
 use Rattle.std.specs.Int.RustNames.{bit_and}
 use Rattle.shape_common.specs.Wrapping.{◌-ʷ◌}
 use Rattle.shape_common.specs.declared.positions.GlyphPosition.{GlyphPosition}
 use Rattle.shape_font.specs.Bytes.{u16_of, fitting}
 use Rattle.shape_font.specs.Search.{first_at}
-use Rattle.shape_items.specs.Buffer.{Buffer}
+use Rattle.shape_items.specs.Buffer.{Buffer, most_countable}
 use Rattle.shape_items.specs.Items.{Item}
 use Rattle.layout_tables.specs.Offsets.{offset16_of}
 use Rattle.layout_tables.specs.declared.lookups.LookupSubtable.{LookupSubtable}
@@ -88,6 +88,19 @@ base_of l subtable items i seen = if nat_lt i seen.until then nearest_base l sub
 
 abbrev pub base_seen : Lookup → LookupSubtable → List Item → ℕ → BaseSeen → BaseSeen
 base_seen l subtable items i seen = record { until = i; place = base_of l subtable items i seen }
+
+-- ---- what that costs
+
+-- how many places are looked at: back to the base, or to the start of the list, but not what was looked at before
+abbrev pub places_looked_at : ℕ → BaseSeen → ℕ → ℕ
+places_looked_at i seen from = i - max from (if nat_lt i seen.until then 0 else seen.until)
+
+-- one for each of them, and one for every four glyphs from the base on, since attachment marks them
+abbrev pub work_from : ℕ → BaseSeen → ℕ → ℕ
+work_from i seen from = min (places_looked_at i seen from + (i - from) / 4) most_countable
+
+abbrev pub base_work : ℕ → BaseSeen → Option ℕ → ℕ
+base_work i seen base = work_from i seen (unwrap_or base 0)
 
 -- ---- to a base
 

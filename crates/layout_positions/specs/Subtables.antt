@@ -1,17 +1,19 @@
 -- A lookup at a place: its first subtable that applies.
-use Rattle.std.specs.Prelude.{ℕ, Bool, Option, None, ◌+◌, ◌&&◌, ◌||◌, is_some, nat_eq, if◌then◌else◌}
+use Rattle.std.specs.Prelude.{ℕ, Bool, Option, Some, None, ◌+◌, ◌&&◌, ◌||◌, is_some, nat_eq, if◌then◌else◌}
 use Rattle.std.specs.Option.{option_map_or}
 use Rattle.shape_font.specs.Bytes.{u16_of}
 use Rattle.shape_items.specs.Buffer.{Buffer}
 use Rattle.layout_tables.specs.Lookups.{subtable_count_of, subtable_of}
 use Rattle.layout_tables.specs.declared.lookups.LookupSubtable.{LookupSubtable}
 use Rattle.layout_matching.specs.Loops.{times}
+use Rattle.layout_matching.specs.Work.{charged}
 use Rattle.layout_matching.specs.declared.lookup.Lookup.{Lookup}
 use Rattle.layout_positions.specs.Cursive.{cursive_applied}
 use Rattle.layout_positions.specs.Lookups.{Applied, unapplied}
-use Rattle.layout_positions.specs.Marks.{base_seen, mark_number, mark_base_applied, mark_ligature_applied, mark_mark_applied}
+use Rattle.layout_positions.specs.Marks.{base_seen, base_work, mark_number, mark_base_applied, mark_ligature_applied, mark_mark_applied}
 use Rattle.layout_positions.specs.Pairs.{single_applied, pair_applied}
 use Rattle.layout_positions.specs.declared.bases.BaseSeen.{BaseSeen}
+use Rattle.layout_positions.specs.declared.subtables.Sought.{Sought}
 
 -- types 1 to 6; those that have one format alone are of format 1
 abbrev pub if_first_format : Lookup → ℕ → Buffer → Applied → Applied
@@ -31,35 +33,6 @@ abbrev pub looks_for_base : Lookup → LookupSubtable → ℕ → Buffer → Boo
 looks_for_base l subtable i b = (nat_eq subtable.kind 4 || nat_eq subtable.kind 5) && nat_eq (u16_of l.table.now subtable.start) 1
     && is_some (mark_number l subtable.start i b)
 
-abbrev pub seen_at : Lookup → LookupSubtable → ℕ → Buffer → BaseSeen → BaseSeen
-seen_at l subtable i b seen = if looks_for_base l subtable i b then base_seen l subtable b.items i seen else seen
-
--- the subtables before number `subtable` have been tried
-pub record Trial : Type 0 where
-  pub buffer : Buffer
-  pub next : Option ℕ
-  pub seen : BaseSeen
-  pub subtable : ℕ
-
-abbrev pub trial_of : Trial → Applied → BaseSeen → Trial
-trial_of s made seen = record { buffer = made.buffer; next = made.next; seen = seen; subtable = s.subtable + 1 }
-
-abbrev pub subtable_tried : Lookup → ℕ → Trial → LookupSubtable → Trial
-subtable_tried l i s subtable = let seen = seen_at l subtable i s.buffer s.seen in
-    trial_of s (kind_applied l subtable seen.place i s.buffer) seen
-
-abbrev pub next_tried : Lookup → ℕ → Trial → Trial
-next_tried l i s = option_map_or (subtable_tried l i s) (subtable_of l.table.now 9 l.place s.subtable)
-    (trial_of s (unapplied s.buffer) s.seen)
-
--- the first subtable that applies ends the trial
-abbrev pub trial_step : Lookup → ℕ → Trial → Trial
-trial_step l i s = if is_some s.next then record s { subtable = s.subtable + 1 } else next_tried l i s
-
-abbrev pub lookup_tried : Lookup → ℕ → BaseSeen → Buffer → Trial
-lookup_tried l i seen b = times (trial_step l i) (subtable_count_of l.table.now l.place)
-    (record { buffer = b; next = None; seen = seen; subtable = 0 })
-
 -- what a lookup leaves: where it goes on, the base that was seen last, and what is left for the lookups to come
 pub record Placing : Type 0 where
   pub buffer : Buffer
@@ -70,8 +43,50 @@ pub record Placing : Type 0 where
 abbrev pub unplaced : ℕ → BaseSeen → Buffer → Placing
 unplaced left seen b = record { buffer = b; next = None; seen = seen; left = left }
 
-abbrev pub placed_by : ℕ → Trial → Placing
-placed_by left s = record { buffer = s.buffer; next = s.next; seen = s.seen; left = left }
+-- the search is charged for before the subtable is applied
+abbrev pub sought_from : ℕ → BaseSeen → ℕ → BaseSeen → Sought
+sought_from i before left seen = record { seen = seen; left = charged (base_work i before seen.place) left }
+
+abbrev pub sought : Lookup → LookupSubtable → ℕ → Buffer → BaseSeen → ℕ → Sought
+sought l subtable i b seen left = if looks_for_base l subtable i b
+    then sought_from i seen left (base_seen l subtable b.items i seen) else record { seen = seen; left = Some left }
+
+abbrev pub kind_placed : Lookup → LookupSubtable → ℕ → Buffer → BaseSeen → ℕ → Placing
+kind_placed l subtable i b seen left = let made = kind_applied l subtable seen.place i b in
+    record { buffer = made.buffer; next = made.next; seen = seen; left = left }
+
+-- if what is left doesn't suffice, nothing is left
+abbrev pub subtable_placed : Lookup → LookupSubtable → ℕ → Buffer → Sought → Placing
+subtable_placed l subtable i b s = option_map_or (kind_placed l subtable i b s.seen) s.left (unplaced 0 s.seen b)
+
+-- the subtables before number `subtable` have been tried
+pub record Trial : Type 0 where
+  pub buffer : Buffer
+  pub next : Option ℕ
+  pub seen : BaseSeen
+  pub left : ℕ
+  pub subtable : ℕ
+
+abbrev pub trial_of : Trial → Placing → Trial
+trial_of s made = record { buffer = made.buffer; next = made.next; seen = made.seen; left = made.left; subtable = s.subtable + 1 }
+
+abbrev pub subtable_tried : Lookup → ℕ → Trial → LookupSubtable → Trial
+subtable_tried l i s subtable = trial_of s (subtable_placed l subtable i s.buffer (sought l subtable i s.buffer s.seen s.left))
+
+abbrev pub next_tried : Lookup → ℕ → Trial → Trial
+next_tried l i s = option_map_or (subtable_tried l i s) (subtable_of l.table.now 9 l.place s.subtable)
+    (trial_of s (unplaced s.left s.seen s.buffer))
+
+-- the first subtable that applies ends the trial
+abbrev pub trial_step : Lookup → ℕ → Trial → Trial
+trial_step l i s = if is_some s.next then record s { subtable = s.subtable + 1 } else next_tried l i s
+
+abbrev pub lookup_tried : Lookup → ℕ → ℕ → BaseSeen → Buffer → Trial
+lookup_tried l i left seen b = times (trial_step l i) (subtable_count_of l.table.now l.place)
+    (record { buffer = b; next = None; seen = seen; left = left; subtable = 0 })
+
+abbrev pub placed_by : Trial → Placing
+placed_by s = record { buffer = s.buffer; next = s.next; seen = s.seen; left = s.left }
 
 abbrev pub lookup_placed : Lookup → ℕ → ℕ → BaseSeen → Buffer → Placing
-lookup_placed l i left seen b = placed_by left (lookup_tried l i seen b)
+lookup_placed l i left seen b = placed_by (lookup_tried l i left seen b)

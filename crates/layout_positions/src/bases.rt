@@ -21,6 +21,9 @@ pub struct BaseSeen {
     pub place: Option<usize>,
 }
 
+/// How many glyphs that are marked, from the base of a mark on, cost one.
+const SPAN_PART: usize = 4;
+
 /// Whether a mark may stand on the glyph, as far as the lookup sees it.
 fn is_base_seen(lookup: &Lookup<'_>, item: &hb_glyph_info_t) -> bool
     ensures { result ≡ Marks.is_base_seen lookup.now item.now }
@@ -170,4 +173,15 @@ pub fn base_seen(
         until: i,
         place: base_at(lookup, subtable, items, i, seen),
     }
+}
+
+/// What the search for the base of the mark at place `i` costs, and attachment to the base that it found: one for each place that
+/// was looked at, and one for every four glyphs from the base on, which are marked.
+pub fn base_work(i: usize, seen: BaseSeen, base: Option<usize>) -> usize
+    ensures { result ≡ Marks.base_work i seen base }
+{
+    let from = base.unwrap_or(0);
+    let known = if i < seen.until { 0 } else { seen.until };
+    let looked = i.saturating_sub(from.max(known));
+    looked.saturating_add(i.saturating_sub(from) / SPAN_PART)
 }

@@ -3,20 +3,14 @@ ghost use Rattle.std.specs.Prelude.{◌≡◌, ◌<◌, ◌≤◌, ◌+◌, ◌^
 ghost use Rattle.layout_positions.specs.Subtables;
 
 use crate::adjustment::{apply_pair, apply_single};
-use crate::bases::{BaseSeen, base_seen};
+use crate::bases::{BaseSeen, base_seen, base_work};
 use crate::cursive::apply_cursive;
 use crate::marks::{apply_mark_base, apply_mark_ligature, apply_mark_mark, mark_number};
 use layout_matching::lookup::Lookup;
+use layout_matching::tally::charged;
 use layout_tables::lookups::{LookupSubtable, subtable, subtable_count};
 use shape_buffer::hb_buffer_t;
 use shape_font::bytes::u16_at;
-
-/// Where a subtable goes on, nowhere if none has applied yet, and the base that was seen last.
-#[derive(Clone, Copy)]
-pub struct Placed {
-    pub next: Option<usize>,
-    pub seen: BaseSeen,
-}
 
 /// The base that was seen last, and what is left for the lookups to come.
 #[derive(Clone, Copy)]
@@ -30,6 +24,13 @@ pub struct Carried {
 pub struct Outcome {
     pub next: Option<usize>,
     pub carried: Carried,
+}
+
+/// The base that was seen last, and what is left once the search for it was charged; none if what was left didn't suffice.
+#[derive(Clone, Copy)]
+pub struct Sought {
+    pub seen: BaseSeen,
+    pub left: Option<usize>,
 }
 
 /// Applies a subtable of one of the types 3 to 6, which are of format 1, to the glyph at place `i`.
@@ -96,22 +97,59 @@ fn looks_for_base(
         && mark_number(lookup, subtable.start, buffer, i).is_some()
 }
 
-/// The base that was seen last, once the subtable has looked for one.
-fn seen_at(
+/// Looks for the base of the glyph at place `i`, if the subtable does, and charges for that.
+fn seek_base(
     lookup: &Lookup<'_>,
     subtable: LookupSubtable,
     buffer: &hb_buffer_t,
     i: usize,
-    seen: BaseSeen,
-) -> BaseSeen
+    carried: Carried,
+) -> Sought
     requires near { subtable.start < 2 ^ 34 }
     requires inside { i < length buffer.now.items }
-    ensures { result ≡ Subtables.seen_at lookup.now subtable i buffer.now seen }
+    ensures { result ≡ Subtables.sought lookup.now subtable i buffer.now carried.seen carried.left }
 {
-    if looks_for_base(lookup, subtable, buffer, i) {
-        base_seen(lookup, subtable, buffer.infos(), i, seen)
-    } else {
-        seen
+    if !looks_for_base(lookup, subtable, buffer, i) {
+        return Sought {
+            seen: carried.seen,
+            left: Some(carried.left),
+        };
+    }
+    let seen = base_seen(lookup, subtable, buffer.infos(), i, carried.seen);
+    let work = base_work(i, carried.seen, seen.place);
+    Sought {
+        seen,
+        left: charged(work, carried.left),
+    }
+}
+
+/// Applies a subtable to the glyph at place `i`, if what was left sufficed for the search for its base. Else nothing is left.
+fn apply_sought(
+    lookup: &Lookup<'_>,
+    subtable: LookupSubtable,
+    buffer: &mut hb_buffer_t,
+    i: usize,
+    sought: Sought,
+) -> Outcome
+    requires near { subtable.start < 2 ^ 34 }
+    requires inside { i < length buffer.old.items }
+    ensures { record {
+      buffer = buffer.new;
+      next = result.next;
+      seen = result.carried.seen;
+      left = result.carried.left;
+    } ≡ Subtables.subtable_placed lookup.now subtable i buffer.old sought }
+{
+    let seen = sought.seen;
+    match sought.left {
+        Some(left) => Outcome {
+            next: apply_kind(lookup, subtable, seen.place, buffer, i),
+            carried: Carried { seen, left },
+        },
+        None => Outcome {
+            next: None,
+            carried: Carried { seen, left: 0 },
+        },
     }
 }
 
@@ -120,23 +158,25 @@ fn try_subtable(
     lookup: &Lookup<'_>,
     buffer: &mut hb_buffer_t,
     i: usize,
-    placed: Placed,
+    placed: Outcome,
     k: u32,
-) -> Placed
+) -> Outcome
     requires place { lookup.now.place < 2 ^ 17 }
     requires inside { i < length buffer.old.items }
     requires few { k < 2 ^ 16 }
     ensures { record {
       buffer = buffer.new;
       next = result.next;
-      seen = result.seen;
+      seen = result.carried.seen;
+      left = result.carried.left;
       subtable = k +
           1;
     }
         ≡ Subtables.trial_step lookup.now i (record {
           buffer = buffer.old;
           next = placed.next;
-          seen = placed.seen;
+          seen = placed.carried.seen;
+          left = placed.carried.left;
           subtable = k;
         }) }
 {
@@ -145,11 +185,8 @@ fn try_subtable(
     }
     match subtable(lookup.table, 9, lookup.place, k) {
         Some(subtable) => {
-            let seen = seen_at(lookup, subtable, buffer, i, placed.seen);
-            Placed {
-                next: apply_kind(lookup, subtable, seen.place, buffer, i),
-                seen,
-            }
+            let sought = seek_base(lookup, subtable, buffer, i, placed.carried);
+            apply_sought(lookup, subtable, buffer, i, sought)
         }
         None => placed,
     }
@@ -173,18 +210,12 @@ pub fn apply_lookup(
     } ≡ Subtables.lookup_placed lookup.now i carried.left carried.seen buffer.old }
     ensures len { length buffer.new.items ≡ length buffer.old.items }
 {
-    let mut placed = Placed {
+    let mut placed = Outcome {
         next: None,
-        seen: carried.seen,
+        carried,
     };
     for k in 0..subtable_count(lookup.table, lookup.place) {
         placed = try_subtable(lookup, buffer, i, placed, k);
     }
-    Outcome {
-        next: placed.next,
-        carried: Carried {
-            seen: placed.seen,
-            left: carried.left,
-        },
-    }
+    placed
 }

@@ -169,21 +169,21 @@ fn run_digest(items: &[hb_glyph_info_t]) -> Digest
 
 /// Goes over a buffer with each lookup; all of them share one bound. A lookup whose digest shares no glyph with
 /// the buffer is passed over.
-#[tactic(auto, using(crate::proofs::DigestLemmas::applied_on, crate::proofs::DigestLemmas::passed_over))]
+#[tactic(auto, using(crate::proofs::DigestLemmas::applied_on, crate::proofs::DigestLemmas::passed_over, crate::proofs::GlyphLemmas::held_applied))]
 fn apply_each(lookups: &[Digested<'_>], buffer: &mut hb_buffer_t) -> usize
     requires { All IsDigested lookups.now }
     ensures { record { buffer = buffer.new; left = result }
         ≡ fold Walk.lookup_applied (Walk.budgeted buffer.old) (lookups_in lookups.now) }
 {
     let mut left = most_work(buffer.len());
-    let mut run = run_digest(buffer.infos());
+    // No lookup changes which glyphs there are.
+    let run = run_digest(buffer.infos());
     for named in lookups {
         if !run.may_share(&named.digest) {
             left = charge_walk(&named.lookup, buffer.len(), left);
             continue;
         }
         left = apply_over(named, buffer, left);
-        run = run_digest(buffer.infos());
     }
     left
 }

@@ -8,7 +8,7 @@ use Rattle.shape_items.specs.Items.{Item}
 use Rattle.layout_tables.specs.declared.lookups.LookupSubtable.{LookupSubtable}
 use Rattle.layout_matching.specs.declared.lookup.Lookup.{Lookup}
 use Rattle.layout_positions.specs.Lookups.{Applied}
-use Rattle.layout_positions.specs.Marks.{base_of, mark_base_applied, mark_ligature_applied, mark_mark_applied}
+use Rattle.layout_positions.specs.Marks.{base_of, base_work, mark_base_applied, mark_ligature_applied, mark_mark_applied}
 use Rattle.layout_positions.specs.Walk.{none_seen}
 use Rattle.layout_positions.specs.Worked.Lines.{base, mark, ligature, mark_on, component_of, ignorable, line, offsets, chains, masks}
 use Rattle.layout_positions.specs.Worked.Pairs.{IsLookup}
@@ -101,6 +101,25 @@ worked_bases = record {
   another_one_since = λ l is. rw is.mask refl;
   seen_too_far = λ l is. rw is.mask refl;
   none = λ l is. refl;
+}
+
+-- one for each place that is looked at, and one for every four glyphs from the base on
+pub record WorkedBaseWork : Type 0 where
+  pub three_places : base_work 3 none_seen (Some 0) ≡ 3
+  pub no_base : base_work 5 none_seen None ≡ 6
+  pub one_place_more : base_work 9 (record { until = 8; place = Some 0 }) (Some 0) ≡ 3
+  pub none_more : base_work 3 (record { until = 3; place = Some 0 }) (Some 0) ≡ 0
+  pub base_since_then : base_work 9 (record { until = 4; place = Some 0 }) (Some 7) ≡ 2
+  pub back_again : base_work 9 (record { until = 20; place = Some 15 }) (Some 1) ≡ 10
+
+pub worked_base_work : WorkedBaseWork
+worked_base_work = record {
+  three_places = refl;
+  no_base = refl;
+  one_place_more = refl;
+  none_more = refl;
+  base_since_then = refl;
+  back_again = refl;
 }
 
 -- ---- of a glyph that was taken apart the first component is the base

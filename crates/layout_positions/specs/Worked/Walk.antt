@@ -52,11 +52,15 @@ still = (pos 0, pos 0)
 abbrev named : Lookup → ℕ → Placing
 named l left = nested_placed LEVELS l 0 left none_seen (line LeftToRight (base 2 0 ∷ base 3 1 ∷ []))
 
+-- a mark, or another glyph, on a base, with so much left
+abbrev sought : Lookup → Item → ℕ → Placing
+sought l item left = nested_placed LEVELS l 1 left none_seen (line LeftToRight (base 2 0 ∷ item ∷ []))
+
 pub record WorkedBounds : Type 0 where
   -- a lookup of the plan and 64 levels below it
   pub levels : LEVELS ≡ 65
   pub links : MOST_LINKS ≡ 64
-  pub at_least : most_work 16 ≡ 1048576
+  pub at_least : most_work 32 ≡ 1048576
   pub for_each_glyph : most_work 33 ≡ 1081344
   pub countable : most_work 18446744073709551615 ≡ 18446744073709551615
 
@@ -89,6 +93,11 @@ pub record WorkedWalk : Type 0 where
       (λ l. advances (over l (base 2 0 ∷ base 3 1 ∷ base 3 2 ∷ [])) ≡ (pos 550, pos 0) ∷ (pos 530, pos 0) ∷ (pos 600, pos 0) ∷ [])
   pub marks_on_one_base : Over (one_subtable 4 on_bases) 0 0
       (λ l. chains (over l (base 2 0 ∷ mark 8 0 ∷ mark 8 0 ∷ mark 8 0 ∷ [])) ≡ pos 0 ∷ negsuc 0 ∷ negsuc 1 ∷ negsuc 2 ∷ [])
+  -- the search for the base looks at one place
+  pub search_for_a_base : Over (one_subtable 4 on_bases) 0 0 (λ l. (sought l (mark 8 0) 5).left ≡ 4)
+  pub just_enough_for_a_search : Over (one_subtable 4 on_bases) 0 0 (λ l. (sought l (mark 8 0) 1).next ≡ Some 2)
+  pub too_little_for_a_search : Over (one_subtable 4 on_bases) 0 0 (λ l. chains (sought l (mark 8 0) 0).buffer ≡ pos 0 ∷ pos 0 ∷ [])
+  pub no_search : Over (one_subtable 4 on_bases) 0 0 (λ l. (sought l (mark 7 0) 5).left ≡ 5)
   pub mark_on_the_first_component : Over (one_subtable 4 on_bases) 0 0
       (λ l. chains (over l (component_of 0 (base 2 0) ∷ component_of 1 (base 3 0) ∷ mark 8 0 ∷ [])) ≡ pos 0 ∷ pos 0 ∷ negsuc 1 ∷ [])
   pub mark_on_the_listed_component : Over (one_subtable 4 on_bases) 0 0
@@ -125,6 +134,10 @@ worked_walk = record {
   far_away = λ l. refl;
   pair_after_pair = λ l. refl;
   marks_on_one_base = λ l. refl;
+  search_for_a_base = λ l. refl;
+  just_enough_for_a_search = λ l. refl;
+  too_little_for_a_search = λ l. refl;
+  no_search = λ l. refl;
   mark_on_the_first_component = λ l. refl;
   mark_on_the_listed_component = λ l. refl;
   named_glyph_alone = λ l. refl;

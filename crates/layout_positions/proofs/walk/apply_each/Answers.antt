@@ -1,7 +1,8 @@
 use Rattle.std.proofs.Common.{fold}
 use Rattle.layout_positions.specs.Digested.{lookups_in}
 use Rattle.layout_positions.specs.Walk.{Budgeted, lookup_applied, budgeted}
-use Rattle.layout_positions.proofs.DigestLemmas.{charged_next, passed_over}
+use Rattle.layout_positions.proofs.DigestLemmas.{applied_on, charged_next, passed_over}
+use Rattle.layout_positions.proofs.GlyphLemmas.{held_applied}
 use Rattle.layout_positions.proofs.walk.apply_each.Goals as goal
 
 pub loop-named-preserved-then-not-may_share : goal.loop-named-preserved-then-not-may_share
@@ -12,8 +13,20 @@ loop-named-preserved-then-not-may_share c =
     c.len-then-not-may_share.ensures.items in
     record {
       made = passed_over c.args.lookups.now c.loop-named.named-index _ here next
-          (fold lookup_applied (budgeted c.args.buffer.now) (lookups_in c.args.lookups.now)) c.loop-named.run c.loop-named-test.true
+          (fold lookup_applied (budgeted c.args.buffer.now) (lookups_in c.args.lookups.now)) c.run_digest-run.result c.loop-named-test.true
           (c.requires c.loop-named.named-index _ c.loop-named-test.true) c.loop-named.invariant.run
           (c.may_share.ensures c.if-not-may_share.true) is c.loop-named.invariant.made;
       run = c.loop-named.invariant.run;
+    }
+
+pub loop-named-preserved : goal.loop-named-preserved
+loop-named-preserved c =
+    let here : Budgeted = record { buffer = c.loop-named.buffer; left = c.loop-named.left } in
+    let next : Budgeted = record { buffer = c.apply_over-left.new.buffer; left = c.apply_over-left.result } in
+    record {
+      made = applied_on c.args.lookups.now c.loop-named.named-index _ here next
+          (fold lookup_applied (budgeted c.args.buffer.now) (lookups_in c.args.lookups.now)) c.loop-named-test.true
+          c.loop-named.invariant.made c.apply_over-left.ensures;
+      run = held_applied c.args.lookups.now c.loop-named.named-index _ here next c.run_digest-run.result c.apply_over-left.ensures
+          c.loop-named.invariant.run;
     }

@@ -1,5 +1,6 @@
 use Rattle.layout_positions.specs.Worked.Marks.{worked_marks}
 use Rattle.layout_positions.specs.Worked.Marks.{worked_bases}
+use Rattle.layout_positions.specs.Worked.Marks.{worked_base_work}
 use Rattle.layout_positions.specs.Worked.Marks.{worked_multiplied}
 use Rattle.layout_positions.specs.Worked.Marks.{worked_components}
 use Rattle.layout_positions.specs.Worked.Cursive.{worked_cursive}
@@ -12,6 +13,9 @@ returns-clause-marks c = worked_marks
 
 pub returns-clause-bases : goal.returns-clause-bases
 returns-clause-bases c = worked_bases
+
+pub returns-clause-base_work : goal.returns-clause-base_work
+returns-clause-base_work c = worked_base_work
 
 pub returns-clause-multiplied : goal.returns-clause-multiplied
 returns-clause-multiplied c = worked_multiplied
