@@ -78,12 +78,12 @@ def vain():
     return words(3, 2, 0, 10, 10 + len(EVERY)) + EVERY + words(1, 1, 42)
 
 
-def rules(count, row):
-    """Contexts of format 1 with one set for all glyphs, whose `count` rules share one place."""
+def rules(count, row, covered=EVERY):
+    """Contexts of format 1 with one set for all glyphs of a list, whose `count` rules share one
+    place."""
     head = 6 + 2 * GLYPHS
-    covered = head
     rule_set = words(count, *[2 + 2 * count] * count) + row
-    return words(1, covered, 42, *[head + len(EVERY)] * 42) + words(0) + EVERY + rule_set
+    return words(1, head, 42, *[head + len(covered)] * 42) + words(0) + covered + rule_set
 
 
 def row_before(length):
@@ -119,6 +119,11 @@ def ligatures(count, length):
     row = words(5, length, *[1] * (length - 2), 42)
     ligature_set = words(count, *[2 + 2 * count] * count) + row
     return words(1, head, 42, *[head + len(EVERY)] * 42) + EVERY + ligature_set
+
+
+def ligature_of_two():
+    """Two letters a become one letter b."""
+    return words(1, 8, 1, 14, 1, 1, 1, 1, 4, 2, 2, 1)
 
 
 def grows(times):

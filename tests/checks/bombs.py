@@ -9,8 +9,9 @@ parts. Those that use up what a stage may ask for take up to five seconds, in st
 The worst fonts of earlier searches are named in tests/hostile/worst.txt (`search`).
 """
 from checks.bomb_tables import (EVERY, LOOP, ROW, alternates, context, cursive, features, gdef,
-                                grows, kern, layout, ligatures, lookup, marks_on, nulls, pairs,
-                                row_before, row_behind, rules, vain, variations, words)
+                                grows, kern, layout, ligature_of_two, ligatures, lookup, marks_on,
+                                nulls, pairs, row_before, row_behind, rules, vain, variations,
+                                words)
 from checks.fonts import add_table, bytes_of, new_font
 from checks.hostile_runs import LENGTH, SECONDS, Runs, add_run_options, need_all
 from checks.mutated import load_bases, mutated_font
@@ -30,6 +31,11 @@ SKIPPING = [lookup(5, [context(2, [], words(1, 1, 1))], 8)]
 NESTED_SKIPPING = [lookup(5, [context(1, [(0, 0), (0, 1), (0, 0)])], 8),
                    lookup(5, [context(3, [])], 8)]
 TO_BASES = [lookup(4, [marks_on(4)])]
+# at two marks after one another, the second is attached and then the first
+BACK_AND_FORTH = [lookup(7, [context(2, [(1, 1), (0, 1)] * 100)]), *TO_BASES]
+# U+0301 and U+0302 stand on a ligature, and rules for the second look for U+0303 behind them
+ON_LIGATURE = [lookup(4, [ligature_of_two()], 8),
+               lookup(5, [rules(30000, words(2, 0, 30), words(1, 1, 29))])]
 
 
 def calls(depth, records, count=1):
@@ -42,7 +48,8 @@ def marks(lookups, shared=0):
 
 
 GROWS_IN_ITSELF = [lookup(5, [context(1, [(0, 1), (0, 0)])]), lookup(2, [grows(9)])]
-# the tables of each, and what its text is of: letters, marks, letters and marks, or ZWNJ
+# the tables of each, and what its text is of: letters, marks, letters and marks, marks between two
+# letters, or ZWNJ
 BOMBS = {
     "calls itself": (calls(1, [(0, 0)]), "a"),
     "calls itself twice": (calls(1, [(0, 0), (0, 0)]), "a"),
@@ -87,6 +94,11 @@ BOMBS = {
     "marks on marks": (
         {"GPOS": layout([lookup(6, [marks_on(6)])], b"mkmk"), "GDEF": gdef(0)}, "m"),
     "marks on one base": (marks(TO_BASES), "am"),
+    "marks on one base, 1,000 lookups": (marks(TO_BASES, shared=1000), "am"),
+    "marks on one base, nested, back and forth": (
+        {"GPOS": layout(BACK_AND_FORTH, b"mark"), "GDEF": gdef(0)}, "am"),
+    "rules of marks on one ligature": (
+        {"GSUB": layout(ON_LIGATURE, shared=100), "GDEF": gdef(0)}, "ama"),
     "one chain of letters": ({"GPOS": layout([lookup(3, [cursive()], 1)], b"curs")}, "a"),
     "pairs of 15,000 records": (
         {"GPOS": layout([lookup(2, [pairs(15000)])], b"kern")}, "a"),
@@ -104,7 +116,8 @@ SPENT = {
     "32,000 rules at one place", "32,000 rules, 100 lookups", "32,000 ligatures at one place",
     "skips half of the text, nested", "rows of 10,000 glyphs, backwards", "30,000 NULL subtables",
     "records that name nothing", "pairs, 1,000 lookups", "positions that call themselves twice",
-    "pairs over the rest of the text, 50 lookups",
+    "pairs over the rest of the text, 50 lookups", "marks on one base, 1,000 lookups",
+    "marks on one base, nested, back and forth", "rules of marks on one ligature",
 }
 
 
@@ -120,9 +133,11 @@ def bomb_font(tables):
 
 
 def bomb_text(kind, length):
-    """Letters, marks, or one half of each, letters first; or ZWNJ, after one letter."""
+    """Letters, marks, or one half of each, letters first; marks between two letters, and one mark
+    more; or ZWNJ, after one letter."""
     half = length // 2
     texts = {"a": "a" * length, "m": "\u0301" * length, "z": "a" + chr(ZWNJ) * (length - 1),
+             "ama": "a" + "\u0301" * (length - 67) + "\u0302" * 64 + "a\u0303",
              "am": "a" * half + "\u0301" * (length - half)}
     return texts[kind]
 
