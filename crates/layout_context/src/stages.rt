@@ -16,7 +16,6 @@ use layout_matching::lookup::Lookup;
 use layout_matching::skipping::is_on;
 use layout_matching::work::{lookup_charged, most_work, walk_work};
 use layout_substitution::apply::Spot;
-use layout_substitution::edits::item;
 use shape_buffer::{ShapeError, hb_buffer_t};
 use std::alloc::Global;
 
@@ -85,11 +84,12 @@ fn step_on(
         return Ok(spot);
     }
     let next = next_spot(spot, buffer.len());
-    let item = item(buffer, spot.at);
+    let items = buffer.items();
+    let item = items.at(spot.at);
     if !named.digest.has(item.glyph_id) {
         return Ok(next);
     }
-    if !is_on(&named.lookup, &item) {
+    if !is_on(&named.lookup, item) {
         return Ok(next);
     }
     try_at(alloc, levels, &named.lookup, buffer, spot)
@@ -191,6 +191,14 @@ fn digest_of(items: &ItemList<'_>) -> Digest
     all
 }
 
+/// The digest of a list, made anew if a lookup has gone over the list since.
+fn renewed(run: Digest, is_stale: bool, items: &ItemList<'_>) -> Digest
+    requires { is_stale ≡ false → HoldsGlyphs run items.now }
+    ensures { HoldsGlyphs result items.now }
+{
+    if is_stale { digest_of(items) } else { run }
+}
+
 /// Whether the digest of a lookup shares a glyph with that of the list.
 fn any_shares(run: &Digest, lookups: &[Digested<'_>]) -> bool
     ensures { result ≡ false → All (IsApart run.now) lookups.now }
@@ -221,8 +229,11 @@ fn look_all_up(
         whole: 0,
     };
     let mut run = run;
+    let mut is_stale = false;
     for named in lookups {
-        if !run.may_share(&named.digest) {
+        run = renewed(run, is_stale, &buffer.items());
+        is_stale = run.may_share(&named.digest);
+        if !is_stale {
             spot = charge_walk(&named.lookup, buffer.len(), spot);
             continue;
         }
@@ -230,7 +241,6 @@ fn look_all_up(
             Err(error) => return Err(error),
             Ok(next) => spot = next,
         }
-        run = digest_of(&buffer.items());
     }
     Ok(())
 }

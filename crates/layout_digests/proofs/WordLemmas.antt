@@ -1,4 +1,4 @@
--- bits of words, and sets of glyphs in three of them
+-- bits of words, and sets of glyphs in six of them
 use Rattle.std.proofs.Common.{◌≡◌, ℕ, Bool, true, false, ◌+◌, ◌-◌, ◌*◌, ◌/◌, ◌%◌, ◌^◌, ◌≤◌, ◌<◌, ◌&&◌, max, min, nat_eq, nat_le, refl, sym, ap, subst, ◌∙◌, arith, bit_and, bit_or, not}
 use Rattle.std.proofs.lemmas.Bool.Decides.{nat_tests}
 use Rattle.std.proofs.lemmas.Nat.{pow_pos, pow-add}
@@ -75,47 +75,65 @@ in_two a b first last next from to n low high = by_side (nat_le (first % 64) (n 
         let behind : n % 64 < first % 64 = grind (arith, nat_tests, e) in
         set_after a b n (to n (omega (arith, next, low, high, behind)))
 
--- ---- three words
+-- ---- six words
 
-has_all : (d : Digest) (g : ℕ) → has_bit d.fine g ≡ true → has_bit d.middle (g / 16) ≡ true → has_bit d.coarse (g / 512) ≡ true → has d g ≡ true
+has_all : (d : Digest) (g : ℕ) → has_bit d.fine g ≡ true → has_bit d.halves (g / 2) ≡ true → has_bit d.quarters (g / 4) ≡ true
+    → has_bit d.middle (g / 16) ≡ true → has_bit d.blocks (g / 64) ≡ true → has_bit d.coarse (g / 512) ≡ true → has d g ≡ true
 unfolding has
-has_all d g x y z = rw (x, y, z) refl
-
-and_l : (a b : Bool) → (a && b) ≡ true → a ≡ true
-and_l true b is = refl
-and_l false b is = is
-
-and_r : (a b : Bool) → (a && b) ≡ true → b ≡ true
-and_r true b is = is
-and_r false b is = cc
+has_all d g x y z u v w = rw (x, y, z, u, v, w) refl
 
 fine_of : (d : Digest) (g : ℕ) → has d g ≡ true → has_bit d.fine g ≡ true
 unfolding has
 fine_of d g is = grind (arith, is)
 
+halves_of : (d : Digest) (g : ℕ) → has d g ≡ true → has_bit d.halves (g / 2) ≡ true
+unfolding has
+halves_of d g is = grind (arith, is)
+
+quarters_of : (d : Digest) (g : ℕ) → has d g ≡ true → has_bit d.quarters (g / 4) ≡ true
+unfolding has
+quarters_of d g is = grind (arith, is)
+
 middle_of : (d : Digest) (g : ℕ) → has d g ≡ true → has_bit d.middle (g / 16) ≡ true
 unfolding has
 middle_of d g is = grind (arith, is)
+
+blocks_of : (d : Digest) (g : ℕ) → has d g ≡ true → has_bit d.blocks (g / 64) ≡ true
+unfolding has
+blocks_of d g is = grind (arith, is)
 
 coarse_of : (d : Digest) (g : ℕ) → has d g ≡ true → has_bit d.coarse (g / 512) ≡ true
 unfolding has
 coarse_of d g is = grind (arith, is)
 
-pub all_glyphs : (g : ℕ) → has (record { fine = 18446744073709551615; middle = 18446744073709551615; coarse = 18446744073709551615 }) g ≡ true
-all_glyphs g = has_all _ g (all_set g) (all_set (g / 16)) (all_set (g / 512))
+pub all_glyphs : (g : ℕ) → has (record {
+  fine = 18446744073709551615;
+  halves = 18446744073709551615;
+  quarters = 18446744073709551615;
+  middle = 18446744073709551615;
+  blocks = 18446744073709551615;
+  coarse = 18446744073709551615;
+}) g ≡ true
+all_glyphs g = has_all _ g (all_set g) (all_set (g / 2)) (all_set (g / 4)) (all_set (g / 16)) (all_set (g / 64)) (all_set (g / 512))
 
-pub glyph_in : (d : Digest) (g : ℕ) → has_bit d.fine g ≡ true → has_bit d.middle (g / 16) ≡ true → has_bit d.coarse (g / 512) ≡ true → has d g ≡ true
-glyph_in d g fine middle coarse = has_all d g fine middle coarse
+pub glyph_in : (d : Digest) (g : ℕ) → has_bit d.fine g ≡ true → ((n : ℕ) → has_bit d.halves n ≡ true)
+    → ((n : ℕ) → has_bit d.quarters n ≡ true) → has_bit d.middle (g / 16) ≡ true → ((n : ℕ) → has_bit d.blocks n ≡ true)
+    → has_bit d.coarse (g / 512) ≡ true → has d g ≡ true
+glyph_in d g fine halves quarters middle blocks coarse = has_all d g fine (halves (g / 2)) (quarters (g / 4)) middle (blocks (g / 64)) coarse
 
-pub ranged : (d : Digest) (first last : ℕ) → HasBits d.fine first last → HasBits d.middle (first / 16) (last / 16)
-    → HasBits d.coarse (first / 512) (last / 512) → HasGlyphs d first last
-ranged d first last fine middle coarse g low high =
-    has_all d g (fine g low high) (middle (g / 16) (omega (arith, low)) (omega (arith, high)))
-    (coarse (g / 512) (omega (arith, low)) (omega (arith, high)))
+pub ranged : (d : Digest) (first last : ℕ) → HasBits d.fine first last → HasBits d.halves (first / 2) (last / 2)
+    → HasBits d.quarters (first / 4) (last / 4) → HasBits d.middle (first / 16) (last / 16)
+    → HasBits d.blocks (first / 64) (last / 64) → HasBits d.coarse (first / 512) (last / 512) → HasGlyphs d first last
+ranged d first last fine halves quarters middle blocks coarse g low high =
+    has_all d g (fine g low high) (halves (g / 2) (omega (arith, low)) (omega (arith, high)))
+    (quarters (g / 4) (omega (arith, low)) (omega (arith, high))) (middle (g / 16) (omega (arith, low)) (omega (arith, high)))
+    (blocks (g / 64) (omega (arith, low)) (omega (arith, high))) (coarse (g / 512) (omega (arith, low)) (omega (arith, high)))
 
-pub kept : (d e : Digest) → KeepsBits d.fine e.fine → KeepsBits d.middle e.middle → KeepsBits d.coarse e.coarse → IsWithin d e
-kept d e fine middle coarse g is =
-    has_all e g (fine g (fine_of d g is)) (middle (g / 16) (middle_of d g is)) (coarse (g / 512) (coarse_of d g is))
+pub kept : (d e : Digest) → KeepsBits d.fine e.fine → KeepsBits d.halves e.halves → KeepsBits d.quarters e.quarters
+    → KeepsBits d.middle e.middle → KeepsBits d.blocks e.blocks → KeepsBits d.coarse e.coarse → IsWithin d e
+kept d e fine halves quarters middle blocks coarse g is =
+    has_all e g (fine g (fine_of d g is)) (halves (g / 2) (halves_of d g is)) (quarters (g / 4) (quarters_of d g is))
+    (middle (g / 16) (middle_of d g is)) (blocks (g / 64) (blocks_of d g is)) (coarse (g / 512) (coarse_of d g is))
 
 -- words that share no bit
 no_bit : (word n : ℕ) → bit_at word (n % 64) ≡ 0 → has_bit word n ≡ false

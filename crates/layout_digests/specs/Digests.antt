@@ -1,4 +1,4 @@
--- sets of glyphs in three words
+-- sets of glyphs in six words
 use Rattle.std.specs.Prelude.{◌≡◌, ℕ, Bool, true, ◌/◌, ◌%◌, ◌≤◌, ◌&&◌, nat_eq}
 use Rattle.std.specs.Int.{bit_at}
 use Rattle.layout_digests.specs.declared.digest.Digest.{Digest}
@@ -13,9 +13,10 @@ HasBits word first last = (n : ℕ) → first ≤ n → n ≤ last → has_bit w
 abbrev pub KeepsBits : ℕ → ℕ → Type 0
 KeepsBits word after = (n : ℕ) → has_bit word n ≡ true → has_bit after n ≡ true
 
--- a glyph is in the set by its number, its sixteenth and its 512th
+-- a glyph is in the set by its number, its half, quarter, sixteenth, 64th and 512th
 unfoldable pub has : Digest → ℕ → Bool
-has d glyph = has_bit d.fine glyph && has_bit d.middle (glyph / 16) && has_bit d.coarse (glyph / 512)
+has d glyph = has_bit d.fine glyph && has_bit d.halves (glyph / 2) && has_bit d.quarters (glyph / 4)
+    && has_bit d.middle (glyph / 16) && has_bit d.blocks (glyph / 64) && has_bit d.coarse (glyph / 512)
 
 -- all glyphs from one to another
 abbrev pub HasGlyphs : Digest → ℕ → ℕ → Type 0

@@ -42,7 +42,7 @@ abbrev pub IsDigestAt : List ℕ → Bool → ℕ → Digest → Type 0
 IsDigestAt t positioning index d = (place : ℕ) → lookup_of t index ≡ Some place → IsDigest t positioning place d
 
 abbrev pub no_digest : Digest
-no_digest = record { fine = 0; middle = 0; coarse = 0 }
+no_digest = record { fine = 0; halves = 0; quarters = 0; middle = 0; blocks = 0; coarse = 0 }
 
 -- a set for each lookup of the table, by its index
 abbrev pub AreDigests : List ℕ → Bool → List Digest → Type 0

@@ -1,4 +1,7 @@
-//! Sets of glyphs in three words: of a glyph's number, its sixteenth and its 512th, the last six bits each.
+//! Sets of glyphs in six words: of a glyph's number, its half, quarter, sixteenth, 64th and 512th, the last six bits each.
+//!
+//! Of a long list of glyphs few of the words say little: those of a few glyphs of a block tell neighbours apart, those of many
+//! tell blocks apart.
 ghost use Rattle.std.specs.Prelude.{◌≡◌, ◌≤◌, ◌<◌, ◌%◌, ℕ, true, false};
 ghost use Rattle.layout_digests.specs.Digests;
 
@@ -6,7 +9,10 @@ ghost use Rattle.layout_digests.specs.Digests;
 #[derive(Clone, Copy, PartialEq, Eq, Debug)]
 pub struct Digest {
     pub fine: u64,
+    pub halves: u64,
+    pub quarters: u64,
     pub middle: u64,
+    pub blocks: u64,
     pub coarse: u64,
 }
 
@@ -71,6 +77,14 @@ fn with_bit(word: u64, n: u32) -> u64
     word | 1 << (n % 64)
 }
 
+/// A word with all bits.
+fn filled(word: u64) -> u64
+    ensures set { (n : ℕ) → Digests.has_bit result n ≡ true }
+    ensures kept { Digests.KeepsBits word result }
+{
+    word | u64::MAX
+}
+
 /// Whether two words share a bit.
 #[tactic(auto, using(crate::proofs::WordLemmas::unshared))]
 fn share(word: u64, other: u64) -> bool
@@ -85,7 +99,10 @@ impl Digest {
     pub fn new() -> Self {
         Digest {
             fine: 0,
+            halves: 0,
+            quarters: 0,
             middle: 0,
+            blocks: 0,
             coarse: 0,
         }
     }
@@ -97,7 +114,10 @@ impl Digest {
     {
         Digest {
             fine: u64::MAX,
+            halves: u64::MAX,
+            quarters: u64::MAX,
             middle: u64::MAX,
+            blocks: u64::MAX,
             coarse: u64::MAX,
         }
     }
@@ -108,7 +128,10 @@ impl Digest {
         ensures { result ≡ Digests.has self.now glyph }
     {
         has_bit(self.fine, glyph)
+            && has_bit(self.halves, glyph / 2)
+            && has_bit(self.quarters, glyph / 4)
             && has_bit(self.middle, glyph / 16)
+            && has_bit(self.blocks, glyph / 64)
             && has_bit(self.coarse, glyph / 512)
     }
 
@@ -120,12 +143,15 @@ impl Digest {
     {
         Digest {
             fine: with_span(self.fine, first, last),
+            halves: with_span(self.halves, first / 2, last / 2),
+            quarters: with_span(self.quarters, first / 4, last / 4),
             middle: with_span(self.middle, first / 16, last / 16),
+            blocks: with_span(self.blocks, first / 64, last / 64),
             coarse: with_span(self.coarse, first / 512, last / 512),
         }
     }
 
-    /// The set with a glyph.
+    /// The set with a glyph, in the three words that `may_share` compares; the others are filled. So a list is gone over quickly.
     #[tactic(auto, using(crate::proofs::WordLemmas::glyph_in, crate::proofs::WordLemmas::kept))]
     pub fn with_glyph(self, glyph: u32) -> Self
         ensures glyph { Digests.has result glyph ≡ true }
@@ -133,7 +159,10 @@ impl Digest {
     {
         Digest {
             fine: with_bit(self.fine, glyph),
+            halves: filled(self.halves),
+            quarters: filled(self.quarters),
             middle: with_bit(self.middle, glyph / 16),
+            blocks: filled(self.blocks),
             coarse: with_bit(self.coarse, glyph / 512),
         }
     }

@@ -1,14 +1,16 @@
 -- levels of lookups, and what their rules look at in vain
 use Prim.Native.Nat.{zero}
-use Rattle.std.proofs.Common.{◌≡◌, ℕ, suc, ◌-◌, ◌<◌, true, false, min, length, nat_le, nat_lt, refl, sym, ap, ◌∙◌, arith, if◌then◌else◌}
+use Rattle.std.proofs.Common.{◌≡◌, ℕ, suc, ◌-◌, ◌<◌, true, false, lit<, min, length, nat_le, nat_lt, refl, sym, ap, ◌∙◌, arith, if◌then◌else◌}
+use Rattle.std.proofs.lemmas.Bool.Decides.{nat_tests}
 use Rattle.shape_items.specs.Buffer.{Buffer}
 use Rattle.shape_items.specs.BufferClusters.{unsafe_to_concat, with_glyph_flags}
 use Rattle.shape_items.specs.Clusters.{map_range, mark_concat}
 use Rattle.layout_matching.specs.Tried.{reach_of}
 use Rattle.layout_matching.specs.declared.lookup.Lookup.{Lookup}
 use Rattle.layout_positions.specs.Edits.{asks_for_concat, concat_marked}
-use Rattle.layout_positions.specs.Nested.{origin_at, tried_concat_marked, level_placed, nested_placed}
-use Rattle.layout_positions.specs.Subtables.{unplaced}
+use Rattle.layout_matching.specs.Found.{is_context}
+use Rattle.layout_positions.specs.Nested.{LEVELS, origin_at, tried_concat_marked, first_rule_placed, level_placed, nested_placed}
+use Rattle.layout_positions.specs.Subtables.{unplaced, lookup_placed}
 use Rattle.layout_positions.specs.declared.bases.BaseSeen.{BaseSeen}
 
 pub nested_none : (l : Lookup) (i left : ℕ) (seen : BaseSeen) (b : Buffer) (level : ℕ) → level ≡ 0
@@ -25,6 +27,14 @@ pub nested_level : (level : ℕ) (l : Lookup) (i left : ℕ) (seen : BaseSeen) (
 nested_level level l i left seen b some inside =
     let e : level ≡ suc (level - 1) = omega (arith, some) in
     ap (λ n. nested_placed n l i left seen b) e ∙ rw inside refl
+
+-- a lookup without rules of context applies by itself
+pub placed_plainly : (l : Lookup) (i left : ℕ) (seen : BaseSeen) (b : Buffer) → is_context l ≡ false → i < length b.items
+    → nested_placed LEVELS l i left seen b ≡ lookup_placed l i left seen b
+placed_plainly l i left seen b plain inside =
+    let within : nat_lt i (length b.items) ≡ true = grind (arith, nat_tests, inside) in
+    nested_level 65 l i left seen b (lit< tt) within
+    ∙ ap (λ t. if t then first_rule_placed (nested_placed 64) l i left seen (tried_concat_marked l i b) else lookup_placed l i left seen b) plain
 
 -- a buffer that doesn't ask for marks stays
 unasked : (start end : ℕ) (b : Buffer) → asks_for_concat b ≡ false → b ≡ concat_marked start end b

@@ -1,18 +1,21 @@
 //! Positioning: no glyph is attached at first; then lookups go over the buffer, one after the other.
 ghost use Rattle.std.specs.Prelude.{◌≡◌, ◌<◌, ◌-◌, ◌^◌, fold, length, All};
 ghost use Rattle.shape_buffer.specs.Outcome.{Made};
+ghost use Rattle.layout_matching.specs.Found as found_rules;
 ghost use Rattle.layout_matching.specs.Work;
+ghost use Rattle.layout_positions.specs.Nested;
 ghost use Rattle.layout_positions.specs.Walk;
 ghost use Rattle.layout_positions.specs.Digested.{IsDigested, HoldsGlyphs, lookups_in};
 
 use crate::bases::BaseSeen;
 use crate::nested::apply_nested;
 use crate::places::after;
-use crate::subtables::Carried;
+use crate::subtables::{Carried, Outcome, apply_lookup};
 use layout_buffer::ItemList;
 use layout_digests::{Digest, Digested};
+use layout_matching::found::is_context;
 use layout_matching::lookup::Lookup;
-use layout_matching::skipping::{is_on, item_at};
+use layout_matching::skipping::{is_on, is_transparent, item_at};
 use layout_matching::work::{lookup_charged, most_work, walk_work};
 use shape_buffer::position_walks::update_positions;
 use shape_buffer::{GlyphPosition, hb_buffer_t, hb_glyph_info_t};
@@ -45,9 +48,54 @@ pub fn position_start(buffer: &mut hb_buffer_t)
     update_positions(buffer, |_info, position| unattached(position));
 }
 
-/// Applies a lookup at a place of the walk, if what is left suffices for what it may try there. Else nothing is left.
-fn try_at(lookup: &Lookup<'_>, buffer: &mut hb_buffer_t, spot: Spot) -> Spot
+/// What is left after a lookup was charged at a place. Whether it is one of context is decided once for a walk.
+fn charge(
+    lookup: &Lookup<'_>,
+    has_rules: bool,
+    items: &ItemList<'_>,
+    at: usize,
+    left: usize,
+) -> Option<usize>
     requires near { lookup.now.place < 2 ^ 17 }
+    requires kind { has_rules ≡ found_rules.is_context lookup.now }
+    requires inside { at < length items.now }
+    ensures { result ≡ Work.lookup_charged lookup.now items.now at left }
+{
+    if lookup.positioning && !has_rules && !is_transparent(lookup, false, items.at(at)) {
+        return Some(left);
+    }
+    lookup_charged(lookup, items, at, left)
+}
+
+/// Applies a lookup at a place.
+#[tactic(auto, using(crate::proofs::NestedLemmas::placed_plainly))]
+fn apply_at(
+    lookup: &Lookup<'_>,
+    has_rules: bool,
+    buffer: &mut hb_buffer_t,
+    at: usize,
+    carried: Carried,
+) -> Outcome
+    requires near { lookup.now.place < 2 ^ 17 }
+    requires kind { has_rules ≡ found_rules.is_context lookup.now }
+    requires inside { at < length buffer.old.items }
+    ensures { record {
+      buffer = buffer.new;
+      next = result.next;
+      seen = result.carried.seen;
+      left = result.carried.left;
+    } ≡ Nested.nested_placed Nested.LEVELS lookup.now at carried.left carried.seen buffer.old }
+{
+    if has_rules {
+        return apply_nested(LEVELS, lookup, buffer, at, carried);
+    }
+    apply_lookup(lookup, buffer, at, carried)
+}
+
+/// Applies a lookup at a place of the walk, if what is left suffices for what it may try there. Else nothing is left.
+fn try_at(lookup: &Lookup<'_>, has_rules: bool, buffer: &mut hb_buffer_t, spot: Spot) -> Spot
+    requires near { lookup.now.place < 2 ^ 17 }
+    requires kind { has_rules ≡ found_rules.is_context lookup.now }
     requires inside { spot.at < length buffer.old.items }
     ensures { record {
       buffer = buffer.new;
@@ -64,13 +112,13 @@ fn try_at(lookup: &Lookup<'_>, buffer: &mut hb_buffer_t, spot: Spot) -> Spot
     let next = after(buffer.len(), spot.at);
     let seen = spot.carried.seen;
     let items = ItemList::of_slice(buffer.infos());
-    let Some(left) = lookup_charged(lookup, &items, spot.at, spot.carried.left) else {
+    let Some(left) = charge(lookup, has_rules, &items, spot.at, spot.carried.left) else {
         return Spot {
             at: next,
             carried: Carried { seen, left: 0 },
         };
     };
-    let outcome = apply_nested(LEVELS, lookup, buffer, spot.at, Carried { seen, left });
+    let outcome = apply_at(lookup, has_rules, buffer, spot.at, Carried { seen, left });
     Spot {
         at: match outcome.next {
             Some(there) => there,
@@ -82,8 +130,9 @@ fn try_at(lookup: &Lookup<'_>, buffer: &mut hb_buffer_t, spot: Spot) -> Spot
 
 /// Applies a lookup at a place of the walk, or goes on to the next glyph. Where its digest doesn't hold the glyph, no table
 /// is read.
-fn step_on(named: &Digested<'_>, buffer: &mut hb_buffer_t, spot: Spot) -> Spot
-    requires { IsDigested named.now }
+fn step_on(named: &Digested<'_>, has_rules: bool, buffer: &mut hb_buffer_t, spot: Spot) -> Spot
+    requires said { IsDigested named.now }
+    requires kind { has_rules ≡ found_rules.is_context named.now.lookup }
     ensures { record {
       buffer = buffer.new;
       at = result.at;
@@ -110,7 +159,7 @@ fn step_on(named: &Digested<'_>, buffer: &mut hb_buffer_t, spot: Spot) -> Spot
     if !is_on(&named.lookup, &item) {
         return passed;
     }
-    try_at(&named.lookup, buffer, spot)
+    try_at(&named.lookup, has_rules, buffer, spot)
 }
 
 /// Goes over a buffer with a lookup, from its first glyph on. Returns what is left.
@@ -124,12 +173,13 @@ fn go_over(named: &Digested<'_>, buffer: &mut hb_buffer_t, left: usize) -> usize
         until: 0,
         place: None,
     };
+    let has_rules = is_context(&named.lookup);
     let mut spot = Spot {
         at: 0,
         carried: Carried { seen, left },
     };
     for _i in 0..buffer.len() {
-        spot = step_on(named, buffer, spot);
+        spot = step_on(named, has_rules, buffer, spot);
     }
     spot.carried.left
 }

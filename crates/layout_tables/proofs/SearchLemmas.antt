@@ -22,29 +22,23 @@ side_equal n first last h k =
     rw t (rw u refl)
 
 -- of the places from `from` up to `end`, by their middle: the first half is left, or the second, or the middle is found
-pub before : (first last : ℕ → ℕ) (n from end : ℕ) (sought : Option ℕ) → from < end
-    → n < first (from + (end - from - 1) / 2)
-    → found_in (λ i. side_of n (first i) (last i)) (end - from) from end ≡ sought
-    → found_in (λ i. side_of n (first i) (last i)) (from + (end - from - 1) / 2 - from) from (from + (end - from - 1) / 2) ≡ sought
-before first last n from end sought some h is =
-    let middle = from + (end - from - 1) / 2 in
-    sym (step_less (λ i. side_of n (first i) (last i)) from end middle some refl (side_less n (first middle) (last middle) h)) ∙ is
+pub before : (first last : ℕ → ℕ) (n from end middle : ℕ) (sought : Option ℕ) → from < end → middle ≡ from + (end - from - 1) / 2
+    → n < first middle → found_in (λ i. side_of n (first i) (last i)) (end - from) from end ≡ sought
+    → found_in (λ i. side_of n (first i) (last i)) (middle - from) from middle ≡ sought
+before first last n from end middle sought some at h is =
+    sym (step_less (λ i. side_of n (first i) (last i)) from end middle some at (side_less n (first middle) (last middle) h)) ∙ is
 
-pub behind : (first last : ℕ → ℕ) (n from end : ℕ) (sought : Option ℕ) → from < end
-    → first (from + (end - from - 1) / 2) ≤ n → last (from + (end - from - 1) / 2) < n
-    → found_in (λ i. side_of n (first i) (last i)) (end - from) from end ≡ sought
-    → found_in (λ i. side_of n (first i) (last i)) (end - (from + (end - from - 1) / 2 + 1)) (from + (end - from - 1) / 2 + 1) end ≡ sought
-behind first last n from end sought some h k is =
-    let middle = from + (end - from - 1) / 2 in
-    sym (step_greater (λ i. side_of n (first i) (last i)) from end middle some refl (side_greater n (first middle) (last middle) h k)) ∙ is
+pub behind : (first last : ℕ → ℕ) (n from end middle : ℕ) (sought : Option ℕ) → from < end → middle ≡ from + (end - from - 1) / 2
+    → first middle ≤ n → last middle < n → found_in (λ i. side_of n (first i) (last i)) (end - from) from end ≡ sought
+    → found_in (λ i. side_of n (first i) (last i)) (end - (middle + 1)) (middle + 1) end ≡ sought
+behind first last n from end middle sought some at h k is =
+    sym (step_greater (λ i. side_of n (first i) (last i)) from end middle some at (side_greater n (first middle) (last middle) h k)) ∙ is
 
-pub there : (first last : ℕ → ℕ) (n from end : ℕ) (sought : Option ℕ) → from < end
-    → first (from + (end - from - 1) / 2) ≤ n → n ≤ last (from + (end - from - 1) / 2)
-    → found_in (λ i. side_of n (first i) (last i)) (end - from) from end ≡ sought
-    → Some (from + (end - from - 1) / 2) ≡ sought
-there first last n from end sought some h k is =
-    let middle = from + (end - from - 1) / 2 in
-    sym (step_equal (λ i. side_of n (first i) (last i)) from end middle some refl (side_equal n (first middle) (last middle) h k)) ∙ is
+pub there : (first last : ℕ → ℕ) (n from end middle : ℕ) (sought : Option ℕ) → from < end → middle ≡ from + (end - from - 1) / 2
+    → first middle ≤ n → n ≤ last middle → found_in (λ i. side_of n (first i) (last i)) (end - from) from end ≡ sought
+    → Some middle ≡ sought
+there first last n from end middle sought some at h k is =
+    sym (step_equal (λ i. side_of n (first i) (last i)) from end middle some at (side_equal n (first middle) (last middle) h k)) ∙ is
 
 pub nowhere : (first last : ℕ → ℕ) (n from end : ℕ) (sought : Option ℕ) → end ≤ from
     → found_in (λ i. side_of n (first i) (last i)) (end - from) from end ≡ sought → None ≡ sought

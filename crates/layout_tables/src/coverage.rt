@@ -1,5 +1,5 @@
 //! Coverage tables: which glyphs a subtable is for, and the index of each.
-ghost use Rattle.std.specs.Prelude.{◌≡◌, ◌<◌, ◌+◌, ◌*◌, ◌^◌, is_some};
+ghost use Rattle.std.specs.Prelude.{◌≡◌, ◌<◌, ◌+◌, ◌-◌, ◌*◌, ◌/◌, ◌^◌, is_some};
 ghost use Rattle.shape_font.specs.Bytes.{u16_of, fitting};
 ghost use Rattle.layout_tables.specs.Coverage;
 
@@ -11,6 +11,15 @@ fn listed_glyph(table: &[u8], start: usize, i: u32) -> u32
     ensures { result ≡ u16_of table.now (start + 4 + 2 * i) }
 {
     u32::from(word(table, start + 4 + 2 * i as usize))
+}
+
+/// The middle one of the places from one up to another.
+fn middle_of(from: u32, end: u32) -> u32
+    requires some { from < end }
+    requires few { end < 2 ^ 16 }
+    ensures { result ≡ from + (end - from - 1) / 2 }
+{
+    (from + end - 1) / 2
 }
 
 /// The index of a glyph in a list of glyphs.
@@ -25,7 +34,7 @@ fn in_list(table: &[u8], start: usize, glyph: u32) -> Option<u32>
     let count = records(table, u32::from(u16_at(table, start + 2)), start + 4, 2);
     let (mut from, mut end) = (0, count);
     while from < end {
-        let middle = from + (end - from - 1) / 2;
+        let middle = middle_of(from, end);
         let there = listed_glyph(table, start, middle);
         if glyph < there {
             end = middle;
@@ -63,7 +72,7 @@ pub(crate) fn range(table: &[u8], start: usize, glyph: u32) -> Option<u32>
     let count = records(table, u32::from(u16_at(table, start + 2)), start + 4, 6);
     let (mut from, mut end) = (0, count);
     while from < end {
-        let middle = from + (end - from - 1) / 2;
+        let middle = middle_of(from, end);
         if glyph < range_first(table, start, middle) {
             end = middle;
         } else if range_last(table, start, middle) < glyph {

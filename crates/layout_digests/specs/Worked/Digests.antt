@@ -7,9 +7,9 @@ use Rattle.layout_digests.specs.Digests.{has, has_bit}
 use Rattle.layout_digests.specs.Lookups.{begins_at, extension_kind, is_chained_kind, is_context_kind, AreDigests, IsDigest}
 use Rattle.layout_digests.specs.declared.digest.Digest.{Digest}
 
--- of the glyph 4660: its bits are 52, 35 (of 291) and 9
+-- of the glyph 4660: its bits are 52, 26 (of 2330), 13 (of 1165), 35 (of 291), 8 (of 72) and 9
 abbrev pub of_one : Digest
-of_one = record { fine = 4503599627370496; middle = 34359738368; coarse = 512 }
+of_one = record { fine = 4503599627370496; halves = 67108864; quarters = 8192; middle = 34359738368; blocks = 256; coarse = 512 }
 
 pub record WorkedDigests : Type 0 where
   pub bits : map (has_bit 5) (0 ∷ 1 ∷ 2 ∷ 3 ∷ []) ≡ true ∷ false ∷ true ∷ false ∷ []
@@ -17,10 +17,16 @@ pub record WorkedDigests : Type 0 where
   pub last_six_bits : has_bit 5 66 ≡ true
   pub its_glyph : has of_one 4660 ≡ true
   pub of_another_number : has of_one 4661 ≡ false
-  -- 4724 has the bits 52, 39 and 9, and 5684 the bits 52, 35 and 11
+  -- 4724 has the bits 52, 58, 29, 39, 9 and 9, and 564 the bits 52, 26, 13, 35, 8 and 1
   pub of_another_sixteenth : has of_one 4724 ≡ false
-  pub of_another_512th : has of_one 5684 ≡ false
-  -- 32768 further on all three come again
+  pub of_another_512th : has of_one 564 ≡ false
+  pub not_by_fine : has (record of_one { fine = 0 }) 4660 ≡ false
+  pub not_by_halves : has (record of_one { halves = 0 }) 4660 ≡ false
+  pub not_by_quarters : has (record of_one { quarters = 0 }) 4660 ≡ false
+  pub not_by_middle : has (record of_one { middle = 0 }) 4660 ≡ false
+  pub not_by_blocks : has (record of_one { blocks = 0 }) 4660 ≡ false
+  pub not_by_coarse : has (record of_one { coarse = 0 }) 4660 ≡ false
+  -- 32768 further on all six come again
   pub not_put_in : has of_one 37428 ≡ true
 
 pub worked_digests : WorkedDigests
@@ -33,6 +39,12 @@ worked_digests = record {
   of_another_number = refl;
   of_another_sixteenth = refl;
   of_another_512th = refl;
+  not_by_fine = refl;
+  not_by_halves = refl;
+  not_by_quarters = refl;
+  not_by_middle = refl;
+  not_by_blocks = refl;
+  not_by_coarse = refl;
   not_put_in = refl;
 }
 

@@ -10,7 +10,8 @@ use Rattle.layout_context.proofs.stages.step_on.Goals as goal
 pub returns-then-not-has-clause-ok : goal.returns-then-not-has-clause-ok
 returns-then-not-has-clause-ok c =
     let here : Walk = record { buffer = c.args.buffer.now; spot = c.args.spot } in
-    let item = c.item-item.ensures in
+    let items = c.items-items.ensures in
+    let item = c.at-item.ensures in
     let said = c.has.ensures in
     let not = c.if-not-has.true in
     let none : has c.args.named.now.digest (item_at here.buffer here.spot.at).glyph_id ≡ false = cc in

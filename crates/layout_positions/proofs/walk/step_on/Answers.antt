@@ -20,4 +20,4 @@ returns-then-not-has c =
     let not = c.if-not-has.true in
     let none : has c.args.named.now.digest (nth here.buffer.items here.at).glyph_id ≡ false = cc in
     let inside : nat_lt here.at (length here.buffer.items) ≡ true = grind (arith, nat_tests, c.if-len-spot.false, c.len.ensures.items) in
-    sym (step_out c.args.named.now.lookup here (c.requires.out (nth here.buffer.items here.at).glyph_id none) inside)
+    sym (step_out c.args.named.now.lookup here (c.requires.said.out (nth here.buffer.items here.at).glyph_id none) inside)

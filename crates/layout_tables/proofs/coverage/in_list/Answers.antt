@@ -9,8 +9,8 @@ loop-from-preserved-then-glyph-there c =
     let l = c.loop-from in
     let glyph-at : ℕ → ℕ = λ i. u16_of c.args.table.now (c.args.start + 4 + 2 * i) in
     record {
-      within = omega (arith, l.invariant.within, c.loop-from-test.true);
-      same = before glyph-at glyph-at c.args.glyph l.from l.end (listed c.args.table.now c.args.start c.args.glyph) c.loop-from-test.true
+      within = omega (arith, l.invariant.within, c.loop-from-test.true, c.middle_of-middle.ensures);
+      same = before glyph-at glyph-at c.args.glyph l.from l.end c.middle_of-middle.result (listed c.args.table.now c.args.start c.args.glyph) c.loop-from-test.true c.middle_of-middle.ensures
           (omega (arith, c.if-glyph-there.true, c.listed_glyph-there.ensures)) l.invariant.same;
     }
 
@@ -20,7 +20,7 @@ loop-from-preserved c =
     let glyph-at : ℕ → ℕ = λ i. u16_of c.args.table.now (c.args.start + 4 + 2 * i) in
     record {
       within = l.invariant.within;
-      same = behind glyph-at glyph-at c.args.glyph l.from l.end (listed c.args.table.now c.args.start c.args.glyph) c.loop-from-test.true
+      same = behind glyph-at glyph-at c.args.glyph l.from l.end c.middle_of-middle.result (listed c.args.table.now c.args.start c.args.glyph) c.loop-from-test.true c.middle_of-middle.ensures
           (omega (arith, c.if-glyph-there.false, c.listed_glyph-there.ensures))
           (omega (arith, c.if-there-glyph.true, c.listed_glyph-there.ensures)) l.invariant.same;
     }
@@ -29,6 +29,6 @@ pub returns-else-there-glyph : goal.returns-else-there-glyph
 returns-else-there-glyph c =
     let l = c.loop-from in
     let glyph-at : ℕ → ℕ = λ i. u16_of c.args.table.now (c.args.start + 4 + 2 * i) in
-    there glyph-at glyph-at c.args.glyph l.from l.end (listed c.args.table.now c.args.start c.args.glyph) c.loop-from-test.true
+    there glyph-at glyph-at c.args.glyph l.from l.end c.middle_of-middle.result (listed c.args.table.now c.args.start c.args.glyph) c.loop-from-test.true c.middle_of-middle.ensures
     (omega (arith, c.if-glyph-there.false, c.listed_glyph-there.ensures))
     (omega (arith, c.if-there-glyph.false, c.listed_glyph-there.ensures)) l.invariant.same
