@@ -97,7 +97,9 @@ impl hb_glyph_info_t {
     }
 
     /// Sets the eight properties that depend on the character alone; the others stay. Adds to
-    /// `scratch_flags` what the character shows of its text.
+    /// `scratch_flags` what the character shows of its text. Inlined into the walk over a text, so that an item
+    /// needn't be written to memory for the call.
+    #[inline(always)]
     pub fn init_unicode_props<U: hb_unicode_funcs_t>(&mut self, scratch_flags: &mut ScratchFlags)
         ensures item { self.new ≡ with_unicode_props U.unicode self.old }
         ensures flags { scratch_flags.new
