@@ -22,8 +22,11 @@ const COMBINING_GRAPHEME_JOINER: char = '\u{34F}';
 /// U+180B. Before it CGJ alone is hidden, and there are no joiners.
 const FIRST_MONGOLIAN_SELECTOR: char = '\u{180B}';
 
-/// U+180F. From it up to U+200C no character is hidden.
+/// U+180F. From it up to ZWNJ, and from ZWJ up to the tags, no character is hidden.
 const LAST_MONGOLIAN_SELECTOR: char = '\u{180F}';
+
+/// U+E0020, the first of the tags.
+const FIRST_TAG: char = '\u{E0020}';
 
 const ZERO_WIDTH_NON_JOINER: char = '\u{200C}';
 
@@ -97,7 +100,9 @@ impl hb_glyph_info_t {
     }
 
     /// Sets the eight properties that depend on the character alone; the others stay. Adds to
-    /// `scratch_flags` what the character shows of its text.
+    /// `scratch_flags` what the character shows of its text. Inlined into the walk over a text, so that an item
+    /// needn't be written to memory for the call.
+    #[inline(always)]
     pub fn init_unicode_props<U: hb_unicode_funcs_t>(&mut self, scratch_flags: &mut ScratchFlags)
         ensures item { self.new ≡ with_unicode_props U.unicode self.old }
         ensures flags { scratch_flags.new
@@ -309,14 +314,16 @@ impl hb_glyph_info_t {
     }
 }
 
-/// Whether a character stands where some are hidden, or joiners: at CGJ, among the Mongolian selectors, or from
-/// ZWNJ on.
+/// Whether a character stands where some are hidden, or joiners: at CGJ, among the Mongolian selectors, at ZWNJ and
+/// ZWJ, or from the tags on.
 fn may_be_hidden(c: char) -> bool
-    ensures { result ≡ (c == 0x34F || (nat_le 0x180B c && (nat_le c 0x180F || nat_le 0x200C c))) }
+    ensures { result ≡ (c == 0x34F || (nat_le 0x180B c && (nat_le c 0x180F
+        || (nat_le 0x200C c && (nat_le c 0x200D || nat_le 0xE0020 c))))) }
 {
     c == COMBINING_GRAPHEME_JOINER
         || FIRST_MONGOLIAN_SELECTOR <= c
-            && (c <= LAST_MONGOLIAN_SELECTOR || ZERO_WIDTH_NON_JOINER <= c)
+            && (c <= LAST_MONGOLIAN_SELECTOR
+                || ZERO_WIDTH_NON_JOINER <= c && (c <= ZERO_WIDTH_JOINER || FIRST_TAG <= c))
 }
 
 /// Whether lookups see a character though it is ignorable: Mongolian variation selectors, tags, and CGJ.
@@ -325,6 +332,6 @@ fn is_hidden(c: char) -> bool
 {
     matches!(
         c,
-        FIRST_MONGOLIAN_SELECTOR..='\u{180D}' | '\u{180F}' | '\u{E0020}'..='\u{E007F}' | COMBINING_GRAPHEME_JOINER
+        FIRST_MONGOLIAN_SELECTOR..='\u{180D}' | '\u{180F}' | FIRST_TAG..='\u{E007F}' | COMBINING_GRAPHEME_JOINER
     )
 }

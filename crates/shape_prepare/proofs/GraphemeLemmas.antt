@@ -1,17 +1,56 @@
--- An item that continues already, and is no ZWJ.
-use Rattle.std.proofs.Common.{◌≡◌, Bool, true, false, refl, sym, ap}
-use Rattle.std.specs.Prelude.{◌&&◌}
+-- Items that stay as they are: those on which no rule has a say, and those that continue already and are no ZWJ.
+use Rattle.std.proofs.Common.{◌≡◌, ℕ, Bool, true, false, not, ◌&&◌, ◌||◌, nat_lt, refl, sym, ap, ◌∙◌, arith}
+use Rattle.std.proofs.lemmas.Bool.{and_parts}
+use Rattle.std.proofs.lemmas.Bool.Decides.{nat_tests}
 use Rattle.shape_items.specs.Items.{Item}
 use Rattle.shape_common.specs.Unicode.{UnicodeMeaning}
-use Rattle.shape_prepare.specs.Graphemes.{continues, with_continuation, is_to_next, is_regional_indicator}
+use Rattle.shape_prepare.specs.Graphemes.{continues, is_joined, is_joining, is_unasked, is_left_alone, with_continuation, is_to_next, is_regional_indicator}
 use Rattle.shape_prepare.specs.declared.graphemes.Before.{Before}
-use Rattle.shape_prepare.specs.declared.graphemes.Before.TheVariants.{Plain}
+use Rattle.shape_prepare.specs.declared.graphemes.Before.TheVariants.{Plain, OpenIndicator, Zwj}
 
 never_both : (test : Bool) → (test && false) ≡ false
 never_both true = refl
 never_both false = refl
 
--- it is left as it is
+-- nothing is joined to what is no ZWJ
+is_joined-alone : (unicode : UnicodeMeaning) (before : Before) (c : ℕ) → not (is_joining before) ≡ true → is_joined unicode before c ≡ false
+is_joined-alone unicode Plain c alone = refl
+is_joined-alone unicode OpenIndicator c alone = refl
+is_joined-alone unicode Zwj c alone = absurd (cc)
+
+or_false : (test : Bool) → (test || false) ≡ test
+or_false true = refl
+or_false false = refl
+
+left_alone : (before : Before) (item : Item) → is_left_alone before item ≡ true
+    → ((not (is_joining before) ≡ true) × (is_unasked item.properties.general_category ≡ true)) × (nat_lt item.codepoint 0x1F1E6 ≡ true)
+left_alone before item alone =
+    let tests = and_parts (not (is_joining before) && is_unasked item.properties.general_category) (nat_lt item.codepoint 0x1F1E6) alone in
+    (and_parts (not (is_joining before)) (is_unasked item.properties.general_category) tests.0, tests.1)
+
+-- an item on which no rule has a say continues only what it did before
+continues-left_alone : (unicode : UnicodeMeaning) (before : Before) (item : Item) → is_left_alone before item ≡ true
+    → continues unicode before item ≡ item.properties.continuation
+continues-left_alone unicode before item alone =
+    let tests = left_alone before item alone in
+    rw (is_joined-alone unicode before item.codepoint tests.0.0, tests.0.1)
+    (or_false (item.properties.continuation || false) ∙ or_false item.properties.continuation)
+
+-- so it is left as it is
+pub with_continuation-left_alone : (unicode : UnicodeMeaning) (before : Before) (item : Item) → is_left_alone before item ≡ true
+    → item ≡ with_continuation (continues unicode before item) item
+with_continuation-left_alone unicode before item alone =
+    sym (ap (λ c. with_continuation c item) (continues-left_alone unicode before item alone))
+
+-- and is nothing special to the next one
+pub is_to_next-left_alone : (unicode : UnicodeMeaning) (before : Before) (item : Item) → is_left_alone before item ≡ true
+    → Plain ≡ is_to_next unicode before item
+is_to_next-left_alone unicode before item alone =
+    let tests = left_alone before item alone in
+    let no_indicator : is_regional_indicator item.codepoint ≡ false = grind (arith, nat_tests, tests.1) in
+    rw (no_indicator, tests.0.1, never_both (item.properties.zwj && not (is_joined unicode before item.codepoint))) refl
+
+-- an item that continues already, and is no ZWJ, is left as it is
 pub with_continuation-settled : (unicode : UnicodeMeaning) (before : Before) (item : Item) → item.properties.continuation ≡ true
     → item ≡ with_continuation (continues unicode before item) item
 with_continuation-settled unicode before item continuing =

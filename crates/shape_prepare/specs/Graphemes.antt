@@ -1,5 +1,5 @@
 -- The properties of a text's items, and which of them continue a grapheme.
-use Rattle.std.specs.Prelude.{ℕ, Bool, true, false, ◌&&◌, ◌||◌, not, nat_le, if◌then◌else◌, List, [], ◌∷◌, map, fold}
+use Rattle.std.specs.Prelude.{ℕ, Bool, true, false, ◌&&◌, ◌||◌, not, nat_le, nat_lt, if◌then◌else◌, List, [], ◌∷◌, map, fold}
 use Rattle.shape_items.specs.Buffer.{Buffer}
 use Rattle.shape_items.specs.Items.{Item}
 use Rattle.shape_common.specs.Unicode.{UnicodeMeaning}
@@ -75,6 +75,12 @@ is_to_next unicode before item =
 -- no rule has a say: the item continues already, as a mark does, and is no ZWJ
 abbrev pub is_settled : Item → Bool
 is_settled item = item.properties.continuation && not item.properties.zwj
+
+-- no rule has a say: nothing joins the item to the one before, its category is one that no rule asks about, and it
+-- stands before the regional indicators
+abbrev pub is_left_alone : Before → Item → Bool
+is_left_alone before item =
+    not (is_joining before) && is_unasked item.properties.general_category && nat_lt item.codepoint 0x1F1E6
 
 abbrev pub with_continuation : Bool → Item → Item
 with_continuation continuation item = record item { properties = record item.properties { continuation = continuation } }

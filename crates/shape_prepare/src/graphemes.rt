@@ -19,6 +19,9 @@ use shape_buffer::buffer::{
 };
 use shape_buffer::interfaces::hb_unicode_funcs_t;
 
+/// U+1F1E6, the first of the characters of which two stand for a flag.
+const FIRST_INDICATOR: char = '\u{1F1E6}';
+
 /// What an item is to the next one.
 #[derive(Clone, Copy, PartialEq, Eq, Debug)]
 pub(crate) enum Before {
@@ -72,12 +75,25 @@ fn is_settled(info: &hb_glyph_info_t) -> bool
     info._hb_glyph_info_get_continuation() && !info._hb_glyph_info_get_zwj()
 }
 
+/// Whether an item stays as it is, since no rule has a say: nothing joins it to the one before, no rule asks about its
+/// category, and it stands before the regional indicators. So most letters past ASCII are decided at once.
+fn is_left_alone(before: Before, info: &hb_glyph_info_t) -> bool
+    ensures { result ≡ Graphemes.is_left_alone before info.now }
+{
+    !before.is_zwj()
+        && is_unasked(info._hb_glyph_info_get_general_category())
+        && info.codepoint < FIRST_INDICATOR
+}
+
 /// Marks an item as a continuation if it is one, and says what it is to the next one.
 fn mark_continuation<U: hb_unicode_funcs_t>(before: Before, info: &mut hb_glyph_info_t) -> Before
     ensures item { info.new ≡ Graphemes.with_continuation
         (Graphemes.continues U.unicode before info.old) info.old }
     ensures next { result ≡ Graphemes.is_to_next U.unicode before info.old }
 {
+    if is_left_alone(before, info) {
+        return Before::Plain;
+    }
     if is_settled(info) {
         return Before::Plain;
     }
@@ -172,7 +188,7 @@ fn is_skin_tone(c: char) -> bool
 pub(crate) fn is_regional_indicator(c: char) -> bool
     ensures { result ≡ Graphemes.is_regional_indicator c }
 {
-    matches!(c, '\u{1F1E6}'..='\u{1F1FF}')
+    matches!(c, FIRST_INDICATOR..='\u{1F1FF}')
 }
 
 /// Whether a character that is no mark extends what stands before it: a voice mark of halfwidth katakana, or

@@ -1,8 +1,9 @@
 -- The small tables agree with the database: tests computed over the tables, and over the database's rows.
-use Rattle.std.proofs.Common.{◌≡◌, ◌≢◌, ℕ, Bool, true, false, not, ◌&&◌, ◌||◌, ◌==◌, List, [], ◌∷◌, Option, Some, None, unwrap_or, option_map, refl, sym, ap, ap₂, subst, ◌∙◌, inl, inr, eqb-true, eq-eqb}
+use Rattle.std.proofs.Common.{◌≡◌, ◌≢◌, ℕ, ◌<◌, Bool, true, false, not, ◌&&◌, ◌||◌, ◌==◌, List, [], ◌∷◌, Option, Some, None, slice_index_or, unwrap_or, option_map, refl, sym, ap, ap₂, subst, ◌∙◌, inl, inr, eqb-true, eq-eqb}
 use Rattle.std.proofs.lemmas.Bool.{and_parts, or_cases, cond-true}
 use Rattle.std.specs.List.{find, list_all, list_any}
 use Rattle.std.specs.Option.{option_map_or}
+use Rattle.ucd_table.proofs.Facts.{Stepped-below}
 use Rattle.ucd_table.proofs.RangedFacts.{Stepped-at_points}
 use Rattle.ucd_table.proofs.Computing.{tables}
 use Rattle.ucd_bidi.specs.Binary.{is_bidi_mirrored}
@@ -14,6 +15,9 @@ use Rattle.ucd_normal.specs.DecompositionRows.{Tag}
 use Rattle.ucd_normal.specs.DecompositionRows.Tag.{vertical}
 use Rattle.ucd_normal.proofs.DecompositionLemmas.{decomposition_stepped}
 use Rattle.shape_common.specs.Category.{is_space_category}
+use Rattle.shape_common.specs.CategoryNumber.{category_number, category_of as numbered}
+use Rattle.shape_common.specs.declared.general_category.hb_unicode_general_category_t.TheVariants.{UppercaseLetter}
+use Rattle.shape_common.proofs.CategoryLemmas.{category_of-number}
 use Rattle.shape_unicode.specs.Category.{category_from, category_of}
 use Rattle.shape_unicode.specs.Mirror.{other_of_pair}
 use Rattle.shape_unicode.specs.Space.{space_of}
@@ -22,6 +26,7 @@ use Rattle.shape_unicode.specs.Tables.{Tables, by_rows, by_trees, same_tables}
 use Rattle.shape_unicode.specs.SplitLaws.{true_is_false}
 use Rattle.shape_unicode.specs.FormLaws.{look_up, found_pair, mirrored_cases}
 use Rattle.shape_unicode.specs.OfDatabase.{MirrorsAreMutual, VerticalsAreMapped, VerticalsAreAll, SpacesAreSeparators}
+use Rattle.shape_unicode.specs.declared.category.TheConstants.{ASCII_CATEGORIES}
 use Rattle.shape_unicode.specs.declared.mirror_pairs.TheConstants.{MIRROR_PAIRS}
 use Rattle.shape_unicode.specs.declared.vertical.TheConstants.{VERTICAL_FORMS}
 use Rattle.shape_unicode.specs.declared.space.TheConstants.{SPACES}
@@ -137,6 +142,21 @@ verticals_are_all d x mapping =
     let form = some_passes (λ form. answers (vertical_of form.0) d) VERTICAL_FORMS
     (forms_ok d (ap (λ e. not (is_vertical e.0 && is_single e.1)) mapping)) in
     (form.0.0, answers-true _ _ form.1)
+
+-- ---- categories of ASCII
+
+-- the numbers tell two categories apart, and the database's are those of the table
+ascii_numbers : (c : ℕ) → c < 128
+    → (category_number (category_from (general_category c)) == category_number (slice_index_or ASCII_CATEGORIES c UppercaseLetter)) ≡ true
+unfolding by_trees
+ascii_numbers =
+    Stepped-below general_category general_category_stepped
+    (λ c v. category_number (category_from v) == category_number (slice_index_or ASCII_CATEGORIES c UppercaseLetter)) 128 refl
+
+pub ascii_category : (c : ℕ) → c < 128 → slice_index_or ASCII_CATEGORIES c UppercaseLetter ≡ category_of c
+ascii_category c ascii =
+    sym (category_of-number (slice_index_or ASCII_CATEGORIES c UppercaseLetter))
+    ∙ ap numbered (sym (eqb-true _ _ (ascii_numbers c ascii))) ∙ category_of-number (category_of c)
 
 -- ---- spaces
 

@@ -2,7 +2,7 @@
 ghost use Rattle.std.specs.Prelude.{◌≡◌};
 ghost use Rattle.shape_unicode.specs.Meaning.{unicode_database};
 
-use crate::category::category_from;
+use crate::category::category_at;
 use crate::ccc::modified_ccc_from;
 use crate::hidden::{is_ignorable, is_selector};
 use crate::mirror::mirrored_of;
@@ -14,7 +14,6 @@ use crate::vertical::vertical_of;
 use shape_buffer::buffer::{Direction, Script};
 use shape_buffer::interfaces::space_types::space_t;
 use shape_buffer::interfaces::{hb_unicode_funcs_t, hb_unicode_general_category_t};
-use ucd_category::GeneralCategory;
 
 /// The Unicode functions over the whole database. It has no value: its functions are called as
 /// `UnicodeDatabase::decompose(c)`, and it is given as a type.
@@ -30,7 +29,7 @@ impl hb_unicode_funcs_t for UnicodeDatabase {
 
     /// General_Category.
     fn general_category(c: char) -> hb_unicode_general_category_t {
-        category_from(GeneralCategory::for_char(c))
+        category_at(c)
     }
 
     /// Canonical_Combining_Class, with some classes changed.

@@ -61,7 +61,9 @@ fn is_mark_at(infos: &[hb_glyph_info_t], i: usize) -> bool
 }
 
 /// Places the marks of the base at a place, if there is one with marks, and returns up to which place all is done:
-/// up to the end of these marks, else of the item.
+/// up to the end of these marks, else of the item. A call of its own: inlined, it leaves no register to the walk over
+/// letters without marks.
+#[inline(never)]
 fn position_at<F: hb_font_t>(
     face: &F,
     frame: MarkFrame,

@@ -1,6 +1,14 @@
-use Rattle.std.proofs.Common.{◌≡◌, true, false, rules}
-use Rattle.shape_prepare.proofs.GraphemeLemmas.{with_continuation-settled, is_to_next-settled}
+use Rattle.std.proofs.Common.{◌≡◌, true, false, sym, rules}
+use Rattle.shape_prepare.proofs.GraphemeLemmas.{with_continuation-settled, is_to_next-settled, with_continuation-left_alone, is_to_next-left_alone}
 use Rattle.shape_prepare.proofs.graphemes.mark_continuation.Goals as goal
+
+pub returns-then-is_left_alone-clause-item : goal.returns-then-is_left_alone-clause-item
+returns-then-is_left_alone-clause-item g c =
+    with_continuation-left_alone g.U.hb_unicode_funcs_t.unicode c.args.before c.args.info.now (sym c.if-is_left_alone.ensures)
+
+pub returns-then-is_left_alone-clause-next : goal.returns-then-is_left_alone-clause-next
+returns-then-is_left_alone-clause-next g c =
+    is_to_next-left_alone g.U.hb_unicode_funcs_t.unicode c.args.before c.args.info.now (sym c.if-is_left_alone.ensures)
 
 pub returns-then-is_settled-clause-item : goal.returns-then-is_settled-clause-item
 returns-then-is_settled-clause-item g c =
