@@ -4,3 +4,4 @@ pub mod Lookups
 pub mod Positions
 pub mod Glyphs
 pub mod Steps
+pub mod Phases

@@ -2,6 +2,7 @@
 ghost use Rattle.shape_glyphs.specs.Worked.Classes.{ClassesOfGlyphs};
 ghost use Rattle.shape_glyphs.specs.Worked.Glyphs.{WorkedGlyphs};
 ghost use Rattle.shape_glyphs.specs.Worked.Lookups.{WorkedLookups};
+ghost use Rattle.shape_glyphs.specs.Worked.Phases.{WorkedPhases};
 ghost use Rattle.shape_glyphs.specs.Worked.Positions.{WorkedPositions};
 ghost use Rattle.shape_glyphs.specs.Worked.Steps.{WorkedSteps};
 ghost use Rattle.shape_glyphs.specs.Worked.Substitution.{WorkedSubstitution};
@@ -21,7 +22,9 @@ pub fn positions_meet_worked_cases()
     ensures glyphs { WorkedGlyphs }
 {}
 
-/// The order of the steps, on glyphs of which each step leaves a trace.
+/// The order of the steps, on glyphs of which each step leaves a trace; and of substitution and of positions as
+/// whole lists, in which ccc, spaces and marks have their places.
 pub fn steps_meet_worked_cases()
-    ensures { WorkedSteps }
+    ensures steps { WorkedSteps }
+    ensures phases { WorkedPhases }
 {}

@@ -1,19 +1,20 @@
 -- The rows of what is promised of a normalised list, and of what canonical form asks.
-use Rattle.std.proofs.Common.{◌≡◌, ◌⊎◌, ℕ, zero, suc, ◌<◌, ◌≤◌, nat_lt, Bool, true, false, List, [], ◌∷◌, ◌++◌, length, map, replicate, inl, inr, refl, ap, arith}
+use Rattle.std.proofs.Common.{◌≡◌, ◌⊎◌, ℕ, zero, suc, ◌<◌, ◌≤◌, nat_lt, Bool, true, false, List, [], ◌∷◌, ◌++◌, length, map, replicate, inl, inr, refl, ap, sym, ◌∙◌, arith}
 use Rattle.std.specs.Prelude.{All, Contains}
 use Rattle.std.specs.List.{list_all}
 use Rattle.std.proofs.lemmas.Bool.Decides.{nat_tests}
 use Rattle.std.proofs.lemmas.List.{length-append}
 use Rattle.std.proofs.lemmas.List.Sums.{AllPass-from_list_all}
 use Rattle.canonical_form.specs.Chain.{full, full_text}
+use Rattle.shape_items.specs.Buffer.{Buffer}
 use Rattle.shape_items.specs.Items.{Item, ccc_of_item}
 use Rattle.shape_items.specs.Clusters.{merge}
 use Rattle.shape_items.specs.UnicodeProps.{is_hidden_char}
 use Rattle.shape_plan.specs.Rules.{Rules, has_glyph}
 use Rattle.shape_normalize.specs.Normalized.{content, hidden_char}
 use Rattle.shape_normalize.specs.RoundTwo.{run_settled}
-use Rattle.shape_normalize.specs.Worked.Form.{GlyphsBroughtIn, GlyphsOfItems, items_compared, placed, with_hidden, HiddenItems, ShortRuns, MarksOfLists, SelectorsAsked, OrderAsked, SpellingsTested, PremisesAsked, FormWorked}
-use Rattle.shape_normalize.specs.CanonicalForm.{HasNoSelector}
+use Rattle.shape_normalize.specs.Worked.Form.{GlyphsBroughtIn, GlyphsOfItems, items_compared, placed, with_hidden, HiddenItems, ShortRuns, MarksOfLists, SelectorsAsked, OrderAsked, SpellingsTested, PremisesAsked, acute, all_glyphs, ListsNormalized, TextsCompared, FormWorked}
+use Rattle.shape_normalize.specs.CanonicalForm.{HasNoSelector, text_of}
 use Rattle.shape_normalize.specs.Worked.Fixture.{item, rules_in, face_of}
 
 -- what holds of the one element of a list
@@ -118,6 +119,30 @@ marks_of_lists = record {
   in_order = λ new is. is.new_list refl refl refl;
 }
 
+lists_normalized : ListsNormalized
+unfolding merge run_settled
+lists_normalized = record {
+  one_list = λ new is. ap (λ (b : Buffer). text_of b) is.made;
+  as_it_was = λ is. let e : 2 ≡ 1 = ap (λ (b : Buffer). length b.items) is.made in omega (arith, e);
+  in_its_form = λ new is. is.form;
+  past_on_the_way = λ new is. let le : 3 ≤ 2 = is.counted in omega (arith, le);
+}
+
+texts_compared : TextsCompared
+unfolding merge run_settled
+texts_compared = record {
+  called_other = λ new_a new_b are.
+      let a : text_of new_a ≡ 0x61 ∷ 0x301 ∷ [] = ap (λ (b : Buffer). text_of b) are.first.made in
+      let b : text_of new_b ≡ 0x61 ∷ 0x301 ∷ [] = ap (λ (b : Buffer). text_of b) are.second.made in
+      absurd (let e : false ≡ true = are.equal.1 (a ∙ sym b) in cc);
+  called_same = λ new_a new_b are.
+      let a : text_of new_a ≡ 0x61 ∷ 0x301 ∷ [] = ap (λ (b : Buffer). text_of b) are.first.made in
+      let b : text_of new_b ≡ 0x61 ∷ 0x323 ∷ 0x301 ∷ [] = ap (λ (b : Buffer). text_of b) are.second.made in
+      let e : 2 ≡ 3 = ap (λ (l : List ℕ). length l) (sym a ∙ (are.equal.0 refl ∙ b)) in
+      omega (arith, e);
+  by_equivalence = λ rules a b new_a new_b same are of_a of_b. are.equivalent of_a of_b;
+}
+
 no_selector : HasNoSelector (rules_in 4 []) (0x61 ∷ 0x301 ∷ [])
 no_selector zero d lt = refl
 no_selector (suc zero) d lt = refl
@@ -183,6 +208,8 @@ form_worked = record {
   hidden = hidden_items;
   short_runs = short_runs;
   marks = marks_of_lists;
+  normalized = lists_normalized;
+  texts = texts_compared;
   selectors = selectors_asked;
   order = order_asked;
   tested = spellings_tested;

@@ -1,5 +1,6 @@
--- What is promised of a normalised list, and what canonical form asks, on lists that are worked out by hand.
-use Rattle.std.specs.Prelude.{◌≡◌, ◌++◌, ◌==◌, if◌then◌else◌, ℕ, Bool, true, false, List, [], ◌∷◌, map, drop, replicate, Some, None, refl}
+-- What is promised of a normalised list and of two that are compared, and what canonical form asks, on lists that are worked
+-- out by hand.
+use Rattle.std.specs.Prelude.{◌≡◌, ◌↔◌, ◌++◌, ◌==◌, if◌then◌else◌, ℕ, Bool, true, false, IsTrue, List, [], ◌∷◌, map, drop, replicate, Some, None, refl}
 use Rattle.std.specs.List.{list_any}
 use Rattle.canonical_form.specs.Expanded.{begins_with_mark}
 use Rattle.shape_items.specs.Buffer.{Buffer}
@@ -7,7 +8,8 @@ use Rattle.shape_items.specs.Items.{Item, char_of, is_mark_item}
 use Rattle.shape_items.specs.Prepared.{IsPrepared}
 use Rattle.shape_common.specs.Unicode.{is_mark}
 use Rattle.shape_plan.specs.Rules.{Rules}
-use Rattle.shape_normalize.specs.CanonicalForm.{text_of, HasNoSelector, HasLawfulHooks, IsSupported, EndsInOrder, TextPremises, EquivalencePremises, CanonicalTextPremises, CanonicalFormPremises, PlainPremises, CutPremises}
+use Rattle.shape_normalize.specs.CanonicalForm.{text_of, AreEquivalent, HasNoSelector, HasLawfulHooks, IsSupported, EndsInOrder, TextPremises, EquivalencePremises, CanonicalTextPremises, CanonicalFormPremises, PlainPremises, CutPremises}
+use Rattle.shape_normalize.specs.NormalForm.{NormalForm, Normalizes, AreCompared}
 use Rattle.shape_normalize.specs.Normalized.{BroughtInHaveGlyphs, content, without_cluster, HasItemGlyph, HasShortRuns, PreservesHidden, OrdersExpanded, Recomposes}
 use Rattle.shape_normalize.specs.PremiseTest.{meets_premises}
 use Rattle.shape_normalize.specs.RoundOne.{round_one}
@@ -115,6 +117,30 @@ pub record MarksOfLists : Type 0 where
   pub in_order : (new : Buffer) → OrdersExpanded (rules_in 1 all_glyphs) acute_and_dot new
       → OrdersMarks (round_one (rules_in 1 all_glyphs) acute_and_dot).items new.items
 
+-- ---- what normalising and comparing promise
+
+-- U+00E1 with a dot below, in a buffer for two items. Mode 3 makes three of them before it composes two again
+abbrev pub in_room_of_two : Buffer
+in_room_of_two = record (buffer_of (item 0xE1 0 ∷ item 0x323 1 ∷ [])) { length_limit = Some 2 }
+
+-- one list alone is normalised, in its form, and no longer than the limit on the way
+pub record ListsNormalized : Type 0 where
+  pub one_list : (new : Buffer) → Normalizes (rules_in 2 all_glyphs) acute new → text_of new ≡ 0xE1 ∷ []
+  pub as_it_was : Normalizes (rules_in 2 all_glyphs) acute acute → ⊥
+  pub in_its_form : (new : Buffer) → Normalizes (rules_in 2 all_glyphs) acute new → NormalForm (rules_in 2 all_glyphs) acute new
+  pub past_on_the_way : (new : Buffer) → Normalizes (rules_in 3 all_glyphs) in_room_of_two new → ⊥
+
+-- both spellings of U+00E1 by mode 1
+abbrev pub SpellingsCompared : Buffer → Buffer → Bool → Type 0
+SpellingsCompared new_a new_b same = AreCompared (rules_in 1 all_glyphs) acute (buffer_of (item 0xE1 7 ∷ [])) new_a new_b same
+
+-- two spellings are the same, and a further mark makes another text; where canonical form is asked, equivalence decides
+pub record TextsCompared : Type 0 where
+  pub called_other : (new_a new_b : Buffer) → SpellingsCompared new_a new_b false → ⊥
+  pub called_same : (new_a new_b : Buffer) → AreCompared (rules_in 1 all_glyphs) acute acute_and_dot new_a new_b true → ⊥
+  pub by_equivalence : (rules : Rules) (a b new_a new_b : Buffer) (same : Bool) → AreCompared rules a b new_a new_b same
+      → CanonicalFormPremises rules a → CanonicalFormPremises rules b → IsTrue same ↔ AreEquivalent rules (text_of a) (text_of b)
+
 -- ---- premises
 
 pub record SelectorsAsked : Type 0 where
@@ -167,6 +193,8 @@ pub record FormWorked : Type 0 where
   pub hidden : HiddenItems
   pub short_runs : ShortRuns
   pub marks : MarksOfLists
+  pub normalized : ListsNormalized
+  pub texts : TextsCompared
   pub selectors : SelectorsAsked
   pub order : OrderAsked
   pub tested : SpellingsTested

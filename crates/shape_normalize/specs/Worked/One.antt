@@ -6,6 +6,7 @@ use Rattle.shape_common.specs.declared.general_category.hb_unicode_general_categ
 use Rattle.shape_common.specs.declared.text_types.BufferClusterLevel.TheVariants.{Characters}
 use Rattle.shape_plan.specs.Plan.{Plan}
 use Rattle.shape_plan.specs.Rules.{goes_short, mode_recomposes, used_mode}
+use Rattle.shape_normalize.specs.Recast.{mapped_char, recast}
 use Rattle.shape_normalize.specs.RoundOne.{is_fallback_space, item_glyph, emitted_for, skipped_item, variant_items, sequences, is_selector_sequence, variation_sequence_spans, variation_sequences_from, variation_sequences_merged, round_one}
 use Rattle.shape_normalize.specs.Worked.Fixture.{fixture, face_of, rules_in, item, buffer_of, at, glyph, marked}
 
@@ -101,6 +102,28 @@ odd_item c =
 -- an item's character, ccc and the shaper's category byte
 abbrev pub char_ccc_and_category : Item → ℕ × (ℕ × ℕ)
 char_ccc_and_category one = (one.codepoint, (one.properties.modified_ccc, one.properties.shaper_category))
+
+-- U+0062 recast as U+0301 with glyph 9, which isn't that of either in any face here
+abbrev pub recast_item : Item
+recast_item = recast fixture (odd_item 0x62) (record { c = 0x301; glyph = 9 })
+
+-- a character that is mapped, and what an item has when it is recast: the character and the glyph; its place and mask as they
+-- were; and the character's properties, beside the shaper's byte
+pub record RecastWorked : Type 0 where
+  pub with_glyph : mapped_char (λ c. Some (record { 0 = 9 })) 0x301 ≡ record { c = 0x301; glyph = 9 }
+  pub without_glyph : mapped_char (λ c. None) 0x301 ≡ record { c = 0x301; glyph = 0 }
+  pub as_mapped : glyph recast_item ≡ (0x301, 9)
+  pub place : marked recast_item ≡ (0x301, (3, 256))
+  pub of_the_character : char_ccc_and_category recast_item ≡ (0x301, (230, 5))
+
+recast_worked : RecastWorked
+recast_worked = record {
+  with_glyph = refl;
+  without_glyph = refl;
+  as_mapped = refl;
+  place = refl;
+  of_the_character = refl;
+}
 
 -- what an item becomes
 pub record ItemsWorked : Type 0 where
@@ -242,6 +265,7 @@ scratch_one_worked = record { expanded = refl; kept = refl; space = refl; select
 pub record RoundOneWorked : Type 0 where
   pub modes : ModesWorked
   pub glyphs : GlyphsWorked
+  pub recast : RecastWorked
   pub items : ItemsWorked
   pub sequences : SequencesWorked
   pub variants : VariantsWorked
@@ -251,6 +275,7 @@ pub round_one_worked : RoundOneWorked
 round_one_worked = record {
   modes = modes_worked;
   glyphs = glyphs_worked;
+  recast = recast_worked;
   items = items_worked;
   sequences = sequences_worked;
   variants = variants_worked;

@@ -117,7 +117,9 @@ fn fallback_index<U: hb_unicode_funcs_t, F: hb_font_t>(
     0
 }
 
-/// An item that keeps its character, for which the face has no glyph.
+/// An item that keeps its character, for which the face has no glyph. A call of its own, so that an item with
+/// a glyph isn't charged for what this keeps.
+#[inline(never)]
 fn lacking_item<U: hb_unicode_funcs_t, F: hb_font_t>(
     face: &F,
     info: &hb_glyph_info_t,
@@ -142,7 +144,9 @@ fn lacking_item<U: hb_unicode_funcs_t, F: hb_font_t>(
     whole
 }
 
-/// An item that keeps its character, with its glyph, or with what replaces that.
+/// An item that keeps its character, with its glyph, or with what replaces that. Part of its caller, since
+/// most items pass here and a call would copy each once more.
+#[inline(always)]
 fn kept_item<U: hb_unicode_funcs_t, F: hb_font_t>(
     face: &F,
     info: &hb_glyph_info_t,
@@ -283,7 +287,9 @@ impl Emitted {
         Ok(())
     }
 
-    /// Emits what an item becomes. Refuses with `Length` if that passes the limit.
+    /// Emits what an item becomes. Refuses with `Length` if that passes the limit. Part of the loops that call
+    /// it, for each item of a text.
+    #[inline(always)]
     pub(crate) fn put_item<T: ShapingTypes>(
         &mut self,
         plan: &PlanOf<'_, T>,

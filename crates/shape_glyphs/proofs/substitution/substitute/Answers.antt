@@ -18,12 +18,18 @@ returns-then-apply_gpos g c =
 pub returns-in_err-substitute_stages : goal.returns-in_err-substitute_stages
 returns-in_err-substitute_stages g c =
     let p = err_from_is_err_and c.from_residual-in_err-substitute_stages.result c.from_residual-in_err-substitute_stages.ensures.1 in
-    let run = run_of g.T.Unicode.hb_unicode_funcs_t.unicode g.T.Engine.hb_ot_layout_t.masks g.T.Engine.hb_ot_layout_t.lookups g.T.Shaper.hb_ot_shaper_t.constants g.T.Shaper.hb_ot_shaper_t.hooks g.T.Face.hb_font_t.face c.args.plan.now c.args.face.now in
+    let shaper = g.T.Shaper.hb_ot_shaper_t in
+    let engine = g.T.Engine.hb_ot_layout_t in
+    let run_under = run_of g.T.Unicode.hb_unicode_funcs_t.unicode engine.masks engine.lookups shaper.constants shaper.hooks in
+    let run = run_under g.T.Face.hb_font_t.face c.args.plan.now c.args.face.now in
     rw (p.1, p.2, substitute_steps-stages run (sym c.apply_morx.ensures ∙ c.if-apply_morx.false)) (Refused-before _ c.in_err-substitute_stages.ensures)
 
 pub returns : goal.returns
 returns g c =
-    let run = run_of g.T.Unicode.hb_unicode_funcs_t.unicode g.T.Engine.hb_ot_layout_t.masks g.T.Engine.hb_ot_layout_t.lookups g.T.Shaper.hb_ot_shaper_t.constants g.T.Shaper.hb_ot_shaper_t.hooks g.T.Face.hb_font_t.face c.args.plan.now c.args.face.now in
+    let shaper = g.T.Shaper.hb_ot_shaper_t in
+    let engine = g.T.Engine.hb_ot_layout_t in
+    let run_under = run_of g.T.Unicode.hb_unicode_funcs_t.unicode engine.masks engine.lookups shaper.constants shaper.hooks in
+    let run = run_under g.T.Face.hb_font_t.face c.args.plan.now c.args.face.now in
     rw (substitute_steps-stages run (sym c.apply_morx.ensures ∙ c.if-apply_morx.false))
     (Ran-then c.in_ok-substitute_stages.ensures
     (Ran-made {f = λ b. b} c.in_ok-substitute_stages.ensures.within (record { made = refl; no_longer = omega arith; same_limit = refl })))

@@ -12,13 +12,19 @@ stages-preserved g c =
 pub returns-in_err-run_lookups : goal.returns-in_err-run_lookups
 returns-in_err-run_lookups g c =
     let p = err_from_is_err_and c.from_residual.result c.from_residual.ensures.1 in
-    let run = run_of g.T.Unicode.hb_unicode_funcs_t.unicode g.T.Engine.hb_ot_layout_t.masks g.T.Engine.hb_ot_layout_t.lookups g.T.Shaper.hb_ot_shaper_t.constants g.T.Shaper.hb_ot_shaper_t.hooks g.T.Face.hb_font_t.face c.args.plan.now c.args.face.now in
+    let shaper = g.T.Shaper.hb_ot_shaper_t in
+    let engine = g.T.Engine.hb_ot_layout_t in
+    let run_under = run_of g.T.Unicode.hb_unicode_funcs_t.unicode engine.masks engine.lookups shaper.constants shaper.hooks in
+    let run = run_under g.T.Face.hb_font_t.face c.args.plan.now c.args.face.now in
     rw (p.1, p.2) (Refused-stages run c.stages.i (g.T.Engine.hb_ot_layout_t.masks c.args.plan.now.ot_map).stages (omega arith)
     (Refused-after c.stages.invariant (Refused-here c.in_err-run_lookups.ensures)))
 
 pub returns-in_err-pause_after : goal.returns-in_err-pause_after
 returns-in_err-pause_after g c =
     let p = err_from_is_err_and c.from_residual-in_err-pause_after.result c.from_residual-in_err-pause_after.ensures.1 in
-    let run = run_of g.T.Unicode.hb_unicode_funcs_t.unicode g.T.Engine.hb_ot_layout_t.masks g.T.Engine.hb_ot_layout_t.lookups g.T.Shaper.hb_ot_shaper_t.constants g.T.Shaper.hb_ot_shaper_t.hooks g.T.Face.hb_font_t.face c.args.plan.now c.args.face.now in
+    let shaper = g.T.Shaper.hb_ot_shaper_t in
+    let engine = g.T.Engine.hb_ot_layout_t in
+    let run_under = run_of g.T.Unicode.hb_unicode_funcs_t.unicode engine.masks engine.lookups shaper.constants shaper.hooks in
+    let run = run_under g.T.Face.hb_font_t.face c.args.plan.now c.args.face.now in
     rw (p.1, p.2) (Refused-stages run c.stages.i (g.T.Engine.hb_ot_layout_t.masks c.args.plan.now.ot_map).stages (omega arith)
     (Refused-after c.stages.invariant (Refused-first_ran c.in_ok-run_lookups.ensures c.in_err-pause_after.ensures)))

@@ -6,4 +6,8 @@ use Rattle.shape_glyphs.proofs.substitution.substitute_stages.Given as goal
 -- the stages so far have run
 abbrev pub invariant-stages : goal.invariant-stages
 invariant-stages g l =
-    Ran (stage_steps (run_of g.T.Unicode.hb_unicode_funcs_t.unicode g.T.Engine.hb_ot_layout_t.masks g.T.Engine.hb_ot_layout_t.lookups g.T.Shaper.hb_ot_shaper_t.constants g.T.Shaper.hb_ot_shaper_t.hooks g.T.Face.hb_font_t.face l.plan l.face) l.i) l.fn.buffer l.buffer
+    let shaper = g.T.Shaper.hb_ot_shaper_t in
+    let engine = g.T.Engine.hb_ot_layout_t in
+    let run_under = run_of g.T.Unicode.hb_unicode_funcs_t.unicode engine.masks engine.lookups shaper.constants shaper.hooks in
+    let run = run_under g.T.Face.hb_font_t.face l.plan l.face in
+    Ran (stage_steps run l.i) l.fn.buffer l.buffer
