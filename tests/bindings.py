@@ -6,7 +6,10 @@ with features, directions, scripts and languages. The example in C runs under va
 Then `calls.c` calls each function of luthgarn.h with right and wrong inputs, with each block of memory refused in turn, and
 `--calls N` (10000) times at random, with a stack of 1 MiB; and 200 times under valgrind.
 
-Ends with status 77, and says why, if gcc, make, DejaVu Sans or the programs are missing and can't be built.
+The archive is built by `rt lib` if it isn't there. With `--over-ci` it is built over what `rt ci` has just proved in this
+folder, and luthgarn_c alone is proved again.
+
+Ends with status 77, and says why, if gcc, make or DejaVu Sans are missing, or there is no rt to build a program with.
 """
 import argparse
 import os
@@ -17,11 +20,12 @@ import subprocess
 import sys
 import tempfile
 
+from checks.archive import ARCHIVE, build_archive
+from checks.programs import FONTSHAPE, build as build_program
+
 HERE = os.path.dirname(os.path.abspath(__file__))
 BINDINGS = os.path.join(HERE, "..", "bindings")
 C = os.path.join(BINDINGS, "c")
-FONTSHAPE = os.path.join(HERE, "..", "crates", "fontshape", "out", "fontshape")
-ARCHIVE = os.path.join(HERE, "..", "crates", "luthgarn_c", "out", "libluthgarn_c.a")
 DEJAVU = "/usr/share/fonts/truetype/dejavu/DejaVuSans.ttf"
 NOTO = "/usr/share/fonts/truetype/noto/Noto%s-Regular.ttf"
 STACK = 1 << 20  # what luthgarn.h asks for
@@ -66,16 +70,15 @@ def run(words, text=b"", status=0, before=None):
     return done.stdout
 
 
-def build(work):
+def build(work, over_ci):
     """The words of each program but `fontshape`."""
-    for path, crate, command in ((FONTSHAPE, "fontshape", "run"), (ARCHIVE, "luthgarn_c", "lib")):
-        if not os.path.exists(path):
-            if not shutil.which("rt"):
-                skip("%s isn't built, and there is no rt" % crate)
-            words = ["rt", command] + (["--", "--version"] if command == "run" else [])
-            subprocess.run(words, cwd=os.path.dirname(os.path.dirname(path)), stdout=subprocess.DEVNULL)
-            if not os.path.exists(path):
-                sys.exit("bindings: %s can't be built" % crate)
+    if not (FONTSHAPE.exists() and ARCHIVE.exists() or shutil.which("rt")):
+        skip("not all is built, and there is no rt")
+    build_program("fontshape", "--", "--version")
+    if not FONTSHAPE.exists():
+        sys.exit("bindings: fontshape can't be built")
+    if over_ci or not ARCHIVE.exists():
+        build_archive(over_ci)
     run(["make", "-C", C])
     gcc = ["gcc", "-std=gnu99", "-O1", "-Wall", "-Wextra", "-Werror", "-Wl,--wrap=malloc,--wrap=realloc,--wrap=free"]
     run(gcc + ["-o", os.path.join(work, "calls"), os.path.join(HERE, "calls.c"), os.path.join(C, "libluthgarn.a")])
@@ -133,6 +136,7 @@ def main():
     parser = argparse.ArgumentParser(description=__doc__, formatter_class=argparse.RawDescriptionHelpFormatter)
     parser.add_argument("--calls", type=int, default=10000)
     parser.add_argument("--seed", type=int, default=1)
+    parser.add_argument("--over-ci", action="store_true", help="rt ci has just run here, in a folder where nothing was built before")
     given = parser.parse_args()
     for program in ("gcc", "make"):
         if not shutil.which(program):
@@ -140,7 +144,7 @@ def main():
     if not os.path.exists(DEJAVU):
         skip("there is no DejaVu Sans")
     with tempfile.TemporaryDirectory() as work:
-        programs = build(work)
+        programs = build(work, given.over_ci)
         compare(programs, random.Random(given.seed))
         refusals(programs)
         calls = os.path.join(work, "calls")
