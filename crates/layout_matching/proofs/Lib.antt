@@ -2,3 +2,4 @@ pub mod LoopLemmas
 pub mod PlaceLemmas
 pub mod ReachLemmas
 pub mod WorkLemmas
+pub mod TallyLemmas

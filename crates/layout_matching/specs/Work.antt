@@ -16,6 +16,7 @@ use Rattle.layout_matching.specs.Skipping.{nth, is_skipped, is_transparent}
 use Rattle.layout_matching.specs.declared.lookup.Lookup.{Lookup}
 use Rattle.layout_matching.specs.declared.rules.Rule.{Rule}
 use Rattle.layout_matching.specs.declared.rules.Test.TheVariants.{Glyph, Coverage}
+use Rattle.layout_matching.specs.declared.tally.Counts.{Counts}
 use Rattle.layout_matching.specs.declared.tally.Tally.{Tally}
 
 -- what is left after so much, if it suffices
@@ -81,6 +82,48 @@ rule_charged l items at rule left = option_and_then (passed_charged l items at) 
 abbrev pub ligature_rule : List ℕ → ℕ → Rule
 ligature_rule t place = let none = row Glyph 0 0 0 in
     record { before = none; input = row Glyph 0 (u16_of t (place + 2)) 0; after = none; lookups = 0; count = 0 }
+
+-- ---- rules by their counts alone
+
+abbrev pub counts_of : Rule → Counts
+counts_of rule =
+    record { before = rule.before.count; input = rule.input.count; after = rule.after.count; lookups = rule.count }
+
+abbrev pub counts_work : Counts → ℕ
+counts_work c = c.before + c.input + c.after + c.lookups + 1
+
+abbrev pub counts_tallied : Counts → Tally → ℕ → Tally
+counts_tallied c s left = record {
+  left = left;
+  before = max s.before c.before;
+  after = max s.after (c.input - 1 + c.after);
+  tries = min (s.tries + (c.lookups + 1)) most_countable;
+}
+
+abbrev pub counted : Counts → Tally → Option Tally
+counted c s = option_map (counts_tallied c s) (charged (counts_work c) s.left)
+
+-- those of a rule of format 1 or 2 at a place; in a chained one the rows follow one after the other
+abbrev pub counts_behind : List ℕ → ℕ → ℕ → ℕ → Counts
+counts_behind t before input values = let follows = values + 2 * (input - 1) in
+    let after = u16_of t follows in
+    record { before = before; input = input; after = after; lookups = u16_of t (follows + 2 + 2 * after) }
+
+abbrev pub chain_counts : List ℕ → ℕ → Counts
+chain_counts t at = let before = u16_of t at in
+    let middle = at + 2 + 2 * before in
+    counts_behind t before (u16_of t middle) (middle + 2)
+
+abbrev pub counts_at : List ℕ → Bool → ℕ → Counts
+counts_at t is_chain at = if is_chain then chain_counts t at
+    else record { before = 0; input = u16_of t at; after = 0; lookups = u16_of t (at + 2) }
+
+abbrev pub ligature_counts : List ℕ → ℕ → Counts
+ligature_counts t place = record { before = 0; input = u16_of t (place + 2); after = 0; lookups = 0 }
+
+abbrev pub part_counts : Lookup → LookupSubtable → ℕ → Counts
+part_counts l subtable place = if is_context_subtable l subtable then counts_at l.table.now (is_chained l subtable) place
+    else ligature_counts l.table.now place
 
 -- ---- sets
 

@@ -76,6 +76,7 @@ fn skips_base(lookup: &Lookup<'_>, items: &ItemList<'_>, id: u8, i: usize) -> bo
 }
 
 /// Whether the lookup skips the base of the ligature `id` before `at`.
+#[inline(never)]
 fn base_is_skipped(lookup: &Lookup<'_>, items: &ItemList<'_>, id: u8, at: usize) -> bool
     ensures { result ≡ Input.base_is_skipped lookup.now items.now id at }
 {
@@ -89,6 +90,7 @@ fn base_is_skipped(lookup: &Lookup<'_>, items: &ItemList<'_>, id: u8, at: usize)
 }
 
 /// What the lookup sees of the first glyph of a match.
+#[inline(always)]
 pub(crate) fn first_glyph(lookup: &Lookup<'_>, items: &ItemList<'_>, at: usize) -> First
     ensures at { result.at ≡ at }
     ensures joins { result.joins_all ≡ Input.joins_all lookup.now items.now at }

@@ -2,12 +2,15 @@
 ghost use Rattle.std.specs.Prelude.{◌≡◌, ◌<◌, ◌^◌, length};
 ghost use Rattle.layout_matching.specs.Work;
 
-use crate::found::{is_chained, is_context_subtable, rule_by};
+use crate::found::{is_chained, is_context_subtable};
 use crate::input::marks_passed;
 use crate::lookup::Lookup;
 use crate::passing::{passed_after, passed_before};
 use crate::rules::{Rule, rule_at};
-use crate::tally::{Tally, charged, ligature_rule, null_counted, rule_counted, uncounted};
+use crate::tally::{
+    Counts, Tally, charged, counted, counts_at, ligature_counts, null_counted, rule_counted,
+    uncounted,
+};
 use layout_buffer::ItemList;
 use layout_tables::lookups::LookupSubtable;
 use shape_font::bytes::{records, u16_at};
@@ -48,21 +51,20 @@ pub(crate) fn rule_charged(
     }
 }
 
-/// The rule, or the ligature, at a place of the table.
-fn part_rule(lookup: &Lookup<'_>, subtable: LookupSubtable, place: usize) -> Rule
-    requires near { subtable.start < 2 ^ 35 }
-    requires place { place < 2 ^ 37 }
-    ensures { result ≡ Work.part_rule lookup.now subtable place }
+/// The counts of the rule, or of the ligature, at a place of the table.
+fn part_counts(lookup: &Lookup<'_>, subtable: LookupSubtable, place: usize) -> Counts
+    requires { place < 2 ^ 37 }
+    ensures { result ≡ Work.part_counts lookup.now subtable place }
 {
     if is_context_subtable(lookup, subtable) {
-        let is_chain = is_chained(lookup, subtable);
-        rule_by(lookup.table, is_chain, subtable.start, place)
+        counts_at(lookup.table, is_chained(lookup, subtable), place)
     } else {
-        ligature_rule(lookup.table, place)
+        ligature_counts(lookup.table, place)
     }
 }
 
 /// Number `r` of the rules, or ligatures, at `set`.
+#[tactic(auto, using(crate::proofs::TallyLemmas::part_counted_by))]
 fn part_counted(
     lookup: &Lookup<'_>,
     subtable: LookupSubtable,
@@ -76,7 +78,7 @@ fn part_counted(
     ensures { result ≡ Work.part_counted lookup.now subtable set r count }
 {
     match rule_at(lookup.table, set, r) {
-        Some(place) => rule_counted(&part_rule(lookup, subtable, place), count),
+        Some(place) => counted(part_counts(lookup, subtable, place), count),
         None => null_counted(count),
     }
 }

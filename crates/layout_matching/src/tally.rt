@@ -54,31 +54,101 @@ fn short(count: u16) -> usize
     usize::from(count)
 }
 
-/// What a rule costs: each of its glyphs and of its lookups, and the rule.
-fn rule_work(rule: &Rule) -> usize
-    ensures { result ≡ Work.rule_work rule.now }
+/// How many glyphs a rule has before its place, from there on and behind these, and how many lookups it names.
+#[derive(Clone, Copy)]
+pub struct Counts {
+    pub before: u16,
+    pub input: u16,
+    pub after: u16,
+    pub lookups: u16,
+}
+
+fn counts_of(rule: &Rule) -> Counts
+    ensures { result ≡ Work.counts_of rule.now }
 {
-    short(rule.before.count)
-        + short(rule.input.count)
-        + short(rule.after.count)
-        + short(rule.count)
-        + 1
+    Counts {
+        before: rule.before.count,
+        input: rule.input.count,
+        after: rule.after.count,
+        lookups: rule.count,
+    }
+}
+
+/// Those of a rule at a place, of a subtable of format 1 or 2. Nothing else is read of it.
+pub(crate) fn counts_at(table: &[u8], is_chain: bool, at: usize) -> Counts
+    requires { at < 2 ^ 37 }
+    ensures { result ≡ Work.counts_at table.now is_chain at }
+{
+    if is_chain {
+        chain_counts(table, at)
+    } else {
+        Counts {
+            before: 0,
+            input: u16_at(table, at),
+            after: 0,
+            lookups: u16_at(table, at + 2),
+        }
+    }
+}
+
+fn chain_counts(table: &[u8], at: usize) -> Counts
+    requires { at < 2 ^ 37 }
+    ensures { result ≡ Work.chain_counts table.now at }
+{
+    let before = u16_at(table, at);
+    let middle = at + 2 + 2 * usize::from(before);
+    let input = u16_at(table, middle);
+    let follows = middle + 2 + 2 * usize::from(input.saturating_sub(1));
+    let after = u16_at(table, follows);
+    Counts {
+        before,
+        input,
+        after,
+        lookups: u16_at(table, follows + 2 + 2 * usize::from(after)),
+    }
+}
+
+/// Those of a ligature, whose components are counted after its glyph.
+pub(crate) fn ligature_counts(table: &[u8], place: usize) -> Counts
+    requires { place < 2 ^ 37 }
+    ensures { result ≡ Work.ligature_counts table.now place }
+{
+    Counts {
+        before: 0,
+        input: u16_at(table, place + 2),
+        after: 0,
+        lookups: 0,
+    }
+}
+
+/// What a rule costs: each of its glyphs and of its lookups, and the rule.
+fn counts_work(counts: Counts) -> usize
+    ensures { result ≡ Work.counts_work counts }
+{
+    short(counts.before) + short(counts.input) + short(counts.after) + short(counts.lookups) + 1
+}
+
+/// One rule more, by its counts.
+pub(crate) fn counted(counts: Counts, count: Tally) -> Option<Tally>
+    ensures { result ≡ Work.counted counts count }
+{
+    let Some(left) = charged(counts_work(counts), count.left) else {
+        return None;
+    };
+    let after = short(counts.input).saturating_sub(1) + short(counts.after);
+    Some(Tally {
+        left,
+        before: count.before.max(short(counts.before)),
+        after: count.after.max(after),
+        tries: count.tries.saturating_add(short(counts.lookups) + 1),
+    })
 }
 
 /// One rule more.
 pub(crate) fn rule_counted(rule: &Rule, count: Tally) -> Option<Tally>
     ensures { result ≡ Work.rule_counted rule.now count }
 {
-    let Some(left) = charged(rule_work(rule), count.left) else {
-        return None;
-    };
-    let after = short(rule.input.count).saturating_sub(1) + short(rule.after.count);
-    Some(Tally {
-        left,
-        before: count.before.max(short(rule.before.count)),
-        after: count.after.max(after),
-        tries: count.tries.saturating_add(short(rule.count) + 1),
-    })
+    counted(counts_of(rule), count)
 }
 
 /// One offset more that is NULL.
@@ -101,20 +171,6 @@ fn row(test: Test, count: u16) -> Row
         from: 0,
         count,
         values: 0,
-    }
-}
-
-/// A ligature as a rule, to be counted alone.
-pub(crate) fn ligature_rule(table: &[u8], place: usize) -> Rule
-    requires { place < 2 ^ 37 }
-    ensures { result ≡ Work.ligature_rule table.now place }
-{
-    Rule {
-        before: row(Test::Glyph, 0),
-        input: row(Test::Glyph, u16_at(table, place + 2)),
-        after: row(Test::Glyph, 0),
-        lookups: 0,
-        count: 0,
     }
 }
 
