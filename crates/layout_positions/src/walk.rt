@@ -1,11 +1,13 @@
 //! Positioning: no glyph is attached at first; then lookups go over the buffer, one after the other.
-ghost use Rattle.std.specs.Prelude.{◌≡◌, ◌<◌, ◌-◌, ◌^◌, fold, length, All};
+ghost use Rattle.std.specs.Prelude.{◌≡◌, ℕ, ◌<◌, ◌≤◌, ◌+◌, ◌-◌, ◌^◌, false, fold, length, All};
 ghost use Rattle.shape_buffer.specs.Outcome.{Made};
 ghost use Rattle.layout_matching.specs.Found as found_rules;
+ghost use Rattle.layout_matching.specs.Loops.{times};
 ghost use Rattle.layout_matching.specs.Work;
 ghost use Rattle.layout_positions.specs.Nested;
 ghost use Rattle.layout_positions.specs.Walk;
-ghost use Rattle.layout_positions.specs.Digested.{IsDigested, HoldsGlyphs, lookups_in};
+ghost use Rattle.layout_positions.specs.Digested.{IsDigested, HoldsGlyphs, AreUnheld, lookups_in};
+ghost use Rattle.layout_positions.specs.declared.bases.BaseSeen.{BaseSeen};
 
 use crate::bases::BaseSeen;
 use crate::nested::apply_nested;
@@ -162,8 +164,46 @@ fn step_on(named: &Digested<'_>, has_rules: bool, buffer: &mut hb_buffer_t, spot
     try_at(&named.lookup, has_rules, buffer, spot)
 }
 
+/// How many glyphs from a place on, of so many, a digest doesn't hold.
+#[tactic(auto, using(crate::proofs::DigestLemmas::one_unheld))]
+fn unheld(digest: &Digest, items: &[hb_glyph_info_t], from: usize, most: usize) -> usize
+    requires { from + most ≤ length items.now }
+    ensures few { result ≤ most }
+    ensures free { AreUnheld digest.now items.now from result }
+{
+    for k in 0..most {
+        if digest.has(items[from + k].glyph_id) {
+            return k;
+        }
+    }
+    most
+}
+
+/// How many steps of a walk, at most so many, lead to the next glyph that the digest of the lookup holds.
+fn steps_over(named: &Digested<'_>, buffer: &hb_buffer_t, at: usize, most: usize) -> usize
+    requires said { IsDigested named.now }
+    ensures few { result ≤ most }
+    ensures fits { at + result < 2 ^ 64 }
+    ensures passed { (seen : BaseSeen) (left : ℕ) → record {
+      buffer = buffer.now;
+      at = at + result;
+      seen = seen;
+      left = left;
+    } ≡ times (Walk.lookup_step named.now.lookup) result
+        (record { buffer = buffer.now; at = at; seen = seen; left = left }) }
+{
+    if buffer.len() <= at {
+        return 0;
+    }
+    unheld(
+        &named.digest,
+        buffer.infos(),
+        at,
+        most.min(buffer.len() - at),
+    )
+}
+
 /// Goes over a buffer with a lookup, from its first glyph on. Returns what is left.
-#[tactic(auto, using(layout_matching::proofs::LoopLemmas::times_step))]
 fn go_over(named: &Digested<'_>, buffer: &mut hb_buffer_t, left: usize) -> usize
     requires { IsDigested named.now }
     ensures { record { buffer = buffer.new; left = result }
@@ -178,8 +218,16 @@ fn go_over(named: &Digested<'_>, buffer: &mut hb_buffer_t, left: usize) -> usize
         at: 0,
         carried: Carried { seen, left },
     };
-    for _i in 0..buffer.len() {
-        spot = step_on(named, has_rules, buffer, spot);
+    let count = buffer.len();
+    let mut done = 0;
+    while done < count {
+        let steps = steps_over(named, buffer, spot.at, count - done);
+        spot.at += steps;
+        done += steps;
+        if done < count {
+            spot = step_on(named, has_rules, buffer, spot);
+            done += 1;
+        }
     }
     spot.carried.left
 }
@@ -217,6 +265,14 @@ fn run_digest(items: &[hb_glyph_info_t]) -> Digest
     all
 }
 
+/// The digest of a list, made anew if a lookup has gone over the list since.
+fn renewed(run: Digest, is_stale: bool, items: &[hb_glyph_info_t]) -> Digest
+    requires { is_stale ≡ false → HoldsGlyphs run items.now }
+    ensures { HoldsGlyphs result items.now }
+{
+    if is_stale { run_digest(items) } else { run }
+}
+
 /// Goes over a buffer with each lookup; all of them share one bound. A lookup whose digest shares no glyph with
 /// the buffer is passed over.
 #[tactic(auto, using(crate::proofs::DigestLemmas::applied_on, crate::proofs::DigestLemmas::passed_over))]
@@ -226,14 +282,16 @@ fn apply_each(lookups: &[Digested<'_>], buffer: &mut hb_buffer_t) -> usize
         ≡ fold Walk.lookup_applied (Walk.budgeted buffer.old) (lookups_in lookups.now) }
 {
     let mut left = most_work(buffer.len());
-    let mut run = run_digest(buffer.infos());
+    let mut run = Digest::new();
+    let mut is_stale = true;
     for named in lookups {
-        if !run.may_share(&named.digest) {
+        run = renewed(run, is_stale, buffer.infos());
+        is_stale = run.may_share(&named.digest);
+        if !is_stale {
             left = charge_walk(&named.lookup, buffer.len(), left);
             continue;
         }
         left = apply_over(named, buffer, left);
-        run = run_digest(buffer.infos());
     }
     left
 }

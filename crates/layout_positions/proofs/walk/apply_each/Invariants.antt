@@ -1,4 +1,4 @@
-use Rattle.std.proofs.Common.{◌≡◌, drop, fold}
+use Rattle.std.proofs.Common.{◌≡◌, false, drop, fold}
 use Rattle.layout_positions.specs.Digested.{HoldsGlyphs, lookups_in}
 use Rattle.layout_positions.specs.Walk.{Budgeted, lookup_applied, budgeted}
 use Rattle.layout_positions.proofs.walk.apply_each.Given as goal
@@ -8,5 +8,5 @@ abbrev pub invariant-loop-named : goal.invariant-loop-named
 invariant-loop-named l =
     let here : Budgeted = record { buffer = l.buffer; left = l.left } in record {
       made : fold lookup_applied here (lookups_in (drop l.named-index l.lookups)) ≡ fold lookup_applied (budgeted l.fn.buffer) (lookups_in l.fn.lookups);
-      run : HoldsGlyphs l.run l.buffer.items;
+      run : l.is_stale ≡ false → HoldsGlyphs l.run l.buffer.items;
     }
