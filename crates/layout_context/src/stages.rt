@@ -65,35 +65,29 @@ fn try_at(
     }
 }
 
-/// Applies the lookup at one place, or goes on to the next item. Where its digest doesn't hold the glyph, no table is read.
+/// Applies the lookup at one place, or goes on to the next item.
 fn step_on(
     alloc: Global,
     levels: u32,
-    named: &Digested<'_>,
+    lookup: &Lookup<'_>,
     buffer: &mut GapBuffer,
     spot: Spot,
 ) -> Result<Spot, ShapeError>
-    requires said { IsDigested named.now }
+    requires near { lookup.now.place < 2 ^ 17 }
     ensures ok { IfOk result (λ next. record { buffer = buffer.new; spot = next }
-        ≡ Stages.lookup_step (nested_applied levels named.now.lookup) named.now.lookup
+        ≡ Stages.lookup_step (nested_applied levels lookup.now) lookup.now
         (record { buffer = buffer.old; spot = spot })) }
     ensures length { IsErrOf result Length
-        → is_past (Stages.lookup_step (nested_applied levels named.now.lookup) named.now.lookup
+        → is_past (Stages.lookup_step (nested_applied levels lookup.now) lookup.now
         (record { buffer = buffer.old; spot = spot })).buffer ≡ true }
 {
     if buffer.length_limit() < buffer.len() || buffer.len() <= spot.at {
         return Ok(spot);
     }
-    let next = next_spot(spot, buffer.len());
-    let items = buffer.items();
-    let item = items.at(spot.at);
-    if !named.digest.has(item.glyph_id) {
-        return Ok(next);
+    if !is_on(lookup, buffer.items().at(spot.at)) {
+        return Ok(next_spot(spot, buffer.len()));
     }
-    if !is_on(&named.lookup, item) {
-        return Ok(next);
-    }
-    try_at(alloc, levels, &named.lookup, buffer, spot)
+    try_at(alloc, levels, lookup, buffer, spot)
 }
 
 /// Where a walk stands after some steps.
@@ -174,7 +168,7 @@ fn walk(
         spot = passed.spot;
         done += passed.steps;
         if done < count {
-            match step_on(alloc, levels, named, buffer, spot) {
+            match step_on(alloc, levels, &named.lookup, buffer, spot) {
                 Err(error) => return Err(error),
                 Ok(next) => spot = next,
             }

@@ -130,17 +130,16 @@ fn try_at(lookup: &Lookup<'_>, has_rules: bool, buffer: &mut hb_buffer_t, spot: 
     }
 }
 
-/// Applies a lookup at a place of the walk, or goes on to the next glyph. Where its digest doesn't hold the glyph, no table
-/// is read.
-fn step_on(named: &Digested<'_>, has_rules: bool, buffer: &mut hb_buffer_t, spot: Spot) -> Spot
-    requires said { IsDigested named.now }
-    requires kind { has_rules ≡ found_rules.is_context named.now.lookup }
+/// Applies a lookup at a place of the walk, or goes on to the next glyph.
+fn step_on(lookup: &Lookup<'_>, has_rules: bool, buffer: &mut hb_buffer_t, spot: Spot) -> Spot
+    requires near { lookup.now.place < 2 ^ 17 }
+    requires kind { has_rules ≡ found_rules.is_context lookup.now }
     ensures { record {
       buffer = buffer.new;
       at = result.at;
       seen = result.carried.seen;
       left = result.carried.left;
-    } ≡ Walk.lookup_step named.now.lookup (record {
+    } ≡ Walk.lookup_step lookup.now (record {
       buffer = buffer.old;
       at = spot.at;
       seen = spot.carried.seen;
@@ -150,18 +149,13 @@ fn step_on(named: &Digested<'_>, has_rules: bool, buffer: &mut hb_buffer_t, spot
     if buffer.len() <= spot.at {
         return spot;
     }
-    let passed = Spot {
-        at: spot.at + 1,
-        carried: spot.carried,
-    };
-    let item = item_at(buffer.infos(), spot.at);
-    if !named.digest.has(item.glyph_id) {
-        return passed;
+    if !is_on(lookup, &item_at(buffer.infos(), spot.at)) {
+        return Spot {
+            at: spot.at + 1,
+            carried: spot.carried,
+        };
     }
-    if !is_on(&named.lookup, &item) {
-        return passed;
-    }
-    try_at(&named.lookup, has_rules, buffer, spot)
+    try_at(lookup, has_rules, buffer, spot)
 }
 
 /// How many glyphs from a place on, of so many, a digest doesn't hold.
@@ -225,7 +219,7 @@ fn go_over(named: &Digested<'_>, buffer: &mut hb_buffer_t, left: usize) -> usize
         spot.at += steps;
         done += steps;
         if done < count {
-            spot = step_on(named, has_rules, buffer, spot);
+            spot = step_on(&named.lookup, has_rules, buffer, spot);
             done += 1;
         }
     }
