@@ -1,6 +1,6 @@
 -- a lookup whose digest holds no glyph of the list may be passed over, and a place whose glyph it doesn't hold
 use Prim.Native.Nat.{zero}
-use Rattle.std.proofs.Common.{◌≡◌, ℕ, suc, ◌+◌, ◌-◌, ◌<◌, Bool, true, false, List, [], ◌∷◌, All, length, nat_eq, nat_lt, refl, sym, ap, ◌∙◌, subst, arith, if◌then◌else◌, drop, slice_index_or}
+use Rattle.std.proofs.Common.{◌≡◌, ℕ, suc, ◌+◌, ◌-◌, ◌<◌, ◌≤◌, Bool, true, false, List, [], ◌∷◌, All, length, nat_eq, nat_lt, refl, sym, ap, ◌∙◌, subst, arith, if◌then◌else◌, drop, slice_index_or}
 use Rattle.std.proofs.lemmas.Bool.Decides.{nat_tests}
 use Rattle.std.proofs.lemmas.List.{drop_more}
 use Rattle.shape_items.specs.Buffer.{Buffer}
@@ -15,10 +15,11 @@ use Rattle.layout_digests.specs.declared.digested.Digested.{Digested}
 use Rattle.layout_substitution.specs.Edits.{item_at, is_inside, is_past}
 use Rattle.layout_substitution.specs.declared.apply.Spot.{Spot}
 use Rattle.layout_context.specs.Covered.{IsUncovered, CoversNone}
-use Rattle.layout_context.specs.Digested.{IsOut, IsDigested, IsApart, HoldsFirst, HoldsGlyphs, lookups_in}
+use Rattle.layout_context.specs.Digested.{IsOut, IsDigested, IsApart, HoldsFirst, HoldsGlyphs, AreUnheld, lookups_in}
 use Rattle.layout_context.specs.Nested.{nested_applied}
 use Rattle.layout_context.specs.Reverse.{Backwards, is_reverse, reversed, reverse_step}
 use Rattle.layout_context.specs.Stages.{Walk, passed, tried, lookup_step, first_walk, walked, gone_back, gone_over, walk_charged, looked_up, all_looked_up, stage_made}
+use Rattle.layout_matching.proofs.LoopLemmas.{times_after}
 use Rattle.layout_context.proofs.CoveredLemmas.{tried-uncovered-at, reversed-uncovered}
 use Rattle.layout_context.proofs.StageLemmas.{past_all}
 
@@ -42,6 +43,38 @@ step_out levels l s out within inside =
     ∙ ap (λ t. if t then (if is_on l (item_at s.buffer s.spot.at) then tried (nested_applied levels l) l s else passed s)
     else s) inside
     ∙ step-inside levels l s out.substitutes out.uncovered
+
+-- ---- the next glyphs, which the set doesn't hold
+
+pub one_unheld : (d : Digest) (items : List Item) (from i : ℕ) → AreUnheld d items from i → has d (nth items (from + i)).glyph_id ≡ false
+    → AreUnheld d items from (i + 1)
+one_unheld d items from i before new j below = by_last (nat_eq j i) refl
+  where
+    by_last : (t : Bool) → nat_eq j i ≡ t → has d (nth items (from + j)).glyph_id ≡ false
+    by_last true is = let same : i ≡ j = grind (arith, nat_tests, is) in subst (λ k. has d (nth items (from + k)).glyph_id ≡ false) same new
+    by_last false is = before j (grind (arith, nat_tests, is, below))
+
+abbrev pub standing : Buffer → Spot → ℕ → Walk
+standing b spot at = record { buffer = b; spot = record spot { at = at } }
+
+pub steps_passed : (d : Digested) (b : Buffer) (spot : Spot) (n levels : ℕ) → IsDigested d → is_past b ≡ false
+    → spot.at + n ≤ length b.items → AreUnheld d.digest b.items spot.at n
+    → standing b spot (spot.at + n) ≡ times (lookup_step (nested_applied levels d.lookup) d.lookup) n (standing b spot spot.at)
+steps_passed d b spot zero levels said within inside free = ap (standing b spot) (omega arith)
+steps_passed d b spot (suc n) levels said within inside free =
+    let here = standing b spot (spot.at + n) in
+    let before = steps_passed d b spot n levels said within (omega (arith, inside)) (λ j below. free j (omega (arith, below))) in
+    let at : is_inside (spot.at + n) b ≡ true = grind (arith, nat_tests, inside) in
+    let same : spot.at + suc n ≡ spot.at + n + 1 = omega arith in
+    ap (standing b spot) same
+    ∙ sym (step_out levels d.lookup here (said.out (nth b.items (spot.at + n)).glyph_id (free n (omega arith))) within at)
+    ∙ ap (lookup_step (nested_applied levels d.lookup) d.lookup) before
+
+pub gone_further : {S : Type 0} (f : S → S) (n i : ℕ) (first here there : S) → here ≡ times f i first → there ≡ times f n here
+    → there ≡ times f (i + n) first
+gone_further f n i first here there before now =
+    let e : i + n ≡ n + i = omega arith in
+    now ∙ ap (times f n) before ∙ sym (times_after f n i first) ∙ sym (ap (λ m. times f m first) e)
 
 -- ---- the glyphs of a list
 

@@ -1,5 +1,5 @@
 -- lookups with sets that hold the glyphs that they may begin at
-use Rattle.std.specs.Prelude.{◌≡◌, ℕ, true, false, List, ◌<◌, ◌^◌, length, map}
+use Rattle.std.specs.Prelude.{◌≡◌, ℕ, true, false, List, ◌+◌, ◌<◌, ◌^◌, length, map}
 use Rattle.shape_items.specs.Items.{Item}
 use Rattle.layout_matching.specs.Skipping.{nth}
 use Rattle.layout_matching.specs.declared.lookup.Lookup.{Lookup}
@@ -24,6 +24,10 @@ HoldsFirst d items count = (at : ℕ) → at < count → has d (nth items at).gl
 
 abbrev pub HoldsGlyphs : Digest → List Item → Type 0
 HoldsGlyphs d items = HoldsFirst d items (length items)
+
+-- the set holds none of so many glyphs of a list from a place on
+abbrev pub AreUnheld : Digest → List Item → ℕ → ℕ → Type 0
+AreUnheld d items from count = (j : ℕ) → j < count → has d (nth items (from + j)).glyph_id ≡ false
 
 -- the lookup's set holds no glyph of a set
 abbrev pub IsApart : Digest → Digested → Type 0

@@ -1,12 +1,13 @@
 //! Lookups over a buffer, nested ones included, and stages of lookups.
-ghost use Rattle.std.specs.Prelude.{◌≡◌, ◌<◌, ◌-◌, ◌^◌, length, true, false, IfOk, IsErrOf, IsOkUnless, OnOk, All};
+ghost use Rattle.std.specs.Prelude.{◌≡◌, ℕ, ◌<◌, ◌≤◌, ◌+◌, ◌-◌, ◌^◌, length, true, false, IfOk, IsErrOf, IsOkUnless, OnOk, All};
 ghost use Rattle.shape_buffer.specs.Outcome.{IsWithinLimit, Outcome, step};
 ghost use Rattle.shape_buffer.specs.declared.buffer.error.ShapeError.TheVariants.{Length};
+ghost use Rattle.layout_matching.specs.Loops.{times};
 ghost use Rattle.layout_matching.specs.Work;
 ghost use Rattle.layout_substitution.specs.Edits.{is_past};
 ghost use Rattle.layout_context.specs.Nested.{nested_applied};
 ghost use Rattle.layout_context.specs.Stages;
-ghost use Rattle.layout_context.specs.Digested.{IsDigested, IsApart, HoldsGlyphs, lookups_in};
+ghost use Rattle.layout_context.specs.Digested.{IsDigested, IsApart, HoldsGlyphs, AreUnheld, lookups_in};
 
 use crate::nested::apply_nested;
 use crate::reverse::{is_reverse, reverse};
@@ -64,39 +65,81 @@ fn try_at(
     }
 }
 
-/// Applies the lookup at one place, or goes on to the next item. Where its digest doesn't hold the glyph, no table is read.
+/// Applies the lookup at one place, or goes on to the next item.
 fn step_on(
     alloc: Global,
     levels: u32,
-    named: &Digested<'_>,
+    lookup: &Lookup<'_>,
     buffer: &mut GapBuffer,
     spot: Spot,
 ) -> Result<Spot, ShapeError>
-    requires said { IsDigested named.now }
+    requires near { lookup.now.place < 2 ^ 17 }
     ensures ok { IfOk result (λ next. record { buffer = buffer.new; spot = next }
-        ≡ Stages.lookup_step (nested_applied levels named.now.lookup) named.now.lookup
+        ≡ Stages.lookup_step (nested_applied levels lookup.now) lookup.now
         (record { buffer = buffer.old; spot = spot })) }
     ensures length { IsErrOf result Length
-        → is_past (Stages.lookup_step (nested_applied levels named.now.lookup) named.now.lookup
+        → is_past (Stages.lookup_step (nested_applied levels lookup.now) lookup.now
         (record { buffer = buffer.old; spot = spot })).buffer ≡ true }
 {
     if buffer.length_limit() < buffer.len() || buffer.len() <= spot.at {
         return Ok(spot);
     }
-    let next = next_spot(spot, buffer.len());
+    if !is_on(lookup, buffer.items().at(spot.at)) {
+        return Ok(next_spot(spot, buffer.len()));
+    }
+    try_at(alloc, levels, lookup, buffer, spot)
+}
+
+/// Where a walk stands after some steps.
+#[derive(Clone, Copy)]
+struct Passed {
+    spot: Spot,
+    steps: usize,
+}
+
+/// How many glyphs from a place on, of so many, a digest doesn't hold.
+#[tactic(auto, using(crate::proofs::DigestLemmas::one_unheld))]
+fn unheld(digest: &Digest, items: &ItemList<'_>, from: usize, most: usize) -> usize
+    requires { from + most ≤ length items.now }
+    ensures few { result ≤ most }
+    ensures free { AreUnheld digest.now items.now from result }
+{
+    // The list can be counted, so a place of its own can.
+    let _count = items.len();
+    for k in 0..most {
+        if digest.has(items.at(from + k).glyph_id) {
+            return k;
+        }
+    }
+    most
+}
+
+/// Goes on to the next glyph that the digest of the lookup holds, in at most so many steps. Where the list is past its limit, no
+/// step is made.
+#[tactic(auto, using(crate::proofs::DigestLemmas::steps_passed))]
+fn pass_over(named: &Digested<'_>, buffer: &GapBuffer, spot: Spot, most: usize) -> Passed
+    requires said { IsDigested named.now }
+    ensures few { result.steps ≤ most }
+    ensures passed { (levels : ℕ) → record { buffer = buffer.now; spot = result.spot }
+        ≡ times (Stages.lookup_step (nested_applied levels named.now.lookup) named.now.lookup)
+        result.steps (record { buffer = buffer.now; spot = spot }) }
+{
     let items = buffer.items();
-    let item = items.at(spot.at);
-    if !named.digest.has(item.glyph_id) {
-        return Ok(next);
+    if buffer.length_limit() < items.len() || items.len() <= spot.at {
+        return Passed { spot, steps: 0 };
     }
-    if !is_on(&named.lookup, item) {
-        return Ok(next);
-    }
-    try_at(alloc, levels, &named.lookup, buffer, spot)
+    let steps = unheld(
+        &named.digest,
+        &items,
+        spot.at,
+        most.min(items.len() - spot.at),
+    );
+    let mut next = spot;
+    next.at += steps;
+    Passed { spot: next, steps }
 }
 
 /// Goes over a buffer from its first item on.
-#[tactic(auto, using(layout_matching::proofs::LoopLemmas::times_step, crate::proofs::StageLemmas::past_times))]
 fn walk(
     alloc: Global,
     levels: u32,
@@ -112,16 +155,24 @@ fn walk(
         → is_past (Stages.walked (nested_applied levels named.now.lookup) named.now.lookup
         (record { buffer = buffer.old; spot = spot })).buffer ≡ true }
 {
+    let count = buffer.len();
     let mut spot = Spot {
         at: 0,
         random: spot.random,
         left: spot.left,
-        whole: buffer.len(),
+        whole: count,
     };
-    for _i in 0..buffer.len() {
-        match step_on(alloc, levels, named, buffer, spot) {
-            Err(error) => return Err(error),
-            Ok(next) => spot = next,
+    let mut done = 0;
+    while done < count {
+        let passed = pass_over(named, buffer, spot, count - done);
+        spot = passed.spot;
+        done += passed.steps;
+        if done < count {
+            match step_on(alloc, levels, &named.lookup, buffer, spot) {
+                Err(error) => return Err(error),
+                Ok(next) => spot = next,
+            }
+            done += 1;
         }
     }
     Ok(spot)

@@ -1,6 +1,6 @@
 -- a lookup whose digest holds no glyph of the list may be passed over, and a place whose glyph it doesn't hold
 use Prim.Native.Nat.{zero}
-use Rattle.std.proofs.Common.{◌≡◌, ℕ, ◌+◌, ◌-◌, ◌<◌, ◌^◌, Bool, true, false, List, [], ◌∷◌, length, nat_eq, nat_lt, fold, refl, sym, ap, ◌∙◌, subst, arith, if◌then◌else◌, drop, slice_index_or, map}
+use Rattle.std.proofs.Common.{◌≡◌, ℕ, suc, ◌+◌, ◌-◌, ◌<◌, ◌≤◌, ◌^◌, Bool, true, false, List, [], ◌∷◌, length, nat_eq, nat_lt, fold, refl, sym, ap, ◌∙◌, subst, arith, if◌then◌else◌, drop, slice_index_or, map}
 use Rattle.std.proofs.lemmas.Bool.Decides.{nat_tests}
 use Rattle.std.proofs.lemmas.List.{drop_more}
 use Rattle.shape_items.specs.Buffer.{Buffer}
@@ -12,14 +12,48 @@ use Rattle.layout_matching.specs.declared.lookup.Lookup.{Lookup}
 use Rattle.layout_digests.specs.Digests.{has, IsWithin}
 use Rattle.layout_digests.specs.declared.digest.Digest.{Digest}
 use Rattle.layout_digests.specs.declared.digested.Digested.{Digested}
-use Rattle.layout_positions.specs.Digested.{IsOut, IsDigested, HoldsFirst, HoldsGlyphs, lookups_in}
+use Rattle.layout_positions.specs.Digested.{IsOut, IsDigested, HoldsFirst, HoldsGlyphs, AreUnheld, lookups_in}
 use Rattle.layout_positions.specs.Uncovered.{IsUncovered}
 use Rattle.layout_positions.specs.Walk.{Walk, lookup_step, Budgeted, first_walk, gone_over, walk_charged, lookup_applied}
+use Rattle.layout_positions.specs.declared.bases.BaseSeen.{BaseSeen}
+use Rattle.layout_matching.proofs.LoopLemmas.{times_after}
 use Rattle.layout_positions.proofs.UncoveredLemmas.{step-unlisted, lookup-uncovered}
 
 pub step_out : (l : Lookup) (s : Walk) → IsOut l (nth s.buffer.items s.at).glyph_id → nat_lt s.at (length s.buffer.items) ≡ true
     → lookup_step l s ≡ record s { at = s.at + 1 }
 step_out l s out inside = step-unlisted l s out.positions out.unlisted inside
+
+-- ---- the next glyphs, which the set doesn't hold
+
+pub one_unheld : (d : Digest) (items : List Item) (from i : ℕ) → AreUnheld d items from i → has d (nth items (from + i)).glyph_id ≡ false
+    → AreUnheld d items from (i + 1)
+one_unheld d items from i before new j below = by_last (nat_eq j i) refl
+  where
+    by_last : (t : Bool) → nat_eq j i ≡ t → has d (nth items (from + j)).glyph_id ≡ false
+    by_last true is = let same : i ≡ j = grind (arith, nat_tests, is) in subst (λ k. has d (nth items (from + k)).glyph_id ≡ false) same new
+    by_last false is = before j (grind (arith, nat_tests, is, below))
+
+pub steps_passed : (d : Digested) (b : Buffer) (at : ℕ) (seen : BaseSeen) (left n : ℕ) → IsDigested d
+    → at + n ≤ length b.items → AreUnheld d.digest b.items at n
+    → record { buffer = b; at = at + n; seen = seen; left = left }
+    ≡ times (lookup_step d.lookup) n (record { buffer = b; at = at; seen = seen; left = left })
+steps_passed d b at seen left zero said inside free = ap (λ i. record { buffer = b; at = i; seen = seen; left = left }) (omega arith)
+steps_passed d b at seen left (suc n) said inside free =
+    let here : Walk = record { buffer = b; at = at + n; seen = seen; left = left } in
+    let before = steps_passed d b at seen left n said (omega (arith, inside)) (λ j below. free j (omega (arith, below))) in
+    let within : nat_lt (at + n) (length b.items) ≡ true = grind (arith, nat_tests, inside) in
+    let same : at + suc n ≡ at + n + 1 = omega arith in
+    ap (λ i. record { buffer = b; at = i; seen = seen; left = left }) same
+    ∙ sym (step_out d.lookup here (said.out (nth b.items (at + n)).glyph_id (free n (omega arith))) within)
+    ∙ ap (lookup_step d.lookup) before
+
+pub gone_further : {S : Type 0} (f : S → S) (n i : ℕ) (first here there : S) → here ≡ times f i first → there ≡ times f n here
+    → there ≡ times f (i + n) first
+gone_further f n i first here there before now =
+    let e : i + n ≡ n + i = omega arith in
+    now ∙ ap (times f n) before ∙ sym (times_after f n i first) ∙ sym (ap (λ m. times f m first) e)
+
+-- ---- the glyphs of a list
 
 pub one_held : (items : List Item) (d e : Digest) (i : ℕ) → HoldsFirst d items i → IsWithin d e → has e (nth items i).glyph_id ≡ true
     → HoldsFirst e items (i + 1)

@@ -1,11 +1,13 @@
 //! Positioning: no glyph is attached at first; then lookups go over the buffer, one after the other.
-ghost use Rattle.std.specs.Prelude.{◌≡◌, ◌<◌, ◌-◌, ◌^◌, fold, length, All};
+ghost use Rattle.std.specs.Prelude.{◌≡◌, ℕ, ◌<◌, ◌≤◌, ◌+◌, ◌-◌, ◌^◌, false, fold, length, All};
 ghost use Rattle.shape_buffer.specs.Outcome.{Made};
 ghost use Rattle.layout_matching.specs.Found as found_rules;
+ghost use Rattle.layout_matching.specs.Loops.{times};
 ghost use Rattle.layout_matching.specs.Work;
 ghost use Rattle.layout_positions.specs.Nested;
 ghost use Rattle.layout_positions.specs.Walk;
-ghost use Rattle.layout_positions.specs.Digested.{IsDigested, HoldsGlyphs, lookups_in};
+ghost use Rattle.layout_positions.specs.Digested.{IsDigested, HoldsGlyphs, AreUnheld, lookups_in};
+ghost use Rattle.layout_positions.specs.declared.bases.BaseSeen.{BaseSeen};
 
 use crate::bases::BaseSeen;
 use crate::nested::apply_nested;
@@ -128,17 +130,16 @@ fn try_at(lookup: &Lookup<'_>, has_rules: bool, buffer: &mut hb_buffer_t, spot: 
     }
 }
 
-/// Applies a lookup at a place of the walk, or goes on to the next glyph. Where its digest doesn't hold the glyph, no table
-/// is read.
-fn step_on(named: &Digested<'_>, has_rules: bool, buffer: &mut hb_buffer_t, spot: Spot) -> Spot
-    requires said { IsDigested named.now }
-    requires kind { has_rules ≡ found_rules.is_context named.now.lookup }
+/// Applies a lookup at a place of the walk, or goes on to the next glyph.
+fn step_on(lookup: &Lookup<'_>, has_rules: bool, buffer: &mut hb_buffer_t, spot: Spot) -> Spot
+    requires near { lookup.now.place < 2 ^ 17 }
+    requires kind { has_rules ≡ found_rules.is_context lookup.now }
     ensures { record {
       buffer = buffer.new;
       at = result.at;
       seen = result.carried.seen;
       left = result.carried.left;
-    } ≡ Walk.lookup_step named.now.lookup (record {
+    } ≡ Walk.lookup_step lookup.now (record {
       buffer = buffer.old;
       at = spot.at;
       seen = spot.carried.seen;
@@ -148,22 +149,55 @@ fn step_on(named: &Digested<'_>, has_rules: bool, buffer: &mut hb_buffer_t, spot
     if buffer.len() <= spot.at {
         return spot;
     }
-    let passed = Spot {
-        at: spot.at + 1,
-        carried: spot.carried,
-    };
-    let item = item_at(buffer.infos(), spot.at);
-    if !named.digest.has(item.glyph_id) {
-        return passed;
+    if !is_on(lookup, &item_at(buffer.infos(), spot.at)) {
+        return Spot {
+            at: spot.at + 1,
+            carried: spot.carried,
+        };
     }
-    if !is_on(&named.lookup, &item) {
-        return passed;
+    try_at(lookup, has_rules, buffer, spot)
+}
+
+/// How many glyphs from a place on, of so many, a digest doesn't hold.
+#[tactic(auto, using(crate::proofs::DigestLemmas::one_unheld))]
+fn unheld(digest: &Digest, items: &[hb_glyph_info_t], from: usize, most: usize) -> usize
+    requires { from + most ≤ length items.now }
+    ensures few { result ≤ most }
+    ensures free { AreUnheld digest.now items.now from result }
+{
+    for k in 0..most {
+        if digest.has(items[from + k].glyph_id) {
+            return k;
+        }
     }
-    try_at(&named.lookup, has_rules, buffer, spot)
+    most
+}
+
+/// How many steps of a walk, at most so many, lead to the next glyph that the digest of the lookup holds.
+fn steps_over(named: &Digested<'_>, buffer: &hb_buffer_t, at: usize, most: usize) -> usize
+    requires said { IsDigested named.now }
+    ensures few { result ≤ most }
+    ensures fits { at + result < 2 ^ 64 }
+    ensures passed { (seen : BaseSeen) (left : ℕ) → record {
+      buffer = buffer.now;
+      at = at + result;
+      seen = seen;
+      left = left;
+    } ≡ times (Walk.lookup_step named.now.lookup) result
+        (record { buffer = buffer.now; at = at; seen = seen; left = left }) }
+{
+    if buffer.len() <= at {
+        return 0;
+    }
+    unheld(
+        &named.digest,
+        buffer.infos(),
+        at,
+        most.min(buffer.len() - at),
+    )
 }
 
 /// Goes over a buffer with a lookup, from its first glyph on. Returns what is left.
-#[tactic(auto, using(layout_matching::proofs::LoopLemmas::times_step))]
 fn go_over(named: &Digested<'_>, buffer: &mut hb_buffer_t, left: usize) -> usize
     requires { IsDigested named.now }
     ensures { record { buffer = buffer.new; left = result }
@@ -178,8 +212,16 @@ fn go_over(named: &Digested<'_>, buffer: &mut hb_buffer_t, left: usize) -> usize
         at: 0,
         carried: Carried { seen, left },
     };
-    for _i in 0..buffer.len() {
-        spot = step_on(named, has_rules, buffer, spot);
+    let count = buffer.len();
+    let mut done = 0;
+    while done < count {
+        let steps = steps_over(named, buffer, spot.at, count - done);
+        spot.at += steps;
+        done += steps;
+        if done < count {
+            spot = step_on(&named.lookup, has_rules, buffer, spot);
+            done += 1;
+        }
     }
     spot.carried.left
 }

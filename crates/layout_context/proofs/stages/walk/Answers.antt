@@ -1,13 +1,50 @@
-use Rattle.std.proofs.Common.{◌<◌, length, arith}
+use Rattle.std.proofs.Common.{◌≡◌, ◌+◌, ◌<◌, length, arith}
+use Rattle.layout_matching.specs.Loops.{times}
+use Rattle.layout_matching.proofs.LoopLemmas.{times_step}
 use Rattle.layout_context.specs.Nested.{nested_applied}
-use Rattle.layout_context.specs.Stages.{Walk, first_walk}
+use Rattle.layout_context.specs.Stages.{Walk, first_walk, lookup_step}
+use Rattle.layout_context.proofs.DigestLemmas.{gone_further}
 use Rattle.layout_context.proofs.StageLemmas.{past_times}
 use Rattle.layout_context.proofs.stages.walk.Goals as goal
 
 pub returns-in-Err-clause-length : goal.returns-in-Err-clause-length
 returns-in-Err-clause-length c =
+    let l = c.args.named.now.lookup in
     let n = length c.args.buffer.now.items in
     let first : Walk = first_walk (record { buffer = c.args.buffer.now; spot = c.args.spot }) in
-    let here : Walk = record { buffer = c.loop-i.buffer; spot = c.loop-i.spot } in
-    let more : c.loop-i._i < n = omega (arith, c.loop-i-test.true, c.len-i-end.ensures.items) in
-    λ is. past_times (nested_applied c.args.levels c.args.named.now.lookup) c.args.named.now.lookup n c.loop-i._i first here more c.loop-i.invariant (c.in-Err.ensures.length is)
+    let here : Walk = record { buffer = c.loop-done.buffer; spot = c.loop-done.spot } in
+    let there : Walk = record { buffer = c.loop-done.buffer; spot = c.pass_over-passed.result.spot } in
+    let on : there ≡ times (lookup_step (nested_applied c.args.levels l) l) (c.loop-done.done + c.pass_over-passed.result.steps) first =
+    gone_further (lookup_step (nested_applied c.args.levels l) l) c.pass_over-passed.result.steps c.loop-done.done first here there
+    c.loop-done.invariant.made (c.pass_over-passed.ensures.passed c.args.levels) in
+    let more : c.loop-done.done + c.pass_over-passed.result.steps < n = omega (arith, c.if-done-count.true, c.len-count.ensures.items) in
+    λ is. past_times (nested_applied c.args.levels l) l n (c.loop-done.done + c.pass_over-passed.result.steps) first there more on
+    (c.in-Err.ensures.length is)
+
+pub loop-done-preserved-then-done-count : goal.loop-done-preserved-then-done-count
+loop-done-preserved-then-done-count c =
+    let l = c.args.named.now.lookup in
+    let first : Walk = first_walk (record { buffer = c.args.buffer.now; spot = c.args.spot }) in
+    let here : Walk = record { buffer = c.loop-done.buffer; spot = c.loop-done.spot } in
+    let there : Walk = record { buffer = c.loop-done.buffer; spot = c.pass_over-passed.result.spot } in
+    let next : Walk = record { buffer = c.step_on.new.buffer; spot = c.in-Ok.next } in
+    let on : there ≡ times (lookup_step (nested_applied c.args.levels l) l) (c.loop-done.done + c.pass_over-passed.result.steps) first =
+    gone_further (lookup_step (nested_applied c.args.levels l) l) c.pass_over-passed.result.steps c.loop-done.done first here there
+    c.loop-done.invariant.made (c.pass_over-passed.ensures.passed c.args.levels) in
+    record {
+      within = omega (arith, c.if-done-count.true);
+      made = times_step (lookup_step (nested_applied c.args.levels l) l) (c.loop-done.done + c.pass_over-passed.result.steps) first there next on
+          c.in-Ok.ensures.ok;
+    }
+
+pub loop-done-preserved : goal.loop-done-preserved
+loop-done-preserved c =
+    let l = c.args.named.now.lookup in
+    let first : Walk = first_walk (record { buffer = c.args.buffer.now; spot = c.args.spot }) in
+    let here : Walk = record { buffer = c.loop-done.buffer; spot = c.loop-done.spot } in
+    let there : Walk = record { buffer = c.loop-done.buffer; spot = c.pass_over-passed.result.spot } in
+    record {
+      within = omega (arith, c.pass_over-passed.ensures.few, c.loop-done-test.true);
+      made = gone_further (lookup_step (nested_applied c.args.levels l) l) c.pass_over-passed.result.steps c.loop-done.done first here there
+          c.loop-done.invariant.made (c.pass_over-passed.ensures.passed c.args.levels);
+    }

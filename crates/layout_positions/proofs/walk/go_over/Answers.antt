@@ -1,29 +1,52 @@
-use Rattle.std.proofs.Common.{◌≡◌, ap, ◌∙◌, arith}
+use Rattle.std.proofs.Common.{◌≡◌, ◌+◌, ap, ◌∙◌, arith}
 use Rattle.layout_matching.specs.Loops.{times}
 use Rattle.layout_matching.proofs.LoopLemmas.{times_step}
 use Rattle.layout_positions.specs.Walk.{Walk, Budgeted, lookup_step, first_walk}
+use Rattle.layout_positions.proofs.DigestLemmas.{gone_further}
 use Rattle.layout_positions.proofs.walk.go_over.Goals as goal
 
-pub loop-i-preserved : goal.loop-i-preserved
-loop-i-preserved c =
+pub loop-done-preserved-then-done-count : goal.loop-done-preserved-then-done-count
+loop-done-preserved-then-done-count c =
+    let step = lookup_step c.args.named.now.lookup in
     let first : Walk = first_walk (record { buffer = c.args.buffer.now; left = c.args.left }) in
-    let here : Walk = record {
-      buffer = c.loop-i.buffer;
-      at = c.loop-i.spot.at;
-      seen = c.loop-i.spot.carried.seen;
-      left = c.loop-i.spot.carried.left;
-    } in
-    let there : Walk = record {
+    let seen = c.loop-done.spot.carried.seen in
+    let left = c.loop-done.spot.carried.left in
+    let here : Walk = record { buffer = c.loop-done.buffer; at = c.loop-done.spot.at; seen = seen; left = left } in
+    let there : Walk =
+    record { buffer = c.loop-done.buffer; at = c.loop-done.spot.at + c.steps_over-steps.result; seen = seen; left = left } in
+    let next : Walk = record {
       buffer = c.step_on-spot.new.buffer;
       at = c.step_on-spot.result.at;
       seen = c.step_on-spot.result.carried.seen;
       left = c.step_on-spot.result.carried.left;
     } in
-    times_step (lookup_step c.args.named.now.lookup) c.loop-i._i first here there c.loop-i.invariant c.step_on-spot.ensures
+    let on : there ≡ times step (c.loop-done.done + c.steps_over-steps.result) first =
+    gone_further step c.steps_over-steps.result c.loop-done.done first here there c.loop-done.invariant.made
+    (c.steps_over-steps.ensures.passed seen left) in
+    record {
+      within = omega (arith, c.if-done-count.true);
+      made = times_step step (c.loop-done.done + c.steps_over-steps.result) first there next on c.step_on-spot.ensures;
+    }
+
+pub loop-done-preserved : goal.loop-done-preserved
+loop-done-preserved c =
+    let step = lookup_step c.args.named.now.lookup in
+    let first : Walk = first_walk (record { buffer = c.args.buffer.now; left = c.args.left }) in
+    let seen = c.loop-done.spot.carried.seen in
+    let left = c.loop-done.spot.carried.left in
+    let here : Walk = record { buffer = c.loop-done.buffer; at = c.loop-done.spot.at; seen = seen; left = left } in
+    let there : Walk =
+    record { buffer = c.loop-done.buffer; at = c.loop-done.spot.at + c.steps_over-steps.result; seen = seen; left = left } in
+    record {
+      within = omega (arith, c.steps_over-steps.ensures.few, c.loop-done-test.true);
+      made = gone_further step c.steps_over-steps.result c.loop-done.done first here there c.loop-done.invariant.made
+          (c.steps_over-steps.ensures.passed seen left);
+    }
 
 pub returns : goal.returns
 returns c =
     let view : Walk → Budgeted = λ w. record { buffer = w.buffer; left = w.left } in
     let first : Walk = first_walk (record { buffer = c.args.buffer.now; left = c.args.left }) in
-    let all : c.loop-i._i ≡ c.len-i-end.result = omega (arith, c.loop-i.auto._i-end, c.loop-i-test.false) in
-    ap view c.loop-i.invariant ∙ ap (λ n. view (times (lookup_step c.args.named.now.lookup) n first)) (all ∙ c.len-i-end.ensures.items)
+    let all : c.loop-done.done ≡ c.len-count.result = omega (arith, c.loop-done.invariant.within, c.loop-done-test.false) in
+    ap view c.loop-done.invariant.made
+    ∙ ap (λ n. view (times (lookup_step c.args.named.now.lookup) n first)) (all ∙ c.len-count.ensures.items)
