@@ -4,7 +4,10 @@
 //! from the origin of horizontal lines, so along a vertical line each glyph is first moved back by where
 //! its origin of vertical lines lies. Positions start at zeros whatever they were, since a lookup or a
 //! hook may have left others.
-ghost use Rattle.std.specs.Prelude.{◌≡◌, false};
+ghost use Rattle.std.specs.Prelude.{◌≡◌, ◌<◌, true, false, length, slice_index_or, slice_set};
+ghost use Rattle.shape_items.specs.Items.{Item};
+ghost use Rattle.shape_common.specs.declared.positions.GlyphPosition.{GlyphPosition as Position};
+ghost use Rattle.shape_buffer.specs.PositionWalks.{positions_mapped};
 ghost use Rattle.shape_buffer.specs.Outcome.{IsWithinLimit, Made, Ran};
 ghost use Rattle.shape_glyphs.specs.Advances;
 ghost use Rattle.shape_glyphs.specs.Steps.{advance_steps};
@@ -16,36 +19,58 @@ use shape_buffer::wrapping::difference;
 use shape_plan::ot_shaper::hb_ot_shaper_t;
 use shape_plan::shaping_types::{Meaning, PlanOf, ShapingTypes};
 
-/// The position of a glyph, in units of the face, moved on by what the face says of it: its advance along
-/// a horizontal line, else its advance along a vertical one and the origin of vertical lines. A
-/// difference that doesn't fit wraps.
-fn advance_position<F: hb_font_t>(
+/// The position of a glyph in a line that isn't horizontal, in units of the face: its advance along a vertical line, and
+/// offsets that have lost the origin of vertical lines. A difference that doesn't fit wraps.
+fn vertical_position<F: hb_font_t>(
     face: &F,
-    horizontal: bool,
     info: &hb_glyph_info_t,
     position: GlyphPosition,
 ) -> GlyphPosition
     ensures value { result ≡ Advances.advanced_position
-        (F.face face.now) horizontal info.now position }
-    ensures exact_x { horizontal ≡ false
-        → Advances.IsExactDifference position.x_offset
+        (F.face face.now) false info.now position }
+    ensures exact_x { Advances.IsExactDifference position.x_offset
         ((F.face face.now).h_origin (Advances.glyph_of info.now)) result.x_offset }
-    ensures exact_y { horizontal ≡ false
-        → Advances.IsExactDifference position.y_offset
+    ensures exact_y { Advances.IsExactDifference position.y_offset
         ((F.face face.now).v_origin (Advances.glyph_of info.now)) result.y_offset }
 {
     let glyph = GlyphId(info.glyph_id);
-    if horizontal {
-        return GlyphPosition {
-            x_advance: face.glyph_h_advance(glyph),
-            ..position
-        };
-    }
     GlyphPosition {
         y_advance: face.glyph_v_advance(glyph),
         x_offset: difference(position.x_offset, face.glyph_h_origin(glyph)),
         y_offset: difference(position.y_offset, face.glyph_v_origin(glyph)),
         ..position
+    }
+}
+
+/// Gives the glyph at a place its advance along a horizontal line. The face is asked before the position is read:
+/// compiled, only the advance is written then.
+fn put_h_advance<F: hb_font_t>(face: &F, buffer: &mut hb_buffer_t, place: usize)
+    requires { place < length buffer.old.items }
+    ensures { (x : Item) (p : Position) → x ≡ slice_index_or buffer.old.items place x
+        → p ≡ slice_index_or buffer.old.positions place p
+        → buffer.new ≡ record buffer.old {
+          positions = slice_set buffer.old.positions place
+              (Advances.advanced_position (F.face face.now) true x p);
+        } }
+{
+    let x_advance = face.glyph_h_advance(GlyphId(buffer.infos()[place].glyph_id));
+    let position = buffer.positions()[place];
+    buffer.set_position(
+        place,
+        GlyphPosition {
+            x_advance,
+            ..position
+        },
+    );
+}
+
+/// Gives each glyph its advance along a horizontal line.
+fn put_h_advances<F: hb_font_t>(face: &F, buffer: &mut hb_buffer_t)
+    ensures { Made (positions_mapped (Advances.advanced_position (F.face face.now) true))
+        buffer.old buffer.new }
+{
+    for i in 0..buffer.len() {
+        put_h_advance(face, buffer, i);
     }
 }
 
@@ -61,16 +86,19 @@ pub fn clear_positions(buffer: &mut hb_buffer_t)
 
 /// Gives each glyph its advance, and in lines that aren't horizontal its origin, in units of the face. An
 /// offset that doesn't fit wraps; one that fits is the exact difference, by the clauses `exact_x` and
-/// `exact_y` of `advance_position`. Takes no memory.
+/// `exact_y` of `vertical_position`. Takes no memory.
 #[tactic(auto, unfolding(crate::specs::Advances::advanced))]
 pub fn put_advances<F: hb_font_t>(face: &F, buffer: &mut hb_buffer_t)
     ensures { Made (Advances.advanced (F.face face.now)) buffer.old buffer.new }
 {
-    let horizontal = buffer.direction().is_horizontal();
-    update_positions(
-        buffer,
-        |info, position| advance_position(face, horizontal, info, position),
-    );
+    if buffer.direction().is_horizontal() {
+        put_h_advances(face, buffer);
+    } else {
+        update_positions(
+            buffer,
+            |info, position| vertical_position(face, info, position),
+        );
+    }
 }
 
 /// Makes the positions anew, by the face alone: the first two steps of positioning, neither of which is

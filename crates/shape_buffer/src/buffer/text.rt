@@ -1,11 +1,26 @@
 //! The characters of a text as items.
-ghost use Rattle.std.specs.Prelude.{◌≡◌, ◌++◌, ◌<◌, ◌^◌, length, take, All, OnOk};
+ghost use Rattle.std.specs.Prelude.{◌≡◌, ◌++◌, ◌∷◌, ◌<◌, ◌^◌, [], if◌then◌else◌, is_ok, length, take, All, OnOk};
 ghost use Rattle.std.specs.List.Sorted.{IsNonDecreasing};
 ghost use Rattle.shape_items.specs.Clusters.{clusters};
+ghost use Rattle.shape_items.specs.Items.{new_item};
 ghost use Rattle.shape_buffer.specs.Text.{text_items, numbered_from, IsFirstByte};
 
 use shape_items::hb_glyph_info_t;
 use std::alloc::AllocError;
+
+/// Appends an item for a character. Where there is room, which is nearly always, no call is made.
+#[inline(always)]
+fn push_char(infos: &mut Vec<hb_glyph_info_t>, c: char, cluster: u32) -> Result<(), AllocError>
+    ensures { infos.new.items
+        ≡ (if is_ok result then infos.old.items ++ new_item c cluster ∷ [] else infos.old.items) }
+{
+    if infos.len() < infos.capacity() {
+        infos.push_reserved(hb_glyph_info_t::new(c, cluster));
+        return Ok(());
+    }
+    infos.push(hb_glyph_info_t::new(c, cluster))?;
+    Ok(())
+}
 
 /// Appends the items of a text; if memory runs out, what was there still stands first.
 pub(crate) fn append_text(infos: &mut Vec<hb_glyph_info_t>, text: &str) -> Result<(), AllocError>
@@ -18,7 +33,7 @@ pub(crate) fn append_text(infos: &mut Vec<hb_glyph_info_t>, text: &str) -> Resul
 {
     let mut offset: u32 = 0;
     for c in text.chars() {
-        infos.push(hb_glyph_info_t::new(c, offset))?;
+        push_char(infos, c, offset)?;
         offset += c.len_utf8() as u32;
     }
     Ok(())
