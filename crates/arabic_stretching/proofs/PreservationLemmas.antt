@@ -17,7 +17,8 @@ use Rattle.arabic_stretching.specs.Copying.{stretched_from}
 use Rattle.arabic_stretching.specs.Stretching.{glyphs_from, is_leftward, turned, laid_out, stretched_in, stretched}
 use Rattle.arabic_stretching.specs.Tiles.{tile_of, recorded, tiles_recorded, is_tile, span_len, begins_at, span_marked_at, spans_marked_to, spans_marked}
 use Rattle.arabic_stretching.proofs.DrawnLemmas.{keys, stretched-draws, stretched-some, glyphs-draws, glyphs-some}
-use Rattle.arabic_stretching.proofs.TurnedLemmas.{clusters-turned, clusters-reverse, some-reverse}
+use Rattle.shape_items.proofs.Order.ReversedLemmas.{clusters-reverse, some_has-reverse}
+use Rattle.arabic_stretching.proofs.TurnedLemmas.{clusters-turned}
 
 -- ---- tiles noted
 
@@ -114,8 +115,8 @@ turned-flags f preserves true b =
     record {
       flags = p.flags;
       stays_set = p.stays_set;
-      none_new = λ flag is some. elim (p.none_new flag is (sym (some-reverse flag d.items) ∙ some)) [
-        | inl had ↦ inl (sym (some-reverse flag b.items) ∙ had)
+      none_new = λ flag is some. elim (p.none_new flag is (sym (some_has-reverse flag d.items) ∙ some)) [
+        | inl had ↦ inl (sym (some_has-reverse flag b.items) ∙ had)
         | inr noted ↦ inr noted
       ];
     }

@@ -1,3 +1,4 @@
 pub mod SubtableLemmas
 pub mod SideLemmas
+mod SideRows
 pub mod PreservationLemmas

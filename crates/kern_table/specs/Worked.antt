@@ -1,2 +1,3 @@
 pub mod Kern
 pub mod Engine
+pub mod Sides

@@ -1,62 +1,18 @@
 -- What the reversal of a list does to the order of its clusters and to its flags.
-use Rattle.std.proofs.Common.{◌≡◌, ◌||◌, ℕ, ◌-◌, ◌<◌, Bool, true, false, List, [], ◌∷◌, ◌++◌, length, reverse, refl, ap, sym, ◌∙◌, subst, inl, inr, arith}
+use Rattle.std.proofs.Common.{◌≡◌, ℕ, Bool, true, false, List, length, reverse, refl, sym, ◌∙◌, subst, inl}
 use Rattle.std.specs.Prelude.{Contains, if◌then◌else◌, not}
 use Rattle.std.specs.List.Sorted.{IsNonDecreasing}
-use Rattle.std.proofs.lemmas.List.{get_or-reverse, length-reverse, reverse-append, map-append}
+use Rattle.std.proofs.lemmas.List.{length-reverse}
 use Rattle.shape_items.specs.Buffer.{Buffer}
 use Rattle.shape_items.specs.ClusterOrder.{IsNonIncreasing, IsOrderedFor}
 use Rattle.shape_items.specs.Clusters.{clusters}
 use Rattle.shape_common.specs.Direction.{is_backward}
-use Rattle.shape_items.specs.Items.{Item}
 use Rattle.shape_buffer.specs.Preservation.{IsFlagPreserving}
-use Rattle.shape_items.specs.PreservesFlags.{PreservesFlags, has_flag, some_has}
-use Rattle.shape_items.proofs.Flags.FlagLemmas.{append-cases, PreservesFlags-same}
+use Rattle.shape_items.specs.PreservesFlags.{PreservesFlags}
+use Rattle.shape_items.proofs.Flags.FlagLemmas.{PreservesFlags-same}
+use Rattle.shape_items.proofs.Order.ReversedLemmas.{clusters-reverse, falls-reverse, rises-reverse, Contains-reverse, some_has-reverse}
 use Rattle.shape_glyphs.specs.StepEffects.{ReversesOrder, PreservesLengths}
 use Rattle.shape_glyphs.specs.Reversal.{reversed}
-
-clusters-reverse : (xs : List Item) → clusters (reverse xs) ≡ reverse (clusters xs)
-clusters-reverse [] = refl
-clusters-reverse (x ∷ xs) =
-    ap clusters (reverse-append (x ∷ []) xs)
-    ∙ map-append (λ (item : Item). item.cluster) (reverse xs) (x ∷ [])
-    ∙ ap (λ (ys : List ℕ). ys ++ (x.cluster ∷ [])) (clusters-reverse xs)
-    ∙ sym (reverse-append (x.cluster ∷ []) (clusters xs))
-
-falls-reverse : (xs : List ℕ) → IsNonDecreasing xs → IsNonIncreasing (reverse xs)
-falls-reverse xs rising i j d le lt =
-    let short : j < length xs = rw (← length-reverse xs) lt in
-    let first : i < length xs = omega arith in
-    rw (get_or-reverse xs j d short, get_or-reverse xs i d first)
-    (rising (length xs - 1 - j) (length xs - 1 - i) d (omega arith) (omega arith))
-
-rises-reverse : (xs : List ℕ) → IsNonIncreasing xs → IsNonDecreasing (reverse xs)
-rises-reverse xs falling i j d le lt =
-    let short : j < length xs = rw (← length-reverse xs) lt in
-    let first : i < length xs = omega arith in
-    rw (get_or-reverse xs i d first, get_or-reverse xs j d short)
-    (falling (length xs - 1 - j) (length xs - 1 - i) d (omega arith) (omega arith))
-
-Contains-reverse : (xs : List ℕ) (x : ℕ) → Contains (reverse xs) x → Contains xs x
-Contains-reverse xs x (k, lt, e) =
-    let short : k < length xs = rw (← length-reverse xs) lt in
-    (length xs - 1 - k, omega arith, sym (get_or-reverse xs k x short) ∙ e)
-
--- a flag of the reversed list is one of the list
-some_has-reverse : (flag : ℕ) (xs : List Item) → some_has flag (reverse xs) ≡ true → some_has flag xs ≡ true
-some_has-reverse flag [] some = some
-some_has-reverse flag (x ∷ xs) some =
-    elim (append-cases (has_flag flag) (reverse xs) (x ∷ []) (ap (some_has flag) (sym (reverse-append (x ∷ []) xs)) ∙ some)) [
-      | inl behind ↦ let rest = some_has-reverse flag xs behind in either (has_flag flag x) rest
-      | inr first ↦ let here : has_flag flag x ≡ true = only (has_flag flag x) first in rw here refl
-    ]
-  where
-    either : (here : Bool) → some_has flag xs ≡ true → (here || some_has flag xs) ≡ true
-    either true rest = refl
-    either false rest = rest
-
-    only : (here : Bool) → (here || false) ≡ true → here ≡ true
-    only true some = refl
-    only false some = some
 
 abbrev reversed_if : Bool → Buffer → Buffer
 reversed_if backward b = if backward then record b { items = reverse b.items; positions = reverse b.positions } else b
@@ -111,7 +67,7 @@ reversal-reverses b = record {
 
 flags-reversed_if : (backward : Bool) (b : Buffer) → PreservesFlags b (reversed_if backward b)
 flags-reversed_if true b =
-    record { flags = refl; stays_set = λ set. set; none_new = λ flag defined some. inl (some_has-reverse flag b.items some) }
+    record { flags = refl; stays_set = λ set. set; none_new = λ flag defined some. inl (sym (some_has-reverse flag b.items) ∙ some) }
 flags-reversed_if false b = PreservesFlags-same b
 
 pub flags-reversed : IsFlagPreserving reversed

@@ -2,4 +2,5 @@
 pub mod DrawsInOrder
 pub mod BesideLemmas
 pub mod PreservesClusterLemmas
+pub mod ReversedLemmas
 pub mod GraphemeOrderLemmas

@@ -4,6 +4,7 @@ mod LineLemmas
 mod ParagraphLemmas
 mod PlainLemmas
 mod PlainRows
+mod PromisedRows
 mod ShownRows
 mod WordLemmas
 mod WordRows

@@ -37,7 +37,7 @@ of_two : (glyphs : List ℕ) (k : ℕ) → AreOfText (in_clusters (0 ∷ 2 ∷ [
     → (k ≡ 0) ⊎ (k ≡ 2)
 of_two glyphs k are there = no_other_of_two k (are k there)
 
-between_two : AreOfText (in_clusters (0 ∷ 2 ∷ [])) (in_clusters (0 ∷ 1 ∷ [])) → ⊥
+pub between_two : AreOfText (in_clusters (0 ∷ 2 ∷ [])) (in_clusters (0 ∷ 1 ∷ [])) → ⊥
 between_two are = elim (of_two (0 ∷ 1 ∷ []) 1 are (1, omega arith, refl)) [
   | inl e ↦ omega (arith, e)
   | inr e ↦ omega (arith, e)

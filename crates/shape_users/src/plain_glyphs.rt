@@ -16,6 +16,7 @@ ghost use Rattle.shape_pipeline.specs.Strings.{AreGlyphsOfString, string_text};
 ghost use Rattle.shape_users.specs.PlainGlyphs.{ArePlainGlyphs, StandInOrder, HasPlainForm};
 ghost use Rattle.shape_users.specs.PlainGlyphs.{IsGivenBackEmpty, NoStepPasses, SomeStepPasses};
 ghost use Rattle.shape_users.specs.Worked.Plain.{WorkedPlain};
+ghost use Rattle.shape_users.specs.Worked.Promised.{WorkedPromises};
 
 pub mod by_shape;
 
@@ -187,5 +188,6 @@ where
 
 /// What these facts take and refuse, on glyphs, steps and strings worked out by hand.
 pub fn plain_facts_meet_worked_cases()
-    ensures { WorkedPlain }
+    ensures facts { WorkedPlain }
+    ensures promises { WorkedPromises }
 {}

@@ -7,6 +7,7 @@ use Rattle.canonical_form.proofs.Lists.DividedLemmas.{whole}
 use Rattle.shape_items.specs.Items.{Item}
 use Rattle.shape_items.specs.Clusters.{clusters}
 use Rattle.shape_items.specs.ClusterOrder.{IsNonIncreasing}
+use Rattle.shape_items.proofs.Order.ReversedLemmas.{falls-reverse}
 
 -- a part stands in one cluster
 abbrev pub IsOneCluster : List Item → Type 0
@@ -45,13 +46,6 @@ clusters-reversed (part ∷ parts) one =
     ∙ ap (λ (cs : List ℕ). reverse (clusters (whole parts)) ++ cs) (sym (one_cluster-reverse part one.0))
     ∙ sym (reverse-append (clusters part) (clusters (whole parts)))
     ∙ ap (λ (cs : List ℕ). reverse cs) (sym (map-append (λ (item : Item). item.cluster) part (whole parts)))
-
-falls-reverse : (xs : List ℕ) → IsNonDecreasing xs → IsNonIncreasing (reverse xs)
-falls-reverse xs rising i j d le lt =
-    let short : j < length xs = rw (← length-reverse xs) lt in
-    let first : i < length xs = omega arith in
-    rw (get_or-reverse xs j d short, get_or-reverse xs i d first)
-    (rising (length xs - 1 - j) (length xs - 1 - i) d (omega arith) (omega arith))
 
 -- rising clusters fall once the parts are reversed
 pub falls-reversed : (parts : List (List Item)) → AreOneCluster parts → IsNonDecreasing (clusters (whole parts))

@@ -1,5 +1,6 @@
 use Rattle.kern_table.specs.Worked.Engine.{worked_engine}
 use Rattle.kern_table.specs.Worked.Kern.{worked_values, worked_classes, worked_lines, worked_maps}
+use Rattle.kern_table.proofs.SideRows.{worked_sides}
 use Rattle.kern_table.proofs.worked.kerning_meets_worked_cases.Goals as goal
 
 pub returns-clause-values : goal.returns-clause-values
@@ -7,6 +8,9 @@ returns-clause-values c = worked_values
 
 pub returns-clause-classes : goal.returns-clause-classes
 returns-clause-classes c = worked_classes
+
+pub returns-clause-sides : goal.returns-clause-sides
+returns-clause-sides c = worked_sides
 
 pub returns-clause-lines : goal.returns-clause-lines
 returns-clause-lines c = worked_lines
