@@ -176,6 +176,8 @@ pub(crate) fn set_for(
 }
 
 /// The rule at a place, of a subtable of format 1 or 2.
+/// Inlined, as a rule has a hundred bytes, which each call would copy.
+#[inline(always)]
 pub(crate) fn rule_by(table: &[u8], is_chain: bool, start: usize, at: usize) -> Rule
     requires start { start < 2 ^ 35 }
     requires at { at < 2 ^ 37 }

@@ -138,6 +138,8 @@ pub struct RowTests {
 }
 
 /// A rule with what stands before and after. `whole` is 1 if the first glyph has a value too, else 0.
+/// Inlined, as a rule has a hundred bytes, which each call would copy.
+#[inline(always)]
 pub fn chain(table: &[u8], rows: RowTests, whole: usize, at: usize) -> Rule
     requires at { at < 2 ^ 38 }
     requires whole { whole < 2 }

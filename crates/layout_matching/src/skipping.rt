@@ -23,6 +23,7 @@ pub fn item_at(items: &[hb_glyph_info_t], i: usize) -> hb_glyph_info_t
 }
 
 /// Whether a mark is out of the lookup's set of marks, or of another class of marks than the lookup's.
+/// A call of its own, so that the tests before it are inlined where glyphs are walked over.
 #[inline(never)]
 fn mark_is_left_out(lookup: &Lookup<'_>, item: &hb_glyph_info_t) -> bool
     ensures { result ≡ Skipping.is_mark_left_out lookup.now item.now }

@@ -40,6 +40,8 @@ fn number(table: &[u8], format: u16, at: usize, bit: u16) -> i32
 
 /// The record of this format at `at`. Devices and variations are left out: the face is taken at its
 /// default instance, at no size in pixels.
+/// Inlined, since most pairs have no second record.
+#[inline(always)]
 pub fn value_record(table: &[u8], format: u16, at: usize) -> Adjustment
     requires { at < 2 ^ 39 }
     ensures { result ≡ Values.value_at table.now format at }
