@@ -5,7 +5,7 @@ use Rattle.shape_items.specs.Items.{Item, new_item}
 use Rattle.shape_common.specs.Unicode.{UnicodeMeaning}
 use Rattle.shape_common.specs.declared.general_category.hb_unicode_general_category_t.{hb_unicode_general_category_t}
 use Rattle.shape_common.specs.declared.general_category.hb_unicode_general_category_t.TheVariants.{UppercaseLetter, LowercaseLetter, TitlecaseLetter, ModifierLetter, OtherLetter, SpaceSeparator, LineSeparator, ModifierSymbol, OtherSymbol, Format}
-use Rattle.shape_prepare.specs.Graphemes.{graphemes_marked, is_unasked, is_skin_tone, is_extender, continues_by_rule, is_to_next}
+use Rattle.shape_prepare.specs.Graphemes.{graphemes_marked, is_unasked, is_skin_tone, is_extender, continues_by_rule, is_to_next, is_left_alone}
 use Rattle.shape_prepare.specs.DottedCircle.{circle_before, dotted_circled}
 use Rattle.shape_prepare.specs.declared.graphemes.Before.TheVariants.{Plain, Zwj}
 use Rattle.shape_prepare.specs.Worked.Unicode.{worked_unicode, face_with, text_of, shown, continued}
@@ -92,6 +92,11 @@ pub record RulesByThemselves : Type 0 where
   pub joiner : is_to_next worked_unicode Plain (joiner_of Format) ≡ Zwj
   pub joined_joiner : is_to_next pictures Zwj (joiner_of Format) ≡ Plain
   pub plain_joiner : is_to_next worked_unicode Plain (joiner_of OtherLetter) ≡ Plain
+  pub letter_alone : is_left_alone Plain (of_category LowercaseLetter 0x3B1) ≡ true
+  pub letter_after_joiner : is_left_alone Zwj (of_category LowercaseLetter 0x3B1) ≡ false
+  pub symbol_alone : is_left_alone Plain (of_category ModifierSymbol 0x1F3FB) ≡ false
+  pub before_indicators : is_left_alone Plain (of_category OtherLetter 0x1F1E5) ≡ true
+  pub at_indicators : is_left_alone Plain (of_category OtherLetter 0x1F1E6) ≡ false
 
 rules_by_themselves : RulesByThemselves
 rules_by_themselves = record {
@@ -103,6 +108,11 @@ rules_by_themselves = record {
   joiner = refl;
   joined_joiner = refl;
   plain_joiner = refl;
+  letter_alone = refl;
+  letter_after_joiner = refl;
+  symbol_alone = refl;
+  before_indicators = refl;
+  at_indicators = refl;
 }
 
 -- a text that begins here with a mark
