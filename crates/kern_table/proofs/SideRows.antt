@@ -3,7 +3,8 @@ use Rattle.std.proofs.Common.{◌≡◌, ℕ, zero, suc, ℤ, pos, negsuc, Bool,
 use Rattle.shape_font.specs.Bytes.{i16_of}
 use Rattle.kern_table.specs.Pairs.{HoldSides}
 use Rattle.kern_table.specs.Sides.{AreMarked}
-use Rattle.kern_table.specs.Worked.Sides.{one_pair, none_of_3, none_of_4, glyph_2, glyph_3, MarksOfPairs, SidesOfPairs, StoredPairs, WorkedSides}
+use Rattle.kern_table.specs.Worked.Sides.{one_pair, none_of_3, none_of_4, glyph_2, glyph_3}
+use Rattle.kern_table.specs.Worked.Sides.{MarksOfPairs, SidesOfPairs, StoredPairs, WorkedSides}
 use Rattle.kern_table.specs.declared.sides.PairGlyphs.{PairGlyphs}
 
 left : AreMarked one_pair 4 true 1 glyph_2
@@ -53,8 +54,10 @@ right_of_any lefts hold =
 
 stored_pairs : (glyphs : PairGlyphs) → StoredPairs glyphs
 stored_pairs glyphs = record {
-  left_unmarked = λ is hold. left_of_any glyphs.rights.items (subst (λ (ms : List Bool). HoldSides one_pair 4 ms glyphs.rights.items) is hold);
-  right_unmarked = λ is hold. right_of_any glyphs.lefts.items (subst (λ (ms : List Bool). HoldSides one_pair 4 glyphs.lefts.items ms) is hold);
+  left_unmarked = λ is hold. left_of_any glyphs.rights.items
+      (subst (λ (marks : List Bool). HoldSides one_pair 4 marks glyphs.rights.items) is hold);
+  right_unmarked = λ is hold. right_of_any glyphs.lefts.items
+      (subst (λ (marks : List Bool). HoldSides one_pair 4 glyphs.lefts.items marks) is hold);
 }
 
 pub worked_sides : WorkedSides
