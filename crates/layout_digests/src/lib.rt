@@ -1,4 +1,4 @@
-//! Digests of lookups: which glyphs a lookup may begin at, in three words (as HarfBuzz's `hb_set_digest_t`).
+//! Digests of lookups: which glyphs a lookup may begin at, in six words (HarfBuzz's `hb_set_digest_t` has three).
 //!
 //! A digest holds more glyphs than were put in, and never fewer: so a lookup whose digest doesn't hold a glyph does
 //! nothing there, and a walk may pass on without a look into the table. [`digest`] has digests, [`coverage`] makes them of

@@ -43,7 +43,8 @@ pub fn fits(lookup: &Lookup<'_>, seek: &Seek, k: u32, there: &hb_glyph_info_t) -
         && fits_row(lookup.table, &seek.row, k, there.glyph_id)
 }
 
-/// Whether a default ignorable may stand before the glyph that is looked for. Few glyphs are, so this isn't inlined.
+/// Whether a default ignorable may stand before the glyph that is looked for. Few glyphs are default ignorables, so this
+/// isn't inlined.
 #[inline(never)]
 fn lets_past(lookup: &Lookup<'_>, seek: &Seek, k: u32, there: &hb_glyph_info_t) -> bool
     ensures { result ≡ Seeking.lets_past lookup.now seek.now k there.now }

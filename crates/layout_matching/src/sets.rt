@@ -28,6 +28,10 @@ pub(crate) fn passed_charged(
     requires { at < length items.now }
     ensures { result ≡ Work.passed_charged lookup.now items.now at count }
 {
+    // Of a set without rules nothing is looked at, so nothing is sought to be charged.
+    if count.tries == 0 {
+        return Some(count.left);
+    }
     let before = passed_before(lookup, items, at, count.before);
     let beside = passed_after(lookup, items, at, count.after).saturating_add(before);
     let passed = beside.saturating_add(marks_passed(lookup, items, at) / MARKS_PART);

@@ -21,7 +21,7 @@ pub struct BaseSeen {
     pub place: Option<usize>,
 }
 
-/// How many glyphs that are marked, from the base of a mark on, cost one.
+/// How many glyphs that attachment flags, from the base of a mark on, cost one.
 const SPAN_PART: usize = 4;
 
 /// Whether a mark may stand on the glyph, as far as the lookup sees it.

@@ -15,7 +15,7 @@ use std::alloc::Global;
 use std::marker::Model;
 
 /// A face over the bytes of a font file with tables beside it: those of [`OpenedFace`], for each glyph what `GDEF` says of it, in
-/// 2 bytes, and for each lookup of `GSUB` and `GPOS` a digest of the glyphs that it may begin at, of 24 bytes. It returns what the [`OpenTypeFace`] returns, and
+/// 2 bytes, and for each lookup of `GSUB` and `GPOS` a digest of the glyphs that it may begin at, of 48 bytes. It returns what the [`OpenTypeFace`] returns, and
 /// contracts see it as that face.
 #[derive(Drop)]
 pub struct OpenedOpenTypeFace<'a> {

@@ -169,8 +169,8 @@ pub record WorkedBounds : Type 0 where
   pub backwards_matches : HoldsOf backwards_before [] (λ l. glyphs (after (on l 0 0) (glyph 5 0 ∷ glyph 9 1 ∷ [])) ≡ 60 ∷ 9 ∷ [])
   pub backwards_differs : HoldsOf backwards_before [] (λ l. glyphs (after (on l 0 0) (glyph 9 0 ∷ glyph 5 1 ∷ [])) ≡ 9 ∷ 5 ∷ [])
   pub distance_wraps : HoldsOf one_back [] (λ l. glyphs (after (on l 0 0) (glyph 5 0 ∷ [])) ≡ 4 ∷ [])
-  -- so many nested lookups for each item, at least so many, and no more than can be counted
-  pub at_least : most_work 32 ≡ 1048576
+  -- so many units of work for each item, at least so many, and no more than can be counted
+  pub at_least : most_work 31 ≡ 1048576
   pub for_each_item : most_work 33 ≡ 1081344
   pub countable : most_work 18446744073709551615 ≡ 18446744073709551615
   -- a lookup of the plan and 64 levels below it

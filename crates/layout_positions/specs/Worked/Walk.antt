@@ -60,7 +60,7 @@ pub record WorkedBounds : Type 0 where
   -- a lookup of the plan and 64 levels below it
   pub levels : LEVELS ≡ 65
   pub links : MOST_LINKS ≡ 64
-  pub at_least : most_work 32 ≡ 1048576
+  pub at_least : most_work 31 ≡ 1048576
   pub for_each_glyph : most_work 33 ≡ 1081344
   pub countable : most_work 18446744073709551615 ≡ 18446744073709551615
 
