@@ -305,6 +305,23 @@ def lacking_conditions():
                 yield f"{'::'.join((crate,) + path)}::{name}: {asked}"
 
 
+def stale_plants():
+    """The wrong rules whose old texts don't stand exactly once in their files."""
+    for plant in sorted(ROOT.glob("tests/rules/*.plant")):
+        texts = {}
+        for line in plant.read_text().splitlines():
+            key, _, value = line.partition(": ")
+            if key == "file":
+                file = value
+                texts.setdefault(file, (ROOT / file).read_text())
+            elif key == "old":
+                old = value
+                if texts[file].count(old) != 1:
+                    yield plant.stem
+            elif key == "new":
+                texts[file] = texts[file].replace(old, value)
+
+
 def check():
     """What is stale, a line each."""
     stale = []
@@ -317,6 +334,7 @@ def check():
     stale += [f"docs/TESTING.md names an edit that isn't there: {edit}"
               for edit in sorted(named - edits)]
     stale += [f"docs/SAFE_AND_TOTAL.md lacks {line}" for line in lacking_conditions()]
+    stale += [f"tests/rules/{name}.plant: its old text doesn't stand once" for name in stale_plants()]
     return stale
 
 
