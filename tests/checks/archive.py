@@ -55,11 +55,13 @@ def words_over_statements():
 
 def build_archive(over_ci):
     """Builds the archive. `over_ci` says that `rt ci` has just left the statements of each
-    library: `rt lib` takes none of these, and would prove them all again. The script ends if the
-    archive can't be built."""
-    words = words_over_statements() if over_ci else ["rt", "lib"]
+    library: `rt lib` takes none of these, and would prove them all again, so it comes second. The
+    script ends if the archive can't be built."""
+    stands = over_ci and all(statements(it).exists() for it in below(crates(), CRATE))
     ARCHIVE.parent.mkdir(exist_ok=True)
-    done = subprocess.run(words, cwd=CRATES / CRATE, stdout=subprocess.PIPE,
-                          stderr=subprocess.STDOUT)
-    if done.returncode or not ARCHIVE.exists():
-        sys.exit(f"{ARCHIVE.name} can't be built\n{done.stdout.decode(errors='replace')[-2000:]}")
+    for words in ([words_over_statements()] if stands else []) + [["rt", "lib"]]:
+        done = subprocess.run(words, cwd=CRATES / CRATE, stdout=subprocess.PIPE,
+                              stderr=subprocess.STDOUT)
+        if not done.returncode and ARCHIVE.exists():
+            return
+    sys.exit(f"{ARCHIVE.name} can't be built\n{done.stdout.decode(errors='replace')[-2000:]}")
