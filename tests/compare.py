@@ -1,13 +1,15 @@
 #!/usr/bin/env -S python3 -B
 """Compares what `fontshape`, `shapeline` and `fill_paragraph` print with what other programs and
-models print.
+models print, and libraries with Unicode's test files (Debian's package `unicode-data`).
 
     tests/compare.py KIND [OPTION ..]
     tests/compare.py KIND --help
 
 Status 0: no difference. 1: there are some, which are shown. 77: something is not installed.
 """
-from checks import cuts, normalising, options, paragraphs, random_fonts, scripts, texts
+from checks import (
+    cuts, line_breaks, normalising, normalization, options, paragraphs, random_fonts, scripts, texts,
+)
 from checks.command import run_kind
 
 KINDS = {
@@ -18,6 +20,8 @@ KINDS = {
     "fonts": random_fonts,
     "cuts": cuts,
     "normalising": normalising,
+    "normalization": normalization,
+    "line-breaks": line_breaks,
 }
 
 if __name__ == "__main__":

@@ -1,7 +1,7 @@
 //! Unicode's own test files taken through the library, and rows of whole texts for the Unicode functions.
 //!
 //! The program answers lines of NormalizationTest.txt and LineBreakTest.txt on the standard input ([`files`]);
-//! `tests/unicode-files.py` compares with the files. The exit status is 0 at the end of
+//! `tests/compare.py` compares with the files. The exit status is 0 at the end of
 //! the input, 1 if a read, a write or a growth of memory failed, 2 at a malformed line.
 //!
 //! The tests split and order a text by the functions alone, as UAX 15 says it, and compare with the rows, lines of
