@@ -2,36 +2,25 @@
 //! what is exported here.
 //!
 //! No pointer of this library reaches C, and none of C's is kept: a call reads slices, writes into slices, and returns.
-//! So there is nothing to free, no handle to misuse, and nothing global. [`plain`] has the structs that cross, [`texts`]
-//! makes a text of a run, [`shaper`] shapes it by one of the [`plans`] that the runs of a call share, [`written`] writes its
-//! glyphs, [`runs`] goes over the runs, [`fonts`] opens a font, and [`refusal`] has the reasons that come back as numbers.
+//! So there is nothing to free, no handle to misuse, and nothing global. `c_runs` has all but the exports.
 #![tactic(auto)]
 #![allow(non_camel_case_types)]
 
-mod fonts;
-mod plain;
-mod plans;
-mod refusal;
-mod runs;
-mod shaper;
-mod texts;
-mod written;
-
-ghost use Rattle.std.specs.Prelude.{◌≡◌, ◌↔◌, ◌≤◌, Some, None, length, map, IfOk, IfErr};
+ghost use Rattle.std.specs.Prelude.{◌≡◌, ◌↔◌, ◌≤◌, Some, None, length, map};
 ghost use Rattle.std.specs.Str.{IsUtf8};
 ghost use Rattle.opentype_layout.specs.Fonts.{IsFaceOf, units_of};
-ghost use Rattle.luthgarn_c.specs.Numbers.{direction_number, feature_of_c, script_number};
-ghost use Rattle.luthgarn_c.specs.Outcomes.{IsUntouched, ServesBy};
-ghost use Rattle.luthgarn_c.specs.Worked.Runs.{WorkedRuns};
+ghost use Rattle.c_runs.specs.Numbers.{direction_number, feature_of_c, script_number};
+ghost use Rattle.c_runs.specs.Outcomes.{IsUntouched, ServesBy};
 ghost use Rattle.shape_text_forms.specs.Feature.{feature_of};
 ghost use Rattle.shape_text_forms.specs.Names.{direction_of_text, script_of_text};
 
-use crate::fonts::{face_of, font_of};
-use crate::plain::{features_of, luthgarn_feature, luthgarn_glyph, luthgarn_outcome, luthgarn_run};
-use crate::refusal::{DONE, Refusal};
-use crate::runs::shape_runs;
-use crate::shaper::FontShaper;
-use opentype_layout::{OpenTypeFace, OpenTypeLayout, OpenedOpenTypeFace};
+use c_runs::fonts::{face_of, font_of};
+use c_runs::plain::{
+    direction_code, luthgarn_feature, luthgarn_glyph, luthgarn_outcome, luthgarn_run,
+};
+use c_runs::refusal::{DONE, Refusal};
+use c_runs::shape_opened;
+use opentype_layout::{OpenTypeLayout, OpenedOpenTypeFace};
 use script_shapers::choice::{ScriptRuns, by_script};
 use shape_buffer::interfaces::hb_font_t;
 use shape_text_forms::{direction_from_string, feature_from_string, script_from_string};
@@ -76,7 +65,7 @@ pub extern "C" fn luthgarn_parse_direction(text: &[u8]) -> u32
     ensures none { (IsUtf8 text.now → ⊥) → result ≡ 0 }
 {
     match str::from_utf8(text) {
-        Ok(text) => plain::direction_code(direction_from_string(text)),
+        Ok(text) => direction_code(direction_from_string(text)),
         Err(_) => 0,
     }
 }
@@ -94,32 +83,6 @@ pub extern "C" fn luthgarn_parse_script(text: &[u8]) -> u32
         },
         Err(_) => 0,
     }
-}
-
-/// Shapes runs of a text with a face that is opened for them. Refuses with `Memory` alone.
-fn shape_opened(
-    alloc: Global,
-    face: OpenTypeFace<'_>,
-    features: &[luthgarn_feature],
-    text: &[u8],
-    runs: &mut [luthgarn_run],
-    glyphs: &mut [luthgarn_glyph],
-) -> Result<luthgarn_outcome, Refusal>
-    ensures ok { IfOk result (λ outcome. ServesBy
-        ⟦<by_script as ScriptRuns<UnicodeDatabase, OpenedOpenTypeFace<'static>, OpenTypeLayout>>⟧.text_run
-        (λ f. f ≡ face.entry) (map feature_of_c features.now)
-        text.now runs.old runs.new glyphs.old glyphs.new outcome) }
-    ensures memory { IfErr result (λ e. e ≡ Refusal.Memory) }
-    ensures same { IfErr result (λ _. (runs.new ≡ runs.old) × (glyphs.new ≡ glyphs.old)) }
-{
-    let opened = OpenedOpenTypeFace::new(alloc, face)?;
-    let features = features_of(alloc, features)?;
-    let mut shaper = FontShaper {
-        face: &opened,
-        features: features.as_slice(),
-        plans: Vec::new(alloc),
-    };
-    Ok(shape_runs(alloc, &mut shaper, text, runs, glyphs))
 }
 
 /// Shapes the runs of a text, one after the other, and writes their glyphs one after the other: of each run those that
@@ -153,8 +116,3 @@ pub extern "C" fn luthgarn_shape(
         Err(refusal) => luthgarn_outcome::refused(refusal),
     }
 }
-
-/// Runs of a text, and their glyphs, by hand. Does nothing.
-pub fn runs_meet_worked_cases()
-    ensures { WorkedRuns }
-{}

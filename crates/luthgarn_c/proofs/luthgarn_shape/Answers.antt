@@ -1,7 +1,7 @@
 use Rattle.std.proofs.Common.{◌≡◌, ◌∙◌, map, refl, ap, sym, subst, arith}
 use Rattle.opentype_layout.specs.Fonts.{IsFaceOf, units_of}
-use Rattle.luthgarn_c.specs.Numbers.{code_of, feature_of_c}
-use Rattle.luthgarn_c.proofs.OutcomeLemmas.{not-zero, serves-code, serves-none}
+use Rattle.c_runs.specs.Numbers.{code_of, feature_of_c}
+use Rattle.c_runs.proofs.OutcomeLemmas.{not-zero, serves-code, serves-none}
 use Rattle.luthgarn_c.proofs.luthgarn_shape.Goals as goal
 
 pub returns-in-Ok : goal.returns-in-Ok

@@ -1,0 +1,31 @@
+-- The rows of runs and glyphs by hand.
+use Rattle.std.proofs.Common.{◌≡◌, true, false, List, refl, arith}
+use Rattle.std.specs.Str.{chars}
+use Rattle.c_runs.specs.Worked.Runs.{TextsWorked, GlyphsWorked, WorkedRuns}
+use Rattle.c_runs.specs.declared.plain.luthgarn_glyph.{luthgarn_glyph}
+use Rattle.c_runs.specs.declared.plain.luthgarn_run.{luthgarn_run}
+
+texts : TextsWorked
+unfolding chars
+texts = record {
+  own = refl;
+  before = refl;
+  after = refl;
+  text = refl;
+  placed = record { before = omega arith; own = omega arith; after = omega arith; within = omega arith; direction = refl; level = refl };
+  past_what_follows = λ is. absurd (omega (arith, is.after));
+  backward = λ is. absurd (omega (arith, is.own));
+  past_the_text = λ is. absurd (omega (arith, is.within));
+  no_direction = λ is. absurd (let e : false ≡ true = is.direction in cc);
+  no_level = λ is. absurd (let e : false ≡ true = is.level in cc);
+}
+
+glyphs_of_two : (glyphs : luthgarn_run → List luthgarn_glyph) (g h i : luthgarn_glyph) → GlyphsWorked glyphs g h i
+glyphs_of_two glyphs g h i = record {
+  in_order = λ a b. rw (a, b) refl;
+  ends = λ a b. rw (a, b) refl;
+  numbers = refl;
+}
+
+pub worked_runs : WorkedRuns
+worked_runs = record { texts = texts; glyphs = glyphs_of_two }

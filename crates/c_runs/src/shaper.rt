@@ -1,0 +1,60 @@
+//! What shapes the texts of a call.
+ghost use Rattle.std.specs.Prelude.{◌≡◌, IfOk, IfErr};
+ghost use Rattle.shape_items.specs.Buffer.{Buffer};
+ghost use Rattle.shape_pipeline.specs.Shaped.{shaped};
+ghost use Rattle.shape_plan.specs.Run.{Run};
+ghost use Rattle.c_runs.specs.Plans.{AreMadeBy, all_shapers};
+ghost use Rattle.c_runs.specs.Refusals.{TextPasses};
+
+use crate::plans::{Kept, shape_kept};
+use layout_map::map::hb_ot_map_t;
+use opentype_layout::{OpenTypeLayout, OpenedOpenTypeFace};
+use script_shapers::choice::{ScriptRuns, by_script};
+use script_shapers::plans::ScriptPlans;
+use shape_buffer::buffer::{Feature, GlyphBuffer, ShapeError, UnicodeBuffer};
+use shape_unicode::UnicodeDatabase;
+use std::alloc::Global;
+
+/// Shapes one text after the other, each by the same runs.
+pub trait TextShaper {
+    /// What holds of it between two texts.
+    ghost ready: { Self → Type 0 };
+
+    /// How a text is shaped.
+    ghost runs: { Self → Buffer → Run };
+
+    /// The glyphs of a text. Refuses with `Length` if a step would leave a list past the run's limit, and with `Memory` if
+    /// a growth was refused.
+    fn shape(&mut self, alloc: Global, text: UnicodeBuffer) -> Result<GlyphBuffer, ShapeError>
+        requires { ready self.old }
+        ensures ready { ready self.new }
+        ensures same { runs self.new ≡ runs self.old }
+        ensures glyphs { IfOk result (λ glyphs. glyphs ≡ shaped (runs self.old text) text) }
+        ensures length { IfErr result (λ e. e ≡ ShapeError.Length → TextPasses (runs self.old) text) };
+}
+
+/// A font file with features, and the plans that were made for it.
+#[derive(Drop)]
+pub struct FontShaper<'a> {
+    pub face: &'a OpenedOpenTypeFace<'a>,
+    pub features: &'a [Feature],
+    pub plans: Kept<'a, hb_ot_map_t>,
+}
+
+impl<'a> TextShaper for FontShaper<'a> {
+    ghost ready = { λ s. AreMadeBy (⟦<by_script as ScriptPlans<UnicodeDatabase, OpenedOpenTypeFace<'a>, OpenTypeLayout>>⟧.planned
+        s.face.now all_shapers) s.plans.items };
+
+    ghost runs = { λ s. ⟦<by_script as ScriptRuns<UnicodeDatabase, OpenedOpenTypeFace<'a>, OpenTypeLayout>>⟧.text_run
+        s.face.now s.features.now };
+
+    fn shape(&mut self, alloc: Global, text: UnicodeBuffer) -> Result<GlyphBuffer, ShapeError> {
+        shape_kept::<UnicodeDatabase, OpenedOpenTypeFace, OpenTypeLayout>(
+            alloc,
+            self.face,
+            self.features,
+            &mut self.plans,
+            text,
+        )
+    }
+}
