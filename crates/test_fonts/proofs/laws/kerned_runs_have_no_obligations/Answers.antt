@@ -1,5 +1,5 @@
 use Rattle.std.proofs.Common.{refl}
-use Rattle.test_stages.proofs.fonts.laws.kerned_runs_have_no_obligations.Goals as goal
+use Rattle.test_fonts.proofs.laws.kerned_runs_have_no_obligations.Goals as goal
 
 pub returns : goal.returns
 returns g c = λ plan face.
