@@ -10,7 +10,9 @@ const EQUAL: [(usize, usize); 6] = [(0, 2), (2, 4), (6, 8), (1, 3), (3, 5), (7, 
 
 /// Asserts that the columns of a row that are equivalent have one list.
 fn check_row(rt: &(impl Abort + AllocGlobal), row: &str) {
-    let lists = lists_of(rt.alloc(), row.trim()).expect(rt, "memory").expect(rt, row);
+    let lists = lists_of(rt.alloc(), row.trim())
+        .expect(rt, "memory")
+        .expect(rt, row);
     for (one, other) in &EQUAL {
         let list = column(rt, lists.as_str(), *one);
         assert_row(rt, row, list, column(rt, lists.as_str(), *other));

@@ -22,7 +22,15 @@ const FONTS: [(&str, &[(char, u32)]); 9] = [
     (LONG_LIST, &[('\u{10FFFF}', 4), ('A', 0)]),
     (GROUPS, &[('D', 4), ('\u{1F610}', 19)]),
     // pages are full before the last characters of Unicode; those are looked up by searches
-    (ALL, &[('\0', 4), ('\u{1FFFF}', 4), ('\u{20000}', 4), ('\u{10FFFF}', 4)]),
+    (
+        ALL,
+        &[
+            ('\0', 4),
+            ('\u{1FFFF}', 4),
+            ('\u{20000}', 4),
+            ('\u{10FFFF}', 4),
+        ],
+    ),
     // a search looks at U+0041 first and finds it; U+3000 it misses
     (OUT_OF_ORDER, &[('A', 3), ('\u{3000}', 0)]),
     (SYMBOLS, &[('\u{F041}', 2), ('A', 2), ('B', 0)]),

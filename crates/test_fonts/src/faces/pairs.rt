@@ -17,7 +17,13 @@ const PAIR: &str = "00000001000000140001000100000000000000020003FFCE";
 const CLASSES: &str = "00000001000000140201000100000000000000020003FFCE";
 
 /// Asserts which glyphs stand first and second in a pair, among so many.
-fn assert_pairs(rt: &impl Abort, alloc: Global, digits: &str, count: u16, sides: (&[bool], &[bool])) {
+fn assert_pairs(
+    rt: &impl Abort,
+    alloc: Global,
+    digits: &str,
+    count: u16,
+    sides: (&[bool], &[bool]),
+) {
     let bytes = hex::decode(alloc, digits).expect(rt, "bytes");
     let pairs = PairGlyphs::new(alloc, &bytes, count).expect(rt, "memory");
     assert!(rt; pairs.sides().lefts == sides.0);

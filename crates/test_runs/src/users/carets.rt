@@ -37,7 +37,7 @@ fn assert_carets(
     (click, found): (i32, u32),
     (from, to, span): (u32, u32, Span),
 ) {
-    assert_that(rt, carets.len() == 5);
+    assert!(rt; carets.len() == 5);
     assert_that(rt, caret_of_offset(carets, offset) == x);
     assert_that(rt, offset_of_x(carets, click) == found);
     assert_that(rt, selection(carets, from, to) == Some(span));
