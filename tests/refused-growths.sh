@@ -1,5 +1,5 @@
 #!/bin/sh
-# Runs the tests of the buffer's calls, of cutting lines, of whole runs, of stages of substitution that take memory and
+# Runs the tests of the buffer's calls, of cutting lines, of whole runs, also with stages of substitution that grow, and
 # of kerning, then the built program on its stored input and on those of `growths`. Each is run with the first growth
 # of memory refused, then the second, and so on until a run has no such growth. Between them it counts the growths of
 # calls that take no memory: the buffer's, the steps of a run that can't be refused, runs over an empty text, and lines
@@ -57,17 +57,14 @@ refuse_test() {
     return 1
 }
 
-refuse_test test_stages buffer::refusals::growths "the buffer's calls" || exit 1
-refuse_test test_stages buffer::lines::growths "the lines of some glyphs" || exit 1
-for row in e_acute shortest_expansion ordering_merges three_spellings dotted_circle mark_above_and_below; do
-    refuse_test test_runs "refusals::$row" "the run $row" || exit 1
-done
+refuse_test test_buffers refusals::growths "the buffer's calls" || exit 1
+refuse_test test_buffers lines::growths "the lines of some glyphs" || exit 1
+refuse_test test_runs refusals::runs "the runs over some characters" || exit 1
+refuse_test test_runs refusals::mark_above_and_below "the runs that place marks" || exit 1
+refuse_test test_runs refusals::stages "the run with stages that grow" || exit 1
 refuse_test test_runs refusals::comparing "two texts that are compared" || exit 1
 refuse_test test_runs refusals::a_key "the key of a text" || exit 1
-refuse_test test_stages substitution::refusals::growths_in_a_stage "the stages that grow" || exit 1
-refuse_test test_stages substitution::refusals::growths_in_a_run "the runs with such stages" || exit 1
-refuse_test test_stages substitution::refusals::growths_with_two_features "the run with two user features" || exit 1
-refuse_test test_stages fonts::kerning::growths "the run that kerns by a font's table, and its plan" || exit 1
+refuse_test test_fonts kerning::growths "the run that kerns by a font's table, and its plan" || exit 1
 
 # How many growths a test of a crate asks for.
 growths_of() {
@@ -87,9 +84,9 @@ take_none() {
     echo "growths: $begun, and none for $4"
 }
 
-filled=buffer::no_memory::filled
-take_none test_stages "${filled}_is_begun" "${filled}_and_used" "the buffer's calls that can't be refused" || exit 1
-take_none test_stages buffer::lines::glyphs_are_begun buffer::lines::no_glyphs_make_no_line "lines of no glyphs" || exit 1
+filled=no_memory::filled
+take_none test_buffers "${filled}_is_begun" "${filled}_and_used" "the buffer's calls that can't be refused" || exit 1
+take_none test_buffers lines::glyphs_are_begun lines::no_glyphs_make_no_line "lines of no glyphs" || exit 1
 take_none test_runs no_memory::text_is_begun no_memory::steps_are_made "the steps that can't be refused" || exit 1
 take_none test_runs no_memory::text_is_begun no_memory::empty_text_is_shaped "runs over an empty text" || exit 1
 

@@ -1,6 +1,6 @@
 #!/usr/bin/env python3
 """Makes the tests' fonts, of seven and eight glyphs of boxes, from nothing. It writes `tiny.ttf` beside itself and, as
-text, to the crates `test_stages` and `test_fonts`; to tests/fontshape, `first_shape` and `fill_paragraph` `tall.ttf`, which has metrics of vertical
+text, to the crate `test_fonts`; to tests/fontshape, `first_shape` and `fill_paragraph` `tall.ttf`, which has metrics of vertical
 lines, a dotted circle and its kerning in GPOS too; and to tests/fontshape `two.ttc`, a collection of both, `flat.ttf`, which has no outlines, and `heavy.ttf`, whose A
 has 65,536 points in few bytes. They are under this repository's licence.
 
@@ -224,7 +224,7 @@ def main():
         with open(os.path.join(top, name), "wb") as file:
             file.write(data)
         print(name, len(data), "bytes")
-    for name in "crates/test_stages/src/fonts/tiny.rt", "crates/test_fonts/src/forms/tiny.rt":
+    for name in ("crates/test_fonts/src/tiny.rt",):
         with open(os.path.join(top, name), "w") as file:
             file.write("//! The font that crates/fontshape/data/tiny-font.py makes: its bytes, 32 a row, by two digits each.\n\n")
             file.write('pub const DIGITS: &str = "\\\n%s";\n' % as_text(file_of(tiny())))

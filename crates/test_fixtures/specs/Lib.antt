@@ -1,7 +1,5 @@
-pub mod SmallUnicode
 pub mod Faces
 pub mod Splitting
-pub mod Reversing
 pub mod Swapping
 pub mod Worked
 pub mod Changing

@@ -111,14 +111,6 @@ impl<'a> TestFace<'a> {
         }
     }
 
-    /// The same, and U+0061 with U+FE00 after it has glyph 7.
-    pub fn with_variant(characters: &'a [char]) -> TestFace<'a> {
-        TestFace {
-            variant: true,
-            ..TestFace::of(characters)
-        }
-    }
-
     /// Every character has the glyph of its own number, and `GSUB` these stages; bit 3 is on for every item.
     pub fn ruled(stages: &'a [Stage]) -> TestFace<'a> {
         TestFace {

@@ -1,5 +1,5 @@
-//! What tests bring to shaping: small Unicode functions, a face that is plain data, an engine that does what the
-//! face says, and shapers that split, compose, reorder, change or double characters, or have preferences for marks.
+//! What tests bring to shaping: a face that is plain data, an engine that does what the face says, and shapers that
+//! compose, reorder, change or double characters, or have preferences for marks.
 //! How cases are read from lines of text, and how glyphs are printed. And definitions computed on cases over them.
 #![tactic(auto)]
 #![allow(non_camel_case_types)]
@@ -14,10 +14,7 @@ mod lookups;
 mod marking;
 mod preferring;
 pub mod printing;
-mod reversing;
 mod rules;
-mod small_unicode;
-mod splitting;
 mod swapping;
 pub mod worked;
 
@@ -26,10 +23,7 @@ pub use changing::ChangingShaper;
 pub use doubling::DoublingShaper;
 pub use face::{EVERY_GLYPH, KnownGlyph, PLAIN_FACE, TestFace};
 pub use layout::{TestLayout, TestMap};
-pub use marking::{EarlyHanging, EarlyScripted, LateHanging, Marking, Never};
+pub use marking::{EarlyScripted, LateHanging, Marking, Never};
 pub use preferring::{Automatic, EarlyShaper, HangingShaper, LateShaper, PreferringShaper};
-pub use reversing::ReversingShaper;
 pub use rules::{Ligature, Multiple, Single, Stage};
-pub use small_unicode::SmallUnicode;
-pub use splitting::{DeepShaper, StackedShaper};
 pub use swapping::SwappingShaper;

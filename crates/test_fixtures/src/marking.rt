@@ -68,25 +68,6 @@ impl Marking for Early {
     ghost lawful = { refl };
 }
 
-/// Marks are zeroed before tables place them, and are placed by their boxes.
-pub struct EarlyHanging;
-
-impl Marking for EarlyHanging {
-    ghost ZERO_WIDTH_MARKS = { 1 };
-
-    const ZERO_WIDTH_MARKS: u32 = HB_OT_SHAPE_ZERO_WIDTH_MARKS_BY_GDEF_EARLY;
-
-    ghost FALLBACK_POSITION = { true };
-
-    const FALLBACK_POSITION: bool = true;
-
-    ghost GPOS_TAG = { None };
-
-    const GPOS_TAG: Option<hb_tag_t> = None;
-
-    ghost lawful = { refl };
-}
-
 /// Marks are zeroed after tables have placed them, and none is placed by its box.
 pub struct Late;
 

@@ -1,6 +1,4 @@
 //! Tests of outlines and of the measures of a line, and of glyphs as text, through public calls over the tests' font.
 
-mod comparing;
 mod drawing;
-mod tiny;
 mod writing;

@@ -1,5 +1,6 @@
 //! Texts by each call of `font_shaping`. What is wanted is what HarfBuzz 10.2.0's `hb-shape` writes of `data/rich.ttf`.
 
+use crate::comparing::assert_that;
 use crate::rich::RICH;
 use font_shaping::{FontError, shape_str, shape_with_bytes, shape_with_font};
 use opentype_layout::OpenTypeFace;
@@ -15,10 +16,6 @@ const KERN: hb_tag_t = hb_tag_t(0x6B65_726E);
 /// The bytes of the tests' font.
 fn font_bytes(rt: &impl Abort, alloc: Global) -> Vec<u8> {
     hex::decode(alloc, RICH).expect(rt, "memory")
-}
-
-fn assert_that(rt: &impl Abort, condition: bool) {
-    assert!(rt; condition);
 }
 
 /// Compares glyphs with a line of `hb-shape`, of numbers of glyphs and with flags.

@@ -4,43 +4,19 @@
 #![allow(non_camel_case_types)]
 
 #[cfg(test)]
-mod calls;
-#[cfg(test)]
 mod cases;
 #[cfg(test)]
 mod comparing;
 #[cfg(test)]
-mod emoji;
-#[cfg(test)]
 mod faces;
-#[cfg(test)]
-mod ligatures;
-#[cfg(test)]
-mod limits;
 #[cfg(test)]
 mod lists;
 #[cfg(test)]
-mod long_runs;
-#[cfg(test)]
-mod modes;
-#[cfg(test)]
 mod no_memory;
-#[cfg(test)]
-mod normalising;
-#[cfg(test)]
-mod placing;
-#[cfg(test)]
-mod preferences;
-#[cfg(test)]
-mod premises;
-#[cfg(test)]
-mod preparing;
 #[cfg(test)]
 mod printing;
 #[cfg(test)]
 mod refusals;
-#[cfg(test)]
-mod rows;
 #[cfg(test)]
 mod runs;
 #[cfg(test)]
@@ -50,6 +26,6 @@ mod stretching;
 #[cfg(test)]
 mod texts;
 #[cfg(test)]
-mod unlawful;
-#[cfg(test)]
 mod users;
+#[cfg(test)]
+mod worked;

@@ -3,41 +3,17 @@
 //! An item of a list is its character and its cluster: `a@0`. What an answer names is compared of all its items:
 //! clusters if it has an `@`, and if it has a `=` the glyphs that were found for characters, in base 16: `1EA4=0@0`.
 //! `+` stands after a character that continues a grapheme, if there is one in the answer, and `~` after each that
-//! is hidden. A direction stands before the items if the answer begins with one: `ltr`, `rtl`, `ttb` or `btt`.
+//! is hidden.
 //!
 //! A glyph is printed as `test_fixtures` has it, with its advances and offsets, and with its mask if that isn't 0:
 //! `2@1(0,0,-450,112)/1`.
 //!
 //! What is printed is handed over: a function that has to drop a list is slow to prove, and these do it once.
 
-use crate::cases::cut_off;
 use crate::comparing::position_at;
-use shape_buffer::buffer::{Direction, GlyphBuffer, GlyphPosition, hb_buffer_t, hb_glyph_info_t};
+use shape_buffer::buffer::{GlyphBuffer, GlyphPosition, hb_buffer_t, hb_glyph_info_t};
 use std::process::Abort;
 use test_fixtures::printing;
-
-/// The name of a direction.
-fn name_of(direction: Direction) -> &'static str {
-    match direction {
-        Direction::Invalid => "none",
-        Direction::LeftToRight => "ltr",
-        Direction::RightToLeft => "rtl",
-        Direction::TopToBottom => "ttb",
-        Direction::BottomToTop => "btt",
-    }
-}
-
-/// Whether an answer begins with a direction.
-fn begins_with_direction(wanted: &str) -> bool {
-    matches!(cut_off(wanted, " ").0, "ltr" | "rtl" | "ttb" | "btt")
-}
-
-/// Appends a direction if one is wanted.
-fn append_direction(rt: &impl Abort, line: &mut String, direction: Direction, wanted: &str) {
-    if begins_with_direction(wanted) {
-        line.push_str(name_of(direction)).expect(rt, "error");
-    }
-}
 
 /// Appends a space between words.
 pub fn append_space(rt: &impl Abort, line: &mut String) {
@@ -53,18 +29,8 @@ pub fn append_character(rt: &impl Abort, line: &mut String, c: char) {
     write!(line, "{:04X}", u32::from(c)).expect(rt, "error");
 }
 
-/// Appends a number in base 16 after a sign.
-fn append_hex(rt: &impl Abort, line: &mut String, sign: &str, number: u32) {
-    write!(line, "{sign}{number:X}").expect(rt, "error");
-}
-
-/// Appends a cluster.
-fn append_cluster(rt: &impl Abort, line: &mut String, cluster: u32) {
-    write!(line, "@{cluster}").expect(rt, "error");
-}
-
 /// Appends a mask if it isn't 0.
-pub fn append_mask(rt: &impl Abort, line: &mut String, mask: u32) {
+fn append_mask(rt: &impl Abort, line: &mut String, mask: u32) {
     if mask != 0 {
         printing::append_mask(line, mask).expect(rt, "error");
     }
@@ -82,41 +48,25 @@ fn mark_of(info: &hb_glyph_info_t, wanted: &str) -> &'static str {
 }
 
 /// Appends an item with what an answer names of it.
-pub fn append_item(rt: &impl Abort, line: &mut String, info: &hb_glyph_info_t, wanted: &str) {
+fn append_item(rt: &impl Abort, line: &mut String, info: &hb_glyph_info_t, wanted: &str) {
     append_space(rt, line);
     append_character(rt, line, info.codepoint);
     line.push_str(mark_of(info, wanted)).expect(rt, "error");
     if wanted.contains('=') {
-        append_hex(rt, line, "=", info.glyph_index);
+        write!(line, "={:X}", info.glyph_index).expect(rt, "error");
     }
     if wanted.contains('@') {
-        append_cluster(rt, line, info.cluster);
+        write!(line, "@{}", info.cluster).expect(rt, "error");
     }
-}
-
-/// Items, after a direction if one is wanted.
-fn items_printed(
-    rt: &(impl Abort + AllocGlobal),
-    direction: Direction,
-    infos: &[hb_glyph_info_t],
-    wanted: &str,
-) -> String {
-    let mut line = String::new(rt.alloc());
-    append_direction(rt, &mut line, direction, wanted);
-    for info in infos {
-        append_item(rt, &mut line, info, wanted);
-    }
-    line
 }
 
 /// The items of a list, as an answer names them.
 pub fn printed_list(rt: &(impl Abort + AllocGlobal), list: hb_buffer_t, wanted: &str) -> String {
-    items_printed(rt, list.direction(), list.infos(), wanted)
-}
-
-/// The items that glyphs were made of, as an answer names them.
-pub fn printed_items(rt: &(impl Abort + AllocGlobal), glyphs: GlyphBuffer, wanted: &str) -> String {
-    items_printed(rt, glyphs.direction(), glyphs.glyph_infos(), wanted)
+    let mut line = String::new(rt.alloc());
+    for info in list.infos() {
+        append_item(rt, &mut line, info, wanted);
+    }
+    line
 }
 
 /// Appends a glyph and its cluster.
@@ -130,8 +80,8 @@ fn append_position(rt: &impl Abort, line: &mut String, at: GlyphPosition) {
     printing::append_position(line, at).expect(rt, "error");
 }
 
-/// Glyphs with their positions, which are kept.
-pub fn glyphs_printed(rt: &(impl Abort + AllocGlobal), glyphs: &GlyphBuffer) -> String {
+/// Glyphs with their positions.
+pub fn printed_glyphs(rt: &(impl Abort + AllocGlobal), glyphs: GlyphBuffer) -> String {
     let mut line = String::new(rt.alloc());
     for (at, info) in glyphs.glyph_infos().iter().enumerate() {
         append_glyph(rt, &mut line, info);
@@ -141,27 +91,11 @@ pub fn glyphs_printed(rt: &(impl Abort + AllocGlobal), glyphs: &GlyphBuffer) -> 
     line
 }
 
-/// Glyphs with their positions.
-pub fn printed_glyphs(rt: &(impl Abort + AllocGlobal), glyphs: GlyphBuffer) -> String {
-    glyphs_printed(rt, &glyphs)
-}
-
 /// The glyphs of a list without their positions.
 pub fn printed_numbers(rt: &(impl Abort + AllocGlobal), list: hb_buffer_t) -> String {
     let mut line = String::new(rt.alloc());
     for info in list.infos() {
         append_glyph(rt, &mut line, info);
-    }
-    line
-}
-
-/// Glyphs that have the numbers of characters, written as those are.
-pub fn printed_as_characters(rt: &(impl Abort + AllocGlobal), glyphs: GlyphBuffer) -> String {
-    let mut line = String::new(rt.alloc());
-    for info in glyphs.glyph_infos() {
-        append_space(rt, &mut line);
-        let c = char::from_u32(info.glyph_id).expect(rt, "a character's glyph");
-        append_character(rt, &mut line, c);
     }
     line
 }

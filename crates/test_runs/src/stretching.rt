@@ -1,6 +1,7 @@
 //! Signs that stretch over a word, through the two calls for them.
 
-use crate::cases::{Case, Fixture, append_word, check, cut, number};
+use crate::cases::{Settings, UNSET};
+use crate::comparing::{assert_same, position_at};
 use crate::faces::face_of;
 use crate::texts::buffer_of;
 use arabic_stretching::{record_tiles, stretch_tiles};
@@ -9,94 +10,70 @@ use shape_buffer::buffer::{
 };
 use std::process::Abort;
 
-/// A glyph of a sign, by its number and its place in the sign, as `2:1`; or one of a word, by its number and its advance, as
-/// `4=260`.
-fn item_of(rt: &impl Abort, word: &str) -> hb_glyph_info_t {
-    let tile = word.contains(':');
-    let (glyph, rest) = cut(rt, word, if tile { ":" } else { "=" });
+/// The advances of three tiles.
+const TILES: Settings<'static> = Settings {
+    face: "a=1(100) b=2(50) c=3(100)",
+    ..UNSET
+};
+
+/// A glyph of a sign, by its place in the sign, or one of a word.
+fn item(glyph: u32, tile: Option<u8>) -> hb_glyph_info_t {
     let mut info = hb_glyph_info_t::new('x', 0);
-    info.glyph_id = number(rt, glyph);
+    info.glyph_id = glyph;
     info._hb_glyph_info_set_general_category(hb_unicode_general_category_t::OtherLetter);
-    if tile {
+    if let Some(place) = tile {
         info._hb_glyph_info_set_multiplied(true);
-        info._hb_glyph_info_set_ligature_component(number(rt, rest));
+        info._hb_glyph_info_set_ligature_component(place);
     }
     info
 }
 
-fn advance_of(rt: &impl Abort, word: &str) -> i32 {
-    match word.split_once('=') {
-        Some((_, advance)) => number(rt, advance),
-        None => 0,
-    }
-}
-
-/// The glyphs that words write, from left to right.
-fn glyphs_of(rt: &(impl Abort + AllocGlobal), words: &str, direction: Direction) -> hb_buffer_t {
+/// A sign of three tiles, the second of which repeats, and a word of two glyphs of 260 after it.
+fn sign(rt: &(impl Abort + AllocGlobal)) -> hb_buffer_t {
+    let items = [
+        item(1, Some(0)),
+        item(2, Some(1)),
+        item(3, Some(2)),
+        item(4, None),
+        item(5, None),
+    ];
     let mut infos = Vec::new(rt.alloc());
-    for word in words.split_whitespace() {
-        infos.push(item_of(rt, word)).expect(rt, "error");
-    }
+    infos.extend_from_slice(&items).expect(rt, "error");
     let mut buffer = buffer_of(rt, infos);
-    buffer.set_direction(direction);
-    for (i, word) in words.split_whitespace().enumerate() {
-        put_advance(&mut buffer, i, advance_of(rt, word));
+    buffer.set_direction(Direction::LeftToRight);
+    for i in 3..5 {
+        if i < buffer.len() {
+            let mut position = GlyphPosition::zero();
+            position.x_advance = 260;
+            buffer.set_position(i, position);
+        }
     }
     buffer
 }
 
-fn put_advance(buffer: &mut hb_buffer_t, i: usize, x_advance: i32) {
-    if i < buffer.len() {
-        let position = GlyphPosition {
-            x_advance,
-            ..GlyphPosition::zero()
-        };
-        buffer.set_position(i, position);
-    }
-}
-
-/// The numbers of glyphs and their offsets, as `2+100`.
-fn printed(rt: &(impl Abort + AllocGlobal), buffer: &hb_buffer_t) -> String {
-    let mut line = String::new(rt.alloc());
-    for (info, position) in buffer.infos().iter().zip(buffer.positions()) {
-        let (glyph, offset) = (info.glyph_id, position.x_offset);
-        let word = format!(in rt.alloc(); "{glyph}+{offset}").expect(rt, "error");
-        append_word(rt, &mut line, word.as_str());
-    }
-    line
-}
-
-/// The text writes glyphs from left to right, the step how the text runs.
-struct Signs;
-
-impl Fixture for Signs {
-    fn answer(rt: &(impl Abort + AllocGlobal), case: Case<'_>) -> String {
-        let face = face_of(rt, case.settings);
-        let direction = match case.settings.step {
-            "rightward" => Direction::LeftToRight,
-            _ => Direction::RightToLeft,
-        };
-        let mut buffer = glyphs_of(rt, case.text, direction);
-        record_tiles(&mut buffer);
-        assert!(rt; buffer.len() <= buffer.length_limit());
-        stretch_tiles(rt.alloc(), &face, &mut buffer).expect(rt, "error");
-        printed(rt, &buffer)
-    }
-}
-
-/// Tiles of 100, 50 and 100 over words of 520, 200 and none: the second one goes 7 times into what is left of 520, overlapping.
+/// Of 520 the tiles of 100, 50 and 100 leave 320, which the second one goes 7 times into with itself, overlapping.
 #[test]
-fn signs_are_as_wide_as_their_words(rt: HostRuntime) {
-    check::<Signs>(
-        &rt,
-        "
-        face: a=1(100) b=2(50) c=3(100)
-        step: rightward
-        1:0 2:1 3:2 4=260 5=260 -> 1+0 2+100 2+150 2+195 2+240 2+285 2+330 2+375 3+420 4+0 5+0
-        1:0 2:1 3:2 4=200 -> 1+0 2+100 3+150 4+0
-        4=200 1:0 -> 4+0 1+-50
-        step: leftward
-        4=200 3:2 2:1 1:0 -> 4+0 3+-250 2+-150 1+-100
-        ",
-    );
+fn a_sign_is_as_wide_as_its_word(rt: HostRuntime) {
+    let mut buffer = sign(&rt);
+    record_tiles(&mut buffer);
+    assert!(&rt; buffer.len() <= buffer.length_limit());
+    stretch_tiles(rt.alloc(), &face_of(&rt, &TILES), &mut buffer).expect(&rt, "error");
+    let wanted = [
+        (1, 0),
+        (2, 100),
+        (2, 150),
+        (2, 195),
+        (2, 240),
+        (2, 285),
+        (2, 330),
+        (2, 375),
+        (3, 420),
+        (4, 0),
+        (5, 0),
+    ];
+    assert_same(&rt, buffer.len(), wanted.len());
+    for (i, info) in buffer.infos().iter().enumerate() {
+        let found = (info.glyph_id, position_at(buffer.positions(), i).x_offset);
+        assert_same(&rt, Some(&found), wanted.get(i));
+    }
 }

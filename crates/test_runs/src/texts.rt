@@ -7,7 +7,7 @@
 //! characters, `beginning` and `no_circle` for flags of the text, and glyphs in base 16: `invisible=3` for what isn't
 //! shown, `selector=9` for selectors without a variant.
 
-use crate::cases::{character, cut, cut_off, number, number_in_hex};
+use crate::cases::{character, cut, number, number_in_hex};
 use shape_buffer::buffer::{
     BufferClusterLevel, BufferFlags, Direction, GlyphId, UnicodeBuffer, hb_buffer_t,
     hb_glyph_info_t,
@@ -67,18 +67,14 @@ fn set_glyph(rt: &impl Abort, text_settings: &mut TextSettings, (name, glyph): (
     }
 }
 
-/// Appends a character in a cluster. Gives the cluster after it.
-fn add_at(rt: &impl Abort, text: &mut UnicodeBuffer, c: char, cluster: u32) -> u32 {
-    text.add(c, cluster).expect(rt, "error");
-    cluster.saturating_add(c.len_utf8() as u32)
-}
-
 /// Appends the character of a word, in this cluster if the word has none. Gives the cluster after it.
 fn add_word(rt: &impl Abort, text: &mut UnicodeBuffer, word: &str, cluster: u32) -> u32 {
-    match word.split_once("@") {
-        Some((c, at)) => add_at(rt, text, character(rt, c), number(rt, at)),
-        None => add_at(rt, text, character(rt, word), cluster),
-    }
+    let (c, cluster) = match word.split_once("@") {
+        Some((c, at)) => (character(rt, c), number(rt, at)),
+        None => (character(rt, word), cluster),
+    };
+    text.add(c, cluster).expect(rt, "error");
+    cluster.saturating_add(c.len_utf8() as u32)
 }
 
 /// Appends the characters of words.
@@ -87,26 +83,6 @@ pub fn add(rt: &impl Abort, text: &mut UnicodeBuffer, words: &str) {
     for word in words.split_whitespace() {
         cluster = add_word(rt, text, word, cluster);
     }
-}
-
-/// The characters that words write, with nothing between them.
-fn spelled_out(rt: &(impl Abort + AllocGlobal), words: &str) -> String {
-    let mut characters = String::new(rt.alloc());
-    for word in words.split_whitespace() {
-        characters.push(character(rt, word)).expect(rt, "error");
-    }
-    characters
-}
-
-/// Appends characters by one call.
-fn push_str(rt: &impl Abort, text: &mut UnicodeBuffer, characters: &str) {
-    assert!(rt; characters.len() < 1000);
-    text.push_str(characters).expect(rt, "error");
-}
-
-/// Appends the characters of words by one call, in the clusters that are their offsets in UTF-8.
-pub fn push(rt: &(impl Abort + AllocGlobal), text: &mut UnicodeBuffer, words: &str) {
-    push_str(rt, text, spelled_out(rt, words).as_str());
 }
 
 /// Sets the settings of a text. Direction and script are guessed if they aren't set.
@@ -119,32 +95,16 @@ fn set<U: hb_unicode_funcs_t>(text: &mut UnicodeBuffer, text_settings: &TextSett
     text.guess_segment_properties::<U>();
 }
 
-/// The text that words write, with nothing set.
-pub fn text_with(rt: &(impl Abort + AllocGlobal), words: &str) -> UnicodeBuffer {
-    let mut text = UnicodeBuffer::new(rt.alloc());
-    add(rt, &mut text, words);
-    text
-}
-
 /// The text that words write, with settings.
 pub fn text_of<U: hb_unicode_funcs_t>(
     rt: &(impl Abort + AllocGlobal),
     text_settings: &TextSettings,
     words: &str,
 ) -> UnicodeBuffer {
-    let mut text = text_with(rt, words);
+    let mut text = UnicodeBuffer::new(rt.alloc());
+    add(rt, &mut text, words);
     set::<U>(&mut text, text_settings);
     text
-}
-
-/// The item that a word writes, with its mask after a slash, in base 16, if that isn't 0.
-fn item_of(rt: &impl Abort, word: &str, cluster: u32) -> hb_glyph_info_t {
-    let (c, mask) = cut_off(word, "/");
-    let mut info = hb_glyph_info_t::new(character(rt, c), cluster);
-    if !mask.is_empty() {
-        info.mask = number_in_hex(rt, mask);
-    }
-    info
 }
 
 /// The items that words write, each in the cluster of its place.
@@ -152,7 +112,8 @@ pub fn items_of(rt: &(impl Abort + AllocGlobal), words: &str) -> Vec<hb_glyph_in
     let mut infos = Vec::new(rt.alloc());
     let mut place: u32 = 0;
     for word in words.split_whitespace() {
-        infos.push(item_of(rt, word, place)).expect(rt, "error");
+        let info = hb_glyph_info_t::new(character(rt, word), place);
+        infos.push(info).expect(rt, "error");
         place = place.saturating_add(1);
     }
     infos

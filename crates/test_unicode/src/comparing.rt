@@ -37,12 +37,6 @@ pub fn column<'a>(rt: &impl Abort, row: &'a str, at: usize) -> &'a str {
     row.split(';').nth(at).expect(rt, row).trim()
 }
 
-/// Asserts that no column of a row comes after this one.
-pub fn assert_last(rt: &impl Abort, row: &str, at: usize) {
-    let further = row.split(';').nth(at.saturating_add(1));
-    assert_row(rt, row, further, None);
-}
-
 /// The character of a hexadecimal number.
 fn numbered(word: &str) -> Option<char> {
     char::from_u32(u32::from_str_radix(word, 16).ok()?)
@@ -56,17 +50,12 @@ pub fn character(rt: &impl Abort, word: &str) -> char {
     }
 }
 
-/// Appends the characters that words name.
-pub fn append(rt: &impl Abort, list: &mut Vec<char>, words: &str) {
-    for word in words.split_whitespace() {
-        list.push(character(rt, word)).expect(rt, "memory");
-    }
-}
-
-/// The characters that words name.
-pub fn characters(rt: &(impl Abort + AllocGlobal), words: &str) -> Vec<char> {
+/// The characters of a text.
+pub fn chars_of(rt: &(impl Abort + AllocGlobal), text: &str) -> Vec<char> {
     let mut list = Vec::new(rt.alloc());
-    append(rt, &mut list, words);
+    for c in text.chars() {
+        list.push(c).expect(rt, "memory");
+    }
     list
 }
 

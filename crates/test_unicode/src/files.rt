@@ -5,7 +5,7 @@
 ghost use Rattle.std.specs.Prelude.{◌≡◌, ◌≤◌};
 
 mod breaks;
-mod normalization;
+pub mod normalization;
 
 use breaks::signs_of;
 use normalization::lists_of;

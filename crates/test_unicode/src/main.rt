@@ -1,14 +1,11 @@
-//! Unicode's own test files taken through the library, and rows of whole texts for the Unicode functions.
+//! Unicode's own test files taken through the library, and rows of characters for the Unicode functions.
 //!
 //! The program answers lines of NormalizationTest.txt and LineBreakTest.txt on the standard input ([`files`]);
 //! `tests/compare.py` compares with the files. The exit status is 0 at the end of
 //! the input, 1 if a read, a write or a growth of memory failed, 2 at a malformed line.
 //!
-//! The tests split and order a text by the functions alone, as UAX 15 says it, and compare with the rows, lines of
-//! Unicode's test of normalisation and real texts of seven scripts: what is wrong in a row or in a function shows before any
-//! shaping. Then they compare with what normalising and whole runs make of the texts. Answers for single characters are
-//! compared with the database's files and HarfBuzz.
-//! The small tables of the program `shapeline` are tested here, too, and what it prints.
+//! The tests compare answers for single characters with the database's files and HarfBuzz, and whole tables with other
+//! sources. The small tables of the program `shapeline` are tested here, too, and what it prints.
 #![tactic(auto)]
 #![allow(non_camel_case_types)]
 
@@ -24,21 +21,15 @@ mod every_glyph;
 mod files;
 #[cfg(test)]
 mod language_tags;
-#[cfg(test)]
-mod moved_rows;
 mod normalising;
 #[cfg(test)]
 mod normalization_rows;
-#[cfg(test)]
-mod ordering;
 #[cfg(test)]
 mod printed;
 #[cfg(test)]
 mod small_tables;
 #[cfg(test)]
 mod tests;
-#[cfg(test)]
-mod texts;
 #[cfg(test)]
 mod whole_tables;
 

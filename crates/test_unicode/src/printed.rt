@@ -10,14 +10,6 @@ fn add_items(rt: &impl Abort, lines: &mut String, name: &str, items: &[hb_glyph_
     append_items(lines, name, items).expect(rt, "memory");
 }
 
-/// Compares the line of an empty list, and that of a list after it.
-fn check_items(rt: &(impl Abort + AllocGlobal), items: &[hb_glyph_info_t], wanted: &str) {
-    let mut lines = String::new(rt.alloc());
-    add_items(rt, &mut lines, "prepared", &[]);
-    add_items(rt, &mut lines, "normal", items);
-    assert_same(rt, lines.as_str(), wanted);
-}
-
 #[test]
 fn items_are_printed(rt: HostRuntime) {
     let items = [
@@ -27,7 +19,10 @@ fn items_are_printed(rt: HostRuntime) {
         hb_glyph_info_t::new('\u{10FFFF}', u32::MAX),
     ];
     let wanted = "prepared\nnormal 0061@0 0000@7 1EA4@12 10FFFF@4294967295\n";
-    check_items(&rt, &items, wanted);
+    let mut lines = String::new(rt.alloc());
+    add_items(&rt, &mut lines, "prepared", &[]);
+    add_items(&rt, &mut lines, "normal", &items);
+    assert_same(&rt, lines.as_str(), wanted);
 }
 
 /// Appends the line of glyphs.
@@ -38,19 +33,6 @@ fn add_glyphs(
     positions: &[GlyphPosition],
 ) {
     append_glyphs(lines, items, positions).expect(rt, "memory");
-}
-
-/// Compares the line of no glyphs, and that of glyphs after it.
-fn check_glyphs(
-    rt: &(impl Abort + AllocGlobal),
-    items: &[hb_glyph_info_t],
-    positions: &[GlyphPosition],
-    wanted: &str,
-) {
-    let mut lines = String::new(rt.alloc());
-    add_glyphs(rt, &mut lines, &[], &[]);
-    add_glyphs(rt, &mut lines, items, positions);
-    assert_same(rt, lines.as_str(), wanted);
 }
 
 /// A glyph of a cluster, with its mask.
@@ -72,10 +54,9 @@ fn glyphs_are_printed(rt: HostRuntime) {
     moved.x_offset = i32::MIN;
     moved.y_offset = i32::MAX;
     let wanted = "glyphs\nglyphs 65535@3(600,-1000,-2147483648,2147483647)/0 2@4(0,0,0,0)/5\n";
-    check_glyphs(
-        &rt,
-        &[first, second],
-        &[moved, GlyphPosition::zero()],
-        wanted,
-    );
+    let mut lines = String::new(rt.alloc());
+    add_glyphs(&rt, &mut lines, &[], &[]);
+    let positions = [moved, GlyphPosition::zero()];
+    add_glyphs(&rt, &mut lines, &[first, second], &positions);
+    assert_same(&rt, lines.as_str(), wanted);
 }

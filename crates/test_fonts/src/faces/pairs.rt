@@ -16,28 +16,32 @@ const PAIR: &str = "00000001000000140001000100000000000000020003FFCE";
 /// The same with format 2.
 const CLASSES: &str = "00000001000000140201000100000000000000020003FFCE";
 
-#[test]
-fn glyphs_of_a_pair(rt: HostRuntime) {
-    let bytes = hex::decode(rt.alloc(), PAIR).expect(&rt, "bytes");
-    let pairs = PairGlyphs::new(rt.alloc(), &bytes, 5).expect(&rt, "memory");
-    assert!(rt; pairs.sides().lefts == [false, false, true, false, false].as_slice());
-    assert!(rt; pairs.sides().rights == [false, false, false, true, false].as_slice());
+/// Asserts which glyphs stand first and second in a pair, among so many.
+fn assert_pairs(
+    rt: &impl Abort,
+    alloc: Global,
+    digits: &str,
+    count: u16,
+    sides: (&[bool], &[bool]),
+) {
+    let bytes = hex::decode(alloc, digits).expect(rt, "bytes");
+    let pairs = PairGlyphs::new(alloc, &bytes, count).expect(rt, "memory");
+    assert!(rt; pairs.sides().lefts == sides.0);
+    assert!(rt; pairs.sides().rights == sides.1);
 }
 
-// Glyph 3 has no mark where there are three glyphs.
+/// Glyph 3 has no mark where there are three glyphs, and of classes nothing is stored.
 #[test]
-fn glyphs_past_the_last(rt: HostRuntime) {
-    let bytes = hex::decode(rt.alloc(), PAIR).expect(&rt, "bytes");
-    let pairs = PairGlyphs::new(rt.alloc(), &bytes, 3).expect(&rt, "memory");
-    assert!(rt; pairs.sides().lefts == [false, false, true].as_slice());
-    assert!(rt; pairs.sides().rights == [false, false, false].as_slice());
-}
-
-#[test]
-fn glyphs_of_classes(rt: HostRuntime) {
-    let bytes = hex::decode(rt.alloc(), CLASSES).expect(&rt, "bytes");
-    let pairs = PairGlyphs::new(rt.alloc(), &bytes, 5).expect(&rt, "memory");
-    assert!(rt; pairs.sides().lefts.is_empty() && pairs.sides().rights.is_empty());
+fn glyphs_of_pairs(rt: HostRuntime) {
+    let alloc = rt.alloc();
+    let sides: (&[bool], &[bool]) = (
+        &[false, false, true, false, false],
+        &[false, false, false, true, false],
+    );
+    assert_pairs(&rt, alloc, PAIR, 5, sides);
+    let sides: (&[bool], &[bool]) = (&[false, false, true], &[false, false, false]);
+    assert_pairs(&rt, alloc, PAIR, 3, sides);
+    assert_pairs(&rt, alloc, CLASSES, 5, (&[], &[]));
 }
 
 /// Asserts the advances of two letters that an engine kerns.

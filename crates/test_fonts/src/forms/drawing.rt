@@ -1,7 +1,8 @@
 //! Outlines, and the measures of a line.
-use crate::forms::comparing::assert_that;
-use crate::forms::tiny::DIGITS;
+use crate::comparing::assert_that;
+use crate::tiny::DIGITS;
 use glyph_outlines::{Outlines, Point, Segment};
+use shape_buffer::{GlyphId, hb_font_t};
 use shape_font::FontFace;
 use std::alloc::Global;
 use std::process::Abort;
@@ -42,5 +43,10 @@ fn measures(rt: HostRuntime) {
     assert_that(&rt, face.ascender() == 800);
     assert_that(&rt, face.descender() == -200);
     assert_that(&rt, face.line_gap() == 90);
+    assert_that(&rt, face.get_nominal_glyph('A') == Some(GlyphId(2)));
+    let varied = face.glyph_variation_index('A', '\u{FE01}');
+    assert_that(&rt, varied == Some(GlyphId(6)));
+    assert_that(&rt, face.glyph_h_advance(GlyphId(4)) == 300);
     assert_that(&rt, Outlines::from_slice(&[], 0).is_none());
+    assert_that(&rt, FontFace::from_slice(&bytes, 1).is_none());
 }

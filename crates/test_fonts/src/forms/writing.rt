@@ -1,6 +1,6 @@
 //! Glyphs as text and as JSON, with the names of a font file.
-use crate::forms::comparing::assert_that;
-use crate::forms::tiny::DIGITS;
+use crate::comparing::assert_that;
+use crate::tiny::DIGITS;
 use serde_json::Value;
 use shape_font::FontFace;
 use shape_pipeline::{

@@ -6,9 +6,10 @@ use crate::users::shaping::{
     towards,
 };
 use shape_pipeline::lines::Line;
-use shape_pipeline::{Direction, GlyphBuffer, MapFace};
+use shape_pipeline::{BufferClusterLevel, Direction, GlyphBuffer, MapFace};
 use shape_unicode::UnicodeDatabase;
 use shape_users::breaking::lines_of_text;
+use shape_users::lines::may_cut;
 use std::alloc::Global;
 use std::process::Abort;
 
@@ -56,22 +57,15 @@ fn assert_settings(rt: &impl Abort, alloc: Global, how: Shaping<'_>, text: &str,
     }
 }
 
-/// Asserts this of some widths, over a face of these characters.
-fn assert_text(
-    rt: &impl Abort,
-    alloc: Global,
-    shaper: Shaper,
-    known: &str,
-    text: &str,
-    widths: &[u32],
-) {
-    let face = face_of(rt, alloc, known);
+/// Asserts this of some widths.
+fn assert_text(rt: &impl Abort, alloc: Global, lined: Lined) {
+    let face = face_of(rt, alloc, lined.known);
     let how = Shaping {
         around: Some(("", "")),
-        ..by_graphemes(&face, shaper)
+        ..by_graphemes(&face, lined.shaper)
     };
-    for width in widths {
-        assert_settings(rt, alloc, how, text, *width);
+    for width in lined.widths {
+        assert_settings(rt, alloc, how, lined.text, *width);
     }
 }
 
@@ -84,48 +78,74 @@ fn assert_counts(rt: &impl Abort, alloc: Global, known: &str, text: &str, counts
     assert_that(rt, (found.glyphs.len(), found.lines.len()) == counts);
 }
 
+/// A line may end before the clusters 0 and 3 of a letter with its accent and a letter after it, and not before 1.
+fn assert_cuts(rt: &impl Abort, alloc: Global) {
+    let face = face_of(rt, alloc, "e\u{301}x");
+    let how = by_graphemes(&face, Shaper::Default);
+    let how = towards(how, Direction::Invalid, BufferClusterLevel::Characters);
+    let glyphs = glyphs_of(rt, alloc, how, "e\u{301}x");
+    assert_that(rt, may_cut(&glyphs, 0) && may_cut(&glyphs, 3));
+    assert_that(rt, !may_cut(&glyphs, 1));
+}
+
 /// The lines are x, then e with its accent; the space and e; x.
 #[test]
 fn from_a_string_to_its_lines(rt: HostRuntime) {
     assert_counts(&rt, rt.alloc(), "e\u{301}x ", "xe\u{301} ex", (6, 3));
+    assert_cuts(&rt, rt.alloc());
+}
+
+/// A text that is shaped over a face of some characters, and cut into lines of some widths.
+#[derive(Clone, Copy)]
+struct Lined {
+    shaper: Shaper,
+    known: &'static str,
+    text: &'static str,
+    widths: &'static [u32],
 }
 
 const MARKS: &str = "ex \u{301}\u{323}\u{e9}\u{25cc}";
 
-/// The second text gets a dotted circle, since it begins with a mark.
-#[test]
-fn marks(rt: HostRuntime) {
-    let widths = [0, 500, 1000, 1700];
-    let text = "xe\u{323}\u{301} \u{e9}x\u{301}e x";
-    assert_text(&rt, rt.alloc(), Shaper::Default, MARKS, text, &widths);
-    let text = "\u{301}\u{323}xe\u{301}x";
-    assert_text(&rt, rt.alloc(), Shaper::Default, MARKS, text, &widths);
-}
-
-#[test]
-fn ligatures(rt: HostRuntime) {
-    let (known, text) = ("afi\u{301} ", "afi fa\u{301}fi\u{301} iffa");
-    assert_text(
-        &rt,
-        rt.alloc(),
-        Shaper::Ligatures,
-        known,
-        text,
-        &[0, 500, 1000],
-    );
-}
-
 /// Letters and points of Hebrew, and letters and marks of Arabic.
-const KNOWN: &str = "\u{5E9}\u{5D9}\u{5B4}\u{5BC} \u{628}\u{64E}\u{651}";
+const POINTED: &str = "\u{5E9}\u{5D9}\u{5B4}\u{5BC} \u{628}\u{64E}\u{651}";
+
+/// The second text gets a dotted circle, since it begins with a mark.
+const LINED: [Lined; 5] = [
+    Lined {
+        shaper: Shaper::Default,
+        known: MARKS,
+        text: "xe\u{323}\u{301} \u{e9}x\u{301}e x",
+        widths: &[0, 500, 1000, 1700],
+    },
+    Lined {
+        shaper: Shaper::Default,
+        known: MARKS,
+        text: "\u{301}\u{323}xe\u{301}x",
+        widths: &[0, 500, 1000, 1700],
+    },
+    Lined {
+        shaper: Shaper::Ligatures,
+        known: "afi\u{301} ",
+        text: "afi fa\u{301}fi\u{301} iffa",
+        widths: &[0, 500, 1000],
+    },
+    Lined {
+        shaper: Shaper::Hebrew,
+        known: POINTED,
+        text: "\u{5E9}\u{5BC}\u{5B4} \u{5D9}\u{5B4}\u{5E9}",
+        widths: &[0, 1000],
+    },
+    Lined {
+        shaper: Shaper::Arabic,
+        known: POINTED,
+        text: "\u{628}\u{64E}\u{651} \u{628}\u{651}\u{628}",
+        widths: &[0, 1000],
+    },
+];
 
 #[test]
-fn hebrew(rt: HostRuntime) {
-    let text = "\u{5E9}\u{5BC}\u{5B4} \u{5D9}\u{5B4}\u{5E9}";
-    assert_text(&rt, rt.alloc(), Shaper::Hebrew, KNOWN, text, &[0, 1000]);
-}
-
-#[test]
-fn arabic(rt: HostRuntime) {
-    let text = "\u{628}\u{64E}\u{651} \u{628}\u{651}\u{628}";
-    assert_text(&rt, rt.alloc(), Shaper::Arabic, KNOWN, text, &[0, 1000]);
+fn lines_look_as_in_the_whole(rt: HostRuntime) {
+    for lined in &LINED {
+        assert_text(&rt, rt.alloc(), *lined);
+    }
 }

@@ -1,8 +1,10 @@
 //! Carets, clicks and selections. The numbers were worked out by hand.
 
+use crate::users::shaping::assert_that;
 use shape_buffer::buffer::{Direction, GlyphCluster, ShapeError};
 use shape_carets::{Caret, Span, caret_of_offset, carets, offset_of_x, selection, stops_rise};
 use std::alloc::Global;
+use std::process::Abort;
 
 /// A cluster of this advance.
 fn cluster(cluster: u32, advance: i32) -> GlyphCluster {
@@ -27,31 +29,30 @@ fn ligature(alloc: Global, direction: Direction) -> Result<Vec<Caret>, ShapeErro
     )
 }
 
-#[test]
-fn to_the_right(rt: HostRuntime) {
-    let carets = ligature(rt.alloc(), Direction::LeftToRight).expect(&rt, "carets");
-    assert_eq!(rt; carets.len(), 5);
-    assert_eq!(rt; caret_of_offset(&carets, 2), 666);
-    assert_eq!(rt; offset_of_x(&carets, 900), 3);
-    assert_eq!(rt;
-        selection(&carets, 1, 3),
-        Some(Span {
-            start: 333,
-            end: 1000
-        })
-    );
+/// Compares the caret of an offset, the offset of a click, and a selection.
+fn assert_carets(
+    rt: &impl Abort,
+    carets: &[Caret],
+    (offset, x): (u32, i32),
+    (click, found): (i32, u32),
+    (from, to, span): (u32, u32, Span),
+) {
+    assert!(rt; carets.len() == 5);
+    assert_that(rt, caret_of_offset(carets, offset) == x);
+    assert_that(rt, offset_of_x(carets, click) == found);
+    assert_that(rt, selection(carets, from, to) == Some(span));
 }
 
 #[test]
-fn stops_that_rise(rt: HostRuntime) {
-    assert!(rt; stops_rise(&[1, 2, 2]) && !stops_rise(&[2, 1]));
-}
-
-#[test]
-fn to_the_left(rt: HostRuntime) {
-    let carets = ligature(rt.alloc(), Direction::RightToLeft).expect(&rt, "carets");
-    assert_eq!(rt; caret_of_offset(&carets, 0), 1300);
-    assert_eq!(rt; caret_of_offset(&carets, 4), 0);
-    assert_eq!(rt; offset_of_x(&carets, 640), 2);
-    assert_eq!(rt; selection(&carets, 3, 9), Some(Span { start: 0, end: 300 }));
+fn in_both_directions(rt: HostRuntime) {
+    let right = ligature(rt.alloc(), Direction::LeftToRight).expect(&rt, "carets");
+    let middle = Span {
+        start: 333,
+        end: 1000,
+    };
+    assert_carets(&rt, &right, (2, 666), (900, 3), (1, 3, middle));
+    let left = ligature(rt.alloc(), Direction::RightToLeft).expect(&rt, "carets");
+    let last = Span { start: 0, end: 300 };
+    assert_carets(&rt, &left, (0, 1300), (640, 2), (3, 9, last));
+    assert_that(&rt, stops_rise(&[1, 2, 2]) && !stops_rise(&[2, 1]));
 }

@@ -116,26 +116,25 @@ fn assert_cut(rt: &impl Abort, alloc: Global, shaper: Shaper, script: Script, al
     assert_that(rt, 200 < cuts);
 }
 
-#[test]
-fn letters_and_accents(rt: HostRuntime) {
-    let alphabet = "ex \u{301}\u{323}\u{e9}";
-    assert_cut(&rt, rt.alloc(), Shaper::Default, Script::LATIN, alphabet);
-}
+/// The shapers, with the script and the alphabet of each.
+const ALPHABETS: [(Shaper, Script, &str); 4] = [
+    (Shaper::Default, Script::LATIN, "ex \u{301}\u{323}\u{e9}"),
+    (Shaper::Ligatures, Script::LATIN, "afi\u{301}x"),
+    (
+        Shaper::Hebrew,
+        Script::HEBREW,
+        "\u{5E9}\u{5D9}\u{5B4}\u{5BC}\u{5BD}\u{5C1}\u{FB1D}",
+    ),
+    (
+        Shaper::Arabic,
+        Script::ARABIC,
+        "\u{628}\u{64E}\u{651}\u{654}\u{655}\u{627}",
+    ),
+];
 
 #[test]
-fn ligatures(rt: HostRuntime) {
-    let alphabet = "afi\u{301}x";
-    assert_cut(&rt, rt.alloc(), Shaper::Ligatures, Script::LATIN, alphabet);
-}
-
-#[test]
-fn hebrew(rt: HostRuntime) {
-    let alphabet = "\u{5E9}\u{5D9}\u{5B4}\u{5BC}\u{5BD}\u{5C1}\u{FB1D}";
-    assert_cut(&rt, rt.alloc(), Shaper::Hebrew, Script::HEBREW, alphabet);
-}
-
-#[test]
-fn arabic(rt: HostRuntime) {
-    let alphabet = "\u{628}\u{64E}\u{651}\u{654}\u{655}\u{627}";
-    assert_cut(&rt, rt.alloc(), Shaper::Arabic, Script::ARABIC, alphabet);
+fn parts_look_as_in_the_whole(rt: HostRuntime) {
+    for (shaper, script, alphabet) in &ALPHABETS {
+        assert_cut(&rt, rt.alloc(), *shaper, *script, alphabet);
+    }
 }

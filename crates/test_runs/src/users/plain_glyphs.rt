@@ -1,9 +1,9 @@
-//! A letter with its accent and a letter after it, in both directions and at every level.
+//! A letter with its accent and a letter after it, in both directions.
 use crate::users::rows::{Asked, assert_rows};
 use crate::users::shaping::{
     Shaper, Shaping, assert_that, by_graphemes, face_of, planned, print_glyphs, text_of,
 };
-use shape_buffer::buffer::{BufferClusterLevel, Direction, Script, UnicodeBuffer, hb_tag_t};
+use shape_buffer::buffer::{Direction, Script, UnicodeBuffer, hb_tag_t};
 use shape_buffer::interfaces::MapFace;
 use shape_pipeline::ot_shaper::DEFAULT_SHAPER;
 use shape_pipeline::{GlyphBuffer, ShapeFault};
@@ -14,12 +14,6 @@ use shape_users::plain_glyphs::{
 };
 use std::alloc::Global;
 use std::process::Abort;
-
-const LEVELS: [BufferClusterLevel; 3] = [
-    BufferClusterLevel::MonotoneGraphemes,
-    BufferClusterLevel::MonotoneCharacters,
-    BufferClusterLevel::Characters,
-];
 
 /// The text, whose clusters are 0, 1 and 3.
 fn latin(rt: &impl Abort, alloc: Global, how: Shaping<'_>) -> UnicodeBuffer {
@@ -55,40 +49,7 @@ fn assert_formed(rt: &impl Abort, alloc: Global, plan: &PlainPlan<'_>, how: Shap
     assert_three(rt, glyphs, how.direction);
 }
 
-/// A face of the text's characters.
-fn latin_face(rt: &impl Abort, alloc: Global) -> MapFace {
-    face_of(rt, alloc, "e\u{301}x")
-}
-
-/// How the text is shaped.
-fn as_latin(face: &MapFace, direction: Direction, level: BufferClusterLevel) -> Shaping<'_> {
-    Shaping {
-        direction,
-        level,
-        script: Some(Script(hb_tag_t::from_bytes(b"Latn"))),
-        ..by_graphemes(face, Shaper::Default)
-    }
-}
-
-/// Asserts that the text has three glyphs in a direction, at every level.
-fn assert_at_every_level(rt: &impl Abort, alloc: Global, direction: Direction) {
-    let face = latin_face(rt, alloc);
-    let plan = planned(rt, alloc, &face, &DEFAULT_SHAPER, direction, b"Latn");
-    for level in LEVELS {
-        let how = as_latin(&face, direction, level);
-        assert_plain(rt, alloc, &plan, how);
-        assert_counted(rt, alloc, &plan, how);
-        assert_formed(rt, alloc, &plan, how);
-    }
-}
-
-#[test]
-fn glyphs_come_by_graphemes_in_both_directions(rt: HostRuntime) {
-    assert_at_every_level(&rt, rt.alloc(), Direction::LeftToRight);
-    assert_at_every_level(&rt, rt.alloc(), Direction::RightToLeft);
-}
-
-/// Asserts that `shape` gives a text three glyphs, which it counts, and whose form it knows.
+/// The same by `shape`, whose plan is its own: it counts the glyphs, and knows the form of the characters.
 fn assert_by_shape(rt: &impl Abort, alloc: Global, how: Shaping<'_>) {
     let (face, shaper, text) = (how.face, &DEFAULT_SHAPER, latin(rt, alloc, how));
     let glyphs = glyphs_counted::<UnicodeDatabase, MapFace>(alloc, face, shaper, text);
@@ -98,16 +59,25 @@ fn assert_by_shape(rt: &impl Abort, alloc: Global, how: Shaping<'_>) {
     assert_three(rt, glyphs, how.direction);
 }
 
-/// Asserts this of the text by graphemes.
-fn assert_shape(rt: &impl Abort, alloc: Global) {
-    let face = latin_face(rt, alloc);
-    let level = BufferClusterLevel::MonotoneGraphemes;
-    assert_by_shape(rt, alloc, as_latin(&face, Direction::LeftToRight, level));
+/// Asserts that the text has three glyphs in a direction, by each call.
+fn assert_in_direction(rt: &impl Abort, alloc: Global, direction: Direction) {
+    let face = face_of(rt, alloc, "e\u{301}x");
+    let plan = planned(rt, alloc, &face, &DEFAULT_SHAPER, direction, b"Latn");
+    let how = Shaping {
+        direction,
+        script: Some(Script(hb_tag_t::from_bytes(b"Latn"))),
+        ..by_graphemes(&face, Shaper::Default)
+    };
+    assert_plain(rt, alloc, &plan, how);
+    assert_counted(rt, alloc, &plan, how);
+    assert_formed(rt, alloc, &plan, how);
+    assert_by_shape(rt, alloc, how);
 }
 
 #[test]
-fn shape_gives_the_same_glyphs_by_a_plan_of_its_own(rt: HostRuntime) {
-    assert_shape(&rt, rt.alloc());
+fn glyphs_come_by_graphemes_in_both_directions(rt: HostRuntime) {
+    assert_in_direction(&rt, rt.alloc(), Direction::LeftToRight);
+    assert_in_direction(&rt, rt.alloc(), Direction::RightToLeft);
 }
 
 /// Prints the glyphs of a string whose script runs to the left, over a face of some characters.

@@ -1,11 +1,10 @@
 //! Cases as rows of text, and what is asked of them.
-use crate::users::broken_rows::{Known, print_lines};
 use crate::users::kept_words::print_cached;
 use crate::users::paragraph::print_spans;
 use crate::users::plain_glyphs::print_string;
 use crate::users::shaping::{Shaper, assert_that, print_shaped};
 use crate::users::words::print_decided;
-use shape_pipeline::{BufferClusterLevel, Direction};
+use shape_pipeline::Direction;
 use std::alloc::Global;
 use std::process::Abort;
 use test_fixtures::cases::case_of;
@@ -23,8 +22,6 @@ pub enum Asked {
     Decided,
     /// The bytes that a cache may take, and words: which of them are found.
     Cached,
-    /// A text and a width: the lines of the text.
-    Lines(Known, Direction, BufferClusterLevel),
 }
 
 /// What stands before and after the first `between` in a text.
@@ -46,9 +43,6 @@ fn print_answer(
         Asked::Spans(direction) => print_spans(rt, alloc, printed, direction, first, second),
         Asked::Decided => print_decided(rt, alloc, printed, first, second),
         Asked::Cached => print_cached(rt, alloc, printed, first, second),
-        Asked::Lines(known, direction, level) => {
-            print_lines(rt, alloc, printed, (known, direction, level), first, second);
-        }
     }
 }
 
