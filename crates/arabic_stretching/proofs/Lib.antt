@@ -1,4 +1,5 @@
 mod DrawnLemmas
 mod OutcomeLemmas
 mod TurnedLemmas
+pub mod ItemwiseLemmas
 pub mod PreservationLemmas

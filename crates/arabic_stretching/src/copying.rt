@@ -208,8 +208,9 @@ pub fn stretch<F: hb_font_t>(
     let mut out = Vec::new(alloc);
     let mut walk = None;
     for i in 0..glyphs.len() {
-        let fit = fit_for(face, walk, &glyphs[i], &glyphs[i..]);
-        walk = put_next(face, right_to_left, &mut out, limit, fit, &glyphs[i])?;
+        let glyph = &glyphs[i];
+        let fit = fit_for(face, walk, glyph, &glyphs[i..]);
+        walk = put_next(face, right_to_left, &mut out, limit, fit, glyph)?;
     }
     Ok(out)
 }

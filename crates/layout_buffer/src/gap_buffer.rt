@@ -4,6 +4,7 @@ ghost use Rattle.std.specs.Prelude.{IsErrOf, IsOkUnless, OnOk, OnErr};
 ghost use Rattle.shape_items.specs.Buffer.{limit_of, new_buffer, next_ligature_id};
 ghost use Rattle.shape_items.specs.BufferClusters;
 ghost use Rattle.shape_common.specs.Positions.{zero_position};
+ghost use Rattle.layout_buffer.specs.GapLists.{list_of, IsGap};
 ghost use Rattle.shape_buffer.specs.declared.buffer.error.ShapeError.TheVariants.{Length};
 
 use crate::gap::GapList;
@@ -47,6 +48,34 @@ impl Model for GapBuffer {
       no_items : b.settings.items ≡ [];
       no_positions : b.settings.positions ≡ [];
     } };
+}
+
+/// Makes room for an item and for its position, where there is none. Refuses with `Memory` alone, if a growth
+/// was refused. The lists stay in any case.
+fn make_room_for(
+    infos: &mut GapList<hb_glyph_info_t>,
+    positions: &mut GapList<GlyphPosition>,
+    item: &hb_glyph_info_t,
+) -> Result<(), ShapeError>
+    requires infos { IsGap infos.old }
+    requires positions { IsGap positions.old }
+    ensures infos { IsGap infos.new }
+    ensures positions { IsGap positions.new }
+    ensures items { list_of infos.new ≡ list_of infos.old }
+    ensures zeros { list_of positions.new ≡ list_of positions.old }
+    ensures ok { OnOk result ((0 < infos.new.room) × (0 < positions.new.room)) }
+    ensures memory { IsOkUnless result ShapeError.Memory }
+{
+    infos.make_room(item)?;
+    positions.make_room(&GlyphPosition::zero())
+}
+
+/// Notes that some items have glyph flags.
+fn note_glyph_flags(settings: &mut hb_buffer_t)
+    ensures { settings.new ≡ BufferClusters.with_glyph_flags settings.old }
+{
+    let seen = settings.scratch_flags().0 | ScratchFlags::HAS_GLYPH_FLAGS.0;
+    settings.set_scratch_flags(ScratchFlags(seen));
 }
 
 impl GapBuffer {
@@ -123,8 +152,7 @@ impl GapBuffer {
         if self.length_limit() <= self.len() {
             return Err(ShapeError::Length);
         }
-        self.infos.make_room(&item)?;
-        self.positions.make_room(&GlyphPosition::zero())?;
+        make_room_for(&mut self.infos, &mut self.positions, &item)?;
         self.infos.insert(i, item);
         self.positions.insert(i, GlyphPosition::zero());
         Ok(())
@@ -167,8 +195,7 @@ impl GapBuffer {
         if end - start < 2 {
             return;
         }
-        let seen = self.settings.scratch_flags().0 | ScratchFlags::HAS_GLYPH_FLAGS.0;
-        self.settings.set_scratch_flags(ScratchFlags(seen));
+        note_glyph_flags(&mut self.settings);
         let stored = self.infos.stored.as_mut_slice();
         self.infos.at = break_around(stored, self.infos.at, self.infos.room, start, end);
     }
@@ -184,8 +211,7 @@ impl GapBuffer {
         if self.settings.flags().0 & asked != asked {
             return;
         }
-        let seen = self.settings.scratch_flags().0 | ScratchFlags::HAS_GLYPH_FLAGS.0;
-        self.settings.set_scratch_flags(ScratchFlags(seen));
+        note_glyph_flags(&mut self.settings);
         let stored = self.infos.stored.as_mut_slice();
         self.infos.at = concat_around(stored, self.infos.at, self.infos.room, start, end);
     }

@@ -2,8 +2,9 @@
 //!
 //! For each selector a font says which characters look under it as they do alone, and which have a glyph of their
 //! own. Another character has no glyph under it.
-ghost use Rattle.std.specs.Prelude.{◌≡◌, ◌<◌, ◌^◌};
+ghost use Rattle.std.specs.Prelude.{◌≡◌, ◌<◌, ◌^◌, if◌then◌else◌, nat_eq};
 ghost use Rattle.shape_font.specs.Variations;
+ghost use Rattle.shape_font.specs.declared.variations.GlyphVariant.TheVariants.{Missing, Default, Own};
 
 use crate::bytes::{records, u8_at, u16_at, u24_at, u32_at};
 use crate::search::{found, side};
@@ -97,6 +98,21 @@ fn own_glyph(mappings: &[u8], c: u32) -> u32
     }
 }
 
+/// What the lists of a record say of a character: the ranges first, then the rows.
+fn by_lists(ranges: &[u8], mappings: &[u8], c: u32) -> GlyphVariant
+    ensures { result ≡ if Variations.is_default ranges.now c then Default else
+        (let glyph = Variations.own_glyph mappings.now c in
+        (if nat_eq glyph 0 then Missing else Own glyph)) }
+{
+    if is_default(ranges, c) {
+        return GlyphVariant::Default;
+    }
+    match own_glyph(mappings, c) {
+        0 => GlyphVariant::Missing,
+        glyph => GlyphVariant::Own(glyph),
+    }
+}
+
 /// What the table of sequences says of a character before a selector.
 pub fn variation(table: &[u8], c: u32, selector: u32) -> GlyphVariant
     ensures { result ≡ Variations.variation_of table.now c selector }
@@ -105,11 +121,5 @@ pub fn variation(table: &[u8], c: u32, selector: u32) -> GlyphVariant
         return GlyphVariant::Missing;
     };
     let at = 13 + 11 * i as usize;
-    if is_default(sequences_from(table, at), c) {
-        return GlyphVariant::Default;
-    }
-    match own_glyph(sequences_from(table, at + 4), c) {
-        0 => GlyphVariant::Missing,
-        glyph => GlyphVariant::Own(glyph),
-    }
+    by_lists(sequences_from(table, at), sequences_from(table, at + 4), c)
 }

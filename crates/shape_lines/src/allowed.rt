@@ -11,7 +11,7 @@ ghost use Rattle.shape_lines.specs.Measured.{AreMeasures};
 ghost use Rattle.shape_lines.specs.Spots.{spots_of, spot_at, pen};
 
 use crate::cutting::{Line, line_between};
-use crate::measuring::{Measures, ends_before, least_reaches, pens, reaches};
+use crate::measuring::{Measures, ends_before, least_of_both, pens};
 use crate::spots::{Breaks, Spot, spots};
 use shape_buffer::buffer::{GlyphBuffer, ShapeError};
 use std::alloc::{AllocError, Global};
@@ -68,9 +68,7 @@ fn measured(
 {
     let spots = spots(alloc, glyphs, breaks)?;
     let pens = pens(alloc, &spots)?;
-    let reaches = reaches(alloc, &spots, &pens)?;
-    let allowed = least_reaches(alloc, &spots, &reaches, false)?;
-    let any = least_reaches(alloc, &spots, &reaches, breaks.anywhere)?;
+    let (allowed, any) = least_of_both(alloc, &spots, &pens, breaks.anywhere)?;
     Ok(Measures {
         spots,
         pens,

@@ -48,7 +48,7 @@ fn width_of(spot: &Spot) -> i128
 }
 
 /// Where the pen stands after the last glyph before each place that isn't a space.
-pub(super) fn reaches(alloc: Global, spots: &[Spot], pens: &[i128]) -> Result<Vec<i128>, AllocError>
+fn reaches(alloc: Global, spots: &[Spot], pens: &[i128]) -> Result<Vec<i128>, AllocError>
     requires { ArePens spots.now pens.now }
     ensures { IfOk result (λ reaches. AreReaches spots.now reaches.items) }
 {
@@ -69,21 +69,35 @@ fn reach_on(spot: &Spot, before: i128, after: i128) -> i128
     if spot.space { before } else { after }
 }
 
-/// The least that the pen reaches at an end from each place on.
-pub(super) fn least_reaches(
+/// The least that the pen reaches at an end from each place on, at an allowed place and at any.
+pub(super) fn least_of_both(
     alloc: Global,
     spots: &[Spot],
-    reaches: &[i128],
+    pens: &[i128],
     anywhere: bool,
-) -> Result<Vec<i128>, AllocError>
-    requires { AreReaches spots.now reaches.now }
-    ensures { IfOk result (λ least. AreLeast anywhere spots.now least.items) }
+) -> Result<(Vec<i128>, Vec<i128>), AllocError>
+    requires { ArePens spots.now pens.now }
+    ensures allowed { IfOk result (λ both. AreLeast false spots.now both.0.items) }
+    ensures any { IfOk result (λ both. AreLeast anywhere spots.now both.1.items) }
 {
-    let mut least = Vec::from_slice(alloc, reaches)?;
+    let any = reaches(alloc, spots, pens)?;
+    let allowed = Vec::from_slice(alloc, &any)?;
+    Ok((
+        least_reaches(spots, allowed, false),
+        least_reaches(spots, any, anywhere),
+    ))
+}
+
+/// The least that the pen reaches at an end from each place on, made of what it reaches at each.
+fn least_reaches(spots: &[Spot], reaches: Vec<i128>, anywhere: bool) -> Vec<i128>
+    requires { AreReaches spots.now reaches.items }
+    ensures { AreLeast anywhere spots.now result.items }
+{
+    let mut least = reaches;
     for place in (0..spots.len()).rev() {
         least[place] = least_on(spots[place], anywhere, least[place], least[place + 1]);
     }
-    Ok(least)
+    least
 }
 
 /// The least reach from a glyph on, given that of an end before it and the least after it.

@@ -34,6 +34,14 @@ pub(super) struct Spot {
     pub(super) space: bool,
 }
 
+/// Which glyphs of a text have a cluster of each list.
+#[derive(Drop)]
+struct ListMarks {
+    allowed: Vec<bool>,
+    mandatory: Vec<bool>,
+    spaces: Vec<bool>,
+}
+
 /// The glyphs in the order of the text.
 pub(super) fn spots(
     alloc: Global,
@@ -47,22 +55,44 @@ pub(super) fn spots(
     ensures { IfOk result (λ spots. spots.items ≡ spots_of glyphs.now breaks.now.allowed.now
         breaks.now.mandatory.now breaks.now.spaces.now) }
 {
-    let allowed = marks(alloc, glyphs, breaks.allowed)?;
-    let mandatory = marks(alloc, glyphs, breaks.mandatory)?;
-    let spaces = marks(alloc, glyphs, breaks.spaces)?;
+    let marks = marks_of_lists(alloc, glyphs, breaks)?;
     let mut spots = Vec::with_capacity(alloc, glyphs.len())?;
     for place in 0..glyphs.len() {
         let begins = begins_cluster(glyphs, place);
         let piece = piece_at(glyphs, place);
         spots.push(Spot {
             width: piece.width,
-            allowed: both(begins, allowed[place]),
-            mandatory: both(begins, mandatory[place]),
+            allowed: both(begins, marks.allowed[place]),
+            mandatory: both(begins, marks.mandatory[place]),
             safe: piece.cut,
-            space: spaces[place],
+            space: marks.spaces[place],
         })?;
     }
     Ok(spots)
+}
+
+/// Which glyphs of the text have a cluster of each list.
+fn marks_of_lists(
+    alloc: Global,
+    glyphs: &GlyphBuffer,
+    breaks: &Breaks<'_>,
+) -> Result<ListMarks, AllocError>
+    requires monotone { IsMonotone (clusters glyphs.now.items) }
+    requires allowed { IsNonDecreasing breaks.now.allowed.now }
+    requires mandatory { IsNonDecreasing breaks.now.mandatory.now }
+    requires spaces { IsNonDecreasing breaks.now.spaces.now }
+    ensures allowed { IfOk result (λ marks. marks.allowed.items
+        ≡ marks_of breaks.now.allowed.now (text_order glyphs.now)) }
+    ensures mandatory { IfOk result (λ marks. marks.mandatory.items
+        ≡ marks_of breaks.now.mandatory.now (text_order glyphs.now)) }
+    ensures spaces { IfOk result (λ marks. marks.spaces.items
+        ≡ marks_of breaks.now.spaces.now (text_order glyphs.now)) }
+{
+    Ok(ListMarks {
+        allowed: marks(alloc, glyphs, breaks.allowed)?,
+        mandatory: marks(alloc, glyphs, breaks.mandatory)?,
+        spaces: marks(alloc, glyphs, breaks.spaces)?,
+    })
 }
 
 /// Which glyphs of the text have a cluster of this list, which rises.

@@ -1,4 +1,4 @@
-use Rattle.std.proofs.Common.{◌≡◌, ℕ, ◌+◌, ◌-◌, ◌<◌, ◌≤◌, pos, length, get_or, sym, ap, subst, ◌∙◌, FitsSigned, to_z, of_z, arith, rules}
+use Rattle.std.proofs.Common.{◌≡◌, ℕ, ◌+◌, ◌-◌, ◌<◌, ◌≤◌, pos, length, get_or, sym, subst, ◌∙◌, FitsSigned, to_z, of_z, arith, rules}
 use Rattle.std.proofs.lemmas.Int.{to_z-of_z}
 use Rattle.std.proofs.lemmas.List.{get_or_read, get_or-set_other, length-set}
 use Rattle.shape_lines.specs.Measured.{IsLeastReach}
@@ -13,14 +13,14 @@ loop-place-init c =
     let ss = c.args.spots.now in
     let any = c.args.anywhere in
     let n = length ss in
-    let zs = c.in_ok-least.least.items in
-    let value : get_or zs n (pos 0) ≡ reach ss n = ap (λ l. get_or l n (pos 0)) c.in_ok-least.ensures.items ∙ c.requires.each n (omega arith) in
+    let zs = c.args.reaches.items in
+    let value : get_or zs n (pos 0) ≡ reach ss n = c.requires.each n (omega arith) in
     record {
-      as_many = ap length c.in_ok-least.ensures.items ∙ c.requires.as_many;
+      as_many = c.requires.as_many;
       done = λ k low high.
           let here : n ≡ k = omega arith in
           subst (λ j. IsLeastReach any ss j (get_or zs j (pos 0))) here (subst (IsLeastReach any ss n) (sym value) (least-end any ss));
-      still = λ k lt. ap (λ l. get_or l k (pos 0)) c.in_ok-least.ensures.items ∙ c.requires.each k (omega arith);
+      still = λ k lt. c.requires.each k (omega arith);
     }
 
 pub loop-place-preserved : goal.loop-place-preserved

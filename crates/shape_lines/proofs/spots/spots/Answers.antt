@@ -13,14 +13,14 @@ loop-place-init c =
     record {
       spots_are = c.in_ok-spots.ensures.items;
       allowed_long =
-          let len = c.in_ok-allowed.allowed.ok.0 in
-          omega (arith, len, ap length c.in_ok-allowed.ensures, length-marks c.args.breaks.now.allowed.now gs, long);
+          let len = c.in_ok-marks.marks.allowed.ok.0 in
+          omega (arith, len, ap length c.in_ok-marks.ensures.allowed, length-marks c.args.breaks.now.allowed.now gs, long);
       mandatory_long =
-          let len = c.in_ok-mandatory.mandatory.ok.0 in
-          omega (arith, len, ap length c.in_ok-mandatory.ensures, length-marks c.args.breaks.now.mandatory.now gs, long);
+          let len = c.in_ok-marks.marks.mandatory.ok.0 in
+          omega (arith, len, ap length c.in_ok-marks.ensures.mandatory, length-marks c.args.breaks.now.mandatory.now gs, long);
       spaces_long =
-          let len = c.in_ok-spaces.spaces.ok.0 in
-          omega (arith, len, ap length c.in_ok-spaces.ensures, length-marks c.args.breaks.now.spaces.now gs, long);
+          let len = c.in_ok-marks.marks.spaces.ok.0 in
+          omega (arith, len, ap length c.in_ok-marks.ensures.spaces, length-marks c.args.breaks.now.spaces.now gs, long);
     }
 
 pub loop-place-preserved : goal.loop-place-preserved
@@ -37,9 +37,9 @@ loop-place-preserved c =
     let am = c.index.result.now in
     let mm = c.index-in-loop-place.result.now in
     let sm = c.index-in-loop-place-2.result.now in
-    let am_is = c.index.ensures ∙ ap (λ l. get_or l n am) c.in_ok-allowed.ensures ∙ mark-at a gs n am short in
-    let mm_is = c.index-in-loop-place.ensures ∙ ap (λ l. get_or l n mm) c.in_ok-mandatory.ensures ∙ mark-at m gs n mm short in
-    let sm_is = c.index-in-loop-place-2.ensures ∙ ap (λ l. get_or l n sm) c.in_ok-spaces.ensures ∙ mark-at s gs n sm short in
+    let am_is = c.index.ensures ∙ ap (λ l. get_or l n am) c.in_ok-marks.ensures.allowed ∙ mark-at a gs n am short in
+    let mm_is = c.index-in-loop-place.ensures ∙ ap (λ l. get_or l n mm) c.in_ok-marks.ensures.mandatory ∙ mark-at m gs n mm short in
+    let sm_is = c.index-in-loop-place-2.ensures ∙ ap (λ l. get_or l n sm) c.in_ok-marks.ensures.spaces ∙ mark-at s gs n sm short in
     record {
       spots_are = spots_push (spots_of b a m s) c.loop-place.spots.items c.push.new.self.items n _ c.in_ok-push.ensures.items c.loop-place.invariant.spots_are
           (spot_same _ _ _ _ _ _ _ _ (search rules) c.both.ensures c.both-in-loop-place.ensures
