@@ -32,7 +32,7 @@ use shape_plan::ot_shaper::{
 };
 
 #[test]
-fn levels_modes_and_spaces(rt: HostRuntime) {
+fn levels_and_modes(rt: HostRuntime) {
     let refusals = [ShapeError::Memory as u8, ShapeError::Length as u8];
     assert_same(&rt, refusals, [1, 2]);
     let levels = [
@@ -57,6 +57,10 @@ fn levels_modes_and_spaces(rt: HostRuntime) {
     ];
     assert_same(&rt, times, [0, 1, 2]);
     assert_same(&rt, (MAX_COMBINING_MARKS, CONTEXT_LENGTH), (32, 5));
+}
+
+#[test]
+fn types_of_spaces(rt: HostRuntime) {
     let spaces = [
         NOT_SPACE,
         SPACE_EM,
@@ -77,7 +81,7 @@ fn levels_modes_and_spaces(rt: HostRuntime) {
 }
 
 #[test]
-fn flags(rt: HostRuntime) {
+fn flags_of_requests(rt: HostRuntime) {
     let requests = [
         F_NONE,
         F_GLOBAL,
@@ -93,6 +97,10 @@ fn flags(rt: HostRuntime) {
     ];
     assert_same(&rt, requests, [0, 1, 2, 4, 8, 16, 32, 64, 3, 12, 13]);
     assert_same(&rt, MAX_VALUE, 255);
+}
+
+#[test]
+fn flags_of_buffers_and_glyphs(rt: HostRuntime) {
     let asked = [
         BufferFlags::BEGINNING_OF_TEXT.0,
         BufferFlags::END_OF_TEXT.0,

@@ -79,7 +79,8 @@ const MOVED: &str = "
     characters | 0/1 1/2 2/4 | advance 0..7, swap 0..2 -> 2/4 1/2 0/1+7
     characters | 2/4 1/2 0/1+7 | swap_infos 1..2 -> 2/4 0/1 1/2+7
     characters | 2/4 0/1 1/2+7 | swap_infos 2..1 -> 2/4 1/2 0/1+7
-    graphemes | 9/0 0/0 1/0 3/0 | enter, limit 16384, len 4, write 1..5, insert 1..2, len 5, remove 0 -> 2/0 5/0 1/0 3/0
+    graphemes | 9/0 0/0 1/0 3/0 | enter, limit 16384, len 4, write 1..5, insert 1..2, len 5, remove 0 \
+        -> 2/0 5/0 1/0 3/0
     graphemes | 2/0 5/0 1/0 3/0 | truncate 3, enter, leave, limit 18446744073709551615 -> 2/0 5/0 1/0
 ";
 

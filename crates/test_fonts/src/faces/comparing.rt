@@ -41,25 +41,26 @@ fn assert_same_metrics<F: hb_font_t, G: hb_font_t>(rt: &impl Abort, face: &F, ot
     assert!(rt; other.glyph_extents(glyph) == face.glyph_extents(glyph));
 }
 
+/// The font with these bytes, opened.
+fn opened<'a>(rt: &impl Abort, alloc: Global, bytes: &'a [u8]) -> OpenedFace<'a> {
+    let face = FontFace::from_slice(bytes, 0).expect(rt, "a face");
+    OpenedFace::new(alloc, face).expect(rt, "memory")
+}
+
 /// Asserts that a face that was opened says of all characters, and of the first glyphs, what it said before.
 pub fn assert_opens(rt: &impl Abort, alloc: Global, bytes: &[u8]) {
-    let face = FontFace::from_slice(bytes, 0).expect(rt, "a face");
-    let opened = OpenedFace::new(alloc, face).expect(rt, "memory");
-    assert_same_glyphs(rt, &face, &opened);
+    let opened = opened(rt, alloc, bytes);
+    let face = opened.face();
+    assert_same_glyphs(rt, face, &opened);
     for glyph in 0..10 {
-        assert_same_metrics(rt, &face, &opened, glyph);
+        assert_same_metrics(rt, face, &opened, glyph);
     }
     assert!(rt; opened.units_per_em() == face.units_per_em());
     assert!(rt; opened.tables() == face.tables());
-    assert!(rt; opened.face().glyph_count() == face.glyph_count());
 }
 
 /// Asserts that an opened face gives a character this glyph, 0 for none.
 pub fn assert_glyph(rt: &impl Abort, alloc: Global, bytes: &[u8], c: char, wanted: u32) {
-    let face = FontFace::from_slice(bytes, 0).expect(rt, "a face");
-    let opened = OpenedFace::new(alloc, face).expect(rt, "memory");
-    match opened.get_nominal_glyph(c) {
-        Some(glyph) => assert!(rt; glyph.0 == wanted),
-        None => assert!(rt; wanted == 0),
-    }
+    let glyph = opened(rt, alloc, bytes).get_nominal_glyph(c);
+    assert!(rt; glyph.map_or(0, |glyph| glyph.0) == wanted);
 }

@@ -1,7 +1,6 @@
 //! Glyphs as text and as JSON, with the names of a font file.
 use crate::comparing::assert_that;
 use crate::tiny::DIGITS;
-use serde_json::Value;
 use shape_font::FontFace;
 use shape_pipeline::{
     DEFAULT_SHAPER, GlyphBuffer, NoLookups, UnicodeBuffer, hb_default_shaper_t, shape,
@@ -9,6 +8,7 @@ use shape_pipeline::{
 use shape_text_forms::{SerializeFlags, serialize, serialize_json};
 use shape_unicode::UnicodeDatabase;
 use std::alloc::Global;
+use std::process::Abort;
 
 /// The glyphs of AB, none if memory was refused.
 fn glyphs_of_ab(alloc: Global, face: &FontFace<'_>) -> Option<GlyphBuffer> {
@@ -28,22 +28,29 @@ fn glyphs_of_ab(alloc: Global, face: &FontFace<'_>) -> Option<GlyphBuffer> {
     }
 }
 
+/// Compares glyphs as text and as JSON.
+fn assert_written(
+    rt: &impl Abort,
+    alloc: Global,
+    face: &FontFace<'_>,
+    glyphs: &GlyphBuffer,
+    (text, json): (&str, &str),
+) {
+    let plain = SerializeFlags(0);
+    let found = serialize(alloc, glyphs, face, face, plain).expect(rt, "memory");
+    assert_that(rt, found.as_str() == text);
+    let found = serialize_json(alloc, glyphs, face, face, plain).expect(rt, "memory");
+    assert_that(rt, found.as_str() == json);
+}
+
 #[test]
 fn texts(rt: HostRuntime) {
     let alloc = rt.alloc();
     let bytes = hex::decode(alloc, DIGITS).expect(&rt, "memory");
     let face = FontFace::from_slice(bytes.as_slice(), 0).expect(&rt, "a face");
     let glyphs = glyphs_of_ab(alloc, &face).expect(&rt, "memory");
-    let plain = SerializeFlags(0);
-    let text = serialize(alloc, &glyphs, &face, &face, plain).expect(&rt, "memory");
-    assert_that(&rt, text.as_str() == "[A=0+600|B=1+640]");
-    let json = serialize_json(alloc, &glyphs, &face, &face, plain).expect(&rt, "memory");
-    let wanted = "[{\"g\":\"A\",\"cl\":0,\"dx\":0,\"dy\":0,\"ax\":600,\"ay\":0},\
+    let text = "[A=0+600|B=1+640]";
+    let json = "[{\"g\":\"A\",\"cl\":0,\"dx\":0,\"dy\":0,\"ax\":600,\"ay\":0},\
         {\"g\":\"B\",\"cl\":1,\"dx\":0,\"dy\":0,\"ax\":640,\"ay\":0}]";
-    assert_that(&rt, json.as_str() == wanted);
-    let read = Value::from_str(alloc, json.as_str()).expect(&rt, "JSON");
-    assert_that(
-        &rt,
-        read.pointer("/1/ax").and_then(Value::as_u64) == Some(640),
-    );
+    assert_written(&rt, alloc, &face, &glyphs, (text, json));
 }

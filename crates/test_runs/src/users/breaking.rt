@@ -1,9 +1,9 @@
 //! Texts cut into lines, each of whose pieces is shaped again, with what stands around it as
 //! context. A piece begins the text if it is the first one, and ends it if it is the last.
+use crate::comparing::assert_that;
 use crate::users::seen::assert_looks_alike;
 use crate::users::shaping::{
-    IN_ORDER, Shaper, Shaping, assert_that, by_graphemes, face_of, glyphs_of, lines_of, split_at,
-    towards,
+    IN_ORDER, Shaper, Shaping, by_graphemes, face_of, glyphs_of, lines_of, split_at, towards,
 };
 use shape_pipeline::lines::Line;
 use shape_pipeline::{BufferClusterLevel, Direction, GlyphBuffer, MapFace};

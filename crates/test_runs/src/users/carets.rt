@@ -1,6 +1,6 @@
 //! Carets, clicks and selections. The numbers were worked out by hand.
 
-use crate::users::shaping::assert_that;
+use crate::comparing::assert_that;
 use shape_buffer::buffer::{Direction, GlyphCluster, ShapeError};
 use shape_carets::{Caret, Span, caret_of_offset, carets, offset_of_x, selection, stops_rise};
 use std::alloc::Global;

@@ -3,9 +3,10 @@
 //! What is tried: every text of two and three characters of a few alphabets, towards all four directions, at the
 //! two levels that keep clusters in order, over a face of a few glyphs, with the default shaper, the engine with
 //! ligatures, and both script shapers. A part is shaped in the direction and script of the whole.
+use crate::comparing::assert_that;
 use crate::users::seen::assert_looks_alike;
 use crate::users::shaping::{
-    IN_ORDER, Shaper, Shaping, assert_that, by_graphemes, face_of, glyphs_of, split_at, towards,
+    IN_ORDER, Shaper, Shaping, by_graphemes, face_of, glyphs_of, split_at, towards,
 };
 use shape_pipeline::{Direction, GlyphBuffer, Script};
 use std::alloc::Global;

@@ -1,7 +1,8 @@
 //! A letter with its accent and a letter after it, in both directions.
+use crate::comparing::assert_that;
 use crate::users::rows::{Asked, assert_rows};
 use crate::users::shaping::{
-    Shaper, Shaping, assert_that, by_graphemes, face_of, planned, print_glyphs, text_of,
+    Shaper, Shaping, by_graphemes, face_of, planned, print_glyphs, text_of,
 };
 use shape_buffer::buffer::{Direction, Script, UnicodeBuffer, hb_tag_t};
 use shape_buffer::interfaces::MapFace;

@@ -1,8 +1,9 @@
 //! Cases as rows of text, and what is asked of them.
+use crate::comparing::assert_that;
 use crate::users::kept_words::print_cached;
 use crate::users::paragraph::print_spans;
 use crate::users::plain_glyphs::print_string;
-use crate::users::shaping::{Shaper, assert_that, print_shaped};
+use crate::users::shaping::{Shaper, print_shaped};
 use crate::users::words::print_decided;
 use shape_pipeline::Direction;
 use std::alloc::Global;

@@ -1,7 +1,8 @@
 //! Texts by the shaper of each script, over faces that have a glyph for these characters alone. Lines are compared from the
 //! left.
+use crate::comparing::assert_that;
 use crate::users::rows::{Asked, assert_rows};
-use crate::users::shaping::{Shaper, assert_that, by_graphemes, face_of, print_glyphs, text_of};
+use crate::users::shaping::{Shaper, by_graphemes, face_of, print_glyphs, text_of};
 use script_shapers::{
     ArabicShaper, HangulShaper, HebrewShaper, ScriptShapers, ThaiShaper, plan_by_script,
     shape_with_script_plan,

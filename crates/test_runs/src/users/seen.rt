@@ -1,5 +1,5 @@
 //! Whether glyphs of a whole text look as those of a part of it that is shaped by itself.
-use crate::users::shaping::assert_that;
+use crate::comparing::assert_that;
 use shape_pipeline::GlyphBuffer;
 use std::process::Abort;
 

@@ -16,12 +16,6 @@ use std::alloc::Global;
 use std::process::Abort;
 use test_fixtures::printing::append_glyph;
 
-/// Asserts what no later call of a test relies on. The proof of a test takes a second for each `assert!` of its own,
-/// and next to nothing for a call of this, since it has no contract.
-pub fn assert_that(rt: &impl Abort, condition: bool) {
-    assert!(rt; condition);
-}
-
 /// A face in which the characters of a text have glyphs, which are numbered from 1 in their order and 500 wide.
 pub fn face_of(rt: &impl Abort, alloc: Global, known: &str) -> MapFace {
     let mut face = MapFace::new(alloc, 1000);

@@ -1,6 +1,7 @@
 //! Words under one spelling and another.
+use crate::comparing::assert_that;
 use crate::users::rows::{Asked, assert_printed, assert_rows};
-use crate::users::shaping::{assert_that, face_of, planned};
+use crate::users::shaping::{face_of, planned};
 use shape_buffer::buffer::Direction;
 use shape_buffer::interfaces::{MapFace, NoLookups};
 use shape_pipeline::ot_shape_plan::hb_ot_shape_plan_t;
