@@ -5,7 +5,6 @@ use Rattle.std.proofs.lemmas.List.{length-map}
 use Rattle.shape_items.specs.Buffer.{Buffer}
 use Rattle.shape_items.specs.Items.{Item, new_item}
 use Rattle.layout_matching.specs.Skipping.{nth}
-use Rattle.layout_matching.specs.declared.lookup.Lookup.{Lookup}
 use Rattle.layout_digests.specs.Digests.{has}
 use Rattle.layout_digests.specs.declared.digest.Digest.{Digest}
 use Rattle.layout_digests.specs.declared.digested.Digested.{Digested}

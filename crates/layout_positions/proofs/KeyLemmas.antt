@@ -1,5 +1,5 @@
 -- what depends on no mask of an item stays in each lookup of positioning
-use Rattle.std.proofs.Common.{◌≡◌, ℕ, ◌≤◌, ◌==◌, Bool, true, false, List, map, min, length, nat_le, nat_lt, slice_set, refl, ◌∙◌, arith, if◌then◌else◌}
+use Rattle.std.proofs.Common.{◌≡◌, ℕ, ◌≤◌, ◌==◌, Bool, true, false, map, min, length, nat_le, nat_lt, slice_set, refl, ◌∙◌, arith, if◌then◌else◌}
 use Rattle.std.proofs.lemmas.Bool.Decides.{nat_tests}
 use Rattle.std.specs.Int.RustNames.{bit_and}
 use Rattle.shape_common.specs.FlagNames.{PRODUCE_UNSAFE_TO_CONCAT}

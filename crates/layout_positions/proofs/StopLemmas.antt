@@ -1,6 +1,6 @@
 -- where searches of the glyphs beside a place end, whatever the masks are
 use Prim.Native.Nat.{zero}
-use Rattle.std.proofs.Common.{◌≡◌, ℕ, suc, ◌<◌, ◌≤◌, ◌+◌, ◌-◌, ◌&&◌, ◌||◌, Bool, true, false, List, map, Option, Some, None, IfSome, cond, not, length, refl, sym, subst, ap, ◌∙◌, arith}
+use Rattle.std.proofs.Common.{◌≡◌, ℕ, suc, ◌<◌, ◌≤◌, ◌+◌, ◌-◌, ◌&&◌, ◌||◌, Bool, true, false, List, map, Option, Some, IfSome, cond, not, length, refl, sym, subst, ap, ◌∙◌, arith}
 use Rattle.shape_font.specs.Search.{first_at}
 use Rattle.shape_items.specs.Items.{Item, is_ignorable_item}
 use Rattle.layout_matching.specs.Skipping.{nth, is_transparent}

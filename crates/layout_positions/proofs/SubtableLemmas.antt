@@ -10,7 +10,7 @@ use Rattle.layout_positions.specs.Cursive.{cursive_applied}
 use Rattle.layout_positions.specs.Lookups.{Applied, unapplied}
 use Rattle.layout_positions.specs.Marks.{base_seen, mark_number, mark_base_at, mark_base_applied, mark_ligature_at, mark_ligature_applied, mark_mark_applied}
 use Rattle.layout_positions.specs.Pairs.{single_applied, pair_applied}
-use Rattle.layout_positions.specs.Subtables.{if_first_format, kind_applied, looks_for_base, sought_from, sought, unplaced, kind_placed, subtable_placed, Trial, trial_step}
+use Rattle.layout_positions.specs.Subtables.{if_first_format, kind_applied, sought_from, sought, unplaced, kind_placed, subtable_placed, Trial, trial_step}
 use Rattle.layout_positions.specs.declared.bases.BaseSeen.{BaseSeen}
 use Rattle.layout_positions.specs.declared.subtables.Sought.{Sought}
 use Rattle.layout_positions.proofs.CountLemmas.{length_broken, length_concat_marked, length_put}

@@ -115,7 +115,6 @@ fn if_on(lookup: &Lookup<'_>, items: &[hb_glyph_info_t], j: usize) -> Option<usi
 }
 
 /// The first place after place `i` whose glyph isn't passed over, sought unless it is known already.
-#[tactic(auto, using(crate::proofs::StopLemmas::stop_inside))]
 pub(crate) fn known_stop(
     lookup: &Lookup<'_>,
     items: &[hb_glyph_info_t],
