@@ -10,5 +10,7 @@ pub mod NestedSteps
 pub mod PreservationLemmas
 pub mod UncoveredLemmas
 pub mod DigestLemmas
+pub mod KeyLemmas
 pub mod GlyphLemmas
+pub mod StopLemmas
 pub mod MadeLemmas

@@ -1,10 +1,12 @@
 //! Single and pair adjustment, applied at a place of a buffer.
 ghost use Rattle.std.specs.Prelude.{◌≡◌, ◌<◌, ◌^◌, length};
+ghost use Rattle.std.specs.Option.{IfSome};
+ghost use Rattle.layout_positions.specs.Lookups;
 ghost use Rattle.layout_positions.specs.Pairs;
 
 use crate::anchors::number_there;
 use crate::edits::{break_between, concat_between, position, put};
-use crate::neighbours::{end_after, glyph_after};
+use crate::neighbours::{end_at, glyph_at, known_stop};
 use crate::pairs::{PairValues, pair, single};
 use crate::places::{after, two_after};
 use crate::values::{Adjustment, adjusted, has_effect};
@@ -135,17 +137,23 @@ fn pair_from(
     buffer: &mut hb_buffer_t,
     i: usize,
     number: u32,
+    ahead: &mut Option<Option<usize>>,
 ) -> Option<usize>
     requires start { start < 2 ^ 34 }
     requires inside { i < length buffer.old.items }
+    requires known { IfSome ahead.old
+        (λ stop. stop ≡ Lookups.stop_after lookup.now buffer.old.items i) }
     ensures made { buffer.new ≡ (Pairs.pair_at_number lookup.now start i buffer.old number).buffer }
     ensures next { result ≡ (Pairs.pair_at_number lookup.now start i buffer.old number).next }
+    ensures known { IfSome ahead.new
+        (λ stop. stop ≡ Lookups.stop_after lookup.now buffer.old.items i) }
 {
-    match glyph_after(lookup, buffer.infos(), i) {
+    let count = buffer.len();
+    let stop = known_stop(lookup, buffer.infos(), i, ahead);
+    match glyph_at(lookup, buffer.infos(), stop) {
         Some(j) => pair_with(lookup, start, buffer, i, number, j),
         None => {
-            let end = end_after(lookup, buffer.infos(), i);
-            concat_between(buffer, i, end);
+            concat_between(buffer, i, end_at(count, stop));
             None
         }
     }
@@ -160,26 +168,32 @@ fn has_pairs(table: &[u8], start: usize) -> bool
 }
 
 /// Applies pair adjustment to the glyph at place `i` and the next one that the lookup sees. Returns
-/// the place where the lookup goes on. A call of its own: inlined, its sums are made at each glyph,
+/// the place where the lookup goes on. `ahead` is the first glyph after the place that isn't passed
+/// over, once a subtable has sought it. A call of its own: inlined, its sums are made at each glyph,
 /// whatever the lookup is.
 #[inline(never)]
-pub fn apply_pair(
+pub(crate) fn apply_pair(
     lookup: &Lookup<'_>,
     start: usize,
     buffer: &mut hb_buffer_t,
     i: usize,
+    ahead: &mut Option<Option<usize>>,
 ) -> Option<usize>
     requires near { start < 2 ^ 34 }
     requires inside { i < length buffer.old.items }
+    requires known { IfSome ahead.old
+        (λ stop. stop ≡ Lookups.stop_after lookup.now buffer.old.items i) }
     ensures made { buffer.new ≡ (Pairs.pair_applied lookup.now start i buffer.old).buffer }
     ensures next { result ≡ (Pairs.pair_applied lookup.now start i buffer.old).next }
+    ensures known { IfSome ahead.new
+        (λ stop. stop ≡ Lookups.stop_after lookup.now buffer.old.items i) }
 {
     if !has_pairs(lookup.table, start) {
         return None;
     }
     let glyph = item_at(buffer.infos(), i).glyph_id;
     match number_there(lookup.table, start, start + 2, glyph) {
-        Some(number) => pair_from(lookup, start, buffer, i, number),
+        Some(number) => pair_from(lookup, start, buffer, i, number, ahead),
         None => None,
     }
 }

@@ -5,7 +5,7 @@ ghost use Rattle.layout_positions.specs.Cursive;
 
 use crate::anchors::{Anchor, anchor_there, number_there};
 use crate::edits::{break_between, concat_between, position, put};
-use crate::neighbours::{glyph_before, start_before};
+use crate::neighbours::{glyph_at, start_at, stop_before};
 use crate::places::after;
 use crate::turning::attach;
 use layout_matching::lookup::Lookup;
@@ -209,11 +209,11 @@ pub fn apply_cursive(
 {
     let count = buffer.len();
     let entry = entry(lookup.table, start, item_at(buffer.infos(), j).glyph_id)?;
-    match glyph_before(lookup, buffer.infos(), j) {
+    let stop = stop_before(lookup, buffer.infos(), j);
+    match glyph_at(lookup, buffer.infos(), stop) {
         Some(i) => cursive_with(lookup, start, buffer, j, entry, i),
         None => {
-            let from = start_before(lookup, buffer.infos(), j);
-            concat_between(buffer, from, after(count, j));
+            concat_between(buffer, start_at(stop), after(count, j));
             None
         }
     }

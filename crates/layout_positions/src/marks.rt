@@ -7,7 +7,7 @@ ghost use Rattle.layout_positions.specs.Marks;
 use crate::anchors::{Anchor, anchor_of_class, mark_anchor, mark_class, number_there};
 use crate::attachment::{MARK_ATTACHED, chain};
 use crate::edits::{break_between, concat_between, position, put};
-use crate::neighbours::{glyph_before, start_before};
+use crate::neighbours::{glyph_at, start_at, stop_before};
 use crate::places::after;
 use layout_matching::lookup::Lookup;
 use layout_matching::skipping::item_at;
@@ -146,33 +146,31 @@ fn put_on_glyph(
     }
 }
 
-/// Applies attachment to a base to the mark at place `i`, whose base is the glyph at place `base`.
+/// Attaches mark number `number` of the subtable, at place `i`, to its base, the glyph at place `base`.
 /// Returns the place where the lookup goes on.
-pub fn apply_mark_base(
+pub(crate) fn attach_to_base(
     lookup: &Lookup<'_>,
     start: usize,
     base: Option<usize>,
     buffer: &mut hb_buffer_t,
     i: usize,
+    number: u32,
 ) -> Option<usize>
     requires start { start < 2 ^ 34 }
     requires inside { i < length buffer.old.items }
     ensures made { buffer.new
-        ≡ (Marks.mark_base_applied lookup.now start base i buffer.old).buffer }
-    ensures next { result ≡ (Marks.mark_base_applied lookup.now start base i buffer.old).next }
+        ≡ (Marks.mark_base_at lookup.now start base i buffer.old number).buffer }
+    ensures next { result ≡ (Marks.mark_base_at lookup.now start base i buffer.old number).next }
 {
-    let number = mark_number(lookup, start, buffer, i)?;
     match base {
-        Some(base) => put_on_glyph(
-            lookup,
-            start,
-            buffer,
-            &Pairing {
+        Some(base) => {
+            let at = Pairing {
                 mark: i,
                 base,
                 number,
-            },
-        ),
+            };
+            put_on_glyph(lookup, start, buffer, &at)
+        }
         None => concat_from(buffer, 0, i),
     }
 }
@@ -263,33 +261,32 @@ fn put_on_ligature(
     }
 }
 
-/// Applies attachment to a ligature to the mark at place `i`, whose ligature is the glyph at place
+/// Attaches mark number `number` of the subtable, at place `i`, to its ligature, the glyph at place
 /// `base`. Returns the place where the lookup goes on.
-pub fn apply_mark_ligature(
+pub(crate) fn attach_to_ligature(
     lookup: &Lookup<'_>,
     start: usize,
     base: Option<usize>,
     buffer: &mut hb_buffer_t,
     i: usize,
+    number: u32,
 ) -> Option<usize>
     requires start { start < 2 ^ 34 }
     requires inside { i < length buffer.old.items }
     ensures made { buffer.new
-        ≡ (Marks.mark_ligature_applied lookup.now start base i buffer.old).buffer }
-    ensures next { result ≡ (Marks.mark_ligature_applied lookup.now start base i buffer.old).next }
+        ≡ (Marks.mark_ligature_at lookup.now start base i buffer.old number).buffer }
+    ensures next { result
+        ≡ (Marks.mark_ligature_at lookup.now start base i buffer.old number).next }
 {
-    let number = mark_number(lookup, start, buffer, i)?;
     match base {
-        Some(base) => put_on_ligature(
-            lookup,
-            start,
-            buffer,
-            &Pairing {
+        Some(base) => {
+            let at = Pairing {
                 mark: i,
                 base,
                 number,
-            },
-        ),
+            };
+            put_on_ligature(lookup, start, buffer, &at)
+        }
         None => concat_from(buffer, 0, i),
     }
 }
@@ -363,7 +360,8 @@ pub fn apply_mark_mark(
 {
     let number = mark_number(lookup, start, buffer, i)?;
     let seen = for_marks(lookup);
-    match glyph_before(&seen, buffer.infos(), i) {
+    let stop = stop_before(&seen, buffer.infos(), i);
+    match glyph_at(&seen, buffer.infos(), stop) {
         Some(base) => put_on_mark(
             lookup,
             start,
@@ -374,9 +372,6 @@ pub fn apply_mark_mark(
                 number,
             },
         ),
-        None => {
-            let from = start_before(&seen, buffer.infos(), i);
-            concat_from(buffer, from, i)
-        }
+        None => concat_from(buffer, start_at(stop), i),
     }
 }

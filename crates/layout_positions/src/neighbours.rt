@@ -1,20 +1,35 @@
 //! The glyphs beside the one at a place, as a lookup sees them: its flags skip some, and default
 //! ignorables are passed over.
-ghost use Rattle.std.specs.Prelude.{◌≡◌, ◌<◌, ◌≤◌, ◌+◌, ◌-◌, length, not};
-ghost use Rattle.std.specs.Option.{IfSome};
+ghost use Rattle.std.specs.Prelude.{◌≡◌, ◌<◌, ◌≤◌, ◌+◌, ◌-◌, true, length, not};
+ghost use Rattle.std.specs.Option.{IfSome, option_and_then, option_map_or};
 ghost use Rattle.shape_font.specs.Search.{first_at};
 ghost use Rattle.layout_matching.specs.Skipping.{nth};
+ghost use Rattle.layout_matching.specs.Skipping;
 ghost use Rattle.layout_positions.specs.Lookups;
 
 use layout_matching::lookup::Lookup;
 use layout_matching::skipping::{is_skipped, is_transparent};
 use shape_buffer::hb_glyph_info_t;
 
+/// Whether a default ignorable is passed over. In positioning, where runs of them are searched, that is decided by ZWJ alone.
+#[tactic(auto, using(crate::proofs::StopLemmas::transparent_there))]
+#[inline(always)]
+fn is_transparent_there(lookup: &Lookup<'_>, item: &hb_glyph_info_t) -> bool
+    ensures { result ≡ Skipping.is_transparent lookup.now true item.now }
+{
+    if lookup.positioning {
+        return item._hb_glyph_info_is_default_ignorable()
+            && (lookup.auto_zwj || !item._hb_glyph_info_get_zwj());
+    }
+    is_transparent(lookup, true, item)
+}
+
 /// Whether a glyph is passed over.
+#[inline(always)]
 pub fn is_between(lookup: &Lookup<'_>, item: &hb_glyph_info_t) -> bool
     ensures { result ≡ Lookups.is_between lookup.now item.now }
 {
-    is_skipped(lookup, item) || is_transparent(lookup, true, item)
+    is_skipped(lookup, item) || is_transparent_there(lookup, item)
 }
 
 /// Whether the lookup is on for a glyph.
@@ -99,48 +114,61 @@ fn if_on(lookup: &Lookup<'_>, items: &[hb_glyph_info_t], j: usize) -> Option<usi
     }
 }
 
-/// The next glyph that the lookup sees after place `i`.
-pub fn glyph_after(lookup: &Lookup<'_>, items: &[hb_glyph_info_t], i: usize) -> Option<usize>
-    requires { i < length items.now }
-    ensures value { result ≡ Lookups.glyph_after lookup.now items.now i }
+/// The first place after place `i` whose glyph isn't passed over, sought unless it is known already.
+pub(crate) fn known_stop(
+    lookup: &Lookup<'_>,
+    items: &[hb_glyph_info_t],
+    i: usize,
+    ahead: &mut Option<Option<usize>>,
+) -> Option<usize>
+    requires inside { i < length items.now }
+    requires known { IfSome ahead.old (λ stop. stop ≡ Lookups.stop_after lookup.now items.now i) }
+    ensures value { result ≡ Lookups.stop_after lookup.now items.now i }
     ensures inside { IfSome result (λ j. j < length items.now) }
-    ensures behind { IfSome result (λ j. i < j) }
+    ensures known { IfSome ahead.new (λ stop. stop ≡ Lookups.stop_after lookup.now items.now i) }
 {
-    match stop_after(lookup, items, i) {
+    match *ahead {
+        Some(stop) => stop,
+        None => {
+            let stop = stop_after(lookup, items, i);
+            *ahead = Some(stop);
+            stop
+        }
+    }
+}
+
+/// The glyph where a search ended, if the lookup sees it.
+pub(crate) fn glyph_at(
+    lookup: &Lookup<'_>,
+    items: &[hb_glyph_info_t],
+    stop: Option<usize>,
+) -> Option<usize>
+    requires { IfSome stop (λ j. j < length items.now) }
+    ensures value { result ≡ option_and_then (Lookups.if_on lookup.now items.now) stop }
+    ensures inside { IfSome result (λ j. j < length items.now) }
+{
+    match stop {
         Some(j) => if_on(lookup, items, j),
         None => None,
     }
 }
 
-/// The nearest glyph that the lookup sees before place `i`.
-pub fn glyph_before(lookup: &Lookup<'_>, items: &[hb_glyph_info_t], i: usize) -> Option<usize>
-    requires { i ≤ length items.now }
-    ensures value { result ≡ Lookups.glyph_before lookup.now items.now i }
-    ensures inside { IfSome result (λ j. j < i) }
+/// How far a search has looked that found nothing and ended there, of so many glyphs.
+pub(crate) fn end_at(count: usize, stop: Option<usize>) -> usize
+    requires { IfSome stop (λ j. j < count) }
+    ensures { result ≡ option_map_or (λ j. j + 1) stop count }
 {
-    match stop_before(lookup, items, i) {
-        Some(j) => if_on(lookup, items, j),
-        None => None,
-    }
-}
-
-/// Where a search after place `i` ends that finds nothing.
-pub fn end_after(lookup: &Lookup<'_>, items: &[hb_glyph_info_t], i: usize) -> usize
-    requires { i < length items.now }
-    ensures { result ≡ Lookups.end_after lookup.now items.now i }
-{
-    match stop_after(lookup, items, i) {
+    match stop {
         Some(j) => j + 1,
-        None => items.len(),
+        None => count,
     }
 }
 
-/// Where a search before place `i` begins that finds nothing.
-pub fn start_before(lookup: &Lookup<'_>, items: &[hb_glyph_info_t], i: usize) -> usize
-    requires { i ≤ length items.now }
-    ensures { result ≡ Lookups.start_before lookup.now items.now i }
+/// Where a search backwards that found nothing and ended there has looked from on.
+pub(crate) fn start_at(stop: Option<usize>) -> usize
+    ensures { result ≡ option_map_or (λ j. j - 1) stop 0 }
 {
-    match stop_before(lookup, items, i) {
+    match stop {
         Some(j) => j.saturating_sub(1),
         None => 0,
     }

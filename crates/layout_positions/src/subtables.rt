@@ -1,11 +1,16 @@
 //! A lookup at a place: its first subtable that applies.
-ghost use Rattle.std.specs.Prelude.{◌≡◌, ◌<◌, ◌≤◌, ◌+◌, ◌^◌, length};
+ghost use Rattle.std.specs.Prelude.{◌≡◌, ◌<◌, ◌≤◌, ◌+◌, ◌^◌, ◌||◌, true, false, length, nat_eq, Some, None, if◌then◌else◌};
+ghost use Rattle.std.specs.Option.{IfSome};
+ghost use Rattle.shape_font.specs.Bytes.{u16_of};
+ghost use Rattle.layout_positions.specs.Cursive;
+ghost use Rattle.layout_positions.specs.Lookups;
+ghost use Rattle.layout_positions.specs.Marks;
 ghost use Rattle.layout_positions.specs.Subtables;
 
 use crate::adjustment::{apply_pair, apply_single};
 use crate::bases::{BaseSeen, base_seen, base_work};
 use crate::cursive::apply_cursive;
-use crate::marks::{apply_mark_base, apply_mark_ligature, apply_mark_mark, mark_number};
+use crate::marks::{apply_mark_mark, attach_to_base, attach_to_ligature, mark_number};
 use layout_matching::lookup::Lookup;
 use layout_matching::tally::charged;
 use layout_tables::lookups::{LookupSubtable, subtable, subtable_count};
@@ -33,71 +38,80 @@ pub struct Sought {
     pub left: Option<usize>,
 }
 
-/// Applies a subtable of one of the types 3 to 6, which are of format 1, to the glyph at place `i`.
-fn apply_attachment(
+/// Applies cursive attachment, which is of format 1, to the glyph at place `i`.
+fn try_cursive(
     lookup: &Lookup<'_>,
-    subtable: LookupSubtable,
-    base: Option<usize>,
+    start: usize,
     buffer: &mut hb_buffer_t,
     i: usize,
 ) -> Option<usize>
-    requires near { subtable.start < 2 ^ 34 }
+    requires near { start < 2 ^ 34 }
     requires inside { i < length buffer.old.items }
-    requires kind { 3 ≤ subtable.kind }
-    ensures made { buffer.new
-        ≡ (Subtables.kind_applied lookup.now subtable base i buffer.old).buffer }
-    ensures next { result ≡ (Subtables.kind_applied lookup.now subtable base i buffer.old).next }
+    ensures made { buffer.new ≡ (Subtables.if_first_format lookup.now start buffer.old
+        (Cursive.cursive_applied lookup.now start i buffer.old)).buffer }
+    ensures next { result ≡ (Subtables.if_first_format lookup.now start buffer.old
+        (Cursive.cursive_applied lookup.now start i buffer.old)).next }
 {
-    if u16_at(lookup.table, subtable.start) != 1 {
+    if u16_at(lookup.table, start) != 1 {
         return None;
     }
-    match subtable.kind {
-        3 => apply_cursive(lookup, subtable.start, buffer, i),
-        4 => apply_mark_base(lookup, subtable.start, base, buffer, i),
-        5 => apply_mark_ligature(lookup, subtable.start, base, buffer, i),
-        6 => apply_mark_mark(lookup, subtable.start, buffer, i),
-        _ => None,
-    }
+    apply_cursive(lookup, start, buffer, i)
 }
 
-/// Applies a subtable by its type to the glyph at place `i`.
+/// Applies attachment to a mark, which is of format 1, to the glyph at place `i`.
+fn try_mark_mark(
+    lookup: &Lookup<'_>,
+    start: usize,
+    buffer: &mut hb_buffer_t,
+    i: usize,
+) -> Option<usize>
+    requires near { start < 2 ^ 34 }
+    requires inside { i < length buffer.old.items }
+    ensures made { buffer.new ≡ (Subtables.if_first_format lookup.now start buffer.old
+        (Marks.mark_mark_applied lookup.now start i buffer.old)).buffer }
+    ensures next { result ≡ (Subtables.if_first_format lookup.now start buffer.old
+        (Marks.mark_mark_applied lookup.now start i buffer.old)).next }
+{
+    if u16_at(lookup.table, start) != 1 {
+        return None;
+    }
+    apply_mark_mark(lookup, start, buffer, i)
+}
+
+/// Applies a subtable by its type to the glyph at place `i`, but none that attaches marks to bases or ligatures.
 fn apply_kind(
     lookup: &Lookup<'_>,
     subtable: LookupSubtable,
-    base: Option<usize>,
     buffer: &mut hb_buffer_t,
     i: usize,
-) -> Option<usize>
+    carried: Carried,
+    ahead: &mut Option<Option<usize>>,
+) -> Outcome
     requires near { subtable.start < 2 ^ 34 }
     requires inside { i < length buffer.old.items }
-    ensures made { buffer.new
-        ≡ (Subtables.kind_applied lookup.now subtable base i buffer.old).buffer }
-    ensures next { result ≡ (Subtables.kind_applied lookup.now subtable base i buffer.old).next }
+    requires baseless { nat_eq subtable.kind 4 || nat_eq subtable.kind 5 ≡ false }
+    requires known { IfSome ahead.old
+        (λ stop. stop ≡ Lookups.stop_after lookup.now buffer.old.items i) }
+    ensures placed { record {
+      buffer = buffer.new;
+      next = result.next;
+      seen = result.carried.seen;
+      left = result.carried.left;
+    } ≡ Subtables.kind_placed lookup.now subtable i buffer.old carried.seen carried.left }
+    ensures known { IfSome ahead.new
+        (λ stop. stop ≡ Lookups.stop_after lookup.now buffer.old.items i) }
 {
-    match subtable.kind {
-        0 => None,
+    let next = match subtable.kind {
         1 => apply_single(lookup, subtable.start, buffer, i),
-        2 => apply_pair(lookup, subtable.start, buffer, i),
-        _ => apply_attachment(lookup, subtable, base, buffer, i),
-    }
+        2 => apply_pair(lookup, subtable.start, buffer, i, ahead),
+        3 => try_cursive(lookup, subtable.start, buffer, i),
+        6 => try_mark_mark(lookup, subtable.start, buffer, i),
+        _ => None,
+    };
+    Outcome { next, carried }
 }
 
-/// Whether the subtable looks for the base of the glyph at place `i`.
-fn looks_for_base(
-    lookup: &Lookup<'_>,
-    subtable: LookupSubtable,
-    buffer: &hb_buffer_t,
-    i: usize,
-) -> bool
-    requires { subtable.start < 2 ^ 34 }
-    ensures { result ≡ Subtables.looks_for_base lookup.now subtable i buffer.now }
-{
-    (subtable.kind == 4 || subtable.kind == 5)
-        && u16_at(lookup.table, subtable.start) == 1
-        && mark_number(lookup, subtable.start, buffer, i).is_some()
-}
-
-/// Looks for the base of the glyph at place `i`, if the subtable does, and charges for that.
+/// Looks for the base of the mark at place `i`, and charges for that.
 fn seek_base(
     lookup: &Lookup<'_>,
     subtable: LookupSubtable,
@@ -107,14 +121,9 @@ fn seek_base(
 ) -> Sought
     requires near { subtable.start < 2 ^ 34 }
     requires inside { i < length buffer.now.items }
-    ensures { result ≡ Subtables.sought lookup.now subtable i buffer.now carried.seen carried.left }
+    ensures { result ≡ Subtables.sought_from i carried.seen carried.left
+        (Marks.base_seen lookup.now subtable buffer.now.items i carried.seen) }
 {
-    if !looks_for_base(lookup, subtable, buffer, i) {
-        return Sought {
-            seen: carried.seen,
-            left: Some(carried.left),
-        };
-    }
     let seen = base_seen(lookup, subtable, buffer.infos(), i, carried.seen);
     let work = base_work(i, carried.seen, seen.place);
     Sought {
@@ -123,27 +132,60 @@ fn seek_base(
     }
 }
 
-/// Applies a subtable to the glyph at place `i`, if what was left sufficed for the search for its base. Else nothing is left.
-fn apply_sought(
+/// Attaches mark number `number` of a subtable of type 4 or 5, at place `i`, to the glyph at place `base`.
+fn attach(
+    lookup: &Lookup<'_>,
+    subtable: LookupSubtable,
+    base: Option<usize>,
+    buffer: &mut hb_buffer_t,
+    i: usize,
+    number: u32,
+) -> Option<usize>
+    requires near { subtable.start < 2 ^ 34 }
+    requires inside { i < length buffer.old.items }
+    ensures made { buffer.new ≡ (if nat_eq subtable.kind 4
+        then Marks.mark_base_at lookup.now subtable.start base i buffer.old number
+        else Marks.mark_ligature_at lookup.now subtable.start base i buffer.old number).buffer }
+    ensures next { result ≡ (if nat_eq subtable.kind 4
+        then Marks.mark_base_at lookup.now subtable.start base i buffer.old number
+        else Marks.mark_ligature_at lookup.now subtable.start base i buffer.old number).next }
+{
+    if subtable.kind == 4 {
+        attach_to_base(lookup, subtable.start, base, buffer, i, number)
+    } else {
+        attach_to_ligature(lookup, subtable.start, base, buffer, i, number)
+    }
+}
+
+/// Applies a subtable of type 4 or 5 to its mark number `number`, at place `i`, if what is left suffices for the search for its
+/// base. Else nothing is left.
+#[tactic(auto, using(crate::proofs::SubtableLemmas::mark_placed, crate::proofs::SubtableLemmas::mark_unpaid))]
+fn place_mark(
     lookup: &Lookup<'_>,
     subtable: LookupSubtable,
     buffer: &mut hb_buffer_t,
     i: usize,
-    sought: Sought,
+    carried: Carried,
+    number: u32,
 ) -> Outcome
     requires near { subtable.start < 2 ^ 34 }
     requires inside { i < length buffer.old.items }
+    requires kind { nat_eq subtable.kind 4 || nat_eq subtable.kind 5 ≡ true }
+    requires listed { (if nat_eq (u16_of lookup.now.table.now subtable.start) 1
+        then Marks.mark_number lookup.now subtable.start i buffer.old else None) ≡ Some number }
     ensures { record {
       buffer = buffer.new;
       next = result.next;
       seen = result.carried.seen;
       left = result.carried.left;
-    } ≡ Subtables.subtable_placed lookup.now subtable i buffer.old sought }
+    } ≡ Subtables.subtable_placed lookup.now subtable i buffer.old
+        (Subtables.sought lookup.now subtable i buffer.old carried.seen carried.left) }
 {
+    let sought = seek_base(lookup, subtable, buffer, i, carried);
     let seen = sought.seen;
     match sought.left {
         Some(left) => Outcome {
-            next: apply_kind(lookup, subtable, seen.place, buffer, i),
+            next: attach(lookup, subtable, seen.place, buffer, i, number),
             carried: Carried { seen, left },
         },
         None => Outcome {
@@ -153,18 +195,93 @@ fn apply_sought(
     }
 }
 
-/// Tries subtable number `k` at place `i`, unless one before it applied.
+/// The number of the mark at place `i` in a subtable of format 1; none in one of another format.
+fn listed_mark(lookup: &Lookup<'_>, start: usize, buffer: &hb_buffer_t, i: usize) -> Option<u32>
+    requires { start < 2 ^ 34 }
+    ensures { result ≡ (if nat_eq (u16_of lookup.now.table.now start) 1
+        then Marks.mark_number lookup.now start i buffer.now else None) }
+{
+    if u16_at(lookup.table, start) != 1 {
+        return None;
+    }
+    mark_number(lookup, start, buffer, i)
+}
+
+/// Applies a subtable of type 4 or 5 to the glyph at place `i`. Its marks are searched once.
+#[tactic(auto, using(crate::proofs::SubtableLemmas::mark_unplaced))]
+fn try_mark(
+    lookup: &Lookup<'_>,
+    subtable: LookupSubtable,
+    buffer: &mut hb_buffer_t,
+    i: usize,
+    carried: Carried,
+) -> Outcome
+    requires near { subtable.start < 2 ^ 34 }
+    requires inside { i < length buffer.old.items }
+    requires kind { nat_eq subtable.kind 4 || nat_eq subtable.kind 5 ≡ true }
+    ensures { record {
+      buffer = buffer.new;
+      next = result.next;
+      seen = result.carried.seen;
+      left = result.carried.left;
+    } ≡ Subtables.subtable_placed lookup.now subtable i buffer.old
+        (Subtables.sought lookup.now subtable i buffer.old carried.seen carried.left) }
+{
+    match listed_mark(lookup, subtable.start, buffer, i) {
+        Some(number) => place_mark(lookup, subtable, buffer, i, carried, number),
+        None => Outcome {
+            next: None,
+            carried,
+        },
+    }
+}
+
+/// Applies a subtable to the glyph at place `i`.
+fn apply_subtable(
+    lookup: &Lookup<'_>,
+    subtable: LookupSubtable,
+    buffer: &mut hb_buffer_t,
+    i: usize,
+    carried: Carried,
+    ahead: &mut Option<Option<usize>>,
+) -> Outcome
+    requires near { subtable.start < 2 ^ 34 }
+    requires inside { i < length buffer.old.items }
+    requires known { IfSome ahead.old
+        (λ stop. stop ≡ Lookups.stop_after lookup.now buffer.old.items i) }
+    ensures placed { record {
+      buffer = buffer.new;
+      next = result.next;
+      seen = result.carried.seen;
+      left = result.carried.left;
+    } ≡ Subtables.subtable_placed lookup.now subtable i buffer.old
+        (Subtables.sought lookup.now subtable i buffer.old carried.seen carried.left) }
+    ensures known { IfSome ahead.new
+        (λ stop. stop ≡ Lookups.stop_after lookup.now buffer.old.items i) }
+{
+    if subtable.kind == 4 || subtable.kind == 5 {
+        try_mark(lookup, subtable, buffer, i, carried)
+    } else {
+        apply_kind(lookup, subtable, buffer, i, carried, ahead)
+    }
+}
+
+/// Tries subtable number `k` at place `i`, unless one before it applied. `ahead` is the first glyph after the place that isn't
+/// passed over, once it was sought.
 fn try_subtable(
     lookup: &Lookup<'_>,
     buffer: &mut hb_buffer_t,
     i: usize,
     placed: Outcome,
     k: u32,
+    ahead: &mut Option<Option<usize>>,
 ) -> Outcome
     requires place { lookup.now.place < 2 ^ 17 }
     requires inside { i < length buffer.old.items }
     requires few { k < 2 ^ 16 }
-    ensures { record {
+    requires known { IfSome ahead.old
+        (λ stop. stop ≡ Lookups.stop_after lookup.now buffer.old.items i) }
+    ensures step { record {
       buffer = buffer.new;
       next = result.next;
       seen = result.carried.seen;
@@ -179,15 +296,14 @@ fn try_subtable(
           left = placed.carried.left;
           subtable = k;
         }) }
+    ensures known { IfSome ahead.new
+        (λ stop. stop ≡ Lookups.stop_after lookup.now buffer.old.items i) }
 {
     if placed.next.is_some() {
         return placed;
     }
     match subtable(lookup.table, 9, lookup.place, k) {
-        Some(subtable) => {
-            let sought = seek_base(lookup, subtable, buffer, i, placed.carried);
-            apply_sought(lookup, subtable, buffer, i, sought)
-        }
+        Some(subtable) => { apply_subtable(lookup, subtable, buffer, i, placed.carried, ahead) }
         None => placed,
     }
 }
@@ -214,8 +330,9 @@ pub fn apply_lookup(
         next: None,
         carried,
     };
+    let mut ahead = None;
     for k in 0..subtable_count(lookup.table, lookup.place) {
-        placed = try_subtable(lookup, buffer, i, placed, k);
+        placed = try_subtable(lookup, buffer, i, placed, k, &mut ahead);
     }
     placed
 }

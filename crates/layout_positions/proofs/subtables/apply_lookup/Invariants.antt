@@ -1,5 +1,6 @@
-use Rattle.std.proofs.Common.{◌≡◌, None, length}
+use Rattle.std.proofs.Common.{◌≡◌, None, IfSome, length}
 use Rattle.layout_matching.specs.Loops.{times}
+use Rattle.layout_positions.specs.Lookups.{stop_after}
 use Rattle.layout_positions.specs.Subtables.{Trial, trial_step}
 use Rattle.layout_positions.proofs.subtables.apply_lookup.Given as goal
 
@@ -11,4 +12,5 @@ invariant-loop-k l =
     record {
       made : here ≡ times (trial_step l.lookup l.i) l.k first;
       len : length l.buffer.items ≡ length l.fn.buffer.items;
+      known : IfSome l.ahead (λ stop. stop ≡ stop_after l.lookup l.buffer.items l.i);
     }
