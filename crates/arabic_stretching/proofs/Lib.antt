@@ -1,5 +1,5 @@
 mod DrawnLemmas
+mod ItemwiseLemmas
 mod OutcomeLemmas
 mod TurnedLemmas
-pub mod ItemwiseLemmas
 pub mod PreservationLemmas
