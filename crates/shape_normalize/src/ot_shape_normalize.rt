@@ -11,7 +11,9 @@
 //! items, and the places that items came from are claimed beside them, since a hook is a function
 //! on buffers that carries no place.
 ghost use Rattle.std.specs.Prelude.{◌≡◌, ◌≤◌, [], length, IsOk, OnOk, OnErr, Err};
+ghost use Rattle.std.specs.List.{list_any};
 ghost use Rattle.shape_items.specs.Buffer.{cleared, limit_of};
+ghost use Rattle.shape_items.specs.Items.{is_mark_item};
 ghost use Rattle.shape_normalize.specs.NormalForm;
 ghost use Rattle.shape_normalize.specs.Normalized.{normalized};
 ghost use Rattle.shape_normalize.specs.RoundOne.{ExpandsPastLimit, round_one};
@@ -128,8 +130,17 @@ fn run_rounds<T: ShapingTypes>(
 fn has_mark_past_first(infos: &[hb_glyph_info_t]) -> bool
     ensures { result ≡ RoundTwo.has_mark_past_first infos.now }
 {
+    if infos.is_empty() {
+        return false;
+    }
+    has_mark(&infos[1..])
+}
+
+/// Whether one of these items is a mark.
+fn has_mark(infos: &[hb_glyph_info_t]) -> bool
+    ensures { result ≡ list_any is_mark_item infos.now }
+{
     infos
         .iter()
-        .skip(1)
         .any(|info| info._hb_glyph_info_is_unicode_mark())
 }

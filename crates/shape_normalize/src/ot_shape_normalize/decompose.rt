@@ -50,6 +50,23 @@ pub(crate) fn split_of<T: ShapingTypes>(
     }
 }
 
+/// The split of a point of the chain of `c`, whose own split is known: it isn't sought again.
+fn split_after<T: ShapingTypes>(
+    plan: &PlanOf<'_, T>,
+    face: &T::Face,
+    c: char,
+    split: (char, char),
+    point: char,
+) -> Option<(char, char)>
+    requires { (⟦<T as Meaning>⟧.rules plan.now face.now).split c ≡ Some split }
+    ensures { result ≡ (⟦<T as Meaning>⟧.rules plan.now face.now).split point }
+{
+    if point == c {
+        return Some(split);
+    }
+    split_of::<T>(plan, face, point)
+}
+
 /// Keeps a second part, unless it is U+0000, and says whether the face has a glyph for it.
 fn keep_second<F: hb_font_t>(
     face: &F,
@@ -74,15 +91,17 @@ fn keep_second<F: hb_font_t>(
 
 /// Walks along the chain of a character and keeps its second parts. Returns the last point that has a
 /// glyph and after which every second part has one, and how many these are; if the shortest expansion
-/// is asked for, of a character without a glyph, the first such point.
+/// is asked for, of a character without a glyph, the first such point. The first split is known.
 fn walk_chain<T: ShapingTypes>(
     plan: &PlanOf<'_, T>,
     face: &T::Face,
     c: char,
+    split: (char, char),
     shortest: bool,
     seconds: &mut Vec<MappedChar>,
 ) -> Result<Option<(MappedChar, usize)>, AllocError>
     requires empty { seconds.old.items ≡ [] }
+    requires split { (⟦<T as Meaning>⟧.rules plan.now face.now).split c ≡ Some split }
     requires lacking { IsTrue shortest → has_glyph (T.Face.face face.now).nominal_glyph c ≡ false }
     ensures { IfOk result (λ found. option_map
         (λ f. f.0 ∷ reverse (take f.1 seconds.new.items)) found
@@ -92,7 +111,7 @@ fn walk_chain<T: ShapingTypes>(
 {
     let mut found = None;
     let mut point = c;
-    'chain: while let Some((a, b)) = split_of::<T>(plan, face, point) {
+    'chain: while let Some((a, b)) = split_after::<T>(plan, face, c, split, point) {
         if !keep_second(face, b, seconds)? {
             return Ok(found);
         }
@@ -134,10 +153,10 @@ pub(crate) fn decompose<T: ShapingTypes>(
         (chosen_expansion (decompositions (⟦<T as Meaning>⟧.rules plan.now face.now))
         (has_glyph (T.Face.face face.now).nominal_glyph) shortest c)) }
 {
-    if split_of::<T>(plan, face, c).is_none() {
-        return Ok(false);
+    match split_of::<T>(plan, face, c) {
+        Some(split) => keep_expansion::<T>(plan, face, c, split, shortest, expansion),
+        None => Ok(false),
     }
-    keep_expansion::<T>(plan, face, c, shortest, expansion)
 }
 
 /// Decomposes by the walk along the chain. A call of its own, so that a character that doesn't split is not
@@ -147,10 +166,12 @@ fn keep_expansion<T: ShapingTypes>(
     plan: &PlanOf<'_, T>,
     face: &T::Face,
     c: char,
+    split: (char, char),
     shortest: bool,
     expansion: &mut Expansion,
 ) -> Result<bool, AllocError>
-    requires { IsTrue shortest → has_glyph (T.Face.face face.now).nominal_glyph c ≡ false }
+    requires split { (⟦<T as Meaning>⟧.rules plan.now face.now).split c ≡ Some split }
+    requires lacking { IsTrue shortest → has_glyph (T.Face.face face.now).nominal_glyph c ≡ false }
     ensures { IfOk result (λ found. (if found
         then Some (expansion.new.first ∷ reverse expansion.new.seconds.items) else None)
         ≡ option_map (map (mapped_char (T.Face.face face.now).nominal_glyph))
@@ -158,7 +179,7 @@ fn keep_expansion<T: ShapingTypes>(
         (has_glyph (T.Face.face face.now).nominal_glyph) shortest c)) }
 {
     expansion.seconds.clear();
-    let walked = walk_chain::<T>(plan, face, c, shortest, &mut expansion.seconds)?;
+    let walked = walk_chain::<T>(plan, face, c, split, shortest, &mut expansion.seconds)?;
     let Some((first, depth)) = walked else {
         return Ok(false);
     };

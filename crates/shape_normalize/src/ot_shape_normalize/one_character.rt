@@ -6,7 +6,8 @@
 //! a space that of U+0020, or the invisible glyph, and remembers how wide it is; U+2011 that of U+2010. No
 //! shaper has a say in that, so the functions for one item that stays state it by the rules without one.
 ghost use Rattle.std.specs.Prelude.{◌≡◌, ◌<◌, ◌≤◌, [], ◌∷◌, ◌++◌, length, map, reverse, vec_len};
-ghost use Rattle.std.specs.Prelude.{if◌then◌else◌, Bool, OnOk, IfOk, IfSome, IfNone, Err, None};
+ghost use Rattle.std.specs.Prelude.{if◌then◌else◌, is_ok, Bool, IsTrue, OnOk, IfOk, IfSome};
+ghost use Rattle.std.specs.Prelude.{IfNone, Err, None};
 ghost use Rattle.shape_items.specs.Buffer.{limit_of};
 ghost use Rattle.shape_items.specs.UnicodeProps.{with_scratch_of};
 ghost use Rattle.shape_plan.specs.Rules;
@@ -144,15 +145,17 @@ fn lacking_item<U: hb_unicode_funcs_t, F: hb_font_t>(
     whole
 }
 
-/// An item that keeps its character, with its glyph, or with what replaces that. Part of its caller, since
-/// most items pass here and a call would copy each once more.
+/// An item that keeps its character, with its glyph, or with what replaces that; `lacks` says that it is known to
+/// have none, and the face isn't asked again.
 #[inline(always)]
 fn kept_item<U: hb_unicode_funcs_t, F: hb_font_t>(
     face: &F,
     info: &hb_glyph_info_t,
     invisible: Option<GlyphId>,
+    lacks: bool,
     scratch_flags: &mut ScratchFlags,
 ) -> hb_glyph_info_t
+    requires { IsTrue lacks → (F.face face.now).nominal_glyph info.now.codepoint ≡ None }
     ensures item { result
         ≡ RoundOne.whole_item (rules_without_shaper U.unicode (F.face face.now))
         invisible info.now }
@@ -160,12 +163,37 @@ fn kept_item<U: hb_unicode_funcs_t, F: hb_font_t>(
         (rules_without_shaper U.unicode (F.face face.now)) invisible info.now
         then RoundOne.with_space_fallback scratch_flags.old else scratch_flags.old) }
 {
-    if let Some(GlyphId(glyph)) = face.get_nominal_glyph(info.codepoint) {
-        let mut whole = *info;
-        whole.glyph_index = glyph;
-        return whole;
+    if lacks {
+        return lacking_item::<U, F>(face, info, invisible, scratch_flags);
     }
-    lacking_item::<U, F>(face, info, invisible, scratch_flags)
+    match face.get_nominal_glyph(info.codepoint) {
+        Some(GlyphId(glyph)) => with_glyph(info, glyph),
+        None => lacking_item::<U, F>(face, info, invisible, scratch_flags),
+    }
+}
+
+/// An item with this glyph. Part of its callers, so that the loop over a text writes the index alone.
+#[inline(always)]
+fn with_glyph(info: &hb_glyph_info_t, glyph: u32) -> hb_glyph_info_t
+    ensures { result ≡ record info.now { glyph_index = glyph } }
+{
+    let mut whole = *info;
+    whole.glyph_index = glyph;
+    whole
+}
+
+/// Appends an item. Where there is room, which is nearly always, no call is made.
+#[inline(always)]
+fn push_item(infos: &mut Vec<hb_glyph_info_t>, item: hb_glyph_info_t) -> Result<(), AllocError>
+    ensures { infos.new.items
+        ≡ (if is_ok result then infos.old.items ++ item ∷ [] else infos.old.items) }
+{
+    if infos.len() < infos.capacity() {
+        infos.push_reserved(item);
+        return Ok(());
+    }
+    infos.push(item)?;
+    Ok(())
 }
 
 /// The items that were emitted, at most `limit` of them, and the scratch flags that their characters show.
@@ -194,7 +222,9 @@ impl Emitted {
     }
 
     /// The item with its glyph, if it keeps its character; none if it expands, and then `expansion` is
-    /// what it becomes. The face is asked once about an item that has a glyph and keeps it.
+    /// what it becomes. The face is asked once about an item that has a glyph and keeps it. Part of the loops that
+    /// call it: most items of a text have a glyph, and no more is done for one.
+    #[inline(always)]
     pub(crate) fn keep_or_expand<T: ShapingTypes>(
         &mut self,
         plan: &PlanOf<'_, T>,
@@ -222,31 +252,50 @@ impl Emitted {
         ensures infos { self.new.infos ≡ self.old.infos }
         ensures limit { self.new.limit ≡ self.old.limit }
     {
-        if !shortest {
-            if decompose::<T>(plan, face, info.codepoint, false, &mut self.expansion)? {
-                return Ok(None);
+        if shortest {
+            if let Some(GlyphId(glyph)) = face.get_nominal_glyph(info.codepoint) {
+                return Ok(Some(with_glyph(info, glyph)));
             }
-            return Ok(Some(kept_item::<T::Unicode, T::Face>(
-                face,
-                info,
-                invisible,
-                &mut self.scratch_flags,
-            )));
         }
-        if let Some(GlyphId(glyph)) = face.get_nominal_glyph(info.codepoint) {
-            let mut whole = *info;
-            whole.glyph_index = glyph;
-            return Ok(Some(whole));
-        }
-        if decompose::<T>(plan, face, info.codepoint, true, &mut self.expansion)? {
+        self.expand_or_keep::<T>(plan, face, info, shortest, invisible)
+    }
+
+    /// The same of an item that has no glyph, or whose longest expansion is asked for.
+    #[inline(always)]
+    fn expand_or_keep<T: ShapingTypes>(
+        &mut self,
+        plan: &PlanOf<'_, T>,
+        face: &T::Face,
+        info: &hb_glyph_info_t,
+        shortest: bool,
+        invisible: Option<GlyphId>,
+    ) -> Result<Option<hb_glyph_info_t>, AllocError>
+        requires { IsTrue shortest → (T.Face.face face.now).nominal_glyph info.now.codepoint ≡ None }
+        ensures item { IfOk result (λ found. IfSome found (λ whole. RoundOne.emitted_for
+            (⟦<T as Meaning>⟧.rules plan.now face.now) invisible shortest info.now ≡ whole ∷ [])) }
+        ensures flags { IfOk result (λ found. IfSome found (λ _. self.new.scratch_flags
+            ≡ RoundOne.seen_emitted (⟦<T as Meaning>⟧.rules plan.now face.now)
+            invisible shortest self.old.scratch_flags info.now)) }
+        ensures same { IfOk result (λ found.
+            IfNone found (self.new.scratch_flags ≡ self.old.scratch_flags)) }
+        ensures parts { IfOk result (λ found. IfNone found (RoundOne.emitted_for
+            (⟦<T as Meaning>⟧.rules plan.now face.now) invisible shortest info.now
+            ≡ map (Recast.recast T.Unicode.unicode info.now)
+            (self.new.expansion.first ∷ reverse self.new.expansion.seconds.items))) }
+        ensures seen { IfOk result (λ found. IfNone found (RoundOne.seen_emitted
+            (⟦<T as Meaning>⟧.rules plan.now face.now)
+            invisible shortest self.old.scratch_flags info.now
+            ≡ Recast.seen_mapped T.Unicode.unicode self.old.scratch_flags
+            (self.new.expansion.first ∷ reverse self.new.expansion.seconds.items))) }
+        ensures infos { self.new.infos ≡ self.old.infos }
+        ensures limit { self.new.limit ≡ self.old.limit }
+    {
+        if decompose::<T>(plan, face, info.codepoint, shortest, &mut self.expansion)? {
             return Ok(None);
         }
-        Ok(Some(lacking_item::<T::Unicode, T::Face>(
-            face,
-            info,
-            invisible,
-            &mut self.scratch_flags,
-        )))
+        let flags = &mut self.scratch_flags;
+        let whole = kept_item::<T::Unicode, T::Face>(face, info, invisible, shortest, flags);
+        Ok(Some(whole))
     }
 
     /// Emits an item of an expansion.
@@ -263,7 +312,7 @@ impl Emitted {
         ensures limit { self.new.limit ≡ self.old.limit }
     {
         let copy = recast::<U>(info, mapped, &mut self.scratch_flags);
-        self.infos.push(copy)?;
+        push_item(&mut self.infos, copy)?;
         Ok(())
     }
 
@@ -323,7 +372,7 @@ impl Emitted {
         if room == 0 {
             return Err(ShapeError::Length);
         }
-        self.infos.push(whole)?;
+        push_item(&mut self.infos, whole)?;
         Ok(())
     }
 }

@@ -1,5 +1,6 @@
 //! Calls that change which items there are, or their order: positions go with their items.
-ghost use Rattle.std.specs.Prelude.{◌≡◌, ◌<◌, ◌≤◌, ◌-◌, ◌^◌, ◌↔◌, [], ◌∷◌, ◌++◌};
+ghost use Rattle.std.specs.Prelude.{◌≡◌, ◌<◌, ◌≤◌, ◌+◌, ◌-◌, ◌^◌, ◌↔◌, [], ◌∷◌, ◌++◌};
+ghost use Rattle.std.specs.Prelude.{vec_capacity};
 ghost use Rattle.std.specs.Prelude.{false, length, take, insert, remove};
 ghost use Rattle.std.specs.Prelude.{All, reverse, swap, replicate, vec_len, IsErrOf, IsOkUnless, OnOk};
 ghost use Rattle.std.specs.Prelude.{OnErr};
@@ -18,6 +19,9 @@ use shape_common::GlyphPosition;
 use shape_items::hb_glyph_info_t;
 use std::alloc::{AllocError, Global};
 use std::mem;
+
+/// A list that grows takes room for so many more, however few are asked for.
+const LEAST_GROWTH: usize = 8;
 
 impl hb_buffer_t {
     /// Reverses the order of the items, and that of their positions with it.
@@ -116,6 +120,8 @@ impl hb_buffer_t {
             return Err(ShapeError::Length);
         }
         make_room(&mut self.run_starts, infos.len())?;
+        let more = infos.len().saturating_sub(self.positions.len());
+        make_way(&mut self.positions, more)?;
         resize_zeros(&mut self.positions, infos.len())?;
         make_zeros(self.has_positions, self.positions.as_mut_slice());
         self.has_positions = false;
@@ -167,9 +173,10 @@ impl hb_buffer_t {
         ensures err { OnErr result (self.new ≡ self.old) }
     {
         make_room(&mut self.run_starts, self.infos.len() + 1)?;
-        self.positions.reserve(1)?;
-        self.infos.push(hb_glyph_info_t::new(c, cluster))?;
-        self.positions.push(GlyphPosition::zero())?;
+        make_way(&mut self.positions, 1)?;
+        make_way(&mut self.infos, 1)?;
+        self.infos.push_reserved(hb_glyph_info_t::new(c, cluster));
+        self.positions.push_reserved(GlyphPosition::zero());
         Ok(())
     }
 
@@ -209,8 +216,8 @@ impl hb_buffer_t {
     {
         let count = self.infos.len().saturating_add(additional);
         make_room(&mut self.run_starts, count)?;
-        self.positions.reserve(additional)?;
-        self.infos.reserve(additional)?;
+        make_way(&mut self.positions, additional)?;
+        make_way(&mut self.infos, additional)?;
         Ok(())
     }
 
@@ -265,13 +272,38 @@ fn zero_positions(positions: &mut [GlyphPosition])
     }
 }
 
-/// Makes a list at least so long. It gets no shorter, even if memory is refused.
+/// Makes a list at least so long, and half as long again as it was if it grows. It gets no shorter, even if memory is
+/// refused.
 fn make_room(numbers: &mut Vec<usize>, count: usize) -> Result<(), AllocError>
     ensures room { OnOk result (count ≤ length numbers.new.items) }
     ensures longer { length numbers.old.items ≤ length numbers.new.items }
 {
-    if numbers.len() < count {
-        numbers.resize(count, 0)?;
+    let len = numbers.len();
+    if len < count {
+        let more = grown_by(len, count - len);
+        numbers.reserve_exact(more)?;
+        numbers.resize(len.saturating_add(more), 0)?;
     }
     Ok(())
+}
+
+/// Makes room for so many more, and for half as many more as there are if that takes memory. A list that grows item by
+/// item is so moved seldom, and leaves a third of its room free at most.
+fn make_way<T>(list: &mut Vec<T>, additional: usize) -> Result<(), AllocError>
+    ensures items { list.new.items ≡ list.old.items }
+    ensures room { OnOk result (vec_len list.new + additional ≤ vec_capacity list.new) }
+{
+    let len = list.len();
+    if additional <= list.capacity().saturating_sub(len) {
+        return Ok(());
+    }
+    list.reserve_exact(grown_by(len, additional))?;
+    Ok(())
+}
+
+/// By how many a list of `len` grows that wants room for so many more.
+fn grown_by(len: usize, additional: usize) -> usize
+    ensures { additional ≤ result }
+{
+    additional.max((len / 2).saturating_add(LEAST_GROWTH))
 }
