@@ -13,6 +13,7 @@ from fontTools.ttLib import TTCollection, TTFont
 SUBTABLE = STEP = 8
 PLAIN = 16
 NESTED = 32
+LISTED = 8
 RULE_SETS = "ChainSubRuleSet", "ChainPosRuleSet", "SubRuleSet", "PosRuleSet"
 CLASS_SETS = "ChainSubClassSet", "ChainPosClassSet", "SubClassSet", "PosClassSet"
 
@@ -39,7 +40,7 @@ def context(table, chained):
     if table.Format == 3:
         coverage = table.InputCoverage if chained else table.Coverage
         beside = len(table.BacktrackCoverage) + len(table.LookAheadCoverage) if chained else 0
-        count, named = rule(table, len(coverage) + beside)
+        count, named = rule(table, LISTED * (len(coverage) + beside))
         return {glyph: [(count, named)] for glyph in coverage[0].glyphs}
     if table.Format == 1:
         sets = either(table, RULE_SETS)
@@ -56,7 +57,7 @@ def begun(kind, table, positions):
     if positions: return {}
     if kind == 4: return {glyph: [(1 + len(it.Component), []) for it in found] for glyph, found in table.ligatures.items()}
     if kind == 8:
-        count = 1 + len(table.BacktrackCoverage) + len(table.LookAheadCoverage)
+        count = LISTED * (1 + len(table.BacktrackCoverage) + len(table.LookAheadCoverage))
         return {glyph: [(count, [])] for glyph in table.Coverage.glyphs}
     return {glyph: [] for glyph in (table.alternates if kind == 3 else table.mapping)}
 

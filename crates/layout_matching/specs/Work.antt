@@ -75,8 +75,18 @@ passed l items at s = min (passed_beside l items at s + marks_passed l items at 
 abbrev pub passed_charged : Lookup → List Item → ℕ → Tally → Option ℕ
 passed_charged l items at s = charged (min (s.tries * passed l items at s) most_countable) s.left
 
+-- a rule of format 3 or kind 8 searches a list for each of its glyphs
+abbrev pub SEARCH_WORK : ℕ
+SEARCH_WORK = 7
+
+abbrev pub lists_charged : Rule → ℕ → Option ℕ
+lists_charged rule left = charged ((rule.before.count + rule.input.count + rule.after.count) * SEARCH_WORK) left
+
+abbrev pub counted_charged : Lookup → List Item → ℕ → Rule → ℕ → Option ℕ
+counted_charged l items at rule left = option_and_then (passed_charged l items at) (rule_counted rule (uncounted left))
+
 abbrev pub rule_charged : Lookup → List Item → ℕ → Rule → ℕ → Option ℕ
-rule_charged l items at rule left = option_and_then (passed_charged l items at) (rule_counted rule (uncounted left))
+rule_charged l items at rule left = option_and_then (counted_charged l items at rule) (lists_charged rule left)
 
 -- a ligature as a rule, whose components are counted after its glyph
 abbrev pub ligature_rule : List ℕ → ℕ → Rule

@@ -8,7 +8,7 @@ use crate::lookup::Lookup;
 use crate::passing::{passed_after, passed_before};
 use crate::rules::{Rule, rule_at};
 use crate::tally::{
-    Counts, Tally, charged, counted, counts_at, ligature_counts, null_counted, rule_counted,
+    Counts, Tally, charged, counted, counts_at, ligature_counts, null_counted, rule_counted, short,
     uncounted,
 };
 use layout_buffer::ItemList;
@@ -38,7 +38,35 @@ pub(crate) fn passed_charged(
     charged(count.tries.saturating_mul(passed), count.left)
 }
 
-/// What is left after one rule.
+/// What a search of a list costs, beside the glyph that it is asked for.
+const SEARCH_WORK: usize = 7;
+
+/// What is left after the searches of a rule's lists: one for each glyph.
+fn lists_charged(rule: &Rule, left: usize) -> Option<usize>
+    ensures { result ≡ Work.lists_charged rule.now left }
+{
+    let glyphs = short(rule.before.count) + short(rule.input.count) + short(rule.after.count);
+    charged(glyphs * SEARCH_WORK, left)
+}
+
+/// What is left after what a rule names, and what it passes over.
+fn counted_charged(
+    lookup: &Lookup<'_>,
+    items: &ItemList<'_>,
+    at: usize,
+    rule: &Rule,
+    left: usize,
+) -> Option<usize>
+    requires { at < length items.now }
+    ensures { result ≡ Work.counted_charged lookup.now items.now at rule.now left }
+{
+    match rule_counted(rule, uncounted(left)) {
+        Some(count) => passed_charged(lookup, items, at, count),
+        None => None,
+    }
+}
+
+/// What is left after one rule of lists.
 pub(crate) fn rule_charged(
     lookup: &Lookup<'_>,
     items: &ItemList<'_>,
@@ -49,8 +77,8 @@ pub(crate) fn rule_charged(
     requires { at < length items.now }
     ensures { result ≡ Work.rule_charged lookup.now items.now at rule.now left }
 {
-    match rule_counted(rule, uncounted(left)) {
-        Some(count) => passed_charged(lookup, items, at, count),
+    match lists_charged(rule, left) {
+        Some(left) => counted_charged(lookup, items, at, rule, left),
         None => None,
     }
 }

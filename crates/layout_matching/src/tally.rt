@@ -47,7 +47,7 @@ pub(crate) fn beside(left: usize) -> Tally
 }
 
 /// A number of 16 bits.
-fn short(count: u16) -> usize
+pub(crate) fn short(count: u16) -> usize
     ensures value { result ≡ count }
     ensures near { result < 2 ^ 16 }
 {

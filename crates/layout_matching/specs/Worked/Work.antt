@@ -104,11 +104,13 @@ pub record WorkedWork : Type 0 where
   pub no_rules : Leaves empty_set (ligature_three ∷ eight_marks (on_component ∷ [])) 9 92
   -- positioning doesn't look for it
   pub positions_of_marks : (l : Lookup) → l.table.now ≡ context_of_positions
-      → lookup_charged (of_positions l) (ligature_three ∷ eight_marks (on_component ∷ [])) 9 100 ≡ Some 88
-  pub whole_rule : Leaves one_rule (plain 5 ∷ []) 0 88
+      → lookup_charged (of_positions l) (ligature_three ∷ eight_marks (on_component ∷ [])) 9 100 ≡ Some 74
+  -- 8 for the subtable, 8 for each of two glyphs, which are searched for in lists, a lookup and the rule
+  pub whole_rule : Leaves one_rule (plain 5 ∷ []) 0 74
   pub not_its_first_glyph : Leaves one_rule (plain 6 ∷ []) 0 100
-  pub backwards : Leaves backward_table (plain 5 ∷ []) 0 87
-  pub back_over_a_mark : Leaves backward_table (a_mark ∷ plain 5 ∷ []) 1 86
+  -- 8, 8 for each of four glyphs, and the rule
+  pub backwards : Leaves backward_table (plain 5 ∷ []) 0 59
+  pub back_over_a_mark : Leaves backward_table (a_mark ∷ plain 5 ∷ []) 1 58
   -- kinds 1 to 3 are paid by the walk, but for an alternate at random, and an extension, whose type is 7
   pub alternate : Leaves one_alternate (plain 5 ∷ plain 6 ∷ plain 7 ∷ []) 0 100
   pub at_random : (l : Lookup) → l.table.now ≡ one_alternate
