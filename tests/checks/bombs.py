@@ -27,6 +27,14 @@ ZWNJ = 0x200C
 AT_ONCE = [lookup(1, [words(1, 6, 0) + EVERY])]
 IN_VAIN = [lookup(5, [(30000, vain())])]
 RULES = [lookup(5, [rules(32000, ROW)])]
+# rules of which one glyph is never there: the second, the one behind, the one before, the third
+SHORT_ROWS = {
+    "of two glyphs": lookup(5, [rules(31000, words(2, 0, 42))]),
+    "of two glyphs, chained": lookup(6, [rules(31000, words(0, 2, 42, 0, 0))]),
+    "with a glyph behind": lookup(6, [rules(31000, words(0, 1, 1, 42, 0))]),
+    "with a glyph before": lookup(6, [rules(31000, words(1, 42, 1, 0, 0))]),
+    "of three glyphs": lookup(5, [rules(31000, words(3, 0, 1, 42))]),
+}
 SKIPPING = [lookup(5, [context(2, [], words(1, 1, 1))], 8)]
 NESTED_SKIPPING = [lookup(5, [context(1, [(0, 0), (0, 1), (0, 0)])], 8),
                    lookup(5, [context(3, [])], 8)]
@@ -63,8 +71,12 @@ BOMBS = {
     "30,000 subtables of 100 lookups": ({"GSUB": layout(IN_VAIN, shared=100)}, "a"),
     "32,000 rules at one place": ({"GSUB": layout(RULES)}, "a"),
     "32,000 rules, 100 lookups": ({"GSUB": layout(RULES, shared=100)}, "a"),
+    **{f"31,000 rules {kind}, 100 lookups": ({"GSUB": layout([rows], shared=100)}, "a")
+       for kind, rows in SHORT_ROWS.items()},
     "32,000 ligatures at one place": (
         {"GSUB": layout([lookup(4, [ligatures(32000, 64)])])}, "a"),
+    "31,000 ligatures of two glyphs, 100 lookups": (
+        {"GSUB": layout([lookup(4, [ligatures(31000, 2)])], shared=100)}, "a"),
     "skips half of the text": ({"GSUB": layout(SKIPPING), "GDEF": gdef(0)}, "am"),
     "skips half of the text, 1,000 lookups": (
         {"GSUB": layout(SKIPPING, shared=1000), "GDEF": gdef(0)}, "am"),
@@ -114,6 +126,8 @@ SPENT = {
     "calls itself twice", "calls itself at each of 64 places", "one lookup, named 20,000 times",
     "one subtable, named 30,000 times", "30,000 subtables of 100 lookups",
     "32,000 rules at one place", "32,000 rules, 100 lookups", "32,000 ligatures at one place",
+    *(f"31,000 rules {kind}, 100 lookups" for kind in SHORT_ROWS),
+    "31,000 ligatures of two glyphs, 100 lookups",
     "skips half of the text, nested", "rows of 10,000 glyphs, backwards", "30,000 NULL subtables",
     "records that name nothing", "pairs, 1,000 lookups", "positions that call themselves twice",
     "pairs over the rest of the text, 50 lookups", "marks on one base, 1,000 lookups",

@@ -1,10 +1,8 @@
--- Lookups that go backwards: subtables by their kind, as many items as before, and what they preserve.
+-- Lookups that go backwards: as many items as before, and what they preserve.
 use Prim.Native.Nat.{zero}
-use Rattle.std.proofs.Common.{◌≡◌, ℕ, suc, ◌-◌, true, false, List, Option, Some, None, length, nat_eq, refl, sym, ap, ◌∙◌, if◌then◌else◌}
+use Rattle.std.proofs.Common.{◌≡◌, ℕ, suc, ◌-◌, true, false, Option, Some, None, length, nat_eq, refl, ◌∙◌, if◌then◌else◌}
 use Rattle.std.specs.Option.{option_map_or}
 use Rattle.shape_items.specs.Buffer.{Buffer}
-use Rattle.shape_items.specs.Items.{Item}
-use Rattle.layout_tables.specs.declared.lookups.LookupSubtable.{LookupSubtable}
 use Rattle.layout_matching.specs.Loops.{times}
 use Rattle.layout_matching.specs.Skipping.{is_on}
 use Rattle.layout_matching.specs.Work.{lookup_charged}
@@ -15,14 +13,8 @@ use Rattle.layout_substitution.proofs.AppliedLemmas.{like-replaced}
 use Rattle.layout_substitution.proofs.CopyLemmas.{length-put_at}
 use Rattle.layout_substitution.proofs.EditLemmas.{length-if, length_broken, length_concat_marked}
 use Rattle.layout_substitution.proofs.PreservedLemmas.{Preserves, Preserves-same, Preserves-then, Preserves-times, Preserves-if, Preserves-put, Preserves-broken, Preserves-concat_marked}
-use Rattle.layout_context.specs.Reverse.{Backwards, reversal_by, reversal_reach, reversal_found, reversed_by, first_reversed, reversed_at, reversed_within, reverse_step, reversed}
+use Rattle.layout_context.specs.Reverse.{Backwards, reversal_reach, reversal_found, reversed_by, first_reversed, reversed_at, reversed_within, reverse_step, reversed}
 use Rattle.layout_context.specs.declared.reverse.Reversal.{Reversal}
-
--- a subtable of kind 8 is known by where it stands
-pub reversal_of_kind : (l : Lookup) (items : List Item) (at : ℕ) (subtable : LookupSubtable) (found : Option Reversal) → subtable.kind ≡ 8
-    → found ≡ reversal_by l items at (record { kind = 8; start = subtable.start }) → found ≡ reversal_by l items at subtable
-reversal_of_kind l items at subtable found is made =
-    made ∙ ap (λ k. reversal_by l items at (record { kind = k; start = subtable.start })) (sym is)
 
 pub length_reversed_by : (l : Lookup) (at : ℕ) (b : Buffer) (r : Reversal) → length (reversed_by l at b r).items ≡ length b.items
 length_reversed_by l at b r = let c = broken r.start r.end b in

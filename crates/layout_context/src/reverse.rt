@@ -1,8 +1,7 @@
 //! Reverse chained single substitution (kind 8): from the last item to the first, one glyph for one.
 //!
 //! No memory is taken, and no item comes or goes. Such a lookup is applied to a whole buffer alone: no rule applies it.
-ghost use Rattle.std.specs.Prelude.{◌≡◌, ◌<◌, ◌≤◌, ◌-◌, ◌+◌, ◌^◌, length, None};
-ghost use Rattle.std.specs.Option.{IfSome};
+ghost use Rattle.std.specs.Prelude.{◌≡◌, ◌<◌, ◌≤◌, ◌-◌, ◌+◌, ◌^◌, length};
 ghost use Rattle.layout_matching.specs.Loops.{times};
 ghost use Rattle.layout_context.specs.Reverse;
 
@@ -17,7 +16,7 @@ use layout_matching::work::lookup_charged;
 use layout_substitution::apply::put_glyph;
 use layout_substitution::edits::{break_span, item};
 use layout_substitution::substitutes::{count, listed};
-use layout_tables::lookups::{subtable, subtable_count};
+use layout_tables::lookups::{LookupSubtable, subtable, subtable_count};
 use shape_font::bytes::u16_at;
 
 /// The glyph that replaces one, and the span that was looked at, from `start` up to `end`.
@@ -107,80 +106,34 @@ fn reversal_by_number(
     }
 }
 
-/// What replaces the glyph at `at`, by the subtable of format 1 at `start`.
-fn reversal_from(
+fn reversal_by(
     lookup: &Lookup<'_>,
     items: &ItemList<'_>,
     at: usize,
-    start: usize,
+    subtable: LookupSubtable,
 ) -> Option<Reversal>
-    requires near { start < 2 ^ 35 }
+    requires near { subtable.start < 2 ^ 35 }
     requires inside { at < length items.now }
-    ensures { result ≡ Reverse.reversal_by lookup.now items.now at
-        (record { kind = 8; start = start }) }
+    ensures { result ≡ Reverse.reversal_by lookup.now items.now at subtable }
 {
-    if u16_at(lookup.table, start) != 1 {
+    if subtable.kind != 8 || u16_at(lookup.table, subtable.start) != 1 {
         return None;
     }
-    match number_in(lookup.table, start, items.at(at).glyph_id) {
-        Some(i) => reversal_by_number(lookup, items, at, start, i),
+    match number_in(lookup.table, subtable.start, items.item(at).glyph_id) {
+        Some(i) => reversal_by_number(lookup, items, at, subtable.start, i),
         None => None,
     }
 }
 
-/// What the subtable at `start` puts at `at`. One that was tried in vain just before, and which the lookup names again, is not
-/// tried again; `vain` is where that one stands.
-fn reversal_again(
-    lookup: &Lookup<'_>,
-    items: &ItemList<'_>,
-    at: usize,
-    start: usize,
-    vain: &mut Option<usize>,
-) -> Option<Reversal>
-    requires near { start < 2 ^ 35 }
-    requires inside { at < length items.now }
-    requires vain { IfSome vain.old (λ start. Reverse.reversal_by lookup.now items.now at
-        (record { kind = 8; start = start }) ≡ None) }
-    ensures value { result ≡ Reverse.reversal_by lookup.now items.now at
-        (record { kind = 8; start = start }) }
-    ensures vain { IfSome vain.new (λ start. Reverse.reversal_by lookup.now items.now at
-        (record { kind = 8; start = start }) ≡ None) }
-{
-    if let Some(before) = *vain {
-        if before == start {
-            return None;
-        }
-    }
-    let found = reversal_from(lookup, items, at, start);
-    if found.is_none() {
-        *vain = Some(start);
-    }
-    found
-}
-
-/// What subtable `i` of the lookup puts at `at`.
-#[tactic(auto, using(crate::proofs::ReverseLemmas::reversal_of_kind))]
-fn reversal_in(
-    lookup: &Lookup<'_>,
-    items: &ItemList<'_>,
-    at: usize,
-    i: u32,
-    vain: &mut Option<usize>,
-) -> Option<Reversal>
+fn reversal_in(lookup: &Lookup<'_>, items: &ItemList<'_>, at: usize, i: u32) -> Option<Reversal>
     requires near { lookup.now.place < 2 ^ 17 }
     requires few { i < 2 ^ 16 }
     requires inside { at < length items.now }
-    requires vain { IfSome vain.old (λ start. Reverse.reversal_by lookup.now items.now at
-        (record { kind = 8; start = start }) ≡ None) }
-    ensures value { result ≡ Reverse.reversal_in lookup.now items.now at i }
-    ensures vain { IfSome vain.new (λ start. Reverse.reversal_by lookup.now items.now at
-        (record { kind = 8; start = start }) ≡ None) }
+    ensures { result ≡ Reverse.reversal_in lookup.now items.now at i }
 {
     match subtable(lookup.table, extension_kind(lookup), lookup.place, i) {
-        Some(subtable) if subtable.kind == 8 => {
-            reversal_again(lookup, items, at, subtable.start, vain)
-        }
-        _ => None,
+        Some(subtable) => reversal_by(lookup, items, at, subtable),
+        None => None,
     }
 }
 
@@ -191,9 +144,8 @@ fn find_reversal(lookup: &Lookup<'_>, items: &ItemList<'_>, at: usize) -> Option
     requires inside { at < length items.now }
     ensures { result ≡ Reverse.reversal_found lookup.now items.now at }
 {
-    let mut vain = None;
     for i in 0..subtable_count(lookup.table, lookup.place) {
-        if let Some(found) = reversal_in(lookup, items, at, i, &mut vain) {
+        if let Some(found) = reversal_in(lookup, items, at, i) {
             return Some(found);
         }
     }

@@ -3,3 +3,5 @@ pub mod PlaceLemmas
 pub mod ReachLemmas
 pub mod WorkLemmas
 pub mod TallyLemmas
+pub mod GlanceLemmas
+pub mod RefusalLemmas

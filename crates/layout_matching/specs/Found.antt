@@ -75,10 +75,13 @@ rule_of t is_chain start at = if nat_eq (u16_of t start) 1
     else (if is_chain then chained t Class (class_place t start 4) (class_place t start 6) (class_place t start 8) 0 at
     else plain_rule t Class (class_place t start 4) at (at + 4))
 
+abbrev pub found_at : Lookup → List Item → Origin → LookupSubtable → ℕ → Option Found
+found_at l items origin subtable place =
+    found_if l items origin (rule_of l.table.now (is_chained l subtable) subtable.start place)
+
 abbrev pub found_rule : Lookup → List Item → Origin → LookupSubtable → ℕ → ℕ → Option Found
 found_rule l items origin subtable set r =
-    option_and_then (λ place. found_if l items origin (rule_of l.table.now (is_chained l subtable) subtable.start place))
-    (rule_place l.table.now set r)
+    option_and_then (found_at l items origin subtable) (rule_place l.table.now set r)
 
 abbrev pub found_in_set : Lookup → List Item → Origin → LookupSubtable → ℕ → Option Found
 found_in_set l items origin subtable set =

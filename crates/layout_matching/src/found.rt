@@ -4,13 +4,15 @@
 ghost use Rattle.std.specs.Prelude.{◌≡◌, ◌<◌, ◌+◌, ◌^◌, length};
 ghost use Rattle.std.specs.Option.{IfSome};
 ghost use Rattle.layout_matching.specs.Found as found_rules;
+ghost use Rattle.layout_matching.specs.Glance as glances;
 
+use crate::formats::{is_first, rows_of, rule_by, set_for, whole_rule};
+use crate::glance::{Glances, glances_around, is_refused};
 use crate::lookup::Lookup;
-use crate::rules::{FAR, RowTests, Rule, Test, chain, is_inside, plain, rule_at, rules};
+use crate::rules::{Rule, is_inside, rule_at};
 use crate::spans::{Origin, Span, span_at};
 use layout_buffer::ItemList;
-use layout_tables::classes::class;
-use layout_tables::coverage::{coverage_index, covers};
+use layout_tables::coverage::coverage_index;
 use layout_tables::lookups::{LookupSubtable, subtable, subtable_count};
 use layout_tables::offsets::offset16;
 use shape_font::bytes::{records, u16_at};
@@ -70,44 +72,6 @@ fn found_if(lookup: &Lookup<'_>, items: &ItemList<'_>, origin: Origin, rule: Rul
     }
 }
 
-/// Rows whose glyphs or lists stand from one place on.
-fn from_one_place(test: Test, start: usize) -> RowTests
-    ensures { result ≡ record { test = test; before = start; input = start; after = start } }
-{
-    RowTests {
-        test,
-        before: start,
-        input: start,
-        after: start,
-    }
-}
-
-/// The one rule of a subtable of format 3.
-pub(crate) fn whole_rule(table: &[u8], is_chain: bool, start: usize) -> Rule
-    requires { start < 2 ^ 35 }
-    ensures { result ≡ found_rules.whole_rule table.now is_chain start }
-{
-    if is_chain {
-        chain(table, from_one_place(Test::Coverage, start), 1, start + 2)
-    } else {
-        plain(table, Test::Coverage, start, start + 2, start + 8)
-    }
-}
-
-/// Whether the list of the rule's first glyph has the glyph.
-pub(crate) fn is_first(table: &[u8], start: usize, rule: &Rule, glyph: u32) -> bool
-    requires { start < 2 ^ 35 }
-    ensures { result ≡ found_rules.is_first table.now start rule.now glyph }
-{
-    if rule.input.count == 0 {
-        return false;
-    }
-    match offset16(table, start, rule.input.values.min(FAR).saturating_sub(2)) {
-        Some(list) => covers(table, list, glyph),
-        None => false,
-    }
-}
-
 fn found_whole(
     lookup: &Lookup<'_>,
     items: &ItemList<'_>,
@@ -128,111 +92,138 @@ fn found_whole(
     }
 }
 
-/// Where the ClassDef stands whose offset is `at` bytes after `start`. A NULL one stands past any table, so that each glyph is
-/// of class 0.
-fn class_place(table: &[u8], start: usize, at: usize) -> usize
-    requires start { start < 2 ^ 35 }
-    requires at { at < 16 }
-    ensures value { result ≡ found_rules.class_place table.now start at }
-    ensures near { result < 2 ^ 39 }
-{
-    match offset16(table, start, start + at) {
-        Some(place) => place,
-        None => FAR,
-    }
+/// A set of rules, and what the glyphs around a place say of all of them.
+#[derive(Clone, Copy)]
+pub struct GlancedSet {
+    pub subtable: LookupSubtable,
+    pub place: usize,
+    pub around: Glances,
 }
 
-fn set_by_class(table: &[u8], is_chain: bool, start: usize, glyph: u32) -> Option<usize>
-    requires { start < 2 ^ 35 }
-    ensures value { result ≡ found_rules.set_by_class table.now is_chain start glyph }
-    ensures near { IfSome result (λ s. s < 2 ^ 36) }
-{
-    if is_chain {
-        let of = class(table, class_place(table, start, 6), glyph);
-        rules(table, start, 10, u32::from(of))
-    } else {
-        let of = class(table, class_place(table, start, 4), glyph);
-        rules(table, start, 6, u32::from(of))
-    }
-}
-
-/// The rules for a glyph with this number.
-pub(crate) fn set_for(
-    table: &[u8],
-    is_chain: bool,
-    start: usize,
-    glyph: u32,
-    number: u32,
-) -> Option<usize>
-    requires { start < 2 ^ 35 }
-    ensures value { result ≡ found_rules.set_for table.now is_chain start glyph number }
-    ensures near { IfSome result (λ s. s < 2 ^ 36) }
-{
-    match u16_at(table, start) {
-        1 => rules(table, start, 4, number),
-        2 => set_by_class(table, is_chain, start, glyph),
-        _ => None,
-    }
-}
-
-/// The rule at a place, of a subtable of format 1 or 2.
-/// Inlined, as a rule has a hundred bytes, which each call would copy.
-#[inline(always)]
-pub(crate) fn rule_by(table: &[u8], is_chain: bool, start: usize, at: usize) -> Rule
-    requires start { start < 2 ^ 35 }
-    requires at { at < 2 ^ 37 }
-    ensures { result ≡ found_rules.rule_of table.now is_chain start at }
-{
-    if u16_at(table, start) == 1 {
-        if is_chain {
-            return chain(table, from_one_place(Test::Glyph, start), 0, at);
-        }
-        return plain(table, Test::Glyph, start, at, at + 4);
-    }
-    if !is_chain {
-        return plain(table, Test::Class, class_place(table, start, 4), at, at + 4);
-    }
-    let rows = RowTests {
-        test: Test::Class,
-        before: class_place(table, start, 4),
-        input: class_place(table, start, 6),
-        after: class_place(table, start, 8),
-    };
-    chain(table, rows, 0, at)
-}
-
-/// Rule `r` of those at `set`, if it matches.
-fn found_rule(
+/// The rule at a place of the table, if it matches.
+#[inline(never)]
+fn found_at(
     lookup: &Lookup<'_>,
     items: &ItemList<'_>,
     origin: Origin,
     subtable: LookupSubtable,
-    set: usize,
-    r: u32,
+    place: usize,
 ) -> Option<Found>
     requires near { subtable.start < 2 ^ 35 }
-    requires set { set < 2 ^ 36 }
-    requires few { r < 2 ^ 16 }
+    requires place { place < 2 ^ 37 }
     requires inside { origin.at < length items.now }
-    ensures value { result ≡ found_rules.found_rule lookup.now items.now origin subtable set r }
+    ensures value { result ≡ found_rules.found_at lookup.now items.now origin subtable place }
     ensures last { IfSome result (λ f. f.span.last < length items.now) }
 {
-    match rule_at(lookup.table, set, r) {
-        Some(place) => {
-            let rule = rule_by(
-                lookup.table,
-                is_chained(lookup, subtable),
-                subtable.start,
-                place,
-            );
-            found_if(lookup, items, origin, rule)
-        }
+    let is_chain = is_chained(lookup, subtable);
+    let rule = rule_by(lookup.table, is_chain, subtable.start, place);
+    found_if(lookup, items, origin, rule)
+}
+
+/// The same, by what the glyphs around say. Most rules are refused here, by a few numbers.
+#[tactic(auto, using(crate::proofs::RefusalLemmas::refused_rule))]
+#[inline(always)]
+fn found_unless_refused(
+    lookup: &Lookup<'_>,
+    items: &ItemList<'_>,
+    origin: Origin,
+    set: &GlancedSet,
+    place: usize,
+) -> Option<Found>
+    requires near { set.now.subtable.start < 2 ^ 35 }
+    requires place { place < 2 ^ 37 }
+    requires inside { origin.at < length items.now }
+    requires around { set.now.around
+        ≡ glances.glances_in lookup.now items.now origin set.now.subtable }
+    ensures value { result
+        ≡ found_rules.found_at lookup.now items.now origin set.now.subtable place }
+    ensures last { IfSome result (λ f. f.span.last < length items.now) }
+{
+    let is_chain = is_chained(lookup, set.subtable);
+    if is_refused(lookup.table, &set.around, is_chain, place) {
+        return None;
+    }
+    found_at(lookup, items, origin, set.subtable, place)
+}
+
+/// Rule `r` of the set, if it matches.
+#[inline(always)]
+fn found_rule(
+    lookup: &Lookup<'_>,
+    items: &ItemList<'_>,
+    origin: Origin,
+    set: &GlancedSet,
+    r: u32,
+) -> Option<Found>
+    requires near { set.now.subtable.start < 2 ^ 35 }
+    requires set { set.now.place < 2 ^ 36 }
+    requires few { r < 2 ^ 16 }
+    requires inside { origin.at < length items.now }
+    requires around { set.now.around
+        ≡ glances.glances_in lookup.now items.now origin set.now.subtable }
+    ensures value { result
+        ≡ found_rules.found_rule lookup.now items.now origin set.now.subtable set.now.place r }
+    ensures last { IfSome result (λ f. f.span.last < length items.now) }
+{
+    match rule_at(lookup.table, set.place, r) {
+        Some(place) => found_unless_refused(lookup, items, origin, set, place),
         None => None,
     }
 }
 
-/// The first rule of those at `set` that matches.
+/// The set of rules at a place of the table, seen from `origin`.
+fn glanced(
+    lookup: &Lookup<'_>,
+    items: &ItemList<'_>,
+    origin: Origin,
+    subtable: LookupSubtable,
+    place: usize,
+) -> GlancedSet
+    requires near { subtable.start < 2 ^ 35 }
+    requires inside { origin.at < length items.now }
+    ensures { result ≡ record { subtable = subtable; place = place;
+        around = glances.glances_in lookup.now items.now origin subtable } }
+{
+    let is_chain = is_chained(lookup, subtable);
+    let rows = rows_of(lookup.table, is_chain, subtable.start);
+    GlancedSet {
+        subtable,
+        place,
+        around: glances_around(lookup, items, origin, is_chain, rows),
+    }
+}
+
+/// The first rule of the set that matches.
 #[tactic(auto, using(crate::proofs::LoopLemmas::first_some_next, crate::proofs::LoopLemmas::first_some_found, crate::proofs::LoopLemmas::first_some_end))]
+fn first_found(
+    lookup: &Lookup<'_>,
+    items: &ItemList<'_>,
+    origin: Origin,
+    set: &GlancedSet,
+) -> Option<Found>
+    requires near { set.now.subtable.start < 2 ^ 35 }
+    requires set { set.now.place < 2 ^ 36 }
+    requires inside { origin.at < length items.now }
+    requires around { set.now.around
+        ≡ glances.glances_in lookup.now items.now origin set.now.subtable }
+    ensures value { result
+        ≡ found_rules.found_in_set lookup.now items.now origin set.now.subtable set.now.place }
+    ensures last { IfSome result (λ f. f.span.last < length items.now) }
+{
+    for r in 0..records(
+        lookup.table,
+        u32::from(u16_at(lookup.table, set.place)),
+        set.place + 2,
+        2,
+    ) {
+        if let Some(found) = found_rule(lookup, items, origin, set, r) {
+            return Some(found);
+        }
+    }
+    None
+}
+
+/// The first rule of those at `set` that matches.
 fn found_in_set(
     lookup: &Lookup<'_>,
     items: &ItemList<'_>,
@@ -246,17 +237,8 @@ fn found_in_set(
     ensures value { result ≡ found_rules.found_in_set lookup.now items.now origin subtable set }
     ensures last { IfSome result (λ f. f.span.last < length items.now) }
 {
-    for r in 0..records(
-        lookup.table,
-        u32::from(u16_at(lookup.table, set)),
-        set + 2,
-        2,
-    ) {
-        if let Some(found) = found_rule(lookup, items, origin, subtable, set, r) {
-            return Some(found);
-        }
-    }
-    None
+    let seen = glanced(lookup, items, origin, subtable, set);
+    first_found(lookup, items, origin, &seen)
 }
 
 fn found_by_number(

@@ -4,9 +4,8 @@
 ghost use Rattle.std.specs.Prelude.{◌≡◌, ◌<◌, ◌^◌, length};
 ghost use Rattle.layout_matching.specs.Tried;
 
-use crate::found::{
-    is_chained, is_context_subtable, is_first, number_in, rule_by, set_for, subtable_at, whole_rule,
-};
+use crate::formats::{is_first, rule_by, set_for, whole_rule};
+use crate::found::{is_chained, is_context_subtable, number_in, subtable_at};
 use crate::input::match_input;
 use crate::lookup::Lookup;
 use crate::rules::{Rule, is_inside, rule_at};

@@ -85,6 +85,7 @@ pub fn rules(table: &[u8], start: usize, counted: usize, i: u32) -> Option<usize
 }
 
 /// Where rule `r` stands.
+#[inline(always)]
 pub fn rule_at(table: &[u8], rules: usize, r: u32) -> Option<usize>
     requires rules { rules < 2 ^ 36 }
     requires r { r < 2 ^ 16 }

@@ -16,6 +16,7 @@ pub struct Tally {
 }
 
 /// What is left after so much, if it suffices.
+#[inline(always)]
 pub fn charged(work: usize, left: usize) -> Option<usize>
     ensures { result ≡ Work.charged work left }
 {
@@ -47,6 +48,7 @@ pub(crate) fn beside(left: usize) -> Tally
 }
 
 /// A number of 16 bits.
+#[inline(always)]
 pub(crate) fn short(count: u16) -> usize
     ensures value { result ≡ count }
     ensures near { result < 2 ^ 16 }
@@ -75,6 +77,7 @@ fn counts_of(rule: &Rule) -> Counts
 }
 
 /// Those of a rule at a place, of a subtable of format 1 or 2. Nothing else is read of it.
+#[inline(always)]
 pub(crate) fn counts_at(table: &[u8], is_chain: bool, at: usize) -> Counts
     requires { at < 2 ^ 37 }
     ensures { result ≡ Work.counts_at table.now is_chain at }
@@ -91,6 +94,7 @@ pub(crate) fn counts_at(table: &[u8], is_chain: bool, at: usize) -> Counts
     }
 }
 
+#[inline(always)]
 fn chain_counts(table: &[u8], at: usize) -> Counts
     requires { at < 2 ^ 37 }
     ensures { result ≡ Work.chain_counts table.now at }
@@ -109,6 +113,7 @@ fn chain_counts(table: &[u8], at: usize) -> Counts
 }
 
 /// Those of a ligature, whose components are counted after its glyph.
+#[inline(always)]
 pub(crate) fn ligature_counts(table: &[u8], place: usize) -> Counts
     requires { place < 2 ^ 37 }
     ensures { result ≡ Work.ligature_counts table.now place }
@@ -122,6 +127,7 @@ pub(crate) fn ligature_counts(table: &[u8], place: usize) -> Counts
 }
 
 /// What a rule costs: each of its glyphs and of its lookups, and the rule.
+#[inline(always)]
 fn counts_work(counts: Counts) -> usize
     ensures { result ≡ Work.counts_work counts }
 {
@@ -129,6 +135,7 @@ fn counts_work(counts: Counts) -> usize
 }
 
 /// One rule more, by its counts.
+#[inline(always)]
 pub(crate) fn counted(counts: Counts, count: Tally) -> Option<Tally>
     ensures { result ≡ Work.counted counts count }
 {
@@ -152,6 +159,7 @@ pub(crate) fn rule_counted(rule: &Rule, count: Tally) -> Option<Tally>
 }
 
 /// One offset more that is NULL.
+#[inline(always)]
 pub(crate) fn null_counted(count: Tally) -> Option<Tally>
     ensures { result ≡ Work.null_counted count }
 {

@@ -8,10 +8,8 @@ ghost use Rattle.std.specs.Option.{IfSome};
 ghost use Rattle.layout_tables.specs.Lookups.{subtable_count_of};
 ghost use Rattle.layout_matching.specs.Work;
 
-use crate::found::{
-    is_chained, is_context, is_context_subtable, is_first, number_in, set_for, subtable_at,
-    whole_rule,
-};
+use crate::formats::{is_first, set_for, whole_rule};
+use crate::found::{is_chained, is_context, is_context_subtable, number_in, subtable_at};
 use crate::lookup::Lookup;
 use crate::rules::rules;
 use crate::sets::{passed_charged, rule_charged, set_charged};

@@ -4,8 +4,9 @@ use Rattle.shape_font.specs.Worked.Glyphs.{words}
 use Rattle.shape_common.specs.declared.general_category.hb_unicode_general_category_t.TheVariants.{NonspacingMark, OtherLetter}
 use Rattle.shape_items.specs.Buffer.{Buffer}
 use Rattle.shape_items.specs.Items.{Item, new_item, new_properties}
+use Rattle.layout_matching.specs.declared.glance.Glance.TheVariants.{Closed, Only}
 use Rattle.layout_matching.specs.declared.lookup.Lookup.{Lookup}
-use Rattle.layout_substitution.specs.Ligatures.{ligature_matched}
+use Rattle.layout_substitution.specs.Ligatures.{ligature_matched, begins_with_another}
 use Rattle.layout_substitution.specs.Replaced.{replaced, is_multiplied, taken_apart, with_components, as_ligature}
 use Rattle.layout_substitution.specs.Start.{begun_item}
 use Rattle.layout_substitution.specs.Substitutes.{has_components}
@@ -16,6 +17,10 @@ pub record WorkedLigatures : Type 0 where
   pub second_missing : has_components (words (50 ∷ 2 ∷ [])) 0 ≡ false
   pub one_component : has_components (words (50 ∷ 1 ∷ [])) 0 ≡ true
   pub no_component : has_components (words (50 ∷ 0 ∷ [])) 0 ≡ false
+  -- the next glyph refuses a second component that is another one, and no ligature of one component
+  pub another_second : begins_with_another (words (50 ∷ 2 ∷ 6 ∷ [])) (Only 7) 0 ≡ true
+  pub the_second : begins_with_another (words (50 ∷ 2 ∷ 6 ∷ [])) (Only 6) 0 ≡ false
+  pub no_second_wanted : begins_with_another (words (50 ∷ 1 ∷ [])) Closed 0 ≡ false
   pub cut_stands_nowhere : (l : Lookup) (b : Buffer) (at : ℕ) → l.table.now ≡ words (50 ∷ 2 ∷ []) → ligature_matched l b at 0 ≡ None
 
 pub worked_ligatures : WorkedLigatures
@@ -24,6 +29,9 @@ worked_ligatures = record {
   second_missing = refl;
   one_component = refl;
   no_component = refl;
+  another_second = refl;
+  the_second = refl;
+  no_second_wanted = refl;
   cut_stands_nowhere = λ l b at t. rw t refl;
 }
 

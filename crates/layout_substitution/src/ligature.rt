@@ -12,8 +12,10 @@ use crate::apply::Spot;
 use crate::edits::{item, merge, next_place, put, take_out};
 use crate::ligation::how_to_ligate;
 use crate::replaced::{as_component, as_ligature, components_of};
+use crate::second_component::{begins_with_another, second_glance};
 use crate::substitutes::{components, count, has_components, ligature_at, ligature_glyph};
 use layout_buffer::GapBuffer;
+use layout_matching::glance::Glance;
 use layout_matching::input::match_input;
 use layout_matching::lookup::Lookup;
 use layout_matching::rules::{Row, Test};
@@ -90,24 +92,31 @@ pub fn matched_at(
 }
 
 /// Ligature `i` of the set, if its components stand at `at`.
+#[tactic(auto, using(crate::proofs::SecondLemmas::refused_ligature))]
+#[inline(always)]
 fn matched_in(
     lookup: &Lookup<'_>,
     buffer: &GapBuffer,
     at: usize,
     set: usize,
     i: u32,
+    second: Glance,
 ) -> Option<Components>
     requires near { set < 2 ^ 36 }
     requires few { i < 2 ^ 16 }
     requires inside { at < length buffer.now.items }
+    requires second { second ≡ Ligatures.second_glance lookup.now buffer.now at }
     ensures value { result ≡ Ligatures.ligature_in lookup.now buffer.now at set i }
     ensures inside { IfSome result (λ m. m.last < length buffer.now.items) }
     ensures near { IfSome result (λ m. m.ligature < 2 ^ 37) }
 {
-    match ligature_at(lookup.table, set, i) {
-        Some(ligature) => matched_at(lookup, buffer, at, ligature),
-        None => None,
+    let Some(ligature) = ligature_at(lookup.table, set, i) else {
+        return None;
+    };
+    if begins_with_another(lookup.table, second, ligature) {
+        return None;
     }
+    matched_at(lookup, buffer, at, ligature)
 }
 
 /// The first ligature of the set whose components stand at `at`.
@@ -119,8 +128,9 @@ pub fn found(lookup: &Lookup<'_>, buffer: &GapBuffer, at: usize, set: usize) -> 
     ensures inside { IfSome result (λ m. m.last < length buffer.now.items) }
     ensures near { IfSome result (λ m. m.ligature < 2 ^ 37) }
 {
+    let second = second_glance(lookup, buffer, at);
     for i in 0..count(lookup.table, set) {
-        if let Some(one) = matched_in(lookup, buffer, at, set, i) {
+        if let Some(one) = matched_in(lookup, buffer, at, set, i, second) {
             return Some(one);
         }
     }

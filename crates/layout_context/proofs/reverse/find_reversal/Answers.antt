@@ -9,5 +9,5 @@ returns-in-Some c =
     let l = c.args.lookup.now in
     let n = subtable_count_of l.table.now l.place in
     let more : c.loop-i.i < n = omega (arith, c.loop-i-test.true, c.subtable_count-i-end.ensures.value) in
-    sym (c.loop-i.invariant.found
-    ∙ first_some_found (reversal_in l c.args.items.now c.args.at) n c.loop-i.i c.in-Some.found more (sym c.in-Some.ensures.value))
+    sym (c.loop-i.invariant
+    ∙ first_some_found (reversal_in l c.args.items.now c.args.at) n c.loop-i.i c.in-Some.found more (sym c.in-Some.ensures))

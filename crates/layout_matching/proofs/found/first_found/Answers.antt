@@ -2,13 +2,13 @@ use Rattle.std.proofs.Common.{◌<◌, ◌+◌, sym, ◌∙◌, arith}
 use Rattle.shape_font.specs.Bytes.{u16_of, fitting}
 use Rattle.layout_matching.specs.Found.{found_rule}
 use Rattle.layout_matching.proofs.LoopLemmas.{first_some_found}
-use Rattle.layout_matching.proofs.found.found_in_set.Goals as goal
+use Rattle.layout_matching.proofs.found.first_found.Goals as goal
 
 pub returns-in-Some-clause-value : goal.returns-in-Some-clause-value
 returns-in-Some-clause-value c =
     let t = c.args.lookup.now.table.now in
-    let n = fitting t (u16_of t c.args.set) (c.args.set + 2) 2 in
+    let n = fitting t (u16_of t c.args.set.now.place) (c.args.set.now.place + 2) 2 in
     let more : c.loop-r.r < n = omega (arith, c.loop-r-test.true, c.records-r-end.ensures.value) in
     sym (c.loop-r.invariant
-    ∙ first_some_found (found_rule c.args.lookup.now c.args.items.now c.args.origin c.args.subtable c.args.set) n c.loop-r.r c.in-Some.found more
+    ∙ first_some_found (found_rule c.args.lookup.now c.args.items.now c.args.origin c.args.set.now.subtable c.args.set.now.place) n c.loop-r.r c.in-Some.found more
     (sym c.in-Some.ensures.value))
