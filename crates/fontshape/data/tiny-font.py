@@ -224,10 +224,9 @@ def main():
         with open(os.path.join(top, name), "wb") as file:
             file.write(data)
         print(name, len(data), "bytes")
-    for name in ("crates/test_fonts/src/tiny.rt",):
-        with open(os.path.join(top, name), "w") as file:
-            file.write("//! The font that crates/fontshape/data/tiny-font.py makes: its bytes, 32 a row, by two digits each.\n\n")
-            file.write('pub const DIGITS: &str = "\\\n%s";\n' % as_text(file_of(tiny())))
+    with open(os.path.join(top, "crates/test_fonts/src/tiny.rt"), "w") as file:
+        file.write("//! The font that crates/fontshape/data/tiny-font.py makes: its bytes, 32 a row, by two digits each.\n\n")
+        file.write('pub const DIGITS: &str = "\\\n%s";\n' % as_text(file_of(tiny())))
 
 
 if __name__ == "__main__":
