@@ -17,7 +17,6 @@ use Rattle.layout_matching.specs.declared.rules.Test.{Test}
 use Rattle.layout_matching.specs.declared.rules.Test.TheVariants.{Glyph, Class, Coverage, Any}
 use Rattle.layout_matching.specs.declared.seeking.Seek.{Seek}
 
-
 not-not : (b : Bool) → not b ≡ true → b ≡ false
 not-not true h = cc
 not-not false h = refl

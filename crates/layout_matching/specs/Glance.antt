@@ -1,5 +1,5 @@
 -- What the glyph beside a place says of all rules of a set: nearly all of them are refused by the first glyph that they look for there.
-use Rattle.std.specs.Prelude.{ℕ, Bool, true, false, List, Option, ◌+◌, ◌*◌, ◌&&◌, ◌||◌, not, min, nat_eq, nat_lt, if◌then◌else◌}
+use Rattle.std.specs.Prelude.{ℕ, Bool, true, false, List, ◌+◌, ◌*◌, ◌&&◌, ◌||◌, not, min, nat_eq, nat_lt, if◌then◌else◌}
 use Rattle.std.specs.Option.{option_map_or}
 use Rattle.shape_font.specs.Bytes.{u16_of}
 use Rattle.shape_items.specs.Items.{Item}
@@ -15,7 +15,6 @@ use Rattle.layout_matching.specs.declared.glance.Glance.{Glance}
 use Rattle.layout_matching.specs.declared.glance.Glance.TheVariants.{Open, Closed, Only}
 use Rattle.layout_matching.specs.declared.glance.Glances.{Glances}
 use Rattle.layout_matching.specs.declared.lookup.Lookup.{Lookup}
-use Rattle.layout_matching.specs.declared.rules.Row.{Row}
 use Rattle.layout_matching.specs.declared.rules.RowTests.{RowTests}
 use Rattle.layout_matching.specs.declared.rules.Test.{Test}
 use Rattle.layout_matching.specs.declared.rules.Test.TheVariants.{Glyph, Class, Coverage, Any}

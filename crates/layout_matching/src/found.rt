@@ -181,8 +181,11 @@ fn glanced(
 ) -> GlancedSet
     requires near { subtable.start < 2 ^ 35 }
     requires inside { origin.at < length items.now }
-    ensures { result ≡ record { subtable = subtable; place = place;
-        around = glances.glances_in lookup.now items.now origin subtable } }
+    ensures { result ≡ record {
+      subtable = subtable;
+      place = place;
+      around = glances.glances_in lookup.now items.now origin subtable;
+    } }
 {
     let is_chain = is_chained(lookup, subtable);
     let rows = rows_of(lookup.table, is_chain, subtable.start);

@@ -1,8 +1,7 @@
 -- a ligature that the next glyph refuses doesn't stand there
-use Rattle.std.proofs.Common.{◌≡◌, ℕ, ◌+◌, ◌*◌, ◌&&◌, Bool, true, Option, None, min, nat_lt, ap, if◌then◌else◌}
+use Rattle.std.proofs.Common.{◌≡◌, ℕ, true, None, nat_lt, ap}
 use Rattle.std.specs.Option.{option_map}
 use Rattle.shape_items.specs.Buffer.{Buffer}
-use Rattle.layout_matching.specs.Glance.{glance_after, refuses}
 use Rattle.layout_matching.specs.declared.lookup.Lookup.{Lookup}
 use Rattle.layout_matching.proofs.RefusalLemmas.{and_both, when, input_refused}
 use Rattle.layout_substitution.specs.Ligatures.{component_row, components_at, ligature_matched, second_glance, begins_with_another}
