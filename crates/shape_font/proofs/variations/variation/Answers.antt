@@ -11,7 +11,7 @@ returns c =
     let i = c.in-Some.i in
     let by : List ℕ → List ℕ → GlyphVariant
     = λ ranges rows. if is_default ranges c.args.c then Default
-        else (let glyph = own_glyph rows c.args.c in (if nat_eq glyph 0 then Missing else Own glyph)) in
+    else (let glyph = own_glyph rows c.args.c in (if nat_eq glyph 0 then Missing else Own glyph)) in
     let rows : 13 + 11 * i + 4 ≡ 17 + 11 * i = omega arith in
     let there : Some i ≡ selector_of t c.args.selector = search rules in
     c.by_lists.ensures ∙ ap₂ by c.sequences_from.ensures (c.sequences_from-2.ensures ∙ ap (sequences_from t) rows)
