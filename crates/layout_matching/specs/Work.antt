@@ -149,10 +149,14 @@ abbrev pub part_counted : Lookup → LookupSubtable → ℕ → ℕ → Tally �
 part_counted l subtable set r s =
     option_map_or (λ place. rule_counted (part_rule l subtable place) s) (rule_place l.table.now set r) (null_counted s)
 
+-- a set, and a subtable that has none, looks for the glyph before and the one after
+abbrev pub beside : ℕ → Tally
+beside left = record { left = left; before = 1; after = 1; tries = 1 }
+
 -- all of a set, whether they are tried or not
 abbrev pub set_counted : Lookup → LookupSubtable → ℕ → ℕ → Option Tally
 set_counted l subtable left set =
-    steps (part_counted l subtable set) (fitting l.table.now (u16_of l.table.now set) (set + 2) 2) 0 (uncounted left)
+    steps (part_counted l subtable set) (fitting l.table.now (u16_of l.table.now set) (set + 2) 2) 0 (beside left)
 
 abbrev pub set_charged : Lookup → List Item → ℕ → LookupSubtable → ℕ → ℕ → Option ℕ
 set_charged l items at subtable left set = option_and_then (passed_charged l items at) (set_counted l subtable left set)
@@ -191,10 +195,6 @@ whole_list l items subtable = if not l.positioning && nat_eq subtable.kind 3 && 
 
 abbrev pub begun_charged : Lookup → List Item → LookupSubtable → ℕ → Option ℕ
 begun_charged l items subtable left = option_and_then (charged SUBTABLE_WORK) (charged (whole_list l items subtable) left)
-
--- a subtable without them looks for the glyph before and the one after
-abbrev pub beside : ℕ → Tally
-beside left = record { left = left; before = 1; after = 1; tries = 1 }
 
 abbrev pub parts_charged : Lookup → List Item → ℕ → LookupSubtable → ℕ → ℕ → Option ℕ
 parts_charged l items at subtable number left = if is_backward l subtable

@@ -8,8 +8,8 @@ use crate::lookup::Lookup;
 use crate::passing::{passed_after, passed_before};
 use crate::rules::{Rule, rule_at};
 use crate::tally::{
-    Counts, Tally, charged, counted, counts_at, ligature_counts, null_counted, rule_counted, short,
-    uncounted,
+    Counts, Tally, beside, charged, counted, counts_at, ligature_counts, null_counted,
+    rule_counted, short, uncounted,
 };
 use layout_buffer::ItemList;
 use layout_tables::lookups::LookupSubtable;
@@ -28,10 +28,6 @@ pub(crate) fn passed_charged(
     requires { at < length items.now }
     ensures { result ≡ Work.passed_charged lookup.now items.now at count }
 {
-    // Of a set without rules nothing is looked at, so nothing is sought to be charged.
-    if count.tries == 0 {
-        return Some(count.left);
-    }
     let before = passed_before(lookup, items, at, count.before);
     let beside = passed_after(lookup, items, at, count.after).saturating_add(before);
     let passed = beside.saturating_add(marks_passed(lookup, items, at) / MARKS_PART);
@@ -129,7 +125,7 @@ fn set_counted(
     requires set { set < 2 ^ 36 }
     ensures { result ≡ Work.set_counted lookup.now subtable left set }
 {
-    let mut count = uncounted(left);
+    let mut count = beside(left);
     for r in 0..records(
         lookup.table,
         u32::from(u16_at(lookup.table, set)),

@@ -85,23 +85,25 @@ pub record WorkedWork : Type 0 where
   pub just_enough : (l : Lookup) → l.table.now ≡ shared_ligatures → lookup_charged (over_marks l) (plain 5 ∷ []) 0 15 ≡ Some 0
   pub too_little : (l : Lookup) → l.table.now ≡ shared_ligatures → lookup_charged (over_marks l) (plain 5 ∷ []) 0 14 ≡ None
   pub another_glyph : Leaves shared_ligatures (plain 6 ∷ []) 0 100
-  -- each of the two ligatures looks over the two marks, up to the second glyph or to the end; none looks back
-  pub over_two_marks : Leaves shared_ligatures (plain 5 ∷ a_mark ∷ a_mark ∷ plain 6 ∷ []) 0 81
-  pub to_the_end : Leaves shared_ligatures (plain 5 ∷ a_mark ∷ a_mark ∷ []) 0 81
-  pub after_two_marks : Leaves shared_ligatures (plain 5 ∷ a_mark ∷ a_mark ∷ plain 5 ∷ []) 3 85
+  -- the set and each of its two ligatures look over the two marks, up to the second glyph or to the end, or back
+  pub over_two_marks : Leaves shared_ligatures (plain 5 ∷ a_mark ∷ a_mark ∷ plain 6 ∷ []) 0 79
+  pub to_the_end : Leaves shared_ligatures (plain 5 ∷ a_mark ∷ a_mark ∷ []) 0 79
+  pub after_two_marks : Leaves shared_ligatures (plain 5 ∷ a_mark ∷ a_mark ∷ plain 5 ∷ []) 3 79
   pub marks_behind_the_second : Leaves shared_ligatures (plain 5 ∷ plain 6 ∷ a_mark ∷ a_mark ∷ []) 0 85
   -- 4 for each rule: two glyphs, a lookup and the rule
   pub rules : Leaves shared_rules (plain 5 ∷ []) 0 84
-  -- each of them looks over the mark for itself and for its lookup
-  pub rules_over_a_mark : Leaves shared_rules (plain 5 ∷ a_mark ∷ plain 6 ∷ []) 0 80
+  -- each of them looks over the mark for itself and for its lookup, and the set once
+  pub rules_over_a_mark : Leaves shared_rules (plain 5 ∷ a_mark ∷ plain 6 ∷ []) 0 79
   -- each looks over eight marks for the ligature that its first glyph stands on, once for itself and once for its lookup
-  pub rules_of_marks : Leaves shared_rules (ligature_three ∷ eight_marks (on_component ∷ [])) 9 76
+  pub rules_of_marks : Leaves shared_rules (ligature_three ∷ eight_marks (on_component ∷ [])) 9 74
   pub rules_of_three_marks : Leaves shared_rules (ligature_three ∷ on_component ∷ on_component ∷ on_component ∷ on_component ∷ []) 4 84
   pub marks_of_another_ligature : Leaves shared_rules (ligature_three ∷ eight_marks (
       record on_component { properties = record on_component.properties { ligature_id = 4 } } ∷ [])) 9 84
-  pub marks_from_the_start : Leaves shared_rules (eight_marks (on_component ∷ [])) 8 76
-  -- without rules nothing is looked at
-  pub no_rules : Leaves empty_set (ligature_three ∷ eight_marks (on_component ∷ [])) 9 92
+  pub marks_from_the_start : Leaves shared_rules (eight_marks (on_component ∷ [])) 8 74
+  -- a set without rules looks over what stands beside its glyph
+  pub no_rules : Leaves empty_set (ligature_three ∷ eight_marks (on_component ∷ [])) 9 90
+  pub no_rules_over_marks : Leaves empty_set (plain 5 ∷ a_mark ∷ a_mark ∷ plain 6 ∷ []) 0 90
+  pub no_rules_after_marks : Leaves empty_set (plain 6 ∷ a_mark ∷ a_mark ∷ a_mark ∷ plain 5 ∷ []) 4 89
   -- positioning doesn't look for it
   pub positions_of_marks : (l : Lookup) → l.table.now ≡ context_of_positions
       → lookup_charged (of_positions l) (ligature_three ∷ eight_marks (on_component ∷ [])) 9 100 ≡ Some 74
@@ -154,6 +156,8 @@ worked_work = record {
   marks_of_another_ligature = λ l t. rw t refl;
   marks_from_the_start = λ l t. rw t refl;
   no_rules = λ l t. rw t refl;
+  no_rules_over_marks = λ l t. rw t refl;
+  no_rules_after_marks = λ l t. rw t refl;
   positions_of_marks = λ l t. rw t refl;
   whole_rule = λ l t. rw t refl;
   not_its_first_glyph = λ l t. rw t refl;
