@@ -3,3 +3,4 @@ pub mod PlaceLemmas
 pub mod ReachLemmas
 pub mod WorkLemmas
 pub mod TallyLemmas
+pub mod BesideLemmas
