@@ -5,3 +5,4 @@ pub mod WorkLemmas
 pub mod TallyLemmas
 pub mod GlanceLemmas
 pub mod RefusalLemmas
+pub mod BesideLemmas

@@ -16,7 +16,7 @@ use layout_tables::lookups::LookupSubtable;
 use shape_font::bytes::{records, u16_at};
 
 /// How many marks cost one that are looked at for the ligature that a mark stands on: nothing but their ligature is read.
-const MARKS_PART: usize = 4;
+pub(crate) const MARKS_PART: usize = 4;
 
 /// What is left after what a rule or a set passes over, which is looked at each time.
 pub(crate) fn passed_charged(

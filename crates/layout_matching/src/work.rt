@@ -21,7 +21,7 @@ use shape_buffer::hb_glyph_info_t;
 use shape_font::bytes::u16_at;
 
 /// What a subtable costs that begins with the glyph at the place.
-const SUBTABLE_WORK: usize = 8;
+pub(crate) const SUBTABLE_WORK: usize = 8;
 
 /// What a subtable costs at each item of a list, whether it begins there or not.
 const STEP_WORK: usize = 8;
@@ -193,7 +193,7 @@ fn subtable_charged(
 }
 
 /// What is left after subtable `i`.
-fn charged_at_subtable(
+pub(crate) fn charged_at_subtable(
     lookup: &Lookup<'_>,
     items: &ItemList<'_>,
     at: usize,

@@ -15,6 +15,7 @@ use crate::places::after;
 use crate::subtables::{Carried, Outcome, apply_lookup};
 use layout_buffer::ItemList;
 use layout_digests::{Digest, Digested};
+use layout_matching::beside::plain_charged;
 use layout_matching::found::is_context;
 use layout_matching::lookup::Lookup;
 use layout_matching::skipping::{is_on, is_transparent, item_at};
@@ -63,10 +64,14 @@ fn charge(
     requires inside { at < length items.now }
     ensures { result ≡ Work.lookup_charged lookup.now items.now at left }
 {
-    if lookup.positioning && !has_rules && !is_transparent(lookup, false, items.at(at)) {
-        return Some(left);
+    if !lookup.positioning || has_rules {
+        return lookup_charged(lookup, items, at, left);
     }
-    lookup_charged(lookup, items, at, left)
+    if is_transparent(lookup, false, items.at(at)) {
+        plain_charged(lookup, items, at, left)
+    } else {
+        Some(left)
+    }
 }
 
 /// Applies a lookup at a place.
