@@ -38,6 +38,9 @@ SHORT_ROWS = {
 SKIPPING = [lookup(5, [context(2, [], words(1, 1, 1))], 8)]
 NESTED_SKIPPING = [lookup(5, [context(1, [(0, 0), (0, 1), (0, 0)])], 8),
                    lookup(5, [context(3, [])], 8)]
+# a rule names sets without rules, each of which looks for the next glyph that is no mark
+NO_RULES = [lookup(5, [context(1, [(0, 1)] * 10000, words(1, 1, 1))]),
+            lookup(6, [rules(0, b"")], 8)]
 TO_BASES = [lookup(4, [marks_on(4)])]
 # at two marks after one another, the second is attached and then the first
 BACK_AND_FORTH = [lookup(7, [context(2, [(1, 1), (0, 1)] * 100)]), *TO_BASES]
@@ -82,6 +85,8 @@ BOMBS = {
         {"GSUB": layout(SKIPPING, shared=1000), "GDEF": gdef(0)}, "am"),
     "skips half of the text, nested": (
         {"GSUB": layout(NESTED_SKIPPING), "GDEF": gdef(0)}, "am"),
+    "sets without rules, nested, over marks": (
+        {"GSUB": layout(NO_RULES), "GDEF": gdef(0)}, "am"),
     "rows of 10,000 glyphs": ({"GSUB": layout([lookup(6, [(1000, row_before(10000))])])}, "a"),
     "rows of 10,000 glyphs, backwards": (
         {"GSUB": layout([lookup(8, [(1000, row_behind(10000))])])}, "a"),
