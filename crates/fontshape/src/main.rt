@@ -45,7 +45,7 @@ const OUTPUT: &str = "standard output";
 struct Work<'a, W: Write + Drop> {
     options: &'a Options,
     face: FontFace<'a>,
-    opened: OpenedOpenTypeFace<'a>,
+    opened: Option<OpenedOpenTypeFace<'a>>,
     outlines: Option<Outlines<'a>>,
     picture: Picture,
     writer: BufWriter<W>,
@@ -63,7 +63,7 @@ impl<'a, W: Write + Drop> Work<'a, W> {
     /// Shapes a line, and draws it or writes it.
     fn take_line(&mut self, alloc: Global, text: &[u8], number: usize) -> Result<(), Failure> {
         let line = Line::new(alloc, text, self.options.utf8_clusters())?;
-        let glyphs = match shaped(alloc, self.options, &self.opened, &line) {
+        let glyphs = match shaped(alloc, self.options, &self.face, self.opened.as_ref(), &line) {
             Ok(glyphs) => glyphs,
             Err(error) => return Err(Failure::line(alloc, number, error)),
         };

@@ -3,6 +3,7 @@ ghost use Rattle.std.specs.Prelude.{◌≡◌};
 
 use crate::line::Line;
 use crate::options::Options;
+use kern_table::KernTable;
 use opentype_layout::{OpenTypeFace, OpenTypeLayout, OpenedOpenTypeFace};
 use script_shapers::choice::shape_by_script;
 use shape_font::FontFace;
@@ -10,8 +11,8 @@ use shape_pipeline::ot_shaper::{
     ComposedDiacritics, ComposedDiacriticsNoShortCircuit, Decomposed, Preference, Shortest,
 };
 use shape_pipeline::{
-    DEFAULT_SHAPER, GlyphBuffer, Preferring, ShapeError, UnicodeBuffer, hb_default_shaper_t,
-    hb_font_t, hb_ot_layout_t, hb_ot_shaper_t, shape,
+    DEFAULT_SHAPER, GlyphBuffer, NoLookups, Preferring, ShapeError, UnicodeBuffer,
+    hb_default_shaper_t, hb_font_t, hb_ot_layout_t, hb_ot_shaper_t, shape,
 };
 use shape_unicode::UnicodeDatabase;
 use std::alloc::Global;
@@ -110,28 +111,49 @@ fn shaped_with<F: hb_font_t, M: hb_ot_layout_t<F>>(
     }
 }
 
-/// The face for the font's tables, opened once for all lines; without tables of lookups if the options say so. Refuses with
-/// `Memory` if a growth was refused.
+/// The glyphs of a buffer without tables of lookups, kerned by the table `kern` of a font without GPOS: a font with GPOS
+/// has its kerning there.
+fn shaped_without_layout(
+    alloc: Global,
+    options: &Options,
+    face: &FontFace,
+    buffer: UnicodeBuffer,
+) -> Result<GlyphBuffer, ShapeError> {
+    if face.tables().gpos {
+        shaped_with::<FontFace, NoLookups>(alloc, options, face, buffer)
+    } else {
+        shaped_with::<FontFace, KernTable>(alloc, options, face, buffer)
+    }
+}
+
+/// The face for the font's tables of lookups, opened once for all lines; none if the options say to leave them alone. Refuses
+/// with `Memory` if a growth was refused.
 pub fn opened<'a>(
     alloc: Global,
     options: &Options,
     face: FontFace<'a>,
-) -> Result<OpenedOpenTypeFace<'a>, ShapeError> {
-    let face = if options.layout() {
-        OpenTypeFace::new(face)
+) -> Result<Option<OpenedOpenTypeFace<'a>>, ShapeError> {
+    if options.layout() {
+        let opened = OpenedOpenTypeFace::new(alloc, OpenTypeFace::new(face))?;
+        Ok(Some(opened))
     } else {
-        OpenTypeFace::without_lookups(face)
-    };
-    OpenedOpenTypeFace::new(alloc, face)
+        Ok(None)
+    }
 }
 
-/// The glyphs of a line. Refuses as `shape` does.
+/// The glyphs of a line, by the font's tables of lookups if the face was opened for them. Refuses as `shape` does.
 pub fn shaped(
     alloc: Global,
     options: &Options,
-    face: &OpenedOpenTypeFace,
+    face: &FontFace,
+    opened: Option<&OpenedOpenTypeFace>,
     line: &Line,
 ) -> Result<GlyphBuffer, ShapeError> {
     let buffer = filled(alloc, options, line)?;
-    shaped_with::<OpenedOpenTypeFace, OpenTypeLayout>(alloc, options, face, buffer)
+    match opened {
+        Some(opened) => {
+            shaped_with::<OpenedOpenTypeFace, OpenTypeLayout>(alloc, options, opened, buffer)
+        }
+        None => shaped_without_layout(alloc, options, face, buffer),
+    }
 }

@@ -1,5 +1,5 @@
 //! The face that the engine is over.
-ghost use Rattle.std.specs.Prelude.{◌≡◌, [], is_some, nat_lt, IfSome};
+ghost use Rattle.std.specs.Prelude.{◌≡◌, is_some, nat_lt, IfSome};
 ghost use Rattle.opentype_layout.specs.Fonts.{IsFaceOf, IsFontOf, units_of};
 ghost use Rattle.opentype_layout.specs.Face;
 
@@ -46,21 +46,6 @@ impl<'a> OpenTypeFace<'a> {
             gdef: font.gdef_table(),
             gsub: font.gsub_table(),
             gpos: font.gpos_table(),
-        }
-    }
-
-    /// The face over a font as if it had no GDEF, GSUB and GPOS: its table `kern` is all that moves glyphs.
-    pub fn without_lookups(font: FontFace<'a>) -> Self
-        ensures font { result.font ≡ font.entry }
-        ensures gdef { result.gdef.now ≡ [] }
-        ensures gsub { result.gsub.now ≡ [] }
-        ensures gpos { result.gpos.now ≡ [] }
-    {
-        OpenTypeFace {
-            font,
-            gdef: &[],
-            gsub: &[],
-            gpos: &[],
         }
     }
 
