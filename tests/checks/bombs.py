@@ -38,9 +38,9 @@ SHORT_ROWS = {
 SKIPPING = [lookup(5, [context(2, [], words(1, 1, 1))], 8)]
 NESTED_SKIPPING = [lookup(5, [context(1, [(0, 0), (0, 1), (0, 0)])], 8),
                    lookup(5, [context(3, [])], 8)]
-# a rule names sets without rules, each of which looks for the next glyph that is no mark
-NO_RULES = [lookup(5, [context(1, [(0, 1)] * 10000, words(1, 1, 1))]),
-            lookup(6, [rules(0, b"")], 8)]
+# a rule names a set without rules 10,000 times, which looks for the next glyph that is no mark
+NO_RULES = [lookup(6, [rules(0, b"")], 8),
+            lookup(5, [context(1, [(0, 0)] * 10000, words(1, 1, 1))])]
 TO_BASES = [lookup(4, [marks_on(4)])]
 # at two marks after one another, the second is attached and then the first
 BACK_AND_FORTH = [lookup(7, [context(2, [(1, 1), (0, 1)] * 100)]), *TO_BASES]
@@ -86,7 +86,7 @@ BOMBS = {
     "skips half of the text, nested": (
         {"GSUB": layout(NESTED_SKIPPING), "GDEF": gdef(0)}, "am"),
     "sets without rules, nested, over marks": (
-        {"GSUB": layout(NO_RULES), "GDEF": gdef(0)}, "am"),
+        {"GSUB": layout(NO_RULES, shared=100), "GDEF": gdef(0)}, "ama"),
     "rows of 10,000 glyphs": ({"GSUB": layout([lookup(6, [(1000, row_before(10000))])])}, "a"),
     "rows of 10,000 glyphs, backwards": (
         {"GSUB": layout([lookup(8, [(1000, row_behind(10000))])])}, "a"),
@@ -133,7 +133,7 @@ SPENT = {
     "32,000 rules at one place", "32,000 rules, 100 lookups", "32,000 ligatures at one place",
     *(f"31,000 rules {kind}, 100 lookups" for kind in SHORT_ROWS),
     "31,000 ligatures of two glyphs, 100 lookups",
-    "skips half of the text, nested", "rows of 10,000 glyphs, backwards", "30,000 NULL subtables",
+    "sets without rules, nested, over marks", "skips half of the text, nested", "rows of 10,000 glyphs, backwards", "30,000 NULL subtables",
     "records that name nothing", "pairs, 1,000 lookups", "positions that call themselves twice",
     "pairs over the rest of the text, 50 lookups", "marks on one base, 1,000 lookups",
     "marks on one base, nested, back and forth", "rules of marks on one ligature",
