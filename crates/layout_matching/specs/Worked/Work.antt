@@ -94,7 +94,8 @@ pub record WorkedWork : Type 0 where
   pub rules : Leaves shared_rules (plain 5 ∷ []) 0 84
   -- each of them looks over the mark for itself and for its lookup, and the set once
   pub rules_over_a_mark : Leaves shared_rules (plain 5 ∷ a_mark ∷ plain 6 ∷ []) 0 79
-  -- each looks over eight marks for the ligature that its first glyph stands on, once for itself and once for its lookup
+  -- each looks over eight marks for the ligature that its first glyph stands on, once for itself and once for its lookup; and the
+  -- set once
   pub rules_of_marks : Leaves shared_rules (ligature_three ∷ eight_marks (on_component ∷ [])) 9 74
   pub rules_of_three_marks : Leaves shared_rules (ligature_three ∷ on_component ∷ on_component ∷ on_component ∷ on_component ∷ []) 4 84
   pub marks_of_another_ligature : Leaves shared_rules (ligature_three ∷ eight_marks (
