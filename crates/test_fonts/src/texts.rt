@@ -57,7 +57,13 @@ fn unkerned(
 fn assert_string(rt: &impl Abort, alloc: Global, bytes: &[u8], string: &str, wanted: &str) {
     let face = OpenTypeFace::from_slice(bytes, 0).expect(rt, "a face");
     assert_line(rt, alloc, &face, &by_face(rt, alloc, &face, string), wanted);
-    assert_line(rt, alloc, &face, &by_bytes(rt, alloc, bytes, string), wanted);
+    assert_line(
+        rt,
+        alloc,
+        &face,
+        &by_bytes(rt, alloc, bytes, string),
+        wanted,
+    );
 }
 
 /// Strings, and lines of `hb-shape`.
@@ -66,10 +72,7 @@ const STRINGS: [(&str, &str); 5] = [
     ("ab", "[8=0+505|4=1+520#1]"),
     ("AV", "[1=0+520|2=1+640#1]"),
     ("fi\u{301}", "[7=0+540|9=0@-150,120+0]"),
-    (
-        "\u{3b1}\u{3b2}",
-        "[11=0+450|12=2@-30,0+440#1]",
-    ),
+    ("\u{3b1}\u{3b2}", "[11=0+450|12=2@-30,0+440#1]"),
 ];
 
 #[test]

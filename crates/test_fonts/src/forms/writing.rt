@@ -32,14 +32,14 @@ fn glyphs_of_ab(alloc: Global, face: &FontFace<'_>) -> Option<GlyphBuffer> {
 fn assert_written(
     rt: &impl Abort,
     alloc: Global,
-    face: &FontFace<'_>,
+    face: FontFace<'_>,
     glyphs: &GlyphBuffer,
     (text, json): (&str, &str),
 ) {
     let plain = SerializeFlags(0);
-    let found = serialize(alloc, glyphs, face, face, plain).expect(rt, "memory");
+    let found = serialize(alloc, glyphs, &face, &face, plain).expect(rt, "memory");
     assert_that(rt, found.as_str() == text);
-    let found = serialize_json(alloc, glyphs, face, face, plain).expect(rt, "memory");
+    let found = serialize_json(alloc, glyphs, &face, &face, plain).expect(rt, "memory");
     assert_that(rt, found.as_str() == json);
 }
 
@@ -52,5 +52,5 @@ fn texts(rt: HostRuntime) {
     let text = "[A=0+600|B=1+640]";
     let json = "[{\"g\":\"A\",\"cl\":0,\"dx\":0,\"dy\":0,\"ax\":600,\"ay\":0},\
         {\"g\":\"B\",\"cl\":1,\"dx\":0,\"dy\":0,\"ax\":640,\"ay\":0}]";
-    assert_written(&rt, alloc, &face, &glyphs, (text, json));
+    assert_written(&rt, alloc, face, &glyphs, (text, json));
 }
