@@ -5,11 +5,11 @@
 //! read. HarfBuzz does the same (`RuleSet::apply`, `ChainRuleSet::apply`, `LigatureSet::apply`).
 ghost use Rattle.std.specs.Prelude.{◌≡◌, ◌<◌, ◌≤◌, ◌^◌, length, min, true};
 ghost use Rattle.layout_matching.specs.Glance as glances;
-ghost use Rattle.layout_matching.specs.Rules.{FAR, row};
+ghost use Rattle.layout_matching.specs.Rules.{FAR};
 
 use crate::input::seek_input;
 use crate::lookup::Lookup;
-use crate::rules::{FAR, Row, RowTests, Test};
+use crate::rules::{FAR, Row, RowTests, Test, row_of};
 use crate::seeking::{Seek, next, prev};
 use crate::skipping::is_transparent;
 use crate::spans::{Origin, seek_around};
@@ -61,20 +61,9 @@ fn any_glyph(seek: &Seek) -> Seek
     ensures { result ≡ glances.any_glyph seek.now }
 {
     Seek {
-        row: row_of(Test::Any, 0, 1),
+        row: row_of(Test::Any, 0, 1, 0),
         is_input: seek.is_input,
         syllable: seek.syllable,
-    }
-}
-
-fn row_of(test: Test, from: usize, count: u16) -> Row
-    ensures { result ≡ row test from count 0 }
-{
-    Row {
-        test,
-        from,
-        count,
-        values: 0,
     }
 }
 
@@ -111,9 +100,9 @@ fn chain_glances(
     ensures { result ≡ glances.glances_of lookup.now items.now origin true rows }
 {
     let first = items.item(origin.at);
-    let before = row_of(rows.test, rows.before, 0);
-    let input = row_of(rows.test, rows.input, 0);
-    let after = row_of(rows.test, rows.after, 0);
+    let before = row_of(rows.test, rows.before, 0, 0);
+    let input = row_of(rows.test, rows.input, 0, 0);
+    let after = row_of(rows.test, rows.after, 0, 0);
     let back = seek_around(lookup, &first, origin.is_steady, before);
     let on = seek_around(lookup, &first, true, after);
     Glances {
@@ -138,7 +127,7 @@ pub(crate) fn glances_around(
         return chain_glances(lookup, items, origin, rows);
     }
     let first = items.item(origin.at);
-    let input = seek_input(lookup, &first, row_of(rows.test, rows.input, 0));
+    let input = seek_input(lookup, &first, row_of(rows.test, rows.input, 0, 0));
     Glances {
         before: Glance::Open,
         input: glance_after(lookup, &input, items, origin.at),

@@ -102,7 +102,8 @@ pub fn is_inside(table: &[u8], rule: &Rule) -> bool
     rule.lookups <= table.len() && 4 * usize::from(rule.count) <= table.len() - rule.lookups
 }
 
-fn row_of(test: Test, from: usize, count: u16, values: usize) -> Row
+/// So many values, from a place on.
+pub(crate) fn row_of(test: Test, from: usize, count: u16, values: usize) -> Row
     ensures { result ≡ row test from count values }
 {
     Row {

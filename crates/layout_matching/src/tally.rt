@@ -2,7 +2,7 @@
 ghost use Rattle.std.specs.Prelude.{◌≡◌, ◌<◌, ◌^◌};
 ghost use Rattle.layout_matching.specs.Work;
 
-use crate::rules::{Row, Rule, Test};
+use crate::rules::{Rule, Test, row_of};
 use shape_font::bytes::u16_at;
 
 /// What is left after some rules, the most glyphs that one of them has before the place and after it, and how often glyphs are
@@ -171,17 +171,6 @@ pub(crate) fn null_counted(count: Tally) -> Option<Tally>
     Some(next)
 }
 
-fn row(test: Test, count: u16) -> Row
-    ensures { result ≡ record { test = test; from = 0; count = count; values = 0 } }
-{
-    Row {
-        test,
-        from: 0,
-        count,
-        values: 0,
-    }
-}
-
 /// A rule of kind 8, to be counted alone.
 pub(crate) fn backward_rule(table: &[u8], start: usize) -> Rule
     requires { start < 2 ^ 35 }
@@ -190,9 +179,9 @@ pub(crate) fn backward_rule(table: &[u8], start: usize) -> Rule
     let before = u16_at(table, start + 4);
     let middle = start + 6 + 2 * usize::from(before);
     Rule {
-        before: row(Test::Coverage, before),
-        input: row(Test::Coverage, 1),
-        after: row(Test::Coverage, u16_at(table, middle)),
+        before: row_of(Test::Coverage, 0, before, 0),
+        input: row_of(Test::Coverage, 0, 1, 0),
+        after: row_of(Test::Coverage, 0, u16_at(table, middle), 0),
         lookups: 0,
         count: 0,
     }
