@@ -3,12 +3,12 @@
 #
 #   bench/beside-harfbuzz.sh FOLDER [WORK]
 #
-# FOLDER has HarfBuzz's source (`src/harfbuzz.cc` in it), WORK keeps what is built, else a folder that is removed. It wants
+# FOLDER is what sources.sh fetched, WORK keeps what is built, else a folder that is removed. It wants
 # gcc, g++, valgrind and python3, and is run by hand. Instructions are counted by callgrind, as the difference of two numbers
 # of times, so they are exact. The crate's library is proved and built where it is not yet.
 set -e
-[ -f "$1/src/harfbuzz.cc" ] || { echo "usage: $0 FOLDER-WITH-HARFBUZZ [WORK]" >&2; exit 2; }
-source=$(realpath "$1")
+[ -f "$1/harfbuzz/src/harfbuzz.cc" ] || { echo "usage: $0 FOLDER-OF-SOURCES [WORK]" >&2; exit 2; }
+source=$(realpath "$1/harfbuzz")
 here=$(realpath "$(dirname "$0")")
 kit=$(dirname "$(dirname "$(realpath "$(command -v rt)")")")
 work=$2

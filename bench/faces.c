@@ -4,8 +4,9 @@
  *   faces ENGINE FONT TEXT TIMES
  *
  * ENGINE: hblook, look, opened (glyph and advance of each character of a text, by HarfBuzz, by the face, by the face that is
- * opened once), hbrun, run, runopened, kern, kernopened, layout, layoutopened (whole runs without lookups, with kern alone or
- * with all tables of lookups, one plan; built with -DRUNS), hbopen, open, openonce (the face is made anew each time). TEXT is a file in UTF-8. Prints a sum, or the number of glyphs, which must be equal for the three.
+ * opened once), hbrun, rbrun, run, runopened, kern, kernopened, layout, layoutopened (whole runs without lookups, with kern alone
+ * or with all tables of lookups, one plan; built with -DRUNS, rbrun by rustybuzz with -DRUSTYBUZZ), hbopen, open, openonce (the
+ * face is made anew each time). TEXT is a file in UTF-8. Prints a sum, or the number of glyphs, which must be equal for all.
  * check in place of ENGINE compares the look-ups of the three for every character of Unicode. */
 #include <hb.h>
 #include <stdint.h>
@@ -17,6 +18,9 @@ size_t bench_look_up(const uint8_t *font, size_t n, const uint32_t *chars, size_
 size_t bench_open(const uint8_t *font, size_t n, uint32_t opened, uint32_t times);
 #ifdef RUNS
 size_t bench_font(const uint8_t *font, size_t n, const uint8_t *utf8, size_t u, uint32_t how, uint32_t times);
+#endif
+#ifdef RUSTYBUZZ
+size_t rustybuzz_runs(const uint8_t *font, size_t n, const uint8_t *utf8, size_t u, uint32_t times);
 #endif
 
 static char *
@@ -144,6 +148,9 @@ main(int argc, char **argv)
   else if (!strcmp(engine, "hbopen"))
     for (int k = 0; k < times; k++) { hb_font_t *font = hb_opened(); sum = hb_looked_up(font, chars, 1, 0); hb_font_destroy(font); }
   else if (!strcmp(engine, "hbrun")) sum = hb_runs(times);
+#ifdef RUSTYBUZZ
+  else if (!strcmp(engine, "rbrun")) sum = rustybuzz_runs(bytes, font_size, (uint8_t *) text, text_size, (uint32_t) times);
+#endif
 #ifdef RUNS
   else if (!strncmp(engine, "run", 3) || !strncmp(engine, "kern", 4) || !strncmp(engine, "layout", 6)) {
     uint32_t how = 1 | (engine[0] == 'k') << 1 | (strstr(engine, "opened") != NULL) << 2 | (engine[0] == 'l') << 3;

@@ -2,7 +2,7 @@
 """Prints what look-ups, runs and openings of a face cost: faces.py FOLDER FONT PLAIN KERN.
 
 FOLDER has `faces`; over PLAIN, which is FONT without tables of lookups, and KERN, which has `kern` beside it, runs are measured.
-Where `faces` was built without runs, their columns are empty."""
+Where `faces` was built without runs, or without rustybuzz, their columns are empty."""
 import re, subprocess, sys, tempfile
 from texts import KINDS
 
@@ -10,9 +10,9 @@ FOLDER, FONT, PLAIN, KERN = sys.argv[1:5]
 SIZES = 5, 80, 2000
 # What a run is: guessing and shaping, without filling.
 OURS = "*run_kept*"
-# HarfBuzz has a shaper for Hebrew, and composes other marks in runs of more than 32.
+# HarfBuzz and rustybuzz have a shaper for Hebrew, and compose other marks in runs of more than 32.
 OTHERWISE = "hebrew", "marks33"
-RUNS = {"hbrun": "hb_run", "run": OURS, "runopened": OURS, "kern": OURS, "kernopened": OURS, "layout": OURS, "layoutopened": OURS}
+RUNS = {"hbrun": "hb_run", "rbrun": "*::rustybuzz_run*", "run": OURS, "runopened": OURS, "kern": OURS, "kernopened": OURS, "layout": OURS, "layoutopened": OURS}
 
 
 def counted(engine, font, text, times, inside=None):
@@ -39,9 +39,9 @@ def written(folder, kind, size):
 
 
 def row(folder, kind, size, engines, font):
-    """Instructions a character of each engine. All must print the same, but HarfBuzz where it shapes otherwise."""
+    """Instructions a character of each engine. All must print the same, but the others where they shape otherwise."""
     found = {engine: cost(engine, font, written(folder, kind, size), inside=RUNS.get(engine)) for engine in engines}
-    same = {f[1] for engine, f in found.items() if f and not (engine == "hbrun" and kind in OTHERWISE)}
+    same = {f[1] for engine, f in found.items() if f and not (engine in ("hbrun", "rbrun") and kind in OTHERWISE)}
     if len(same) > 1: raise SystemExit(f"{kind} {size}: {found}")
     return [f"{f[0] / size:,.0f}" if f else "" for f in found.values()]
 
@@ -51,11 +51,11 @@ with tempfile.TemporaryDirectory() as folder:
     print("| text | HarfBuzz | `FontFace` | `OpenedFace` |\n|---|---|---|---|")
     for kind in KINDS:
         print(f"| {kind} | " + " | ".join(row(folder, kind, 2000, ("hblook", "look", "opened"), FONT)) + " |", flush=True)
-    for what, font, engines in ("without lookups", PLAIN, ("hbrun", "run", "runopened")), ("with `kern`", KERN, ("hbrun", "kern", "kernopened")), \
-            ("with all tables of lookups", FONT, ("hbrun", "layout", "layoutopened")):
+    for what, font, engines in ("without lookups", PLAIN, ("hbrun", "rbrun", "run", "runopened")), ("with `kern`", KERN, ("hbrun", "rbrun", "kern", "kernopened")), \
+            ("with all tables of lookups", FONT, ("hbrun", "rbrun", "layout", "layoutopened")):
         for size in SIZES:
             print(f"\nRuns {what}, plan kept, {size:,} characters, instructions a character\n")
-            print("| text | HarfBuzz | `FontFace` | `OpenedFace` |\n|---|---|---|---|")
+            print("| text | HarfBuzz | rustybuzz | `FontFace` | `OpenedFace` |\n|---|---|---|---|---|")
             for kind in KINDS:
                 print(f"| {kind} | " + " | ".join(row(folder, kind, size, engines, font)) + " |", flush=True)
     print("\nOpening, instructions\n\n| | |\n|---|---|")

@@ -1,14 +1,16 @@
 #!/bin/sh
-# Measures faces over a font file beside HarfBuzz's and prints the tables of real fonts of docs/SPEED.md:
+# Measures faces over a font file beside HarfBuzz's and rustybuzz's and prints the tables of real fonts of docs/SPEED.md:
 #
 #   bench/real-fonts.sh FOLDER [FONT [WORK]]
 #
-# FOLDER has HarfBuzz's source (`src/harfbuzz.cc` in it), FONT is DejaVu Sans if it is left out, WORK keeps what is built, else
-# a folder that is removed. It wants gcc, g++, valgrind and python3, and is run by hand. Instructions are counted by callgrind,
-# as the difference of two numbers of times, so they are exact. The crate's library is proved and built where it is not yet.
+# FOLDER is what sources.sh fetched, FONT is DejaVu Sans if it is left out, WORK keeps what is built, else a folder that is
+# removed. It wants gcc, g++, valgrind and python3, and is run by hand. Where FOLDER has no crates of rustybuzz, or there is no
+# cargo, its columns are empty. Instructions are counted by callgrind, as the difference of two numbers of times, so they are
+# exact. The crate's library is proved and built where it is not yet.
 set -e
-[ -f "$1/src/harfbuzz.cc" ] || { echo "usage: $0 FOLDER-WITH-HARFBUZZ [FONT [WORK]]" >&2; exit 2; }
-source=$(realpath "$1")
+[ -f "$1/harfbuzz/src/harfbuzz.cc" ] || { echo "usage: $0 FOLDER-OF-SOURCES [FONT [WORK]]" >&2; exit 2; }
+source=$(realpath "$1/harfbuzz")
+registry=$(realpath "$1")/registry
 font=${2:-/usr/share/fonts/truetype/dejavu/DejaVuSans.ttf}
 here=$(realpath "$(dirname "$0")")
 kit=$(dirname "$(dirname "$(realpath "$(command -v rt)")")")
@@ -20,10 +22,17 @@ fi
 mkdir -p "$work"
 flags="-O2 -g -DNDEBUG"
 [ -f "$work/harfbuzz.o" ] || g++ $flags -fno-exceptions -fno-rtti -c "$source/src/harfbuzz.cc" -o "$work/harfbuzz.o"
+rustybuzz=
+if [ -d "$registry" ] && command -v cargo > /dev/null; then
+    cp -r "$here/rustybuzz" "$work"
+    cargo build --quiet --release --offline --manifest-path "$work/rustybuzz/Cargo.toml" \
+        --config 'source.crates-io.replace-with="debian"' --config "source.debian.directory=\"$registry\"" >&2
+    rustybuzz="-DRUSTYBUZZ $work/rustybuzz/target/release/librustybuzz_runs.a"
+fi
 (cd "$here/../crates/bench_runs" && rt lib) >&2
-gcc $flags -DRUNS -Wall -I"$source/src" -o "$work/faces" "$here/faces.c" "$work/harfbuzz.o" \
+gcc $flags -DRUNS -Wall -I"$source/src" -o "$work/faces" "$here/faces.c" "$work/harfbuzz.o" $rustybuzz \
     "$here/../crates/bench_runs/out/libbench_runs.a" "$kit/c/liblibc_c.a" \
-    -lstdc++ -lm -lpthread
+    -lstdc++ -lm -lpthread -ldl
 "$work/faces" check "$font"
 python3 "$here/fonts.py" "$font" "$work/plain.ttf" kern
 python3 "$here/fonts.py" "$font" "$work/kern.ttf"
