@@ -65,6 +65,15 @@ fn is_basic_selector(c: char) -> bool
     matches!(c, '\u{FE00}'..='\u{FE0F}')
 }
 
+/// Whether `c` is unseen, by the table. A call of its own, so that what is decided before it stays part of the walk over
+/// a text.
+#[inline(never)]
+fn is_listed(c: char) -> bool
+    ensures { result ≡ is_ignorable c }
+{
+    ucd_derived::is_default_ignorable_code_point(c) && !is_seen_though_ignorable(c)
+}
+
 /// Whether `c` is unseen: the database has it as ignorable, and shaping doesn't show it.
 pub(crate) fn is_ignorable(c: char) -> bool
     ensures { result ≡ is_ignorable c }
@@ -87,7 +96,7 @@ pub(crate) fn is_ignorable(c: char) -> bool
     if is_basic_selector(c) {
         return true;
     }
-    ucd_derived::is_default_ignorable_code_point(c) && !is_seen_though_ignorable(c)
+    is_listed(c)
 }
 
 /// Whether `c` stands between U+FE0F and U+E0100, where no character is a variation selector.
