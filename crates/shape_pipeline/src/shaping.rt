@@ -3,16 +3,20 @@
 //! `form` is a law of every buffer that is normalised, so it has "prepared" among its premises; a
 //! run prepares each text by itself, so `canonical` has not. Clusters at MONOTONE_GRAPHEMES are
 //! those of graphemes found before a dotted circle was inserted, which has its mark's.
-ghost use Rattle.std.specs.Prelude.{◌≡◌, [], List, IsOk, IfOk, IfErr};
+ghost use Rattle.std.specs.Prelude.{◌≡◌, ◌≢◌, [], List, IsOk, IfOk, IfErr};
 ghost use Rattle.shape_items.specs.Buffer.{Buffer, cleared};
+ghost use Rattle.shape_buffer.specs.Guess.{guessed};
 ghost use Rattle.shape_common.specs.declared.text_types.Feature.{Feature as AnyFeature};
 ghost use Rattle.shape_pipeline.specs.GlyphsOf.{AreGlyphsOf, TextPasses};
 ghost use Rattle.shape_pipeline.specs.Planned.{planned_for, data_for_text};
+ghost use Rattle.shape_pipeline.specs.Shaped.{ShapingPasses};
 ghost use Rattle.shape_plan.specs.Plan.{Fits};
 ghost use Rattle.shape_plan.specs.Run.{Run};
 
 use crate::ot_shape::{hb_ot_shape_context_t, shape_internal};
-use shape_buffer::buffer::{Feature, GlyphBuffer, ShapeError, ShapeFault, UnicodeBuffer};
+use shape_buffer::buffer::{
+    Direction, Feature, GlyphBuffer, ShapeError, ShapeFault, UnicodeBuffer, hb_buffer_t,
+};
 use shape_buffer::interfaces::{hb_font_t, hb_ot_layout_t, hb_unicode_funcs_t};
 use shape_plan::ot_shape_plan::hb_ot_shape_plan_t;
 use shape_plan::ot_shaper::{Runs, hb_ot_shaper_t};
@@ -63,21 +67,46 @@ where
     ensures cleared { IfErr result (λ fault. fault.buffer ≡ cleared buffer) }
     ensures empty { buffer.items ≡ [] → IsOk result }
 {
-    plan.masks_are_features();
     buffer.guess_segment_properties::<U>();
-    let mut inner = buffer.into_inner();
-    let target_direction = inner.direction();
+    shape_guessed::<U, F, M, S>(alloc, face, plan, buffer.into_inner())
+}
+
+/// The glyphs of a text whose script and direction are set as guessing sets them, so that who has guessed
+/// for a plan doesn't go over the characters again. `text` is what guessing made of `original`.
+fn shape_guessed<U, F, M, S>(
+    alloc: Global,
+    face: &F,
+    plan: &hb_ot_shape_plan_t<'_, S, M::Map, S::Data>,
+    mut text: hb_buffer_t,
+) -> Result<GlyphBuffer, ShapeFault>
+where
+    U: hb_unicode_funcs_t,
+    F: hb_font_t,
+    M: hb_ot_layout_t<F>,
+    S: hb_ot_shaper_t<U, F, M>,
+    requires { text.direction ≢ Direction.Invalid }
+    ensures ok { let run = ⟦<S as Runs<U, F, M>>⟧.run plan.now face.now in
+        (original : Buffer) → text ≡ guessed U.unicode original
+        → IfOk result (AreGlyphsOf run original) }
+    ensures length { let run = ⟦<S as Runs<U, F, M>>⟧.run plan.now face.now in
+        IfErr result (λ fault. fault.cause ≡ ShapeError.Length
+        → ShapingPasses run text.direction text) }
+    ensures cleared { IfErr result (λ fault. fault.buffer ≡ cleared text) }
+    ensures empty { text.items ≡ [] → IsOk result }
+{
+    plan.masks_are_features();
+    let target_direction = text.direction();
     let mut ctx = hb_ot_shape_context_t {
         plan,
         face,
-        buffer: &mut inner,
+        buffer: &mut text,
         target_direction,
     };
     match shape_internal::<U, F, M, S>(alloc, &mut ctx) {
-        Ok(()) => Ok(inner.into_glyphs()),
+        Ok(()) => Ok(text.into_glyphs()),
         Err(cause) => Err(ShapeFault {
             cause,
-            buffer: inner.clear(),
+            buffer: text.clear(),
         }),
     }
 }
@@ -94,7 +123,7 @@ pub fn shape<U, F, M, S>(
     face: &F,
     shaper: &S,
     features: &[Feature],
-    buffer: UnicodeBuffer,
+    mut buffer: UnicodeBuffer,
 ) -> Result<GlyphBuffer, ShapeFault>
 where
     U: hb_unicode_funcs_t,
@@ -113,23 +142,22 @@ where
         IfErr result (λ fault. fault.cause ≡ ShapeError.Length → TextPasses run buffer) }
     ensures cleared { IfErr result (λ fault. fault.buffer ≡ cleared buffer) }
 {
-    let text = buffer.as_inner();
-    let script = text.guessed_script::<U>();
-    let direction = text.direction_by::<U>(script);
+    buffer.guess_segment_properties::<U>();
+    let text = buffer.into_inner();
     let planned = hb_ot_shape_plan_t::new::<U, F, M>(
         alloc,
         face,
         shaper,
-        direction,
-        script,
+        text.direction(),
+        text.script(),
         text.language(),
         features,
     );
     match planned {
-        Ok(plan) => shape_with_plan::<U, F, M, S>(alloc, face, &plan, buffer),
+        Ok(plan) => shape_guessed::<U, F, M, S>(alloc, face, &plan, text),
         Err(cause) => Err(ShapeFault {
             cause,
-            buffer: buffer.into_inner().clear(),
+            buffer: text.clear(),
         }),
     }
 }

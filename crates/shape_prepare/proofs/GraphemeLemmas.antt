@@ -4,7 +4,7 @@ use Rattle.std.proofs.lemmas.Bool.{and_parts}
 use Rattle.std.proofs.lemmas.Bool.Decides.{nat_tests}
 use Rattle.shape_items.specs.Items.{Item}
 use Rattle.shape_common.specs.Unicode.{UnicodeMeaning}
-use Rattle.shape_prepare.specs.Graphemes.{continues, is_joined, is_joining, is_unasked, is_left_alone, with_continuation, is_to_next, is_regional_indicator}
+use Rattle.shape_prepare.specs.Graphemes.{continues, is_joined, is_joining, is_unasked, is_left_alone, is_modifier_symbol, is_skin_tone, is_extender, with_continuation, is_to_next, is_regional_indicator}
 use Rattle.shape_prepare.specs.declared.graphemes.Before.{Before}
 use Rattle.shape_prepare.specs.declared.graphemes.Before.TheVariants.{Plain, OpenIndicator, Zwj}
 
@@ -62,3 +62,69 @@ pub is_to_next-settled : (unicode : UnicodeMeaning) (before : Before) (item : It
     → item.properties.zwj ≡ false → Plain ≡ is_to_next unicode before item
 is_to_next-settled unicode before item continuing no_joiner =
     rw (continuing, no_joiner, never_both (is_regional_indicator item.codepoint)) refl
+
+-- no rule fits: nothing joins the item to the one before, and it is no ZWJ, skin tone, regional indicator or extender
+abbrev pub fits_none : Before → Item → Bool
+fits_none before item =
+    not (is_joining before) && not item.properties.zwj && not (is_skin_tone item.codepoint)
+    && not (is_regional_indicator item.codepoint) && not (is_extender item.codepoint)
+
+record FitsNone (before : Before) (item : Item) : Type 0 where
+  alone : not (is_joining before) ≡ true
+  joiner : item.properties.zwj ≡ false
+  tone : is_skin_tone item.codepoint ≡ false
+  indicator : is_regional_indicator item.codepoint ≡ false
+  extender : is_extender item.codepoint ≡ false
+
+not_true : (test : Bool) → not test ≡ true → test ≡ false
+not_true true is = absurd (cc)
+not_true false is = refl
+
+none_fits : (before : Before) (item : Item) → fits_none before item ≡ true → FitsNone before item
+none_fits before item none =
+    let c = item.codepoint in
+    let alone = not (is_joining before) in
+    let joiner = not item.properties.zwj in
+    let tone = not (is_skin_tone c) in
+    let indicator = not (is_regional_indicator c) in
+    let all = and_parts (alone && joiner && tone && indicator) (not (is_extender c)) none in
+    let three = and_parts (alone && joiner && tone) indicator all.0 in
+    let two = and_parts (alone && joiner) tone three.0 in
+    let one = and_parts alone joiner two.0 in
+    record {
+      alone = one.0;
+      joiner = not_true item.properties.zwj one.1;
+      tone = not_true (is_skin_tone c) two.1;
+      indicator = not_true (is_regional_indicator c) three.1;
+      extender = not_true (is_extender c) all.1;
+    }
+
+-- such an item continues only what it did before
+continues-fits_none : (unicode : UnicodeMeaning) (before : Before) (item : Item) → fits_none before item ≡ true
+    → continues unicode before item ≡ item.properties.continuation
+continues-fits_none unicode before item none =
+    let fits = none_fits before item none in
+    let category = item.properties.general_category in
+    rw (
+      is_joined-alone unicode before item.codepoint fits.alone,
+      fits.tone,
+      fits.indicator,
+      fits.joiner,
+      fits.extender,
+      never_both (is_modifier_symbol category),
+      never_both (not (is_unasked category)),
+    )
+    (or_false (item.properties.continuation || false) ∙ or_false item.properties.continuation)
+
+-- so it is left as it is
+pub with_continuation-fits_none : (unicode : UnicodeMeaning) (before : Before) (item : Item) → fits_none before item ≡ true
+    → item ≡ with_continuation (continues unicode before item) item
+with_continuation-fits_none unicode before item none =
+    sym (ap (λ c. with_continuation c item) (continues-fits_none unicode before item none))
+
+-- and is nothing special to the next one
+pub is_to_next-fits_none : (unicode : UnicodeMeaning) (before : Before) (item : Item) → fits_none before item ≡ true
+    → Plain ≡ is_to_next unicode before item
+is_to_next-fits_none unicode before item none =
+    let fits = none_fits before item none in
+    rw (fits.indicator, fits.joiner) refl

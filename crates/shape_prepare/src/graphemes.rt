@@ -9,7 +9,7 @@
 //! What the rules ask of the item before fits three cases, so one walk sets properties and continuations.
 //!
 //! An item that was joined to a ZWJ is itself no open regional indicator and joins nothing.
-ghost use Rattle.std.specs.Prelude.{◌≡◌};
+ghost use Rattle.std.specs.Prelude.{◌≡◌, ◌&&◌, not};
 ghost use Rattle.shape_buffer.specs.Outcome.{Made};
 ghost use Rattle.shape_prepare.specs.Graphemes;
 ghost use Rattle.shape_items.specs.UnicodeProps.{with_unicode_props, with_scratch_of};
@@ -85,6 +85,22 @@ fn is_left_alone(before: Before, info: &hb_glyph_info_t) -> bool
         && info.codepoint < FIRST_INDICATOR
 }
 
+/// Whether an item stays as it is, since no rule fits it: nothing joins it to the one before, and it is no ZWJ and no
+/// character that a rule names. So most punctuation, symbols and emoji are decided at once.
+fn fits_no_rule(before: Before, info: &hb_glyph_info_t) -> bool
+    ensures { result ≡ (not (Graphemes.is_joining before)
+        && not info.now.properties.zwj
+        && not (Graphemes.is_skin_tone info.now.codepoint)
+        && not (Graphemes.is_regional_indicator info.now.codepoint)
+        && not (Graphemes.is_extender info.now.codepoint)) }
+{
+    !before.is_zwj()
+        && !info._hb_glyph_info_get_zwj()
+        && !is_skin_tone(info.codepoint)
+        && !is_regional_indicator(info.codepoint)
+        && !is_extender(info.codepoint)
+}
+
 /// Marks an item as a continuation if it is one, and says what it is to the next one.
 fn mark_continuation<U: hb_unicode_funcs_t>(before: Before, info: &mut hb_glyph_info_t) -> Before
     ensures item { info.new ≡ Graphemes.with_continuation
@@ -95,6 +111,9 @@ fn mark_continuation<U: hb_unicode_funcs_t>(before: Before, info: &mut hb_glyph_
         return Before::Plain;
     }
     if is_settled(info) {
+        return Before::Plain;
+    }
+    if fits_no_rule(before, info) {
         return Before::Plain;
     }
     let joined = is_joined::<U>(before, info.codepoint);

@@ -1,6 +1,6 @@
 -- Where the ranges of a property have no code point, or every one, so that its answer is known without them.
 use Rattle.std.proofs.Common.{◌≡◌, ℕ, ◌<◌, ◌≤◌, Bool, true, false, not, ◌&&◌, ◌||◌, ◌==◌, nat_lt, nat_le, ltb-true, List, [], ◌∷◌, refl, sym, ap, ap₂, ◌∙◌, inl, inr, arith}
-use Rattle.std.proofs.lemmas.Bool.{and_parts, cases_Bool}
+use Rattle.std.proofs.lemmas.Bool.{and_parts, and_right, cases_Bool}
 use Rattle.std.proofs.lemmas.Bool.Decides.{nat_tests}
 use Rattle.ucd_table.specs.Rows.{Range, in_ranges}
 use Rattle.ucd_table.proofs.Computing.{tables}
@@ -10,7 +10,7 @@ use Rattle.ucd_derived.specs.Binary.{is_default_ignorable_code_point}
 use Rattle.ucd_derived.specs.DefaultIgnorableCodePointRanges.{default_ignorable_code_point_ranges}
 use Rattle.ucd_props.specs.Binary.{is_variation_selector}
 use Rattle.ucd_props.specs.Ranges.{variation_selector_ranges}
-use Rattle.shape_unicode.specs.Hidden.{is_seen_early, is_seen_between, is_seen_late, is_unseen_early, is_between_selectors, is_seen_though_ignorable, is_ignorable, is_mongolian}
+use Rattle.shape_unicode.specs.Hidden.{is_seen_early, is_seen_between, is_seen_late, is_unseen_early, is_between_selectors, is_seen_though_ignorable, is_ignorable, is_mongolian, is_selector}
 use Rattle.shape_unicode.specs.Mirror.{is_between_brackets, is_before_angles}
 
 -- no range has a code point from a to b, except for x and y
@@ -71,6 +71,56 @@ unseen_early c early =
     (grind (arith, nat_tests, early)) (grind (arith, nat_tests, early)) in
     let unseen : is_seen_though_ignorable c ≡ false = grind (arith, nat_tests, early) in
     ap₂ (λ t s. t && not s) ignorable unseen
+
+-- no character of a range is unseen in which the database has the filler of Hangul alone, which is shown
+seen_from : (a b c : ℕ) → none_between a b 0x3164 0x3164 default_ignorable_code_point_ranges ≡ true → a ≤ c → c ≤ b → is_ignorable c ≡ false
+unfolding is_default_ignorable_code_point
+seen_from a b c none from to =
+    elim (cases_Bool (c == 0x3164)) [
+      | inl filler ↦
+          let shown : is_seen_though_ignorable c ≡ true = grind (arith, nat_tests, filler) in
+          and_right (is_default_ignorable_code_point c) (not (is_seen_though_ignorable c)) (ap not shown)
+      | inr other ↦
+          ap (λ t. t && not (is_seen_though_ignorable c))
+          (in_ranges-none a b 0x3164 0x3164 default_ignorable_code_point_ranges c none from to other other)
+    ]
+
+-- punctuation, symbols and the letters of East Asia, without the marks of direction and the invisible operators
+pub seen_middle : (c : ℕ)
+    → (nat_lt 0x200F c && nat_lt c 0xFE00
+    && not ((nat_le 0x202A c && nat_le c 0x202E) || (nat_le 0x2060 c && nat_le c 0x206F))) ≡ true
+    → is_ignorable c ≡ false
+unfolding tables none_between default_ignorable_code_point_ranges
+seen_middle c middle =
+    elim (cases_Bool (nat_lt c 0x202A)) [
+      | inl before ↦ seen_from 0x2010 0x2029 c refl (grind (arith, nat_tests, middle)) (grind (arith, nat_tests, before))
+      | inr past ↦
+          elim (cases_Bool (nat_lt c 0x2060)) [
+            | inl between ↦
+                seen_from 0x202F 0x205F c refl (grind (arith, nat_tests, past, middle)) (grind (arith, nat_tests, between))
+            | inr beyond ↦
+                seen_from 0x2070 0xFDFF c refl (grind (arith, nat_tests, beyond, middle)) (grind (arith, nat_tests, middle))
+          ]
+    ]
+
+-- the variation selectors of the basic plane are unseen
+pub unseen_selectors : (c : ℕ) → (nat_le 0xFE00 c && nat_le c 0xFE0F) ≡ true → is_ignorable c ≡ true
+unfolding tables has_all is_default_ignorable_code_point default_ignorable_code_point_ranges
+unseen_selectors c basic =
+    let ignorable : is_default_ignorable_code_point c ≡ true =
+    in_ranges-all 0xFE00 0xFE0F default_ignorable_code_point_ranges c refl
+    (grind (arith, nat_tests, basic)) (grind (arith, nat_tests, basic)) in
+    let unseen : is_seen_though_ignorable c ≡ false = grind (arith, nat_tests, basic) in
+    ap₂ (λ t s. t && not s) ignorable unseen
+
+pub basic_selectors : (c : ℕ) → (nat_le 0xFE00 c && nat_le c 0xFE0F) ≡ true → is_selector c ≡ true
+unfolding tables has_all is_variation_selector variation_selector_ranges
+basic_selectors c basic =
+    let selector : is_variation_selector c ≡ true =
+    in_ranges-all 0xFE00 0xFE0F variation_selector_ranges c refl
+    (grind (arith, nat_tests, basic)) (grind (arith, nat_tests, basic)) in
+    let elsewhere : is_mongolian c ≡ false = grind (arith, nat_tests, basic) in
+    ap₂ (λ t s. t && not s) selector elsewhere
 
 pub not_mirrored_before_angles : (c : ℕ) → is_before_angles c ≡ true → is_bidi_mirrored c ≡ false
 unfolding tables none_between is_bidi_mirrored bidi_mirrored_ranges

@@ -1,5 +1,5 @@
 //! Characters that are unseen, and those that pick a variant of the one before them.
-ghost use Rattle.std.specs.Prelude.{◌≡◌};
+ghost use Rattle.std.specs.Prelude.{◌≡◌, ◌&&◌, ◌||◌, not, nat_le, nat_lt};
 ghost use Rattle.shape_unicode.specs.Hidden.{is_seen_though_ignorable, is_seen_early, is_seen_between, is_seen_late, is_unseen_early, is_ignorable, is_between_selectors, is_selector};
 
 /// Whether `c` is shown though the database has it as ignorable (HarfBuzz, `hb-unicode.hh`): the four
@@ -46,6 +46,34 @@ fn is_unseen_early(c: char) -> bool
     '\u{200A}' < c && c < '\u{2010}'
 }
 
+/// Whether `c` stands between U+200F and U+FE00, and neither among the marks of direction from U+202A on nor among
+/// the invisible operators from U+2060 on: no such character is unseen. So punctuation, symbols and the letters of
+/// East Asia are decided without the table.
+fn is_seen_middle(c: char) -> bool
+    ensures { result ≡ (nat_lt 0x200F c && nat_lt c 0xFE00
+        && not ((nat_le 0x202A c && nat_le c 0x202E) || (nat_le 0x2060 c && nat_le c 0x206F))) }
+{
+    '\u{200F}' < c
+        && c < '\u{FE00}'
+        && !matches!(c, '\u{202A}'..='\u{202E}' | '\u{2060}'..='\u{206F}')
+}
+
+/// Whether `c` is one of the sixteen variation selectors of the basic plane, all of which are unseen.
+fn is_basic_selector(c: char) -> bool
+    ensures { result ≡ (nat_le 0xFE00 c && nat_le c 0xFE0F) }
+{
+    matches!(c, '\u{FE00}'..='\u{FE0F}')
+}
+
+/// Whether `c` is unseen, by the table. A call of its own, so that what is decided before it stays part of the walk over
+/// a text.
+#[inline(never)]
+fn is_listed(c: char) -> bool
+    ensures { result ≡ is_ignorable c }
+{
+    ucd_derived::is_default_ignorable_code_point(c) && !is_seen_though_ignorable(c)
+}
+
 /// Whether `c` is unseen: the database has it as ignorable, and shaping doesn't show it.
 pub(crate) fn is_ignorable(c: char) -> bool
     ensures { result ≡ is_ignorable c }
@@ -59,10 +87,16 @@ pub(crate) fn is_ignorable(c: char) -> bool
     if is_unseen_early(c) {
         return true;
     }
+    if is_seen_middle(c) {
+        return false;
+    }
     if is_seen_late(c) {
         return false;
     }
-    ucd_derived::is_default_ignorable_code_point(c) && !is_seen_though_ignorable(c)
+    if is_basic_selector(c) {
+        return true;
+    }
+    is_listed(c)
 }
 
 /// Whether `c` stands between U+FE0F and U+E0100, where no character is a variation selector.
@@ -79,6 +113,9 @@ pub(crate) fn is_selector(c: char) -> bool
 {
     if c < '\u{FE00}' {
         return false;
+    }
+    if is_basic_selector(c) {
+        return true;
     }
     if is_between_selectors(c) {
         return false;

@@ -67,7 +67,9 @@ fn grow_left(kept: &mut [hb_glyph_info_t], starts: &[usize], first: u32, least: 
     give_to_last(kept, starts, &taken)
 }
 
-/// Merges a span, if the items before it stand as these runs; gives how many runs there are.
+/// Merges a span, if the items before it stand as these runs; gives how many runs there are. Kept out of line, since most
+/// graphemes are one item: inlined, it leaves no register to the walk over those.
+#[inline(never)]
 fn merge_after(infos: &mut [hb_glyph_info_t], starts: &[usize], start: usize, end: usize) -> usize
     requires ordered { start ≤ end }
     requires within { end ≤ length infos.old }

@@ -4,7 +4,8 @@
 //! on one another in this order: who positions (`GPOS` or `kerx`), who kerns if that leaves kerning out,
 //! and, since whoever positions or kerns may place marks, what is left to do for marks.
 //!
-//! Questions to the face and the engine have no effect, so all are asked of every face.
+//! Questions to the face and the engine have no effect, so all are asked of every face. Formulas have `&` and `|`, which
+//! don't branch: what several of them have in common is computed once.
 ghost use Rattle.std.specs.Prelude.{◌≡◌};
 ghost use Rattle.shape_plan.specs.Decisions as decision_rules;
 ghost use Rattle.shape_plan.specs.Planner;
@@ -91,65 +92,65 @@ impl PlanFacts {
     fn has_frac(&self) -> bool
         ensures { result ≡ decision_rules.has_frac self.now }
     {
-        is_on(self.frac_mask) || (is_on(self.numr_mask) && is_on(self.dnom_mask))
+        is_on(self.frac_mask) | (is_on(self.numr_mask) & is_on(self.dnom_mask))
     }
 
     /// Tracking is asked for, and the face has its table.
     fn apply_trak(&self) -> bool
         ensures { result ≡ decision_rules.apply_trak self.now }
     {
-        is_on(self.trak_mask) && self.tables.trak
+        is_on(self.trak_mask) & self.tables.trak
     }
 
     /// `GSUB` substitutes if `morx` doesn't.
     fn has_gsub(&self) -> bool
         ensures { result ≡ decision_rules.has_gsub self.now }
     {
-        !self.apply_morx && self.tables.gsub
+        !self.apply_morx & self.tables.gsub
     }
 
     fn has_gpos(&self) -> bool
         ensures { result ≡ decision_rules.has_gpos self.now }
     {
-        !self.disable_gpos && self.tables.gpos
+        !self.disable_gpos & self.tables.gpos
     }
 
     /// `kerx` goes before `GPOS`, unless `GSUB` and `GPOS` go together.
     fn prefers_kerx(&self) -> bool
         ensures { result ≡ decision_rules.prefers_kerx self.now }
     {
-        self.tables.kerx && !(self.has_gsub() && self.has_gpos())
+        self.tables.kerx & !(self.has_gsub() & self.has_gpos())
     }
 
     fn apply_gpos(&self) -> bool
         ensures { result ≡ decision_rules.apply_gpos self.now }
     {
-        !self.prefers_kerx() && self.has_gpos()
+        !self.prefers_kerx() & self.has_gpos()
     }
 
     /// Neither `kerx` nor a feature of `GPOS` kerns yet.
     fn lacks_kerning(&self) -> bool
         ensures { result ≡ decision_rules.lacks_kerning self.now }
     {
-        !self.prefers_kerx() && (!self.has_gpos_kern || !self.apply_gpos())
+        !self.prefers_kerx() & (!self.has_gpos_kern | !self.apply_gpos())
     }
 
     fn apply_kerx(&self) -> bool
         ensures { result ≡ decision_rules.apply_kerx self.now }
     {
-        self.prefers_kerx() || (self.lacks_kerning() && self.tables.kerx)
+        self.prefers_kerx() | (self.lacks_kerning() & self.tables.kerx)
     }
 
     fn apply_kern(&self) -> bool
         ensures { result ≡ decision_rules.apply_kern self.now }
     {
-        self.lacks_kerning() && (!self.tables.kerx && self.has_kerning)
+        self.lacks_kerning() & (!self.tables.kerx & self.has_kerning)
     }
 
     fn apply_fallback_kern(&self) -> bool
         ensures { result ≡ decision_rules.apply_fallback_kern self.now }
     {
-        !(self.apply_gpos() || (self.apply_kerx() || self.apply_kern()))
+        !(self.apply_gpos() | (self.apply_kerx() | self.apply_kern()))
     }
 
     /// As the given shaper prefers; but `kerx`, and `kern` with a state machine, see to marks themselves.
@@ -157,28 +158,27 @@ impl PlanFacts {
         ensures { result ≡ decision_rules.zero_marks self.now }
     {
         self.script_zero_marks
-            && (!self.apply_kerx() && (!self.apply_kern() || !self.has_machine_kerning))
+            & (!self.apply_kerx() & (!self.apply_kern() | !self.has_machine_kerning))
     }
 
     /// Nothing places marks: neither `GPOS` nor `kerx` nor a `kern` that moves glyphs across the line.
     fn adjusts(&self) -> bool
         ensures { result ≡ decision_rules.adjusts self.now }
     {
-        !self.apply_gpos()
-            && (!self.apply_kerx() && (!self.apply_kern() || !self.has_cross_kerning))
+        !self.apply_gpos() & (!self.apply_kerx() & (!self.apply_kern() | !self.has_cross_kerning))
     }
 
     fn fallback_mark_positioning(&self) -> bool
         ensures { result ≡ decision_rules.fallback_mark_positioning self.now }
     {
-        self.adjusts() && self.script_fallback_mark_positioning
+        self.adjusts() & self.script_fallback_mark_positioning
     }
 
     /// Faces with `morx` count on marks that are not moved back.
     fn adjust_when_zeroing(&self) -> bool
         ensures { result ≡ decision_rules.adjust_when_zeroing self.now }
     {
-        self.adjusts() && !self.apply_morx
+        self.adjusts() & !self.apply_morx
     }
 
     /// All decisions.

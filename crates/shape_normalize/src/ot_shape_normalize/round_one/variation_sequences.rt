@@ -23,7 +23,9 @@ fn variation_sequence_glyph<F: hb_font_t>(face: &F, part: &[hb_glyph_info_t]) ->
     face.glyph_variation_index(info.codepoint, selector.codepoint)
 }
 
-/// Adds the spans of the items of a sequence that become one with the selector after them.
+/// Adds the spans of the items of a sequence that become one with the selector after them. Kept out of line, since most
+/// sequences of a text hold no selector: inlined, it leaves no register to the walk over those.
+#[inline(never)]
 fn push_variation_sequences<U: hb_unicode_funcs_t, F: hb_font_t>(
     face: &F,
     start: usize,

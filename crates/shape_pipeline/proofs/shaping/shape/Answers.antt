@@ -1,20 +1,13 @@
-use Rattle.std.proofs.Common.{◌≡◌, ◌∙◌, ap, sym, refl, rules}
-use Rattle.shape_buffer.specs.Guess.{guessed_direction, guessed_script}
-use Rattle.shape_plan.specs.Plan.{known_script}
-use Rattle.shape_plan.proofs.PlannedLemmas.{direction-planned, script-planned, data-planned}
+use Rattle.std.proofs.Common.{◌≡◌, ◌∙◌, subst, rules}
+use Rattle.std.specs.Prelude.{IfErr}
+use Rattle.shape_items.specs.Buffer.{Buffer}
+use Rattle.shape_buffer.specs.Guess.{guessed}
+use Rattle.shape_buffer.specs.declared.buffer.error.ShapeError.TheVariants.{Length}
+use Rattle.shape_plan.proofs.PlannedLemmas.{data-planned}
+use Rattle.shape_plan.specs.Run.{run_of}
 use Rattle.shape_pipeline.specs.Planned.{planned_for}
+use Rattle.shape_pipeline.specs.Shaped.{ShapingPasses}
 use Rattle.shape_pipeline.proofs.shaping.shape.Goals as goal
-
-pub shape_with_plan-requires : goal.shape_with_plan-requires
-shape_with_plan-requires g c =
-    let unicode = g.U.hb_unicode_funcs_t.unicode in
-    let script : c.guessed_script-script.result ≡ guessed_script unicode c.args.buffer = search rules in
-    let direction : c.direction_by-direction.result ≡ guessed_direction unicode c.args.buffer =
-    c.direction_by-direction.ensures ∙ rw (c.as_inner-text.ensures, script) refl in
-    record {
-      direction = sym (ap (λ plan. plan.direction) c.in-Ok.ensures.plan ∙ direction-planned _ _ _ _ _ _ _ ∙ direction);
-      script = ap known_script (sym (ap (λ plan. plan.script) c.in-Ok.ensures.plan ∙ script-planned _ _ _ _ _ _ _ ∙ script));
-    }
 
 pub returns-in-Err-clause-data : goal.returns-in-Err-clause-data
 returns-in-Err-clause-data g c = data-planned _ _ _ _ _ _ _
@@ -22,6 +15,7 @@ returns-in-Err-clause-data g c = data-planned _ _ _ _ _ _ _
 pub returns-in-Ok-clause-ok : goal.returns-in-Ok-clause-ok
 returns-in-Ok-clause-ok g c =
     let unicode = g.U.hb_unicode_funcs_t.unicode in
+    let begins : c.into_inner-text.result ≡ guessed unicode c.args.buffer = c.into_inner-text.ensures ∙ c.guess_segment_properties.ensures in
     let made : c.in-Ok.plan ≡ planned_for unicode (record {
       faces = g.F.hb_font_t.face;
       layouts = g.M.hb_ot_layout_t.layout;
@@ -31,11 +25,12 @@ returns-in-Ok-clause-ok g c =
       overriding = g.S.hb_ot_shaper_t.overriding;
       made_data = g.S.hb_ot_shaper_t.made_data;
     }) c.args.face.now c.args.shaper.now c.args.features.now c.args.buffer = search rules in
-    rw (← made) c.shape_with_plan.ensures.ok
+    rw (← made) (c.shape_guessed.ensures.ok c.args.buffer begins)
 
 pub returns-in-Ok-clause-length : goal.returns-in-Ok-clause-length
 returns-in-Ok-clause-length g c =
     let unicode = g.U.hb_unicode_funcs_t.unicode in
+    let begins : c.into_inner-text.result ≡ guessed unicode c.args.buffer = c.into_inner-text.ensures ∙ c.guess_segment_properties.ensures in
     let made : c.in-Ok.plan ≡ planned_for unicode (record {
       faces = g.F.hb_font_t.face;
       layouts = g.M.hb_ot_layout_t.layout;
@@ -45,4 +40,6 @@ returns-in-Ok-clause-length g c =
       overriding = g.S.hb_ot_shaper_t.overriding;
       made_data = g.S.hb_ot_shaper_t.made_data;
     }) c.args.face.now c.args.shaper.now c.args.features.now c.args.buffer = search rules in
-    rw (← made) c.shape_with_plan.ensures.length
+    let run = run_of unicode g.M.hb_ot_layout_t.masks g.M.hb_ot_layout_t.lookups g.S.hb_ot_shaper_t.constants g.S.hb_ot_shaper_t.hooks g.F.hb_font_t.face c.in-Ok.plan c.args.face.now in
+    rw (← made) (subst (λ (b : Buffer). IfErr c.shape_guessed.result (λ fault. fault.cause ≡ Length → ShapingPasses run b.direction b))
+    begins c.shape_guessed.ensures.length)

@@ -1,52 +1,17 @@
-use Rattle.std.proofs.Common.{◌≡◌, ◌∙◌, ap, sym, subst, refl, rules, Err}
+use Rattle.std.proofs.Common.{◌≡◌, ◌∙◌, subst}
+use Rattle.std.specs.Prelude.{IfErr}
 use Rattle.shape_items.specs.Buffer.{Buffer}
-use Rattle.shape_buffer.specs.Guess.{guessed, guessed_direction}
-use Rattle.shape_common.specs.declared.text_types.Direction.{Direction}
-use Rattle.shape_normalize.proofs.Hooks.RulesLemmas.{used_reorder-lawful}
+use Rattle.shape_buffer.specs.Guess.{guessed}
+use Rattle.shape_buffer.specs.declared.buffer.error.ShapeError.TheVariants.{Length}
 use Rattle.shape_plan.specs.Run.{run_of}
-use Rattle.shape_pipeline.specs.Headline.{prepared_text, IsMadeOfNormalisedList, HasFlagsByCluster}
-use Rattle.shape_pipeline.specs.Order.{ClustersComeInOrder}
-use Rattle.shape_pipeline.proofs.CanonicalLemmas.{list_is_canonical}
-use Rattle.shape_pipeline.proofs.FlagRunLemmas.{flags-run_made}
-use Rattle.shape_pipeline.proofs.OrderLemmas.{clusters-run_made, target_of-known}
-use Rattle.shape_pipeline.proofs.RunLemmas.{made_of_list, normal_form, direction-made}
-use Rattle.shape_pipeline.specs.Shaped.{shaped, Shapes, ShapingPasses}
+use Rattle.shape_pipeline.specs.Shaped.{ShapingPasses}
 use Rattle.shape_pipeline.proofs.shaping.shape_with_plan.Goals as goal
 
-pub returns-in-Ok-clause-ok : goal.returns-in-Ok-clause-ok
-returns-in-Ok-clause-ok g c =
-    let shaper = g.S.hb_ot_shaper_t in
-    let layout = g.M.hb_ot_layout_t in
-    let unicode = g.U.hb_unicode_funcs_t.unicode in
-    let lawful_unicode = g.met.U.hb_unicode_funcs_t.lawful in
-    let run = run_of unicode layout.masks layout.lookups shaper.constants shaper.hooks g.F.hb_font_t.face c.args.plan.now c.args.face.now in
-    let lawful = used_reorder-lawful shaper.hooks g.met.S.hb_ot_shaper_t.lawful_hooks shaper.constants.has_reorder_marks c.args.plan.now c.args.face.now in
-    let masks = g.met.M.hb_ot_layout_t.lawful_masks c.args.plan.now.ot_map in
-    let target = guessed_direction unicode c.args.buffer in
-    let text = guessed unicode c.args.buffer in
-    let made : c.into_glyphs.result ≡ shaped run c.args.buffer = search rules in
-    let begins : c.into_inner-inner.result ≡ text = c.into_inner-inner.ensures ∙ c.guess_segment_properties.ensures in
-    let counted : Shapes run target text c.into_glyphs.result = search rules in
-    record {
-      glyphs = made;
-      direction = ap (λ (b : Buffer). b.direction) made ∙ direction-made run target text refl;
-      made = subst (λ (glyphs : Buffer). IsMadeOfNormalisedList run c.args.buffer glyphs) (sym made) (made_of_list run c.args.buffer);
-      form = normal_form run.rules lawful lawful_unicode (prepared_text run c.args.buffer);
-      canonical = list_is_canonical unicode layout.masks layout.lookups shaper.constants shaper.hooks g.F.hb_font_t.face
-          c.args.plan.now c.args.face.now lawful_unicode c.args.buffer;
-      clusters = subst (λ (glyphs : Buffer). ClustersComeInOrder run target text glyphs) (sym made)
-          (clusters-run_made run target (target_of-known run c.args.buffer) lawful text refl);
-      flags = λ preserves. subst (λ (glyphs : Buffer). HasFlagsByCluster c.args.buffer glyphs) (sym made)
-          (flags-run_made run target lawful masks c.masks_are_features.ensures preserves c.args.buffer text refl);
-      within = counted.within;
-      counted = counted;
-    }
+pub returns-clause-ok : goal.returns-clause-ok
+returns-clause-ok g c = c.shape_guessed.ensures.ok c.args.buffer (c.into_inner.ensures ∙ c.guess_segment_properties.ensures)
 
-pub returns-in-Err-clause-length : goal.returns-in-Err-clause-length
-returns-in-Err-clause-length g c = λ is.
+pub returns-clause-length : goal.returns-clause-length
+returns-clause-length g c =
     let run = run_of g.U.hb_unicode_funcs_t.unicode g.M.hb_ot_layout_t.masks g.M.hb_ot_layout_t.lookups g.S.hb_ot_shaper_t.constants g.S.hb_ot_shaper_t.hooks g.F.hb_font_t.face c.args.plan.now c.args.face.now in
-    let begins : c.into_inner-inner.result ≡ guessed g.U.hb_unicode_funcs_t.unicode c.args.buffer = c.into_inner-inner.ensures
-    ∙ c.guess_segment_properties.ensures in
-    subst (λ (b : Buffer). ShapingPasses run b.direction b) begins
-    (subst (λ (d : Direction). ShapingPasses run d c.into_inner-inner.result) c.direction-target_direction.ensures
-    (c.in-Err.ensures.length (ap Err is)))
+    let begins : c.into_inner.result ≡ guessed g.U.hb_unicode_funcs_t.unicode c.args.buffer = c.into_inner.ensures ∙ c.guess_segment_properties.ensures in
+    subst (λ (b : Buffer). IfErr c.shape_guessed.result (λ fault. fault.cause ≡ Length → ShapingPasses run b.direction b)) begins c.shape_guessed.ensures.length
