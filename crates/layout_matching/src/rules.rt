@@ -1,5 +1,5 @@
 //! Rules of context: what stands before, what is matched, what stands after, and the lookups that are applied then.
-ghost use Rattle.std.specs.Prelude.{◌≡◌, ◌<◌, ◌^◌};
+ghost use Rattle.std.specs.Prelude.{◌≡◌, ◌<◌, ◌+◌, ◌^◌, nat_le, length};
 ghost use Rattle.std.specs.Option.{IfSome};
 ghost use Rattle.layout_matching.specs.Rules;
 ghost use Rattle.layout_matching.specs.Rules.{row};
@@ -93,6 +93,18 @@ pub fn rule_at(table: &[u8], rules: usize, r: u32) -> Option<usize>
     ensures near { IfSome result (λ r. r < 2 ^ 37) }
 {
     offset16(table, rules, rules + 2 + 2 * r as usize)
+}
+
+/// How many bytes a rule has at least: how many glyphs it has, and how many lookups, or what is before and what is matched.
+const LEAST_RULE: usize = 4;
+
+/// Whether the table has the first bytes of a rule. One that hasn't matches nothing, and needn't be read.
+#[inline(always)]
+pub(crate) fn begins_inside(table: &[u8], place: usize) -> bool
+    requires { place < 2 ^ 37 }
+    ensures { result ≡ nat_le (place + 4) (length table.now) }
+{
+    place + LEAST_RULE <= table.len()
 }
 
 /// Whether the table has all bytes of a rule, of which the records of lookups come last.
