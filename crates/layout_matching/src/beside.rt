@@ -3,7 +3,6 @@
 //! A subtable without rules pays for the glyphs beside the place, which depend on the lookup alone: they are looked for once.
 ghost use Rattle.std.specs.Prelude.{◌≡◌, ◌<◌, ◌^◌, true, false, length};
 ghost use Rattle.std.specs.Option.{IfSome, option_and_then};
-ghost use Rattle.layout_tables.specs.Lookups.{subtable_count_of};
 ghost use Rattle.layout_matching.specs.Found as found_rules;
 ghost use Rattle.layout_matching.specs.Work;
 
