@@ -4,7 +4,7 @@
 //! marks between them, and after the last one, stand on the ligature from then on.
 ghost use Rattle.std.specs.Prelude.{◌≡◌, ◌<◌, ◌-◌, ◌+◌, ◌^◌, Some, length, true, IsTrue};
 ghost use Rattle.std.specs.Option.{IfSome};
-ghost use Rattle.layout_matching.specs.Loops.{times, first_some};
+ghost use Rattle.layout_matching.specs.Loops.{times};
 ghost use Rattle.layout_substitution.specs.Ligatures;
 ghost use Rattle.layout_substitution.specs.Applied.{with_as_many_after};
 
