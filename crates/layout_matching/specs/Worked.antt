@@ -62,7 +62,8 @@ pub record WorkedEnds : Type 0 where
   pub chain_cut : is_inside (words (1 ∷ 9 ∷ 1 ∷ 1 ∷ 9 ∷ 1 ∷ 0 ∷ [])) (chain_at_0 (words (1 ∷ 9 ∷ 1 ∷ 1 ∷ 9 ∷ 1 ∷ 0 ∷ []))) ≡ false
   -- the rule at 2 of a subtable of format 1: one glyph, and no lookup; at 4 its numbers are cut
   pub one_glyph : (l : Lookup) (items : List Item) (at : ℕ) → l.table.now ≡ one_glyph_alone
-      → option_map (λ found. found.span) (found_at (record l { positioning = false }) items (record { at = at; is_steady = true }) (record { kind = 5; start = 0 }) 2)
+      → option_map (λ found. found.span)
+      (found_at (record l { positioning = false }) items (record { at = at; is_steady = true }) (record { kind = 5; start = 0 }) 2)
       ≡ Some (record { start = at; last = at; end = at + 1 })
   pub past_the_end : (l : Lookup) (items : List Item) (origin : Origin) → l.table.now ≡ one_glyph_alone
       → found_at (record l { positioning = false }) items origin (record { kind = 5; start = 0 }) 4 ≡ None
