@@ -102,6 +102,19 @@ def row_behind(length):
     return head + EVERY + words(1, 1, 42)
 
 
+def list_behind(ranges):
+    """A chained context of ZWNJ, with a list behind it of so many ranges of glyphs, none of which
+    the font has."""
+    many = [number for i in range(ranges) for number in (60 + 2 * i, 60 + 2 * i, i)]
+    return words(3, 0, 1, 14, 1, 20, 0) + words(1, 1, 43) + words(2, ranges, *many)
+
+
+def rules_past(count):
+    """Contexts of format 1 whose rules all stand past the end of the table."""
+    head = 6 + 2 * GLYPHS
+    return words(1, head, 42, *[head + len(EVERY)] * 42, 0) + EVERY + words(count, *[65535] * count)
+
+
 def nulls(count, part):
     """A lookup of context of so many subtables that are NULL, and one that isn't."""
     return words(5, 0, count + 1, *[0] * count, 8 + 2 * count) + part

@@ -9,9 +9,9 @@ parts. Those that use up what a stage may ask for take up to five seconds, in st
 The worst fonts of earlier searches are named in tests/hostile/worst.txt (`search`).
 """
 from checks.bomb_tables import (EVERY, LOOP, ROW, alternates, context, cursive, features, gdef,
-                                grows, kern, layout, ligature_of_two, ligatures, lookup, marks_on,
-                                nulls, pairs, row_before, row_behind, rules, vain, variations,
-                                words)
+                                grows, kern, layout, ligature_of_two, ligatures, list_behind,
+                                lookup, marks_on, nulls, pairs, row_before, row_behind, rules,
+                                rules_past, vain, variations, words)
 from checks.fonts import add_table, bytes_of, new_font
 from checks.hostile_runs import LENGTH, SECONDS, Runs, add_run_options, need_all
 from checks.mutated import load_bases, mutated_font
@@ -90,6 +90,10 @@ BOMBS = {
     "rows of 10,000 glyphs": ({"GSUB": layout([lookup(6, [(1000, row_before(10000))])])}, "a"),
     "rows of 10,000 glyphs, backwards": (
         {"GSUB": layout([lookup(8, [(1000, row_behind(10000))])])}, "a"),
+    "rules past the table, 100 lookups": (
+        {"GSUB": layout([lookup(5, [rules_past(15000)])], shared=100)}, "a"),
+    "a list of 5,000 ranges, searched at each ZWNJ, 1,000 lookups": (
+        {"GSUB": layout([lookup(6, [list_behind(5000)])], shared=1000)}, "z"),
     "30,000 NULL subtables": ({"GSUB": layout([nulls(30000, vain())])}, "a"),
     "records that name nothing": (
         {"GSUB": layout([lookup(5, [context(1, [(9, 0)] * 10000)])], shared=1000)}, "a"),
@@ -126,13 +130,14 @@ BOMBS = {
 }
 
 
-# bombs that use up what a stage may ask for, or nearly
+# bombs that use up what a stage may ask for, or nearly; that of ZWNJ does too, and runs over the
+# whole text, where a search for the price of a look would take too long
 SPENT = {
     "calls itself twice", "calls itself at each of 64 places", "one lookup, named 20,000 times",
     "one subtable, named 30,000 times", "30,000 subtables of 100 lookups",
     "32,000 rules at one place", "32,000 rules, 100 lookups", "32,000 ligatures at one place",
     *(f"31,000 rules {kind}, 100 lookups" for kind in SHORT_ROWS),
-    "31,000 ligatures of two glyphs, 100 lookups",
+    "31,000 ligatures of two glyphs, 100 lookups", "rules past the table, 100 lookups",
     "sets without rules, nested, over marks", "skips half of the text, nested",
     "rows of 10,000 glyphs, backwards", "30,000 NULL subtables",
     "records that name nothing", "pairs, 1,000 lookups", "positions that call themselves twice",

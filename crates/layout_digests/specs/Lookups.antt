@@ -27,7 +27,8 @@ begins_at t positioning subtable glyph = if is_context_kind positioning subtable
 
 -- a set that holds the glyphs that subtable `i` of the lookup at a place begins at
 abbrev pub HasFirst : List ℕ → Bool → ℕ → ℕ → Digest → Type 0
-HasFirst t positioning place i d = (subtable : LookupSubtable) (glyph : ℕ) → subtable_of t (extension_kind positioning) place i ≡ Some subtable
+HasFirst t positioning place i d = (subtable : LookupSubtable) (glyph : ℕ)
+    → subtable_of t (extension_kind positioning) place i ≡ Some subtable
     → begins_at t positioning subtable glyph ≡ true → has d glyph ≡ true
 
 abbrev pub HasFirsts : List ℕ → Bool → ℕ → Digest → ℕ → Type 0

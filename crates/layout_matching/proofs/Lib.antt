@@ -6,3 +6,4 @@ pub mod TallyLemmas
 pub mod GlanceLemmas
 pub mod RefusalLemmas
 pub mod BesideLemmas
+pub mod PastLemmas

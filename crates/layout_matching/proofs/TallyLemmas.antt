@@ -3,7 +3,7 @@ use Rattle.std.proofs.Common.{◌≡◌, ℕ, ◌+◌, ◌*◌, Bool, true, fals
 use Rattle.shape_font.specs.Bytes.{u16_of}
 use Rattle.layout_tables.specs.declared.lookups.LookupSubtable.{LookupSubtable}
 use Rattle.layout_matching.specs.Found.{is_chained, is_context_subtable, class_place, rule_of}
-use Rattle.layout_matching.specs.Rules.{plain_rule, chained}
+use Rattle.layout_matching.specs.Rules.{chained}
 use Rattle.layout_matching.specs.Work.{rule_counted, ligature_rule, part_rule, counts_of, counted, counts_behind, chain_counts, counts_at, part_counts}
 use Rattle.layout_matching.specs.declared.lookup.Lookup.{Lookup}
 use Rattle.layout_matching.specs.declared.rules.Rule.{Rule}

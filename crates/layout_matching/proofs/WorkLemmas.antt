@@ -1,6 +1,6 @@
 -- what costs nothing
 use Prim.Native.Nat.{zero}
-use Rattle.std.proofs.Common.{◌≡◌, ℕ, suc, ◌+◌, ◌≤◌, ◌<◌, ◌&&◌, Bool, true, false, List, Option, Some, None, is_some, nat_eq, refl, sym, ap, ◌∙◌, arith, if◌then◌else◌}
+use Rattle.std.proofs.Common.{◌≡◌, ℕ, suc, ◌+◌, ◌≤◌, ◌<◌, ◌&&◌, Bool, true, false, List, Option, Some, None, is_some, nat_eq, refl, ap, ◌∙◌, arith, if◌then◌else◌}
 use Rattle.std.specs.Option.{option_and_then, option_map_or}
 use Rattle.shape_font.specs.Bytes.{u16_of}
 use Rattle.shape_items.specs.Items.{Item}
@@ -9,7 +9,7 @@ use Rattle.layout_tables.specs.declared.lookups.LookupSubtable.{LookupSubtable}
 use Rattle.layout_matching.specs.Found.{is_chained, is_context_subtable, whole_rule, is_first, number_of}
 use Rattle.layout_matching.specs.Loops.{steps}
 use Rattle.layout_matching.specs.Skipping.{nth}
-use Rattle.layout_matching.specs.Work.{is_whole, whole_charged, numbered_charged, subtable_charged, charged_at_subtable, is_paid, subtables_charged, lookup_charged}
+use Rattle.layout_matching.specs.Work.{numbered_charged, subtable_charged, charged_at_subtable, is_paid, subtables_charged, lookup_charged}
 use Rattle.layout_matching.specs.declared.lookup.Lookup.{Lookup}
 
 pub steps_still : {S : Type 0} (f : ℕ → S → Option S) (s : S) (n k : ℕ) → ((i : ℕ) → k ≤ i → i < k + n → f i s ≡ Some s)

@@ -58,7 +58,9 @@ rows_of t is_chain start = if nat_eq (u16_of t start) 1
 -- beside the first glyph of the rules
 abbrev pub glances_of : Lookup → List Item → Origin → Bool → RowTests → Glances
 glances_of l items origin is_chain rows = let first = nth items origin.at in record {
-  before = if is_chain then glance_before l (seek_around l first origin.is_steady (row rows.test rows.before 0 0)) items origin.at else Open;
+  before = if is_chain
+      then glance_before l (seek_around l first origin.is_steady (row rows.test rows.before 0 0)) items origin.at
+      else Open;
   input = glance_after l (seek_input l first (row rows.test rows.input 0 0)) items origin.at;
   after = if is_chain then glance_after l (seek_around l first true (row rows.test rows.after 0 0)) items origin.at else Open;
 }

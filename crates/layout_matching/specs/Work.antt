@@ -45,60 +45,16 @@ passed_before l items at n = option_map_or (λ j. at - j - n) (steps (λ k i. st
 
 -- ---- rules and ligatures
 
--- each glyph of a rule, each lookup that it names, and the rule
-abbrev pub rule_work : Rule → ℕ
-rule_work rule = rule.before.count + rule.input.count + rule.after.count + rule.count + 1
-
 -- before the first rule
 abbrev pub uncounted : ℕ → Tally
 uncounted left = record { left = left; before = 0; after = 0; tries = 0 }
 
-abbrev pub tallied : Rule → Tally → ℕ → Tally
-tallied rule s left = record {
-  left = left;
-  before = max s.before rule.before.count;
-  after = max s.after (rule.input.count - 1 + rule.after.count);
-  tries = min (s.tries + (rule.count + 1)) most_countable;
-}
-
-abbrev pub rule_counted : Rule → Tally → Option Tally
-rule_counted rule s = option_map (tallied rule s) (charged (rule_work rule) s.left)
-
--- what is passed over, and one for every four marks that are looked at for the ligature that a mark stands on
-abbrev pub passed_beside : Lookup → List Item → ℕ → Tally → ℕ
-passed_beside l items at s = min (passed_after l items at s.after + passed_before l items at s.before) most_countable
-
-abbrev pub passed : Lookup → List Item → ℕ → Tally → ℕ
-passed l items at s = min (passed_beside l items at s + marks_passed l items at / 4) most_countable
-
--- each time that is looked at too
-abbrev pub passed_charged : Lookup → List Item → ℕ → Tally → Option ℕ
-passed_charged l items at s = charged (min (s.tries * passed l items at s) most_countable) s.left
-
--- a rule of format 3 or kind 8 searches a list for each of its glyphs
-abbrev pub SEARCH_WORK : ℕ
-SEARCH_WORK = 7
-
-abbrev pub lists_charged : Rule → ℕ → Option ℕ
-lists_charged rule left = charged ((rule.before.count + rule.input.count + rule.after.count) * SEARCH_WORK) left
-
-abbrev pub counted_charged : Lookup → List Item → ℕ → Rule → ℕ → Option ℕ
-counted_charged l items at rule left = option_and_then (passed_charged l items at) (rule_counted rule (uncounted left))
-
-abbrev pub rule_charged : Lookup → List Item → ℕ → Rule → ℕ → Option ℕ
-rule_charged l items at rule left = option_and_then (counted_charged l items at rule) (lists_charged rule left)
-
--- a ligature as a rule, whose components are counted after its glyph
-abbrev pub ligature_rule : List ℕ → ℕ → Rule
-ligature_rule t place = let none = row Glyph 0 0 0 in
-    record { before = none; input = row Glyph 0 (u16_of t (place + 2)) 0; after = none; lookups = 0; count = 0 }
-
--- ---- rules by their counts alone
-
+-- how many glyphs a rule has before its place, from there on and behind these, and how many lookups it names
 abbrev pub counts_of : Rule → Counts
 counts_of rule =
     record { before = rule.before.count; input = rule.input.count; after = rule.after.count; lookups = rule.count }
 
+-- each of its glyphs, each of its lookups, and the rule
 abbrev pub counts_work : Counts → ℕ
 counts_work c = c.before + c.input + c.after + c.lookups + 1
 
@@ -112,6 +68,48 @@ counts_tallied c s left = record {
 
 abbrev pub counted : Counts → Tally → Option Tally
 counted c s = option_map (counts_tallied c s) (charged (counts_work c) s.left)
+
+abbrev pub rule_counted : Rule → Tally → Option Tally
+rule_counted rule s = counted (counts_of rule) s
+
+abbrev pub passed_beside : Lookup → List Item → ℕ → Tally → ℕ
+passed_beside l items at s = min (passed_after l items at s.after + passed_before l items at s.before) most_countable
+
+-- what is passed over, each for so much, and one for every four marks that are looked at for the ligature that a mark stands on
+abbrev pub passed : Lookup → List Item → ℕ → ℕ → Tally → ℕ
+passed l items at each s =
+    min (min (passed_beside l items at s * each) most_countable + marks_passed l items at / 4) most_countable
+
+-- each time that is looked at too
+abbrev pub passed_charged : Lookup → List Item → ℕ → ℕ → Tally → Option ℕ
+passed_charged l items at each s = charged (min (s.tries * passed l items at each s) most_countable) s.left
+
+-- a glyph that is compared with another one, or whose class is
+abbrev pub COMPARED : ℕ
+COMPARED = 1
+
+-- a rule of format 3 or kind 8 searches a list for each of its glyphs, and for each that it passes over, which may be the one
+abbrev pub SEARCH_WORK : ℕ
+SEARCH_WORK = 7
+
+abbrev pub SEARCHED : ℕ
+SEARCHED = COMPARED + SEARCH_WORK
+
+abbrev pub lists_charged : Rule → ℕ → Option ℕ
+lists_charged rule left = charged ((rule.before.count + rule.input.count + rule.after.count) * SEARCH_WORK) left
+
+abbrev pub counted_charged : Lookup → List Item → ℕ → Rule → ℕ → Option ℕ
+counted_charged l items at rule left = option_and_then (passed_charged l items at SEARCHED) (rule_counted rule (uncounted left))
+
+abbrev pub rule_charged : Lookup → List Item → ℕ → Rule → ℕ → Option ℕ
+rule_charged l items at rule left = option_and_then (counted_charged l items at rule) (lists_charged rule left)
+
+-- a ligature as a rule, whose components are counted after its glyph
+abbrev pub ligature_rule : List ℕ → ℕ → Rule
+ligature_rule t place = let none = row Glyph 0 0 0 in
+    record { before = none; input = row Glyph 0 (u16_of t (place + 2)) 0; after = none; lookups = 0; count = 0 }
+
+-- ---- rules by their counts alone
 
 -- those of a rule of format 1 or 2 at a place; in a chained one the rows follow one after the other
 abbrev pub counts_behind : List ℕ → ℕ → ℕ → ℕ → Counts
@@ -159,7 +157,7 @@ set_counted l subtable left set =
     steps (part_counted l subtable set) (fitting l.table.now (u16_of l.table.now set) (set + 2) 2) 0 (beside left)
 
 abbrev pub set_charged : Lookup → List Item → ℕ → LookupSubtable → ℕ → ℕ → Option ℕ
-set_charged l items at subtable left set = option_and_then (passed_charged l items at) (set_counted l subtable left set)
+set_charged l items at subtable left set = option_and_then (passed_charged l items at COMPARED) (set_counted l subtable left set)
 
 -- ---- subtables
 
@@ -200,7 +198,7 @@ abbrev pub parts_charged : Lookup → List Item → ℕ → LookupSubtable → �
 parts_charged l items at subtable number left = if is_backward l subtable
     then rule_charged l items at (backward_rule l.table.now subtable.start) left
     else option_map_or (set_charged l items at subtable left)
-    (parts_for l subtable (nth items at).glyph_id number) (passed_charged l items at (beside left))
+    (parts_for l subtable (nth items at).glyph_id number) (passed_charged l items at COMPARED (beside left))
 
 abbrev pub numbered_charged : Lookup → List Item → ℕ → LookupSubtable → ℕ → ℕ → Option ℕ
 numbered_charged l items at subtable left number =
@@ -219,7 +217,8 @@ is_whole l subtable = is_context_subtable l subtable && nat_eq (u16_of l.table.n
 -- a subtable that doesn't begin with the glyph is free
 abbrev pub subtable_charged : Lookup → List Item → ℕ → ℕ → LookupSubtable → Option ℕ
 subtable_charged l items at left subtable = if is_whole l subtable then whole_charged l items at subtable left
-    else option_map_or (numbered_charged l items at subtable left) (number_of l.table.now subtable.start (nth items at).glyph_id) (Some left)
+    else option_map_or (numbered_charged l items at subtable left)
+    (number_of l.table.now subtable.start (nth items at).glyph_id) (Some left)
 
 abbrev pub charged_at_subtable : Lookup → List Item → ℕ → ℕ → ℕ → Option ℕ
 charged_at_subtable l items at i left = option_map_or (subtable_charged l items at left) (subtable_at l i) (Some left)

@@ -1,10 +1,11 @@
 -- Rules of context, computed by hand on tables of 16-bit words.
 pub mod Work
 pub mod Glance
-use Rattle.std.specs.Prelude.{◌≡◌, ℕ, Bool, List, [], ◌∷◌, Some, None, true, false, refl}
+use Rattle.std.specs.Prelude.{◌≡◌, ℕ, ◌+◌, Bool, List, [], ◌∷◌, Some, None, true, false, refl}
 use Rattle.shape_font.specs.Worked.Glyphs.{words}
 use Rattle.shape_items.specs.Items.{Item}
-use Rattle.layout_matching.specs.Found.{found_if, is_context, set_by_class, rule_of}
+use Rattle.std.specs.Option.{option_map}
+use Rattle.layout_matching.specs.Found.{found_if, found_at, is_context, set_by_class, rule_of}
 use Rattle.layout_matching.specs.Rules.{fits_row, is_inside, plain_rule, chained}
 use Rattle.layout_matching.specs.declared.lookup.Lookup.{Lookup}
 use Rattle.layout_matching.specs.declared.rules.Rule.{Rule}
@@ -42,6 +43,10 @@ worked_null_classes = record {
 abbrev pub records_cut : List ℕ
 records_cut = words (1 ∷ 3 ∷ 0 ∷ 1 ∷ [])
 
+-- format 1, and a rule of one glyph
+abbrev pub one_glyph_alone : List ℕ
+one_glyph_alone = words (1 ∷ 1 ∷ 0 ∷ [])
+
 abbrev pub rule_at_0 : List ℕ → Rule
 rule_at_0 t = plain_rule t Glyph 0 0 4
 
@@ -55,6 +60,13 @@ pub record WorkedEnds : Type 0 where
   pub value_missing : is_inside (words (2 ∷ 0 ∷ [])) (rule_at_0 (words (2 ∷ 0 ∷ []))) ≡ false
   pub chain : is_inside (words (1 ∷ 9 ∷ 1 ∷ 1 ∷ 9 ∷ 1 ∷ 0 ∷ 1 ∷ [])) (chain_at_0 (words (1 ∷ 9 ∷ 1 ∷ 1 ∷ 9 ∷ 1 ∷ 0 ∷ 1 ∷ []))) ≡ true
   pub chain_cut : is_inside (words (1 ∷ 9 ∷ 1 ∷ 1 ∷ 9 ∷ 1 ∷ 0 ∷ [])) (chain_at_0 (words (1 ∷ 9 ∷ 1 ∷ 1 ∷ 9 ∷ 1 ∷ 0 ∷ []))) ≡ false
+  -- the rule at 2 of a subtable of format 1: one glyph, and no lookup; at 4 its numbers are cut
+  pub one_glyph : (l : Lookup) (items : List Item) (at : ℕ) → l.table.now ≡ one_glyph_alone
+      → option_map (λ found. found.span)
+      (found_at (record l { positioning = false }) items (record { at = at; is_steady = true }) (record { kind = 5; start = 0 }) 2)
+      ≡ Some (record { start = at; last = at; end = at + 1 })
+  pub past_the_end : (l : Lookup) (items : List Item) (origin : Origin) → l.table.now ≡ one_glyph_alone
+      → found_at (record l { positioning = false }) items origin (record { kind = 5; start = 0 }) 4 ≡ None
   pub cut_matches_nothing : (l : Lookup) (items : List Item) (origin : Origin) → l.table.now ≡ records_cut
       → found_if l items origin (rule_at_0 records_cut) ≡ None
 
@@ -66,6 +78,8 @@ worked_ends = record {
   value_missing = refl;
   chain = refl;
   chain_cut = refl;
+  one_glyph = λ l items at t. rw t refl;
+  past_the_end = λ l items origin t. rw t refl;
   cut_matches_nothing = λ l items origin t. rw t refl;
 }
 

@@ -3,31 +3,18 @@
 //! A subtable without rules pays for the glyphs beside the place, which depend on the lookup alone: they are looked for once.
 ghost use Rattle.std.specs.Prelude.{◌≡◌, ◌<◌, ◌^◌, true, false, length};
 ghost use Rattle.std.specs.Option.{IfSome, option_and_then};
-ghost use Rattle.layout_tables.specs.Lookups.{subtable_count_of};
 ghost use Rattle.layout_matching.specs.Found as found_rules;
 ghost use Rattle.layout_matching.specs.Work;
 
 use crate::found::{is_context_subtable, number_in, subtable_at};
-use crate::input::marks_passed;
 use crate::lookup::Lookup;
-use crate::passing::{passed_after, passed_before};
-use crate::sets::MARKS_PART;
-use crate::tally::charged;
+use crate::sets::{COMPARED, passed};
+use crate::tally::{beside, charged};
 use crate::work::{SUBTABLE_WORK, charged_at_subtable};
 use layout_buffer::ItemList;
 use layout_tables::lookups::{LookupSubtable, subtable_count};
 
-/// How many glyphs are passed over beside the place.
-fn passed(lookup: &Lookup<'_>, items: &ItemList<'_>, at: usize) -> usize
-    requires { at < length items.now }
-    ensures { result ≡ Work.passed lookup.now items.now at (Work.beside 0) }
-{
-    let before = passed_before(lookup, items, at, 1);
-    let beside = passed_after(lookup, items, at, 1).saturating_add(before);
-    beside.saturating_add(marks_passed(lookup, items, at) / MARKS_PART)
-}
-
-/// The same, counted unless it is known.
+/// What is passed over beside the place, counted unless it is known.
 fn known_passed(
     lookup: &Lookup<'_>,
     items: &ItemList<'_>,
@@ -36,15 +23,15 @@ fn known_passed(
 ) -> usize
     requires inside { at < length items.now }
     requires known { IfSome known.old
-        (λ n. n ≡ Work.passed lookup.now items.now at (Work.beside 0)) }
-    ensures value { result ≡ Work.passed lookup.now items.now at (Work.beside 0) }
+        (λ n. n ≡ Work.passed lookup.now items.now at Work.COMPARED (Work.beside 0)) }
+    ensures value { result ≡ Work.passed lookup.now items.now at Work.COMPARED (Work.beside 0) }
     ensures known { IfSome known.new
-        (λ n. n ≡ Work.passed lookup.now items.now at (Work.beside 0)) }
+        (λ n. n ≡ Work.passed lookup.now items.now at Work.COMPARED (Work.beside 0)) }
 {
     match *known {
         Some(count) => count,
         None => {
-            let count = passed(lookup, items, at);
+            let count = passed(lookup, items, at, COMPARED, beside(0));
             *known = Some(count);
             count
         }
@@ -61,12 +48,12 @@ fn begun_charged(
 ) -> Option<usize>
     requires inside { at < length items.now }
     requires known { IfSome known.old
-        (λ n. n ≡ Work.passed lookup.now items.now at (Work.beside 0)) }
+        (λ n. n ≡ Work.passed lookup.now items.now at Work.COMPARED (Work.beside 0)) }
     ensures left { result ≡ option_and_then
-        (Work.charged (Work.passed lookup.now items.now at (Work.beside 0)))
+        (Work.charged (Work.passed lookup.now items.now at Work.COMPARED (Work.beside 0)))
         (Work.charged Work.SUBTABLE_WORK left) }
     ensures known { IfSome known.new
-        (λ n. n ≡ Work.passed lookup.now items.now at (Work.beside 0)) }
+        (λ n. n ≡ Work.passed lookup.now items.now at Work.COMPARED (Work.beside 0)) }
 {
     match charged(SUBTABLE_WORK, left) {
         Some(left) => charged(known_passed(lookup, items, at, known), left),
@@ -89,10 +76,10 @@ fn part_charged(
     requires positions { lookup.now.positioning ≡ true }
     requires plain { found_rules.is_context_subtable lookup.now subtable ≡ false }
     requires known { IfSome known.old
-        (λ n. n ≡ Work.passed lookup.now items.now at (Work.beside 0)) }
+        (λ n. n ≡ Work.passed lookup.now items.now at Work.COMPARED (Work.beside 0)) }
     ensures left { result ≡ Work.subtable_charged lookup.now items.now at left subtable }
     ensures known { IfSome known.new
-        (λ n. n ≡ Work.passed lookup.now items.now at (Work.beside 0)) }
+        (λ n. n ≡ Work.passed lookup.now items.now at Work.COMPARED (Work.beside 0)) }
 {
     match number_in(lookup.table, subtable.start, items.item(at).glyph_id) {
         Some(_number) => begun_charged(lookup, items, at, left, known),
@@ -114,10 +101,10 @@ fn one_charged(
     requires inside { at < length items.now }
     requires positions { lookup.now.positioning ≡ true }
     requires known { IfSome known.old
-        (λ n. n ≡ Work.passed lookup.now items.now at (Work.beside 0)) }
+        (λ n. n ≡ Work.passed lookup.now items.now at Work.COMPARED (Work.beside 0)) }
     ensures left { result ≡ Work.charged_at_subtable lookup.now items.now at i left }
     ensures known { IfSome known.new
-        (λ n. n ≡ Work.passed lookup.now items.now at (Work.beside 0)) }
+        (λ n. n ≡ Work.passed lookup.now items.now at Work.COMPARED (Work.beside 0)) }
 {
     match subtable_at(lookup, i) {
         Some(subtable) if !is_context_subtable(lookup, subtable) => {

@@ -9,7 +9,7 @@ ghost use Rattle.layout_matching.specs.Glance as glances;
 use crate::formats::{is_first, rows_of, rule_by, set_for, whole_rule};
 use crate::glance::{Glances, glances_around, is_refused};
 use crate::lookup::Lookup;
-use crate::rules::{Rule, is_inside, rule_at};
+use crate::rules::{Rule, begins_inside, is_inside, rule_at};
 use crate::spans::{Origin, Span, span_at};
 use layout_buffer::ItemList;
 use layout_tables::coverage::coverage_index;
@@ -121,7 +121,7 @@ fn found_at(
 }
 
 /// The same, by what the glyphs around say. Most rules are refused here, by a few numbers.
-#[tactic(auto, using(crate::proofs::RefusalLemmas::refused_rule))]
+#[tactic(auto, using(crate::proofs::RefusalLemmas::refused_rule, crate::proofs::PastLemmas::found_past))]
 #[inline(always)]
 fn found_unless_refused(
     lookup: &Lookup<'_>,
@@ -139,6 +139,9 @@ fn found_unless_refused(
         ≡ found_rules.found_at lookup.now items.now origin set.now.subtable place }
     ensures last { IfSome result (λ f. f.span.last < length items.now) }
 {
+    if !begins_inside(lookup.table, place) {
+        return None;
+    }
     let is_chain = is_chained(lookup, set.subtable);
     if is_refused(lookup.table, &set.around, is_chain, place) {
         return None;

@@ -2,13 +2,14 @@
 //!
 //! Of a chained rule whose own glyphs aren't all there HarfBuzz marks nothing. Nothing is changed here.
 ghost use Rattle.std.specs.Prelude.{◌≡◌, ◌<◌, ◌^◌, length};
+ghost use Rattle.layout_matching.specs.Found as found_rules;
 ghost use Rattle.layout_matching.specs.Tried;
 
 use crate::formats::{is_first, rule_by, set_for, whole_rule};
 use crate::found::{is_chained, is_context_subtable, number_in, subtable_at};
 use crate::input::match_input;
 use crate::lookup::Lookup;
-use crate::rules::{Rule, is_inside, rule_at};
+use crate::rules::{Rule, begins_inside, is_inside, rule_at};
 use crate::seeking::{last_after, last_before};
 use crate::spans::{Origin, seek_around};
 use crate::tried::{Reach, after_end, before_start, input_end, joined, match_at, untried, vain};
@@ -124,6 +125,31 @@ fn whole_reach(
     }
 }
 
+/// How far the rule at a place of the table looked.
+#[tactic(auto, using(crate::proofs::PastLemmas::reach_past))]
+fn reach_by_place(
+    lookup: &Lookup<'_>,
+    items: &ItemList<'_>,
+    origin: Origin,
+    subtable: LookupSubtable,
+    place: usize,
+) -> Reach
+    requires near { subtable.start < 2 ^ 35 }
+    requires place { place < 2 ^ 37 }
+    requires inside { origin.at < length items.now }
+    ensures { result ≡ Tried.rule_reach lookup.now items.now origin
+        (found_rules.is_chained lookup.now subtable)
+        (found_rules.rule_of lookup.now.table.now (found_rules.is_chained lookup.now subtable)
+        subtable.start place) }
+{
+    if !begins_inside(lookup.table, place) {
+        return untried(origin.at);
+    }
+    let is_chain = is_chained(lookup, subtable);
+    let rule = rule_by(lookup.table, is_chain, subtable.start, place);
+    rule_reach(lookup, items, origin, is_chain, &rule)
+}
+
 /// How far rule `r` of those at `set` looked.
 fn reach_by_rule(
     lookup: &Lookup<'_>,
@@ -140,11 +166,7 @@ fn reach_by_rule(
     ensures { result ≡ Tried.rule_reach_in lookup.now items.now origin subtable set r }
 {
     match rule_at(lookup.table, set, r) {
-        Some(place) => {
-            let is_chain = is_chained(lookup, subtable);
-            let rule = rule_by(lookup.table, is_chain, subtable.start, place);
-            rule_reach(lookup, items, origin, is_chain, &rule)
-        }
+        Some(place) => reach_by_place(lookup, items, origin, subtable, place),
         None => untried(origin.at),
     }
 }

@@ -1,5 +1,5 @@
 //! Rules of context: what stands before, what is matched, what stands after, and the lookups that are applied then.
-ghost use Rattle.std.specs.Prelude.{◌≡◌, ◌<◌, ◌^◌};
+ghost use Rattle.std.specs.Prelude.{◌≡◌, ◌<◌, ◌+◌, ◌^◌, nat_le, length};
 ghost use Rattle.std.specs.Option.{IfSome};
 ghost use Rattle.layout_matching.specs.Rules;
 ghost use Rattle.layout_matching.specs.Rules.{row};
@@ -57,7 +57,7 @@ fn is_named(table: &[u8], from: usize, value: u16, glyph: u32, test: Test) -> bo
 
 /// Whether a glyph is number `k` of a row.
 #[inline(always)]
-pub fn fits_row(table: &[u8], row: &Row, k: u32, glyph: u32) -> bool
+pub(crate) fn fits_row(table: &[u8], row: &Row, k: u32, glyph: u32) -> bool
     ensures { result ≡ Rules.fits_row table.now row.now k glyph }
 {
     let value = u16_at(table, row.values.min(FAR) + 2 * k as usize);
@@ -65,7 +65,7 @@ pub fn fits_row(table: &[u8], row: &Row, k: u32, glyph: u32) -> bool
 }
 
 /// Where the rules for glyph or class number `i` stand.
-pub fn rules(table: &[u8], start: usize, counted: usize, i: u32) -> Option<usize>
+pub(crate) fn rules(table: &[u8], start: usize, counted: usize, i: u32) -> Option<usize>
     requires start { start < 2 ^ 35 }
     requires counted { counted < 16 }
     ensures value { result ≡ Rules.rules_at table.now start counted i }
@@ -86,7 +86,7 @@ pub fn rules(table: &[u8], start: usize, counted: usize, i: u32) -> Option<usize
 
 /// Where rule `r` stands.
 #[inline(always)]
-pub fn rule_at(table: &[u8], rules: usize, r: u32) -> Option<usize>
+pub(crate) fn rule_at(table: &[u8], rules: usize, r: u32) -> Option<usize>
     requires rules { rules < 2 ^ 36 }
     requires r { r < 2 ^ 16 }
     ensures value { result ≡ Rules.rule_place table.now rules r }
@@ -95,8 +95,20 @@ pub fn rule_at(table: &[u8], rules: usize, r: u32) -> Option<usize>
     offset16(table, rules, rules + 2 + 2 * r as usize)
 }
 
+/// How many bytes a rule has at least: how many glyphs it has, and how many lookups, or what is before and what is matched.
+const LEAST_RULE: usize = 4;
+
+/// Whether the table has the first bytes of a rule. One that hasn't matches nothing, and needn't be read.
+#[inline(always)]
+pub(crate) fn begins_inside(table: &[u8], place: usize) -> bool
+    requires { place < 2 ^ 37 }
+    ensures { result ≡ nat_le (place + 4) (length table.now) }
+{
+    place + LEAST_RULE <= table.len()
+}
+
 /// Whether the table has all bytes of a rule, of which the records of lookups come last.
-pub fn is_inside(table: &[u8], rule: &Rule) -> bool
+pub(crate) fn is_inside(table: &[u8], rule: &Rule) -> bool
     ensures { result ≡ Rules.is_inside table.now rule.now }
 {
     rule.lookups <= table.len() && 4 * usize::from(rule.count) <= table.len() - rule.lookups
@@ -115,7 +127,7 @@ pub(crate) fn row_of(test: Test, from: usize, count: u16, values: usize) -> Row
 }
 
 /// A rule without what stands before and after.
-pub fn plain(table: &[u8], test: Test, from: usize, at: usize, values: usize) -> Rule
+pub(crate) fn plain(table: &[u8], test: Test, from: usize, at: usize, values: usize) -> Rule
     requires at { at < 2 ^ 38 }
     requires values { values < 2 ^ 38 }
     ensures { result ≡ Rules.plain_rule table.now test from at values }
@@ -142,7 +154,7 @@ pub struct RowTests {
 /// A rule with what stands before and after. `whole` is 1 if the first glyph has a value too, else 0.
 /// Inlined, as a rule has a hundred bytes, which each call would copy.
 #[inline(always)]
-pub fn chain(table: &[u8], rows: RowTests, whole: usize, at: usize) -> Rule
+pub(crate) fn chain(table: &[u8], rows: RowTests, whole: usize, at: usize) -> Rule
     requires at { at < 2 ^ 38 }
     requires whole { whole < 2 }
     ensures { result ≡ Rules.chained table.now rows.test rows.before rows.input rows.after whole at }

@@ -54,7 +54,7 @@ fn lets_past(lookup: &Lookup<'_>, seek: &Seek, k: u32, there: &hb_glyph_info_t) 
 
 /// Whether a glyph may stand before the one that is looked for.
 #[inline(always)]
-pub fn is_between(lookup: &Lookup<'_>, seek: &Seek, k: u32, there: &hb_glyph_info_t) -> bool
+pub(crate) fn is_between(lookup: &Lookup<'_>, seek: &Seek, k: u32, there: &hb_glyph_info_t) -> bool
     ensures { result ≡ Seeking.is_between lookup.now seek.now k there.now }
 {
     is_skipped(lookup, there)
@@ -156,7 +156,7 @@ pub(crate) fn distance_back(
 }
 
 /// Where glyph `k` of the row stands before place `i`.
-pub fn prev(
+pub(crate) fn prev(
     lookup: &Lookup<'_>,
     seek: &Seek,
     items: &ItemList<'_>,
@@ -220,7 +220,7 @@ pub fn last_before(
 
 /// Appends the places of `n` glyphs of a row after place `at`. Refuses with `Memory` alone.
 #[tactic(auto, using(crate::proofs::PlaceLemmas::places_pushed, crate::proofs::PlaceLemmas::places_none, crate::proofs::PlaceLemmas::places_end))]
-pub fn push_places(
+pub(crate) fn push_places(
     lookup: &Lookup<'_>,
     seek: &Seek,
     items: &ItemList<'_>,

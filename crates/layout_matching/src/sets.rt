@@ -16,26 +16,48 @@ use layout_tables::lookups::LookupSubtable;
 use shape_font::bytes::{records, u16_at};
 
 /// How many marks cost one that are looked at for the ligature that a mark stands on: nothing but their ligature is read.
-pub(crate) const MARKS_PART: usize = 4;
+const MARKS_PART: usize = 4;
+
+/// What a glyph costs that is passed over and compared with another one.
+pub(crate) const COMPARED: usize = 1;
+
+/// What a search of a list costs, beside the glyph that it is asked for.
+const SEARCH_WORK: usize = 7;
+
+/// What a glyph costs that is passed over and searched for in a list.
+const SEARCHED: usize = COMPARED + SEARCH_WORK;
+
+/// What a rule or a set passes over beside a place, `each` glyph for so much.
+pub(crate) fn passed(
+    lookup: &Lookup<'_>,
+    items: &ItemList<'_>,
+    at: usize,
+    each: usize,
+    count: Tally,
+) -> usize
+    requires { at < length items.now }
+    ensures { result ≡ Work.passed lookup.now items.now at each count }
+{
+    let before = passed_before(lookup, items, at, count.before);
+    let beside = passed_after(lookup, items, at, count.after).saturating_add(before);
+    let marks = marks_passed(lookup, items, at) / MARKS_PART;
+    beside.saturating_mul(each).saturating_add(marks)
+}
 
 /// What is left after what a rule or a set passes over, which is looked at each time.
 pub(crate) fn passed_charged(
     lookup: &Lookup<'_>,
     items: &ItemList<'_>,
     at: usize,
+    each: usize,
     count: Tally,
 ) -> Option<usize>
     requires { at < length items.now }
-    ensures { result ≡ Work.passed_charged lookup.now items.now at count }
+    ensures { result ≡ Work.passed_charged lookup.now items.now at each count }
 {
-    let before = passed_before(lookup, items, at, count.before);
-    let beside = passed_after(lookup, items, at, count.after).saturating_add(before);
-    let passed = beside.saturating_add(marks_passed(lookup, items, at) / MARKS_PART);
+    let passed = passed(lookup, items, at, each, count);
     charged(count.tries.saturating_mul(passed), count.left)
 }
-
-/// What a search of a list costs, beside the glyph that it is asked for.
-const SEARCH_WORK: usize = 7;
 
 /// What is left after the searches of a rule's lists: one for each glyph.
 fn lists_charged(rule: &Rule, left: usize) -> Option<usize>
@@ -57,7 +79,7 @@ fn counted_charged(
     ensures { result ≡ Work.counted_charged lookup.now items.now at rule.now left }
 {
     match rule_counted(rule, uncounted(left)) {
-        Some(count) => passed_charged(lookup, items, at, count),
+        Some(count) => passed_charged(lookup, items, at, SEARCHED, count),
         None => None,
     }
 }
@@ -155,7 +177,7 @@ pub(crate) fn set_charged(
     ensures { result ≡ Work.set_charged lookup.now items.now at subtable left set }
 {
     match set_counted(lookup, subtable, left, set) {
-        Some(count) => passed_charged(lookup, items, at, count),
+        Some(count) => passed_charged(lookup, items, at, COMPARED, count),
         None => None,
     }
 }

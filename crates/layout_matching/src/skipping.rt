@@ -82,7 +82,7 @@ pub fn is_on(lookup: &Lookup<'_>, item: &hb_glyph_info_t) -> bool
 }
 
 /// The syllable that a match which begins at the glyph stays in, 0 for any.
-pub fn syllable(lookup: &Lookup<'_>, item: &hb_glyph_info_t) -> u8
+pub(crate) fn syllable(lookup: &Lookup<'_>, item: &hb_glyph_info_t) -> u8
     ensures { result ≡ Skipping.syllable_of lookup.now item.now }
 {
     if lookup.per_syllable && !lookup.positioning {

@@ -162,7 +162,7 @@ pub fn after_end(lookup: &Lookup<'_>, seek: &Seek, items: &ItemList<'_>, n: u32,
 
 /// Where `n` glyphs before place `i` stopped that aren't all there.
 #[tactic(auto, using(crate::proofs::LoopLemmas::stopped_next, crate::proofs::LoopLemmas::stopped_none, crate::proofs::LoopLemmas::stopped_end))]
-pub fn before_start(
+pub(crate) fn before_start(
     lookup: &Lookup<'_>,
     seek: &Seek,
     items: &ItemList<'_>,

@@ -2,14 +2,28 @@
 use Rattle.std.specs.Prelude.{◌≡◌, ℕ, Bool, List, [], ◌∷◌, None, true, false, refl}
 use Rattle.shape_font.specs.Worked.Glyphs.{words}
 use Rattle.shape_common.specs.declared.general_category.hb_unicode_general_category_t.TheVariants.{NonspacingMark, OtherLetter}
-use Rattle.shape_items.specs.Buffer.{Buffer}
+use Rattle.shape_items.specs.Buffer.{Buffer, new_buffer}
 use Rattle.shape_items.specs.Items.{Item, new_item, new_properties}
-use Rattle.layout_matching.specs.declared.glance.Glance.TheVariants.{Closed, Only}
+use Rattle.layout_matching.specs.declared.glance.Glance.{Glance}
+use Rattle.layout_matching.specs.declared.glance.Glance.TheVariants.{Open, Closed, Only}
 use Rattle.layout_matching.specs.declared.lookup.Lookup.{Lookup}
-use Rattle.layout_substitution.specs.Ligatures.{ligature_matched, begins_with_another}
+use Rattle.layout_substitution.specs.Ligatures.{ligature_matched, second_glance, begins_with_another}
 use Rattle.layout_substitution.specs.Replaced.{replaced, is_multiplied, taken_apart, with_components, as_ligature}
 use Rattle.layout_substitution.specs.Start.{begun_item}
 use Rattle.layout_substitution.specs.Substitutes.{has_components}
+
+-- a lookup that skips no glyph, and passes over ZWJ within what it matches
+abbrev pub seeing_all : Lookup → Lookup
+seeing_all l = record l { flags = 0; mask = 1; positioning = false; auto_zwj = true; per_syllable = false }
+
+abbrev pub glyph : ℕ → Item
+glyph g = record (new_item 0 0) { glyph_id = g; mask = 1 }
+
+abbrev pub a_zwj : Item
+a_zwj = record (glyph 8) { properties = record new_properties { ignorable = true; zwj = true } }
+
+abbrev pub Glances : List Item → Glance → Type 0
+Glances items glance = (l : Lookup) → second_glance (seeing_all l) (record new_buffer { items = items }) 0 ≡ glance
 
 pub record WorkedLigatures : Type 0 where
   -- a glyph, a count with the first component, and the other components
@@ -17,6 +31,9 @@ pub record WorkedLigatures : Type 0 where
   pub second_missing : has_components (words (50 ∷ 2 ∷ [])) 0 ≡ false
   pub one_component : has_components (words (50 ∷ 1 ∷ [])) 0 ≡ true
   pub no_component : has_components (words (50 ∷ 0 ∷ [])) 0 ≡ false
+  pub next_glyph : Glances (glyph 5 ∷ glyph 6 ∷ glyph 7 ∷ []) (Only 6)
+  pub no_next_glyph : Glances (glyph 5 ∷ []) Closed
+  pub next_joiner : Glances (glyph 5 ∷ a_zwj ∷ glyph 7 ∷ []) Open
   -- the next glyph refuses a second component that is another one, and no ligature of one component
   pub another_second : begins_with_another (words (50 ∷ 2 ∷ 6 ∷ [])) (Only 7) 0 ≡ true
   pub the_second : begins_with_another (words (50 ∷ 2 ∷ 6 ∷ [])) (Only 6) 0 ≡ false
@@ -29,6 +46,9 @@ worked_ligatures = record {
   second_missing = refl;
   one_component = refl;
   no_component = refl;
+  next_glyph = λ l. refl;
+  no_next_glyph = λ l. refl;
+  next_joiner = λ l. refl;
   another_second = refl;
   the_second = refl;
   no_second_wanted = refl;

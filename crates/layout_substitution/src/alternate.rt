@@ -83,7 +83,7 @@ fn apply_random(
 }
 
 /// An alternate, by the value of the mask, or at random.
-pub fn apply_alternate(
+pub(crate) fn apply_alternate(
     lookup: &Lookup<'_>,
     start: usize,
     buffer: &mut GapBuffer,

@@ -59,7 +59,7 @@ pub(crate) fn replace(
 }
 
 /// One glyph for one.
-pub fn apply_single(
+pub(crate) fn apply_single(
     lookup: &Lookup<'_>,
     start: usize,
     buffer: &mut GapBuffer,
@@ -282,7 +282,7 @@ fn put_sequence(
 }
 
 /// Several glyphs for one.
-pub fn apply_multiple(
+pub(crate) fn apply_multiple(
     lookup: &Lookup<'_>,
     start: usize,
     buffer: &mut GapBuffer,
@@ -355,7 +355,7 @@ fn apply_set(lookup: &Lookup<'_>, buffer: &mut GapBuffer, spot: Spot, set: usize
 }
 
 /// One glyph for several.
-pub fn apply_ligature(
+pub(crate) fn apply_ligature(
     lookup: &Lookup<'_>,
     start: usize,
     buffer: &mut GapBuffer,

@@ -19,7 +19,7 @@ pub fn item(buffer: &GapBuffer, i: usize) -> hb_glyph_info_t
 }
 
 /// Replaces the item at a place.
-pub fn put(buffer: &mut GapBuffer, i: usize, item: hb_glyph_info_t)
+pub(crate) fn put(buffer: &mut GapBuffer, i: usize, item: hb_glyph_info_t)
     ensures { buffer.new ≡ Edits.put_at i item buffer.old }
 {
     if i < buffer.len() {
@@ -28,7 +28,7 @@ pub fn put(buffer: &mut GapBuffer, i: usize, item: hb_glyph_info_t)
 }
 
 /// Puts an item in after a place. Refuses as `insert` does.
-pub fn insert_after(
+pub(crate) fn insert_after(
     buffer: &mut GapBuffer,
     i: usize,
     item: hb_glyph_info_t,
@@ -46,7 +46,7 @@ pub fn insert_after(
 }
 
 /// Takes the item at a place out.
-pub fn take_out(buffer: &mut GapBuffer, i: usize)
+pub(crate) fn take_out(buffer: &mut GapBuffer, i: usize)
     ensures { buffer.new ≡ Edits.taken_out i buffer.old }
 {
     if i < buffer.len() {
@@ -55,7 +55,7 @@ pub fn take_out(buffer: &mut GapBuffer, i: usize)
 }
 
 /// Merges the clusters of a span.
-pub fn merge(buffer: &mut GapBuffer, start: usize, end: usize)
+pub(crate) fn merge(buffer: &mut GapBuffer, start: usize, end: usize)
     ensures { buffer.new ≡ Edits.merged start end buffer.old }
 {
     if start <= end && end <= buffer.len() {

@@ -4,7 +4,7 @@ ghost use Rattle.shape_items.specs.Buffer.{limit_of};
 ghost use Rattle.shape_buffer.specs.Outcome.{IsWithinLimit};
 ghost use Rattle.shape_buffer.specs.declared.buffer.error.ShapeError.TheVariants.{Length};
 ghost use Rattle.layout_substitution.specs.Edits.{is_past};
-ghost use Rattle.layout_substitution.specs.Kinds.{kind_applied, subtable_applied, subtables_applied, lookup_applied};
+ghost use Rattle.layout_substitution.specs.Kinds.{kind_applied, subtable_applied, lookup_applied};
 
 use crate::alternate::apply_alternate;
 use crate::apply::{Spot, apply_ligature, apply_multiple, apply_single};

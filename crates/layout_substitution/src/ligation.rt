@@ -26,7 +26,7 @@ fn give_id(buffer: &mut GapBuffer, own: bool) -> u8
 
 /// How the ligature is made; it is given its id.
 #[tactic(auto, using(crate::proofs::LigatureLemmas::length_given))]
-pub fn how_to_ligate(
+pub(crate) fn how_to_ligate(
     lookup: &Lookup<'_>,
     buffer: &mut GapBuffer,
     at: usize,

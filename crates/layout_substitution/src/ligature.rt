@@ -4,7 +4,7 @@
 //! marks between them, and after the last one, stand on the ligature from then on.
 ghost use Rattle.std.specs.Prelude.{◌≡◌, ◌<◌, ◌-◌, ◌+◌, ◌^◌, Some, length, true, IsTrue};
 ghost use Rattle.std.specs.Option.{IfSome};
-ghost use Rattle.layout_matching.specs.Loops.{times, first_some};
+ghost use Rattle.layout_matching.specs.Loops.{times};
 ghost use Rattle.layout_substitution.specs.Ligatures;
 ghost use Rattle.layout_substitution.specs.Applied.{with_as_many_after};
 
@@ -66,7 +66,7 @@ pub(crate) fn component_row(lookup: &Lookup<'_>, ligature: usize) -> Row
 }
 
 /// The components of the ligature from `at` on, at most 64.
-pub fn matched_at(
+pub(crate) fn matched_at(
     lookup: &Lookup<'_>,
     buffer: &GapBuffer,
     at: usize,
@@ -121,7 +121,12 @@ fn matched_in(
 
 /// The first ligature of the set whose components stand at `at`.
 #[tactic(auto, using(layout_matching::proofs::LoopLemmas::first_some_next, layout_matching::proofs::LoopLemmas::first_some_found, layout_matching::proofs::LoopLemmas::first_some_end))]
-pub fn found(lookup: &Lookup<'_>, buffer: &GapBuffer, at: usize, set: usize) -> Option<Components>
+pub(crate) fn found(
+    lookup: &Lookup<'_>,
+    buffer: &GapBuffer,
+    at: usize,
+    set: usize,
+) -> Option<Components>
     requires near { set < 2 ^ 36 }
     requires inside { at < length buffer.now.items }
     ensures value { result ≡ Ligatures.ligature_found lookup.now buffer.now at set }
@@ -380,7 +385,7 @@ fn left_after(buffer: &GapBuffer, last: usize) -> usize
 }
 
 /// Puts a ligature in place of its components. Returns where the lookup goes on.
-pub fn put_ligature(
+pub(crate) fn put_ligature(
     lookup: &Lookup<'_>,
     buffer: &mut GapBuffer,
     spot: Spot,

@@ -181,7 +181,7 @@ fn ligatures_reach(lookup: &Lookup<'_>, buffer: &GapBuffer, at: usize, set: usiz
 
 /// Marks what the ligatures of a set looked at in vain unsafe to concat, if the buffer asks for that.
 #[tactic(auto, using(crate::proofs::EditLemmas::concat_marked_unasked))]
-pub fn mark_tried(lookup: &Lookup<'_>, buffer: &mut GapBuffer, at: usize, set: usize)
+pub(crate) fn mark_tried(lookup: &Lookup<'_>, buffer: &mut GapBuffer, at: usize, set: usize)
     requires near { set < 2 ^ 36 }
     requires inside { at < length buffer.old.items }
     ensures made { buffer.new

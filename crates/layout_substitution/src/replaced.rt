@@ -9,7 +9,7 @@ use shape_common::{GlyphPropsFlags, hb_unicode_general_category_t};
 
 /// An item with the class of its glyph, and with the mark attachment class in the upper byte of `props`. A glyph that is no
 /// ligature any more counts as one component.
-pub fn with_class(props: u16, item: hb_glyph_info_t) -> hb_glyph_info_t
+pub(crate) fn with_class(props: u16, item: hb_glyph_info_t) -> hb_glyph_info_t
     ensures { result ≡ Replaced.with_class props item }
 {
     let mut item = item;
@@ -21,7 +21,7 @@ pub fn with_class(props: u16, item: hb_glyph_info_t) -> hb_glyph_info_t
 }
 
 /// Another glyph, of the class that the font says, or else of the one that is guessed, if it isn't 0.
-pub fn replaced(
+pub(crate) fn replaced(
     lookup: &Lookup<'_>,
     guess: u16,
     glyph: u32,
@@ -42,7 +42,7 @@ pub fn replaced(
 }
 
 /// How many components a glyph has: more than one only if its class is that of ligatures.
-pub fn components_of(item: &hb_glyph_info_t) -> u8
+pub(crate) fn components_of(item: &hb_glyph_info_t) -> u8
     ensures { result ≡ Replaced.components_of item.now }
 {
     if item._hb_glyph_info_get_glyph_class().0 & 4 != 0 {
@@ -53,7 +53,7 @@ pub fn components_of(item: &hb_glyph_info_t) -> u8
 }
 
 /// A mark on a component of a ligature, or a component of what one glyph was taken apart into.
-pub fn as_component(id: u8, component: u32, item: hb_glyph_info_t) -> hb_glyph_info_t
+pub(crate) fn as_component(id: u8, component: u32, item: hb_glyph_info_t) -> hb_glyph_info_t
     ensures { result ≡ Replaced.as_component id component item }
 {
     let mut item = item;
@@ -65,7 +65,7 @@ pub fn as_component(id: u8, component: u32, item: hb_glyph_info_t) -> hb_glyph_i
 
 /// Glyph number `i` of those that one is taken apart into: each is multiplied.
 #[tactic(auto, unfolding(crate::specs::Replaced::is_multiplied))]
-pub fn taken_apart(
+pub(crate) fn taken_apart(
     lookup: &Lookup<'_>,
     glyph: u32,
     i: u32,
@@ -105,7 +105,7 @@ fn with_components(id: u8, components: u32, item: hb_glyph_info_t) -> hb_glyph_i
 /// The ligature in place of its first component, which isn't multiplied any more. `own` if it isn't one of marks, or of a base
 /// and marks.
 #[tactic(auto, unfolding(crate::specs::Replaced::as_ligature))]
-pub fn as_ligature(
+pub(crate) fn as_ligature(
     lookup: &Lookup<'_>,
     own: bool,
     id: u8,

@@ -27,7 +27,7 @@ fn single_at(table: &[u8], start: usize, glyph: u32, i: u32) -> Option<u32>
 }
 
 /// The one glyph in place of this one.
-pub fn single(table: &[u8], start: usize, glyph: u32) -> Option<u32>
+pub(crate) fn single(table: &[u8], start: usize, glyph: u32) -> Option<u32>
     requires { start < 2 ^ 35 }
     ensures { result ≡ Substitutes.single_of table.now start glyph }
 {
@@ -51,7 +51,7 @@ fn set_at(table: &[u8], start: usize, i: u32) -> Option<usize>
 }
 
 /// Where the set of a glyph stands, in a subtable that has a set for each glyph of its list.
-pub fn set(table: &[u8], start: usize, glyph: u32) -> Option<usize>
+pub(crate) fn set(table: &[u8], start: usize, glyph: u32) -> Option<usize>
     requires { start < 2 ^ 35 }
     ensures value { result ≡ Substitutes.set_of table.now start glyph }
     ensures near { IfSome result (λ s. s < 2 ^ 36) }
@@ -95,7 +95,7 @@ fn alternate_at(table: &[u8], value: u32, set: usize) -> Option<u32>
 }
 
 /// The alternate of a glyph that this value picks.
-pub fn alternate(table: &[u8], start: usize, glyph: u32, value: u32) -> Option<u32>
+pub(crate) fn alternate(table: &[u8], start: usize, glyph: u32, value: u32) -> Option<u32>
     requires { start < 2 ^ 35 }
     ensures { result ≡ Substitutes.alternate_of table.now start glyph value }
 {
@@ -106,7 +106,7 @@ pub fn alternate(table: &[u8], start: usize, glyph: u32, value: u32) -> Option<u
 }
 
 /// Where ligature `i` of a set stands.
-pub fn ligature_at(table: &[u8], set: usize, i: u32) -> Option<usize>
+pub(crate) fn ligature_at(table: &[u8], set: usize, i: u32) -> Option<usize>
     requires near { set < 2 ^ 36 }
     requires few { i < 2 ^ 16 }
     ensures value { result ≡ offset16_of table.now set (set + 2 + 2 * i) }
@@ -116,7 +116,7 @@ pub fn ligature_at(table: &[u8], set: usize, i: u32) -> Option<usize>
 }
 
 /// The glyph of a ligature.
-pub fn ligature_glyph(table: &[u8], ligature: usize) -> u16
+pub(crate) fn ligature_glyph(table: &[u8], ligature: usize) -> u16
     requires { ligature < 2 ^ 37 }
     ensures { result ≡ Substitutes.ligature_glyph table.now ligature }
 {
@@ -124,7 +124,7 @@ pub fn ligature_glyph(table: &[u8], ligature: usize) -> u16
 }
 
 /// How many components a ligature has.
-pub fn components(table: &[u8], ligature: usize) -> u16
+pub(crate) fn components(table: &[u8], ligature: usize) -> u16
     requires { ligature < 2 ^ 37 }
     ensures { result ≡ Substitutes.component_count table.now ligature }
 {
@@ -132,7 +132,7 @@ pub fn components(table: &[u8], ligature: usize) -> u16
 }
 
 /// Whether a ligature has a component, and the table all of its bytes. The first component isn't listed.
-pub fn has_components(table: &[u8], ligature: usize) -> bool
+pub(crate) fn has_components(table: &[u8], ligature: usize) -> bool
     requires { ligature < 2 ^ 37 }
     ensures { result ≡ Substitutes.has_components table.now ligature }
 {

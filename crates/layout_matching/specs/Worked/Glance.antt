@@ -2,13 +2,17 @@
 use Rattle.std.specs.Prelude.{◌≡◌, ℕ, Bool, List, [], ◌∷◌, true, false, refl}
 use Rattle.shape_font.specs.Worked.Glyphs.{words}
 use Rattle.shape_items.specs.Items.{Item, new_item, new_properties}
-use Rattle.layout_matching.specs.Glance.{glances_of, plain_refused, chain_refused}
+use Rattle.layout_tables.specs.declared.lookups.LookupSubtable.{LookupSubtable}
+use Rattle.layout_matching.specs.Glance.{value_of, glance_of, any_glyph, glance_after, glance_before, glances_of, glances_in, plain_refused, chain_refused, is_refused}
+use Rattle.layout_matching.specs.Rules.{row}
 use Rattle.layout_matching.specs.declared.glance.Glance.{Glance}
 use Rattle.layout_matching.specs.declared.glance.Glance.TheVariants.{Open, Closed, Only}
 use Rattle.layout_matching.specs.declared.glance.Glances.{Glances}
 use Rattle.layout_matching.specs.declared.lookup.Lookup.{Lookup}
 use Rattle.layout_matching.specs.declared.rules.RowTests.{RowTests}
-use Rattle.layout_matching.specs.declared.rules.Test.TheVariants.{Glyph, Class}
+use Rattle.layout_matching.specs.declared.rules.Test.{Test}
+use Rattle.layout_matching.specs.declared.rules.Test.TheVariants.{Glyph, Class, Coverage, Any}
+use Rattle.layout_matching.specs.declared.seeking.Seek.{Seek}
 
 -- a lookup of `GSUB` that ignores marks, and is on for bit 1 of a mask
 abbrev pub on : Lookup → Lookup
@@ -55,7 +59,32 @@ one_of_each = words (1 ∷ 4 ∷ 1 ∷ 1 ∷ 6 ∷ 0 ∷ [])
 abbrev pub two_and_one : List ℕ
 two_and_one = words (0 ∷ 2 ∷ 9 ∷ 1 ∷ 6 ∷ 0 ∷ [])
 
+-- a second glyph is looked for, which a value at 20 names
+abbrev pub second_of : Test → Seek
+second_of test = record { row = row test 0 2 20; is_input = true; syllable = 0 }
+
+-- a subtable at 0, of context or of chained context, whose format is 1
+abbrev pub of_kind : ℕ → LookupSubtable
+of_kind kind = record { kind = kind; start = 0 }
+
 pub record WorkedGlance : Type 0 where
+  pub value_of_a_glyph : value_of class_lists 0 6 Glyph ≡ Only 6
+  pub value_of_its_class : value_of class_lists 0 6 Class ≡ Only 3
+  pub value_of_a_list : value_of class_lists 0 6 Coverage ≡ Open
+  pub value_of_any : value_of class_lists 0 6 Any ≡ Open
+  pub any : any_glyph (second_of Glyph) ≡ record { row = row Any 0 1 0; is_input = true; syllable = 0 }
+  pub one_glyph : (l : Lookup) → glance_of (on l) (second_of Glyph) (glyph 6) ≡ Only 6
+  pub its_class : (l : Lookup) → l.table.now ≡ class_lists → glance_of (on l) (second_of Class) (glyph 6) ≡ Only 3
+  pub one_joiner : (l : Lookup) → glance_of (on l) (second_of Glyph) a_zwj ≡ Open
+  pub after : (l : Lookup) → glance_after (on l) (second_of Glyph) (glyph 5 ∷ a_mark ∷ glyph 7 ∷ []) 0 ≡ Only 7
+  pub nothing_after : (l : Lookup) → glance_after (on l) (second_of Glyph) (glyph 5 ∷ glyph 6 ∷ []) 1 ≡ Closed
+  pub before : (l : Lookup) → glance_before (on l) (second_of Glyph) (glyph 5 ∷ a_mark ∷ glyph 7 ∷ []) 2 ≡ Only 5
+  pub nothing_before : (l : Lookup) → glance_before (on l) (second_of Glyph) (glyph 5 ∷ glyph 6 ∷ []) 0 ≡ Closed
+  pub in_context : (l : Lookup) → l.table.now ≡ class_lists
+      → glances_in (on l) (glyph 4 ∷ glyph 5 ∷ glyph 6 ∷ []) (record { at = 1; is_steady = true }) (of_kind 5) ≡ second (Only 6)
+  pub in_chained_context : (l : Lookup) → l.table.now ≡ class_lists
+      → glances_in (on l) (glyph 4 ∷ glyph 5 ∷ glyph 6 ∷ []) (record { at = 1; is_steady = true }) (of_kind 6)
+      ≡ around (Only 4) (Only 6) (Only 6)
   pub second_glyph : Sees (glyph 5 ∷ glyph 6 ∷ glyph 7 ∷ []) 0 false by_glyph (second (Only 6))
   pub over_a_mark : Sees (glyph 5 ∷ a_mark ∷ glyph 7 ∷ []) 0 false by_glyph (second (Only 7))
   pub no_glyph : Sees (glyph 5 ∷ a_mark ∷ []) 0 false by_glyph (second Closed)
@@ -77,9 +106,26 @@ pub record WorkedGlance : Type 0 where
   pub another_behind : chain_refused one_of_each (around (Only 4) Closed (Only 7)) 0 ≡ true
   pub two_glyphs : chain_refused two_and_one (around Closed (Only 9) Closed) 0 ≡ false
   pub another_of_two : chain_refused two_and_one (around Closed (Only 8) Open) 0 ≡ true
+  -- one glyph before, as a chained rule; one glyph alone, as a rule that isn't
+  pub as_chained : is_refused one_of_each (around (Only 3) Closed Open) true 0 ≡ true
+  pub as_plain : is_refused one_of_each (around (Only 3) Closed Open) false 0 ≡ false
 
 pub worked_glance : WorkedGlance
 worked_glance = record {
+  value_of_a_glyph = refl;
+  value_of_its_class = refl;
+  value_of_a_list = refl;
+  value_of_any = refl;
+  any = refl;
+  one_glyph = λ l. refl;
+  its_class = λ l t. rw t refl;
+  one_joiner = λ l. refl;
+  after = λ l. refl;
+  nothing_after = λ l. refl;
+  before = λ l. refl;
+  nothing_before = λ l. refl;
+  in_context = λ l t. rw t refl;
+  in_chained_context = λ l t. rw t refl;
   second_glyph = λ l t. refl;
   over_a_mark = λ l t. refl;
   no_glyph = λ l t. refl;
@@ -99,4 +145,6 @@ worked_glance = record {
   another_behind = refl;
   two_glyphs = refl;
   another_of_two = refl;
+  as_chained = refl;
+  as_plain = refl;
 }

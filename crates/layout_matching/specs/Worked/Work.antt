@@ -2,7 +2,7 @@
 use Rattle.std.specs.Prelude.{◌≡◌, ℕ, List, [], ◌∷◌, Some, None, true, false, refl}
 use Rattle.shape_font.specs.Worked.Glyphs.{words}
 use Rattle.shape_items.specs.Items.{Item, new_item, new_properties}
-use Rattle.layout_matching.specs.Work.{is_plain, lookup_charged, nested_charged, walk_work, most_work}
+use Rattle.layout_matching.specs.Work.{is_plain, backward_rule, lists_charged, counted_charged, lookup_charged, nested_charged, walk_work, most_work}
 use Rattle.layout_matching.specs.declared.lookup.Lookup.{Lookup}
 
 -- three ligatures of two components that share one place, the last of them NULL
@@ -62,7 +62,8 @@ abbrev pub on_component : Item
 on_component = record (plain 5) { properties = record new_properties { ligature_id = 3; ligature_component = 1 } }
 
 abbrev pub eight_marks : List Item → List Item
-eight_marks rest = on_component ∷ on_component ∷ on_component ∷ on_component ∷ on_component ∷ on_component ∷ on_component ∷ on_component ∷ rest
+eight_marks rest = on_component ∷ on_component ∷ on_component ∷ on_component
+    ∷ on_component ∷ on_component ∷ on_component ∷ on_component ∷ rest
 
 -- the ligature
 abbrev pub ligature_three : Item
@@ -111,9 +112,19 @@ pub record WorkedWork : Type 0 where
   -- 8 for the subtable, 8 for each of two glyphs, which are searched for in lists, a lookup and the rule
   pub whole_rule : Leaves one_rule (plain 5 ∷ []) 0 74
   pub not_its_first_glyph : Leaves one_rule (plain 6 ∷ []) 0 100
-  -- 8, 8 for each of four glyphs, and the rule
+  -- 8 more for the mark that it passes over, which its list is searched for, for itself and for its lookup
+  pub whole_rule_over_a_mark : Leaves one_rule (plain 5 ∷ a_mark ∷ plain 6 ∷ []) 0 58
+  pub whole_rule_over_zwnj : (l : Lookup) → l.table.now ≡ context_of_positions
+      → lookup_charged (of_positions l) (plain 5 ∷ a_zwnj ∷ plain 6 ∷ []) 0 100 ≡ Some 58
+  -- of the marks that it looks at for the ligature nothing is searched for
+  pub whole_rule_of_marks : Leaves one_rule (ligature_three ∷ eight_marks (on_component ∷ [])) 9 70
+  -- 8, 8 for each of four glyphs, and the rule; 8 for a mark that is passed over
   pub backwards : Leaves backward_table (plain 5 ∷ []) 0 59
-  pub back_over_a_mark : Leaves backward_table (a_mark ∷ plain 5 ∷ []) 1 58
+  pub back_over_a_mark : Leaves backward_table (a_mark ∷ plain 5 ∷ []) 1 51
+  -- of these 8 for each of four glyphs, 7 are for the lists
+  pub lists : lists_charged (backward_rule backward_table 8) 28 ≡ Some 0
+  pub too_little_for_lists : lists_charged (backward_rule backward_table 8) 27 ≡ None
+  pub without_lists : (l : Lookup) → counted_charged (over_marks l) (a_mark ∷ plain 5 ∷ []) 1 (backward_rule backward_table 8) 100 ≡ Some 87
   -- kinds 1 to 3 are paid by the walk, but for an alternate at random, and an extension, whose type is 7
   pub alternate : Leaves one_alternate (plain 5 ∷ plain 6 ∷ plain 7 ∷ []) 0 100
   pub at_random : (l : Lookup) → l.table.now ≡ one_alternate
@@ -162,8 +173,14 @@ worked_work = record {
   positions_of_marks = λ l t. rw t refl;
   whole_rule = λ l t. rw t refl;
   not_its_first_glyph = λ l t. rw t refl;
+  whole_rule_over_a_mark = λ l t. rw t refl;
+  whole_rule_over_zwnj = λ l t. rw t refl;
+  whole_rule_of_marks = λ l t. rw t refl;
   backwards = λ l t. rw t refl;
   back_over_a_mark = λ l t. rw t refl;
+  lists = refl;
+  too_little_for_lists = refl;
+  without_lists = λ l. refl;
   alternate = λ l t. rw t refl;
   at_random = λ l t. rw t refl;
   singles = λ l t. rw t refl;
