@@ -58,6 +58,10 @@ def marks(lookups, shared=0):
     return {"GPOS": layout(lookups, b"mark", shared=shared), "GDEF": gdef(0)}
 
 
+GROWS_FIRST = {
+    "GSUB": layout([lookup(2, [grows(60)])]),
+    "GPOS": layout([lookup(7, [rules(31000, words(2, 0, 42))])], b"kern", shared=100),
+}
 GROWS_IN_ITSELF = [lookup(5, [context(1, [(0, 1), (0, 0)])]), lookup(2, [grows(9)])]
 # the tables of each, and what its text is of: letters, marks, letters and marks, marks between two
 # letters, or ZWNJ
@@ -76,6 +80,7 @@ BOMBS = {
     "32,000 rules, 100 lookups": ({"GSUB": layout(RULES, shared=100)}, "a"),
     **{f"31,000 rules {kind}, 100 lookups": ({"GSUB": layout([rows], shared=100)}, "a")
        for kind, rows in SHORT_ROWS.items()},
+    "grows, then 31,000 rules of two glyphs, 100 lookups": (GROWS_FIRST, "a"),
     "32,000 ligatures at one place": (
         {"GSUB": layout([lookup(4, [ligatures(32000, 64)])])}, "a"),
     "31,000 ligatures of two glyphs, 100 lookups": (
@@ -137,6 +142,7 @@ SPENT = {
     "one subtable, named 30,000 times", "30,000 subtables of 100 lookups",
     "32,000 rules at one place", "32,000 rules, 100 lookups", "32,000 ligatures at one place",
     *(f"31,000 rules {kind}, 100 lookups" for kind in SHORT_ROWS),
+    "grows, then 31,000 rules of two glyphs, 100 lookups",
     "31,000 ligatures of two glyphs, 100 lookups", "rules past the table, 100 lookups",
     "sets without rules, nested, over marks", "skips half of the text, nested",
     "rows of 10,000 glyphs, backwards", "30,000 NULL subtables",

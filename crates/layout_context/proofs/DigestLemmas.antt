@@ -3,11 +3,11 @@ use Prim.Native.Nat.{zero}
 use Rattle.std.proofs.Common.{◌≡◌, ℕ, suc, ◌+◌, ◌-◌, ◌<◌, ◌≤◌, Bool, true, false, List, [], ◌∷◌, All, length, nat_eq, nat_lt, refl, sym, ap, ◌∙◌, subst, arith, if◌then◌else◌, drop, slice_index_or}
 use Rattle.std.proofs.lemmas.Bool.Decides.{nat_tests}
 use Rattle.std.proofs.lemmas.List.{drop_more}
-use Rattle.shape_items.specs.Buffer.{Buffer}
+use Rattle.shape_items.specs.Buffer.{Buffer, limit_of}
 use Rattle.shape_items.specs.Items.{Item}
 use Rattle.layout_matching.specs.Loops.{times}
 use Rattle.layout_matching.specs.Skipping.{nth, is_on}
-use Rattle.layout_matching.specs.Work.{walk_work, most_work}
+use Rattle.layout_matching.specs.Work.{walk_work, stage_work}
 use Rattle.layout_matching.specs.declared.lookup.Lookup.{Lookup}
 use Rattle.layout_digests.specs.Digests.{has, IsWithin}
 use Rattle.layout_digests.specs.declared.digest.Digest.{Digest}
@@ -235,5 +235,5 @@ all-idle levels (d ∷ ds) run s said apart held =
 pub stage_idle : (levels : ℕ) (ds : List Digested) (run : Digest) (b : Buffer) → All IsDigested ds → All (IsApart run) ds
     → HoldsGlyphs run b.items → b ≡ stage_made levels (lookups_in ds) b
 stage_idle levels ds run b said apart held =
-    sym (all-idle levels ds run (record { buffer = b; spot = record { at = 0; random = 1; left = most_work (length b.items); whole = 0 } })
+    sym (all-idle levels ds run (record { buffer = b; spot = record { at = 0; random = 1; left = stage_work (length b.items) (limit_of b); whole = 0 } })
     said apart held)

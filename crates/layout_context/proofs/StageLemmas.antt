@@ -13,7 +13,7 @@ use Rattle.shape_buffer.specs.declared.buffer.error.ShapeError.{ShapeError}
 use Rattle.shape_buffer.specs.declared.buffer.error.ShapeError.TheVariants.{Memory, Length}
 use Rattle.layout_matching.specs.Loops.{times}
 use Rattle.layout_matching.specs.Skipping.{is_on}
-use Rattle.layout_matching.specs.Work.{lookup_charged, walk_work, most_work}
+use Rattle.layout_matching.specs.Work.{lookup_charged, walk_work, stage_work}
 use Rattle.layout_matching.specs.declared.lookup.Lookup.{Lookup}
 use Rattle.layout_matching.proofs.LoopLemmas.{times_still, times_stays}
 use Rattle.layout_substitution.specs.Applied.{Applied}
@@ -124,7 +124,7 @@ all-preserves levels (l ∷ ls) s =
 
 pub stage-preserves : (levels : ℕ) (ls : List Lookup) (b : Buffer) → Preserves b (stage_made levels ls b)
 stage-preserves levels ls b =
-    all-preserves levels ls (record { buffer = b; spot = record { at = 0; random = 1; left = most_work (length b.items); whole = 0 } })
+    all-preserves levels ls (record { buffer = b; spot = record { at = 0; random = 1; left = stage_work (length b.items) (limit_of b); whole = 0 } })
 
 -- ---- outcomes
 

@@ -1,10 +1,10 @@
 -- Lookups over a buffer, nested ones included, and stages of lookups.
 use Rattle.std.specs.Prelude.{ℕ, List, [], ◌∷◌, ◌+◌, ◌-◌, ◌<◌, ◌^◌, length, nat_lt, if◌then◌else◌}
 use Rattle.std.specs.Option.{unwrap_or, option_map_or}
-use Rattle.shape_items.specs.Buffer.{Buffer}
+use Rattle.shape_items.specs.Buffer.{Buffer, limit_of}
 use Rattle.layout_matching.specs.Loops.{times}
 use Rattle.layout_matching.specs.Skipping.{is_on}
-use Rattle.layout_matching.specs.Work.{lookup_charged, walk_work, most_work}
+use Rattle.layout_matching.specs.Work.{lookup_charged, walk_work, stage_work}
 use Rattle.layout_matching.specs.declared.lookup.Lookup.{Lookup}
 use Rattle.layout_substitution.specs.Applied.{Applied}
 use Rattle.layout_substitution.specs.Edits.{item_at, is_inside, is_past}
@@ -75,7 +75,7 @@ all_looked_up levels (l ∷ ls) s = all_looked_up levels ls (looked_up levels l 
 -- the random state of a stage begins with 1
 abbrev pub stage_made : ℕ → List Lookup → Buffer → Buffer
 stage_made levels ls b = (all_looked_up levels ls
-    (record { buffer = b; spot = record { at = 0; random = 1; left = most_work (length b.items); whole = 0 } })).buffer
+    (record { buffer = b; spot = record { at = 0; random = 1; left = stage_work (length b.items) (limit_of b); whole = 0 } })).buffer
 
 -- a lookup over the text names others, and these others again, 64 levels deep
 abbrev pub most_levels : ℕ

@@ -15,7 +15,7 @@ use layout_buffer::{GapBuffer, ItemList};
 use layout_digests::{Digest, Digested};
 use layout_matching::lookup::Lookup;
 use layout_matching::skipping::is_on;
-use layout_matching::work::{lookup_charged, most_work, walk_work};
+use layout_matching::work::{lookup_charged, stage_work, walk_work};
 use layout_substitution::apply::Spot;
 use shape_buffer::{ShapeError, hb_buffer_t};
 use std::alloc::Global;
@@ -276,7 +276,7 @@ fn look_all_up(
     let mut spot = Spot {
         at: 0,
         random: 1,
-        left: most_work(buffer.len()),
+        left: stage_work(buffer.len(), buffer.length_limit()),
         whole: 0,
     };
     let mut run = run;

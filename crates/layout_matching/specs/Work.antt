@@ -276,3 +276,11 @@ WORK_MIN = 1048576
 
 abbrev pub most_work : ℕ → ℕ
 most_work count = max (min (count * WORK_FACTOR) most_countable) WORK_MIN
+
+-- a run may make 64 items of each character: a stage counts two of them at most
+abbrev pub LIMIT_PART : ℕ
+LIMIT_PART = 32
+
+-- what a stage may ask for that begins with so many items, in a run of this limit
+abbrev pub stage_work : ℕ → ℕ → ℕ
+stage_work count limit = most_work (min count (limit / LIMIT_PART))

@@ -2,11 +2,11 @@
 use Rattle.std.specs.Prelude.{ℕ, pos, List, None, ◌+◌, ◌-◌, ◌<◌, ◌^◌, length, nat_lt, fold, if◌then◌else◌}
 use Rattle.std.specs.Option.{option_map_or}
 use Rattle.shape_common.specs.declared.positions.GlyphPosition.{GlyphPosition}
-use Rattle.shape_items.specs.Buffer.{Buffer}
+use Rattle.shape_items.specs.Buffer.{Buffer, limit_of}
 use Rattle.shape_buffer.specs.PositionWalks.{positions_mapped}
 use Rattle.layout_matching.specs.Loops.{times}
 use Rattle.layout_matching.specs.Skipping.{nth, is_on}
-use Rattle.layout_matching.specs.Work.{lookup_charged, walk_work, most_work}
+use Rattle.layout_matching.specs.Work.{lookup_charged, walk_work, stage_work}
 use Rattle.layout_matching.specs.declared.lookup.Lookup.{Lookup}
 use Rattle.layout_positions.specs.Nested.{LEVELS, nested_placed}
 use Rattle.layout_positions.specs.Subtables.{Placing}
@@ -69,7 +69,7 @@ lookup_applied s l = if nat_lt s.left (walk_work l (length s.buffer.items)) then
 
 -- lookups one after the other; all of them share one bound
 abbrev pub budgeted : Buffer → Budgeted
-budgeted b = record { buffer = b; left = most_work (length b.items) }
+budgeted b = record { buffer = b; left = stage_work (length b.items) (limit_of b) }
 
 abbrev pub positioned : List Lookup → Buffer → Buffer
 positioned lookups b = (fold lookup_applied (budgeted b) lookups).buffer

@@ -19,7 +19,7 @@ use layout_matching::beside::plain_charged;
 use layout_matching::found::is_context;
 use layout_matching::lookup::Lookup;
 use layout_matching::skipping::{is_on, is_transparent, item_at};
-use layout_matching::work::{lookup_charged, most_work, walk_work};
+use layout_matching::work::{lookup_charged, stage_work, walk_work};
 use shape_buffer::position_walks::update_positions;
 use shape_buffer::{GlyphPosition, hb_buffer_t, hb_glyph_info_t};
 
@@ -272,7 +272,7 @@ fn apply_each(lookups: &[Digested<'_>], buffer: &mut hb_buffer_t) -> usize
     ensures { record { buffer = buffer.new; left = result }
         ≡ fold Walk.lookup_applied (Walk.budgeted buffer.old) (lookups_in lookups.now) }
 {
-    let mut left = most_work(buffer.len());
+    let mut left = stage_work(buffer.len(), buffer.length_limit());
     // No lookup changes which glyphs there are.
     let run = run_digest(buffer.infos());
     for named in lookups {

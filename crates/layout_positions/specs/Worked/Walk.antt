@@ -1,19 +1,19 @@
 -- Lookups over lines, on tables that were read by hand.
-use Rattle.std.specs.Prelude.{◌≡◌, ℕ, ℤ, pos, negsuc, List, [], ◌∷◌, ◌++◌, Some, None, true, false, refl}
+use Rattle.std.specs.Prelude.{◌≡◌, ℕ, ℤ, pos, negsuc, List, [], ◌∷◌, ◌++◌, Some, None, true, false, length, refl}
 use Rattle.std.specs.Int.{int_wrap}
 use Rattle.std.specs.Int.Count.{ones}
 use Rattle.shape_common.specs.Wrapping.{◌+ʷ◌, ◌-ʷ◌}
 use Rattle.shape_common.specs.declared.text_types.Direction.TheVariants.{LeftToRight}
 use Rattle.shape_font.specs.Bytes.{i16_of}
-use Rattle.shape_items.specs.Buffer.{Buffer}
+use Rattle.shape_items.specs.Buffer.{Buffer, limit_of}
 use Rattle.shape_items.specs.Items.{Item}
-use Rattle.layout_matching.specs.Work.{most_work}
+use Rattle.layout_matching.specs.Work.{stage_work}
 use Rattle.layout_matching.specs.declared.lookup.Lookup.{Lookup}
 use Rattle.layout_positions.specs.Attachment.{MOST_LINKS}
 use Rattle.layout_positions.specs.Nested.{LEVELS, nested_placed}
 use Rattle.layout_positions.specs.Subtables.{Placing}
 use Rattle.layout_positions.specs.Uncovered.{subtable_lists}
-use Rattle.layout_positions.specs.Walk.{none_seen, positioned}
+use Rattle.layout_positions.specs.Walk.{none_seen, budgeted, positioned}
 use Rattle.layout_positions.specs.Worked.Lines.{base, mark, component_of, line, advances, offsets, chains, masks}
 use Rattle.layout_positions.specs.Worked.Marks.{on_bases}
 use Rattle.layout_positions.specs.Worked.Pairs.{single_one, single_two, pairs_one, pairs_both, IsLookup}
@@ -60,12 +60,23 @@ pub record WorkedBounds : Type 0 where
   -- a lookup of the plan and 64 levels below it
   pub levels : LEVELS ≡ 65
   pub links : MOST_LINKS ≡ 64
-  pub at_least : most_work 31 ≡ 1048576
-  pub for_each_glyph : most_work 33 ≡ 1081344
-  pub countable : most_work 18446744073709551615 ≡ 18446744073709551615
+  pub at_least : stage_work 31 640000 ≡ 1048576
+  pub for_each_glyph : stage_work 33 640000 ≡ 1081344
+  pub grown : stage_work 640000 640000 ≡ 655360000
+  pub countable : stage_work 18446744073709551615 18446744073709551615 ≡ 18446744073709551615
+  -- by the glyphs that the stage begins with, and the limit of the run
+  pub begun : (b : Buffer) → (budgeted b).left ≡ stage_work (length b.items) (limit_of b)
 
 pub worked_bounds : WorkedBounds
-worked_bounds = record { levels = refl; links = refl; at_least = refl; for_each_glyph = refl; countable = refl }
+worked_bounds = record {
+  levels = refl;
+  links = refl;
+  at_least = refl;
+  for_each_glyph = refl;
+  grown = refl;
+  countable = refl;
+  begun = λ b. refl;
+}
 
 -- a lookup with these flags over these bytes of `GPOS`, at a place
 abbrev over_table : List ℕ → ℕ → ℕ → Lookup → Lookup
