@@ -6,3 +6,4 @@ pub mod SelectorLemmas
 pub mod RoundOneLemmas
 pub mod ChainPartLemmas
 pub mod OneWalkLemmas
+pub mod EmitLemmas

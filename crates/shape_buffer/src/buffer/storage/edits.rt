@@ -119,10 +119,7 @@ impl hb_buffer_t {
         if self.length_limit() < infos.len() {
             return Err(ShapeError::Length);
         }
-        make_room(&mut self.run_starts, infos.len())?;
-        let more = infos.len().saturating_sub(self.positions.len());
-        make_way(&mut self.positions, more)?;
-        resize_zeros(&mut self.positions, infos.len())?;
+        make_places(&mut self.run_starts, &mut self.positions, infos.len())?;
         make_zeros(self.has_positions, self.positions.as_mut_slice());
         self.has_positions = false;
         self.infos = infos;
@@ -227,6 +224,25 @@ impl hb_buffer_t {
     {
         number_clusters(self.infos.as_mut_slice());
     }
+}
+
+/// Makes room for so many items, and as many positions: a list of zeros alone stays one.
+fn make_places(
+    run_starts: &mut Vec<usize>,
+    positions: &mut Vec<GlyphPosition>,
+    count: usize,
+) -> Result<(), AllocError>
+    ensures room { OnOk result (count ≤ length run_starts.new.items) }
+    ensures longer { length run_starts.old.items ≤ length run_starts.new.items }
+    ensures len { OnOk result (length positions.new.items ≡ count) }
+    ensures err { OnErr result (positions.new.items ≡ positions.old.items) }
+    ensures zeros { positions.old.items ≡ replicate (length positions.old.items) zero_position
+        → positions.new.items ≡ replicate (length positions.new.items) zero_position }
+{
+    make_room(run_starts, count)?;
+    let more = count.saturating_sub(positions.len());
+    make_way(positions, more)?;
+    resize_zeros(positions, count)
 }
 
 /// Makes a list so long, with zeros after what it has: a list of zeros alone stays one.
