@@ -1,6 +1,6 @@
 //! Runs that are refused for memory, planning included. With memory at hand each test passes; if one growth of
-//! its call is refused it says so, after comparisons of the buffer that is handed back, and of the glyphs that this
-//! buffer gives once it is filled again.
+//! its call is refused it says so, after a comparison of what the buffer that is handed back gives once it is filled
+//! again.
 
 use crate::cases::check;
 use crate::lists::{Lists, Widths};
@@ -65,8 +65,7 @@ fn stages(rt: HostRuntime) {
     );
 }
 
-/// A composed spelling, and one with its marks out of order. Both buffers are cleared if one growth of either is
-/// refused.
+/// A composed spelling, and one with its marks out of order.
 #[test]
 fn comparing(rt: HostRuntime) {
     check::<Lists>(
@@ -80,7 +79,7 @@ fn comparing(rt: HostRuntime) {
     );
 }
 
-/// A text's key is refused with the text's buffer, cleared, which gives the key once it is filled again.
+/// A text's key is refused with the text's buffer, which gives the key once it is filled again.
 #[test]
 fn a_key(rt: HostRuntime) {
     check::<Lists>(

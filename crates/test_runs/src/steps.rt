@@ -1,5 +1,4 @@
-//! What becomes of the text of a case at a step of its run, for any types of a run: a function that names those
-//! types takes three times as long to prove.
+//! What becomes of the text of a case at a step of its run, for any types of a run.
 //!
 //! - `prepare` and `normalise` give the list.
 //! - `place` gives the glyphs with their positions. `in_place` gives the glyphs and clusters that shaping leaves in a
@@ -28,12 +27,10 @@ pub fn answer_by<T: ShapingTypes>(
     case: Case<'_>,
 ) -> String {
     match case.settings.step {
-        "prepare" => prepared::<T>(rt, by, case),
-        "normalise" => normalised::<T>(rt, by, case),
+        "prepare" | "normalise" | "premises" => listed::<T>(rt, by, case),
         "place" => placed::<T>(rt, by, case),
         "in_place" => in_place::<T>(rt, by, case),
         "compare" => compared::<T>(rt, by, case),
-        "premises" => premises::<T>(rt, by, case),
         "refuse" => run_again::<T>(rt, by, case),
         "refuse_key" => key_again::<T>(rt, by, case),
         "refuse_comparing" => compare_again::<T>(rt, by, case),
@@ -63,20 +60,9 @@ fn yes_or_no(rt: &(impl Abort + AllocGlobal), condition: bool) -> String {
     String::from_str(rt.alloc(), word).expect(rt, "error")
 }
 
-/// The list that a text is prepared as.
-fn prepared<T: ShapingTypes>(
-    rt: &(impl Abort + AllocGlobal),
-    (face, shaper): (&T::Face, &T::Shaper),
-    case: Case<'_>,
-) -> String {
-    let text = text_in::<T::Unicode>(rt, case);
-    let plan = planned::<T>(rt, (face, shaper), &text);
-    let list = prepared_under::<T>(rt, &plan, face, text);
-    printed_list(rt, list, case.wanted)
-}
-
-/// The list that a text is prepared and normalised as.
-fn normalised<T: ShapingTypes>(
+/// The list that a text is prepared as, normalised if the step is that, or whether it meets the premises of canonical
+/// form.
+fn listed<T: ShapingTypes>(
     rt: &(impl Abort + AllocGlobal),
     (face, shaper): (&T::Face, &T::Shaper),
     case: Case<'_>,
@@ -84,7 +70,11 @@ fn normalised<T: ShapingTypes>(
     let text = text_in::<T::Unicode>(rt, case);
     let plan = planned::<T>(rt, (face, shaper), &text);
     let mut list = prepared_under::<T>(rt, &plan, face, text);
-    normalise::<T>(rt, &plan, face, &mut list);
+    match case.settings.step {
+        "premises" => return yes_or_no(rt, meets_premises::<T>(&plan, face, &list)),
+        "normalise" => normalise::<T>(rt, &plan, face, &mut list),
+        _ => {}
+    }
     printed_list(rt, list, case.wanted)
 }
 
@@ -118,18 +108,6 @@ fn in_place<T: ShapingTypes>(
     printed_numbers(rt, buffer)
 }
 
-/// Whether a text, once prepared, meets the premises of canonical form.
-fn premises<T: ShapingTypes>(
-    rt: &(impl Abort + AllocGlobal),
-    (face, shaper): (&T::Face, &T::Shaper),
-    case: Case<'_>,
-) -> String {
-    let text = text_in::<T::Unicode>(rt, case);
-    let plan = planned::<T>(rt, (face, shaper), &text);
-    let list = prepared_under::<T>(rt, &plan, face, text);
-    yes_or_no(rt, meets_premises::<T>(&plan, face, &list))
-}
-
 /// The two spellings of a case, as a run prepares them.
 pub fn spelled<T: ShapingTypes>(
     rt: &(impl Abort + AllocGlobal),
@@ -153,16 +131,7 @@ fn compared<T: ShapingTypes>(
     case: Case<'_>,
 ) -> String {
     let plan = planned::<T>(rt, by, &first_in::<T::Unicode>(rt, case));
-    let lists = spelled::<T>(rt, &plan, by.0, case);
-    yes_or_no(rt, alike::<T>(rt, &plan, by.0, lists))
-}
-
-/// Whether two lists are normalised alike.
-fn alike<T: ShapingTypes>(
-    rt: &(impl Abort + AllocGlobal),
-    plan: &PlanOf<'_, T>,
-    face: &T::Face,
-    (mut a, mut b): (hb_buffer_t, hb_buffer_t),
-) -> bool {
-    are_alike::<T>(rt.alloc(), plan, face, (&mut a, &mut b)).expect(rt, "compared")
+    let (mut a, mut b) = spelled::<T>(rt, &plan, by.0, case);
+    let alike = are_alike::<T>(rt.alloc(), &plan, by.0, (&mut a, &mut b));
+    yes_or_no(rt, alike.expect(rt, "compared"))
 }

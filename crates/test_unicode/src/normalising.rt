@@ -11,31 +11,23 @@ use shape_unicode::UnicodeDatabase;
 use std::alloc::Global;
 use test_fixtures::TestFace;
 
-/// A base and a mark to stand before a text, so that a mark stands past the first character whatever the
-/// text is, and all its marks are put in order. The two compose with nothing, and the mark has the lowest
-/// ccc.
-pub const BASE_WITH_MARK: [char; 2] = ['q', '\u{334}'];
+/// A base to stand before a text, so that a mark stands past the first character whatever the text is, and all its marks
+/// are put in order. It composes with nothing.
+const BASE: char = 'q';
 
-/// Appends characters to a text, each in the cluster of its place.
-fn append(buffer: &mut UnicodeBuffer, first: u32, text: &[char]) -> Result<(), ShapeError> {
-    let mut place = first;
+/// Its mark, which has the lowest ccc.
+const MARK: char = '\u{334}';
+
+/// A text after a base with a mark, each character in the cluster of its place.
+fn text_of(alloc: Global, text: &[char]) -> Result<UnicodeBuffer, ShapeError> {
+    let mut buffer = UnicodeBuffer::new(alloc);
+    buffer.add(BASE, 0)?;
+    buffer.add(MARK, 1)?;
+    let mut place: u32 = 2;
     for c in text {
         buffer.add(*c, place)?;
         place = place.saturating_add(1);
     }
-    Ok(())
-}
-
-/// Fills an empty buffer with a text after a base with a mark.
-fn fill(buffer: &mut UnicodeBuffer, text: &[char]) -> Result<(), ShapeError> {
-    append(buffer, 0, &BASE_WITH_MARK)?;
-    append(buffer, 2, text)
-}
-
-/// A text after a base with a mark.
-fn text_of(alloc: Global, text: &[char]) -> Result<UnicodeBuffer, ShapeError> {
-    let mut buffer = UnicodeBuffer::new(alloc);
-    fill(&mut buffer, text)?;
     Ok(buffer)
 }
 

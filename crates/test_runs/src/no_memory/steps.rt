@@ -1,5 +1,6 @@
-//! The steps of a run that are never refused, a few to a function, for any types of a run: a function of many calls
-//! that change the buffer is slow to prove, and one that names its types takes three times as long.
+//! The steps of a run that are never refused, each made once in the order of a run, for any types of a run. A step is one
+//! arm of a `match`: the proof of a function takes the longer the more calls that change the buffer come one after the
+//! other, and each function takes time of its own.
 
 use crate::comparing::{assert_same, assert_that};
 use shape_buffer::buffer::{Direction, ScratchFlags, hb_buffer_t, hb_glyph_info_t};
@@ -34,6 +35,98 @@ use shape_prepare::ranges::setup_masks_user;
 use shape_prepare::rotation::rotate_chars;
 use std::process::Abort;
 
+/// A step.
+#[derive(Clone, Copy)]
+enum Step {
+    InitializeMasks,
+    SetUnicodeProps,
+    FormClusters,
+    EnsureNativeDirection,
+    RotateChars,
+    SetItems,
+    SetupMasksFraction,
+    SetupMasksShaper,
+    SetupMasksUser,
+    RecategorizeMarks,
+    MapGlyphsFast,
+    SubstituteStart,
+    SynthesizeGlyphClasses,
+    SynthesizeClasses,
+    SetupMasks,
+    SetupGlyphs,
+    PositionDefault,
+    ClearSyllables,
+    FallBackRecategorized,
+    FallBackSpaces,
+    FallBackKern,
+    ClearPositions,
+    PutAdvances,
+    PlaceSpaces,
+    PositionStart,
+    ZeroMarksEarly,
+    ZeroMarksLate,
+    ZeroMarkWidths,
+    FinishAdvances,
+    ZeroIgnorables,
+    ZeroDeleted,
+    FinishOffsets,
+    PlaceMarks,
+    PositionMarks,
+    PropagateFlags,
+    ReverseBackward,
+    RemoveDeleted,
+    DealWithSelectors,
+    HideIgnorables,
+}
+
+const FIRST: [Step; 6] = [
+    Step::InitializeMasks,
+    Step::SetUnicodeProps,
+    Step::FormClusters,
+    Step::EnsureNativeDirection,
+    Step::RotateChars,
+    Step::SetItems,
+];
+
+const STEPS: [Step; 28] = [
+    Step::SetupMasksFraction,
+    Step::SetupMasksShaper,
+    Step::SetupMasksUser,
+    Step::RecategorizeMarks,
+    Step::MapGlyphsFast,
+    Step::SubstituteStart,
+    Step::SynthesizeGlyphClasses,
+    Step::SynthesizeClasses,
+    Step::SetupMasks,
+    Step::SetupGlyphs,
+    Step::PositionDefault,
+    Step::ClearSyllables,
+    Step::FallBackRecategorized,
+    Step::FallBackSpaces,
+    Step::FallBackKern,
+    Step::ClearPositions,
+    Step::PutAdvances,
+    Step::PlaceSpaces,
+    Step::PositionStart,
+    Step::ZeroMarksEarly,
+    Step::ZeroMarksLate,
+    Step::ZeroMarkWidths,
+    Step::FinishAdvances,
+    Step::ZeroIgnorables,
+    Step::ZeroDeleted,
+    Step::FinishOffsets,
+    Step::PlaceMarks,
+    Step::PositionMarks,
+];
+
+const LAST: [Step; 5] = [
+    Step::PropagateFlags,
+    Step::ReverseBackward,
+    Step::RemoveDeleted,
+    Step::DealWithSelectors,
+    Step::HideIgnorables,
+];
+
 /// Makes all steps on a text of 16 items, of which four aren't shown. Fractions are those of another plan, which has
 /// masks for them.
 pub fn make_all<A: Abort, T: ShapingTypes, D: ShapingTypes>(
@@ -42,29 +135,100 @@ pub fn make_all<A: Abort, T: ShapingTypes, D: ShapingTypes>(
     face: &T::Face,
     text: &mut hb_buffer_t,
 ) {
-    form_graphemes::<T>(plan, text);
-    reverse::<T>(plan, face, text);
-    set_items(text);
+    make_each::<T>(rt, plan, face, text, &FIRST);
     divide::<A, D>(rt, dividing, text);
-    make_glyphs::<A, T>(rt, plan, face, text);
-    place::<T>(plan, face, text);
+    make_each::<T>(rt, plan, face, text, &STEPS);
     assert_same(rt, text.len(), 16);
-    order(text);
-    hide::<T>(plan, face, text);
+    make_each::<T>(rt, plan, face, text, &LAST);
     assert_same(rt, text.len(), 12);
 }
 
-/// Prepares the text, up to its direction.
-fn form_graphemes<T: ShapingTypes>(plan: &PlanOf<'_, T>, buffer: &mut hb_buffer_t) {
-    initialize_masks::<T>(plan, buffer);
-    set_unicode_props::<T::Unicode>(buffer);
-    form_clusters(buffer);
+/// Makes some steps.
+fn make_each<T: ShapingTypes>(
+    rt: &impl Abort,
+    plan: &PlanOf<'_, T>,
+    face: &T::Face,
+    text: &mut hb_buffer_t,
+    steps: &[Step],
+) {
+    for step in steps {
+        make::<T>(rt, *step, plan, face, text);
+    }
 }
 
-/// Reverses the text and its characters if that is asked.
-fn reverse<T: ShapingTypes>(plan: &PlanOf<'_, T>, face: &T::Face, buffer: &mut hb_buffer_t) {
-    ensure_native_direction::<T::Unicode>(buffer);
-    rotate_chars::<T>(plan, face, buffer, Direction::RightToLeft);
+/// Makes a step up to positions.
+fn make<T: ShapingTypes>(
+    rt: &impl Abort,
+    step: Step,
+    plan: &PlanOf<'_, T>,
+    face: &T::Face,
+    buffer: &mut hb_buffer_t,
+) {
+    assert!(rt; buffer.len() <= buffer.length_limit());
+    match step {
+        Step::InitializeMasks => initialize_masks::<T>(plan, buffer),
+        Step::SetUnicodeProps => set_unicode_props::<T::Unicode>(buffer),
+        Step::EnsureNativeDirection => ensure_native_direction::<T::Unicode>(buffer),
+        Step::RotateChars => rotate_chars::<T>(plan, face, buffer, Direction::RightToLeft),
+        Step::SetupMasksFraction => setup_masks_fraction(plan, buffer),
+        Step::SetupMasksShaper => setup_masks_shaper::<T>(plan, face, buffer),
+        Step::SetupMasksUser => setup_masks_user::<T>(plan, buffer),
+        Step::RecategorizeMarks => recategorize_marks::<T>(plan, face, buffer),
+        Step::SubstituteStart => substitute_start::<T>(plan, face, buffer),
+        Step::SynthesizeClasses => synthesize_classes(plan, buffer),
+        Step::SetupMasks => setup_masks::<T>(plan, face, buffer),
+        Step::SetupGlyphs => setup_glyphs::<T>(plan, face, buffer),
+        Step::PositionDefault => position_default::<T>(plan, face, buffer),
+        _ => place::<T>(step, plan, face, buffer),
+    }
+}
+
+/// Makes a step that places glyphs.
+fn place<T: ShapingTypes>(
+    step: Step,
+    plan: &PlanOf<'_, T>,
+    face: &T::Face,
+    buffer: &mut hb_buffer_t,
+) {
+    match step {
+        Step::FallBackRecategorized => {
+            _hb_ot_shape_fallback_mark_position_recategorize_marks(plan, face, buffer);
+        }
+        Step::FallBackSpaces => _hb_ot_shape_fallback_spaces(plan, face, buffer),
+        Step::FallBackKern => _hb_ot_shape_fallback_kern(plan, face, buffer),
+        Step::PutAdvances => put_advances(face, buffer),
+        Step::PlaceSpaces => place_spaces::<T>(plan, face, buffer),
+        Step::PositionStart => position_start::<T>(plan, face, buffer),
+        Step::ZeroMarksEarly => zero_marks_early::<T>(plan, face, buffer),
+        Step::ZeroMarksLate => zero_marks_late::<T>(plan, face, buffer),
+        Step::FinishAdvances => position_finish_advances::<T>(plan, face, buffer),
+        Step::ZeroDeleted => zero_width_deleted::<T>(plan, face, buffer),
+        Step::FinishOffsets => position_finish_offsets::<T>(plan, face, buffer),
+        Step::PlaceMarks => place_marks::<T>(plan, face, buffer),
+        Step::PositionMarks => {
+            position_marks::<T::Unicode, T::Face, _, _, _>(plan, face, buffer, true);
+        }
+        Step::RemoveDeleted => remove_deleted::<T>(plan, face, buffer),
+        Step::HideIgnorables => hide_default_ignorables(face, buffer),
+        _ => make_alone(step, buffer),
+    }
+}
+
+/// Makes a step that depends on the buffer alone.
+fn make_alone(step: Step, buffer: &mut hb_buffer_t) {
+    match step {
+        Step::FormClusters => form_clusters(buffer),
+        Step::SetItems => set_items(buffer),
+        Step::MapGlyphsFast => map_glyphs_fast(buffer),
+        Step::SynthesizeGlyphClasses => hb_synthesize_glyph_classes(buffer),
+        Step::ClearSyllables => syllabic_clear_var(buffer),
+        Step::ClearPositions => clear_positions(buffer),
+        Step::ZeroMarkWidths => zero_mark_widths_by_gdef(buffer, true),
+        Step::ZeroIgnorables => zero_width_default_ignorables(buffer),
+        Step::PropagateFlags => propagate_flags(buffer),
+        Step::ReverseBackward => reverse_backward(buffer),
+        _ => deal_with_variation_selectors(buffer),
+    }
 }
 
 /// An item as normalising may leave it: with a glyph and a flag, and marked if it is a selector.
@@ -101,112 +265,4 @@ fn divide<A: Abort, T: ShapingTypes>(rt: &A, plan: &PlanOf<'_, T>, buffer: &mut 
     for info in buffer.infos().iter() {
         assert_that(rt, is_divided(info, mask));
     }
-}
-
-/// Masks, glyphs and their classes.
-fn make_glyphs<A: Abort, T: ShapingTypes>(
-    rt: &A,
-    plan: &PlanOf<'_, T>,
-    face: &T::Face,
-    buffer: &mut hb_buffer_t,
-) {
-    put_masks::<T>(plan, face, buffer);
-    map_glyphs::<T>(plan, face, buffer);
-    classify::<T>(plan, buffer);
-    make_whole_steps::<A, T>(rt, plan, face, buffer);
-}
-
-/// All that places glyphs.
-fn place<T: ShapingTypes>(plan: &PlanOf<'_, T>, face: &T::Face, buffer: &mut hb_buffer_t) {
-    fall_back::<T>(plan, face, buffer);
-    advance::<T>(plan, face, buffer);
-    zero_marks::<T>(plan, face, buffer);
-    finish_positions::<T>(plan, face, buffer);
-    put_marks::<T>(plan, face, buffer);
-}
-
-/// The masks, one kind after the other.
-fn put_masks<T: ShapingTypes>(plan: &PlanOf<'_, T>, face: &T::Face, buffer: &mut hb_buffer_t) {
-    setup_masks_fraction(plan, buffer);
-    setup_masks_shaper::<T>(plan, face, buffer);
-    setup_masks_user::<T>(plan, buffer);
-}
-
-/// The glyphs of the characters.
-fn map_glyphs<T: ShapingTypes>(plan: &PlanOf<'_, T>, face: &T::Face, buffer: &mut hb_buffer_t) {
-    recategorize_marks::<T>(plan, face, buffer);
-    map_glyphs_fast(buffer);
-    substitute_start::<T>(plan, face, buffer);
-}
-
-fn classify<T: ShapingTypes>(plan: &PlanOf<'_, T>, buffer: &mut hb_buffer_t) {
-    hb_synthesize_glyph_classes(buffer);
-    synthesize_classes(plan, buffer);
-}
-
-/// The steps that are made of several, and that of syllables.
-fn make_whole_steps<A: Abort, T: ShapingTypes>(
-    rt: &A,
-    plan: &PlanOf<'_, T>,
-    face: &T::Face,
-    buffer: &mut hb_buffer_t,
-) {
-    assert!(rt; buffer.len() <= buffer.length_limit());
-    setup_masks::<T>(plan, face, buffer);
-    setup_glyphs::<T>(plan, face, buffer);
-    position_default::<T>(plan, face, buffer);
-    syllabic_clear_var(buffer);
-}
-
-/// The steps that stand under a name of their own.
-fn fall_back<T: ShapingTypes>(plan: &PlanOf<'_, T>, face: &T::Face, buffer: &mut hb_buffer_t) {
-    _hb_ot_shape_fallback_mark_position_recategorize_marks(plan, face, buffer);
-    _hb_ot_shape_fallback_spaces(plan, face, buffer);
-    _hb_ot_shape_fallback_kern(plan, face, buffer);
-}
-
-/// Advances and spaces.
-fn advance<T: ShapingTypes>(plan: &PlanOf<'_, T>, face: &T::Face, buffer: &mut hb_buffer_t) {
-    clear_positions(buffer);
-    put_advances(face, buffer);
-    place_spaces::<T>(plan, face, buffer);
-}
-
-/// The marks that have no width.
-fn zero_marks<T: ShapingTypes>(plan: &PlanOf<'_, T>, face: &T::Face, buffer: &mut hb_buffer_t) {
-    position_start::<T>(plan, face, buffer);
-    zero_marks_early::<T>(plan, face, buffer);
-    zero_marks_late::<T>(plan, face, buffer);
-    zero_mark_widths_by_gdef(buffer, true);
-}
-
-/// What comes after the lookups that place glyphs.
-fn finish_positions<T: ShapingTypes>(
-    plan: &PlanOf<'_, T>,
-    face: &T::Face,
-    buffer: &mut hb_buffer_t,
-) {
-    position_finish_advances::<T>(plan, face, buffer);
-    zero_width_default_ignorables(buffer);
-    zero_width_deleted::<T>(plan, face, buffer);
-    position_finish_offsets::<T>(plan, face, buffer);
-}
-
-/// Marks about their bases: once if the plan asks for it, and once in any case.
-fn put_marks<T: ShapingTypes>(plan: &PlanOf<'_, T>, face: &T::Face, buffer: &mut hb_buffer_t) {
-    place_marks::<T>(plan, face, buffer);
-    position_marks::<T::Unicode, T::Face, _, _, _>(plan, face, buffer, true);
-}
-
-/// Flags and the order of the glyphs.
-fn order(buffer: &mut hb_buffer_t) {
-    propagate_flags(buffer);
-    reverse_backward(buffer);
-}
-
-/// What isn't shown.
-fn hide<T: ShapingTypes>(plan: &PlanOf<'_, T>, face: &T::Face, buffer: &mut hb_buffer_t) {
-    remove_deleted::<T>(plan, face, buffer);
-    deal_with_variation_selectors(buffer);
-    hide_default_ignorables(face, buffer);
 }

@@ -4,7 +4,7 @@ use crate::users::rows::{Asked, assert_rows};
 use crate::users::shaping::{
     Shaper, Shaping, by_graphemes, face_of, planned, print_glyphs, text_of,
 };
-use shape_buffer::buffer::{Direction, Script, UnicodeBuffer, hb_tag_t};
+use shape_buffer::buffer::{Direction, Script, hb_tag_t};
 use shape_buffer::interfaces::MapFace;
 use shape_pipeline::ot_shaper::DEFAULT_SHAPER;
 use shape_pipeline::{GlyphBuffer, ShapeFault};
@@ -17,8 +17,34 @@ use std::alloc::Global;
 use std::process::Abort;
 
 /// The text, whose clusters are 0, 1 and 3.
-fn latin(rt: &impl Abort, alloc: Global, how: Shaping<'_>) -> UnicodeBuffer {
-    text_of(rt, alloc, how, "e\u{301}x")
+const TEXT: &str = "e\u{301}x";
+
+/// The calls that take a plan: one says how many glyphs there are, and one of what form the characters are.
+#[derive(Clone, Copy)]
+enum ByPlan {
+    Plain,
+    Counted,
+    Formed,
+}
+
+/// The glyphs of the text by a call.
+fn glyphs_by(
+    rt: &impl Abort,
+    alloc: Global,
+    plan: &PlainPlan<'_>,
+    how: Shaping<'_>,
+    call: ByPlan,
+) -> Result<GlyphBuffer, ShapeFault> {
+    let text = text_of(rt, alloc, how, TEXT);
+    assert!(rt; plan.fits::<UnicodeDatabase>(&text));
+    let face = how.face;
+    match call {
+        ByPlan::Plain => plain_glyphs::<UnicodeDatabase, MapFace>(alloc, face, plan, text),
+        ByPlan::Counted => plain_glyphs_counted::<UnicodeDatabase, MapFace>(
+            alloc, face, plan, text,
+        ),
+        ByPlan::Formed => plain_glyphs_formed::<UnicodeDatabase, MapFace>(alloc, face, plan, text),
+    }
 }
 
 /// Asserts that there are three glyphs in a direction.
@@ -27,51 +53,29 @@ fn assert_three(rt: &impl Abort, glyphs: Result<GlyphBuffer, ShapeFault>, direct
     assert_that(rt, glyphs.direction() == direction && glyphs.len() == 3);
 }
 
-fn assert_plain(rt: &impl Abort, alloc: Global, plan: &PlainPlan<'_>, how: Shaping<'_>) {
-    let text = latin(rt, alloc, how);
-    assert!(rt; plan.fits::<UnicodeDatabase>(&text));
-    let glyphs = plain_glyphs::<UnicodeDatabase, MapFace>(alloc, how.face, plan, text);
-    assert_three(rt, glyphs, how.direction);
-}
-
-/// The same by a call that says how many they are.
-fn assert_counted(rt: &impl Abort, alloc: Global, plan: &PlainPlan<'_>, how: Shaping<'_>) {
-    let text = latin(rt, alloc, how);
-    assert!(rt; plan.fits::<UnicodeDatabase>(&text));
-    let glyphs = plain_glyphs_counted::<UnicodeDatabase, MapFace>(alloc, how.face, plan, text);
-    assert_three(rt, glyphs, how.direction);
-}
-
-/// The same by a call that says of what form the characters are.
-fn assert_formed(rt: &impl Abort, alloc: Global, plan: &PlainPlan<'_>, how: Shaping<'_>) {
-    let text = latin(rt, alloc, how);
-    assert!(rt; plan.fits::<UnicodeDatabase>(&text));
-    let glyphs = plain_glyphs_formed::<UnicodeDatabase, MapFace>(alloc, how.face, plan, text);
-    assert_three(rt, glyphs, how.direction);
-}
-
-/// The same by `shape`, whose plan is its own: it counts the glyphs, and knows the form of the characters.
+/// Asserts this of `shape`, whose plan is its own: it counts the glyphs, and knows the form of the characters.
 fn assert_by_shape(rt: &impl Abort, alloc: Global, how: Shaping<'_>) {
-    let (face, shaper, text) = (how.face, &DEFAULT_SHAPER, latin(rt, alloc, how));
+    let (face, shaper) = (how.face, &DEFAULT_SHAPER);
+    let text = text_of(rt, alloc, how, TEXT);
     let glyphs = glyphs_counted::<UnicodeDatabase, MapFace>(alloc, face, shaper, text);
     assert_three(rt, glyphs, how.direction);
-    let text = latin(rt, alloc, how);
+    let text = text_of(rt, alloc, how, TEXT);
     let glyphs = glyphs_formed::<UnicodeDatabase, MapFace>(alloc, face, shaper, text);
     assert_three(rt, glyphs, how.direction);
 }
 
 /// Asserts that the text has three glyphs in a direction, by each call.
 fn assert_in_direction(rt: &impl Abort, alloc: Global, direction: Direction) {
-    let face = face_of(rt, alloc, "e\u{301}x");
+    let face = face_of(rt, alloc, TEXT);
     let plan = planned(rt, alloc, &face, &DEFAULT_SHAPER, direction, b"Latn");
     let how = Shaping {
         direction,
         script: Some(Script(hb_tag_t::from_bytes(b"Latn"))),
         ..by_graphemes(&face, Shaper::Default)
     };
-    assert_plain(rt, alloc, &plan, how);
-    assert_counted(rt, alloc, &plan, how);
-    assert_formed(rt, alloc, &plan, how);
+    for call in [ByPlan::Plain, ByPlan::Counted, ByPlan::Formed] {
+        assert_three(rt, glyphs_by(rt, alloc, &plan, how, call), direction);
+    }
     assert_by_shape(rt, alloc, how);
 }
 

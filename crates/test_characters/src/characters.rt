@@ -2,11 +2,10 @@
 //! DerivedNormalizationProps.txt) and from HarfBuzz: ccc, spaces, the ends of ranges, the directions of scripts.
 
 use crate::answers::{Question, check_answers, check_categories};
-use crate::comparing::number;
+use crate::comparing::{number, parts};
 use shape_buffer::interfaces::hb_unicode_funcs_t;
 use shape_unicode::UnicodeDatabase;
 use std::process::Abort;
-use test_fixtures::cases::case_of;
 use ucd_normal::canonical_combining_class;
 
 /// A mark of each combining class that is changed, and the ccc that HarfBuzz has for it.
@@ -303,7 +302,7 @@ const ALONE: [char; 3] = ['\u{F39}', '\u{FC6}', '\u{1A60}'];
 /// Whether a ccc is that of a changed combining class.
 fn is_changed(rt: &impl Abort, ccc: u8) -> bool {
     for row in CHANGED.trim().lines() {
-        if number(rt, case_of(row).expect(rt, row).1) == u32::from(ccc) {
+        if number(rt, parts(rt, row, "->").1) == u32::from(ccc) {
             return true;
         }
     }

@@ -5,7 +5,6 @@ use shape_buffer::buffer::{Direction, Script, hb_tag_t};
 use shape_buffer::interfaces::hb_unicode_funcs_t;
 use shape_buffer::interfaces::space_types::NOT_SPACE;
 use std::process::Abort;
-use test_fixtures::cases::case_of;
 
 /// A question to Unicode functions: about a character, a script, or two characters with a `+` between them.
 #[derive(Clone, Copy)]
@@ -116,7 +115,7 @@ fn wanted(rt: &impl Abort, question: Question, word: &str) -> Answer {
 
 /// Compares the answers for the words of a row, which has some.
 fn check_row<U: hb_unicode_funcs_t>(rt: &impl Abort, question: Question, row: &str) {
-    let (words, answer) = case_of(row).expect(rt, row);
+    let (words, answer) = parts(rt, row, "->");
     assert_row(rt, row, words.is_empty(), false);
     let wanted = wanted(rt, question, answer);
     for word in words.split_whitespace() {
@@ -165,7 +164,7 @@ pub fn category_name<U: hb_unicode_funcs_t>(rt: &(impl Abort + AllocGlobal), c: 
 
 /// Compares the category of a character.
 fn check_category<U: hb_unicode_funcs_t>(rt: &(impl Abort + AllocGlobal), row: &str) {
-    let (word, wanted) = case_of(row).expect(rt, row);
+    let (word, wanted) = parts(rt, row, "->");
     let name = category_name::<U>(rt, character(rt, word));
     assert_row(rt, word, name.as_str(), wanted);
 }

@@ -32,11 +32,6 @@ pub fn parts<'a>(rt: &impl Abort, text: &'a str, mark: &str) -> (&'a str, &'a st
     }
 }
 
-/// A column of a row, counted from 0. A semicolon stands between two.
-pub fn column<'a>(rt: &impl Abort, row: &'a str, at: usize) -> &'a str {
-    row.split(';').nth(at).expect(rt, row).trim()
-}
-
 /// The character of a hexadecimal number.
 fn numbered(word: &str) -> Option<char> {
     char::from_u32(u32::from_str_radix(word, 16).ok()?)
