@@ -1,8 +1,8 @@
 //! Whole tables of the Unicode functions, each beside another source: names of scripts and categories as
 //! `ucd_sets` knows them, the bidirectional classes of letters, and the standard's list of mirror images.
 
-use crate::answers::{Question, category_name, count, script_of};
-use crate::comparing::{assert_same, chars_of};
+use crate::unicode::answers::{Question, category_name, count, script_of};
+use crate::unicode::comparing::{assert_same, chars_of};
 use shape_buffer::buffer::{Direction, Script};
 use shape_buffer::interfaces::{hb_unicode_funcs_t, hb_unicode_general_category_t};
 use shape_unicode::UnicodeDatabase;

@@ -1,8 +1,8 @@
 //! The answers for single characters, taken from the files of the database (UnicodeData.txt, Scripts.txt,
 //! DerivedNormalizationProps.txt) and from HarfBuzz: ccc, spaces, the ends of ranges, the directions of scripts.
 
-use crate::answers::{Question, check_answers, check_categories};
-use crate::comparing::{number, parts};
+use crate::unicode::answers::{Question, check_answers, check_categories};
+use crate::unicode::comparing::{number, parts};
 use shape_buffer::interfaces::hb_unicode_funcs_t;
 use shape_unicode::UnicodeDatabase;
 use std::process::Abort;

@@ -1,6 +1,6 @@
 //! The lines that the program `shapeline` answers a text with, at the ends of their numbers.
 
-use crate::comparing::assert_same;
+use crate::unicode::comparing::assert_same;
 use shape_buffer::buffer::{GlyphPosition, hb_glyph_info_t};
 use shape_sessions::printing::{append_glyphs, append_items};
 use std::process::Abort;

@@ -1,6 +1,6 @@
 //! What Unicode functions return, beside rows of text.
 
-use crate::comparing::{assert_row, character, number, parts, rows_of};
+use crate::unicode::comparing::{assert_row, character, number, parts, rows_of};
 use shape_buffer::buffer::{Direction, Script, hb_tag_t};
 use shape_buffer::interfaces::hb_unicode_funcs_t;
 use shape_buffer::interfaces::space_types::NOT_SPACE;

@@ -1,8 +1,8 @@
 //! The small tables of Unicode that the program `shapeline` has, entry by entry, with the characters beside them and
 //! how many they name.
 
-use crate::answers::{Question, check_answers, check_categories, count};
-use crate::comparing::assert_same;
+use crate::unicode::answers::{Question, check_answers, check_categories, count};
+use crate::unicode::comparing::assert_same;
 use shape_sessions::unicode_tables::UnicodeTables;
 
 /// Questions, and rows of characters with their answers.
