@@ -1,7 +1,5 @@
-//! Ligatures: one glyph in place of several (kind 4).
-//!
-//! Of the ligatures of a set the first whose components stand in a row is made. The clusters of all its components are merged, and
-//! marks between them, and after the last one, stand on the ligature from then on.
+//! Ligatures: one glyph in place of several (kind 4). Of those of a set the first whose components stand in a row is made; the
+//! clusters of its components are merged, and marks between them, and after the last one, stand on it from then on.
 ghost use Rattle.std.specs.Prelude.{◌≡◌, ◌<◌, ◌-◌, ◌+◌, ◌^◌, Some, length, true, IsTrue};
 ghost use Rattle.std.specs.Option.{IfSome};
 ghost use Rattle.layout_matching.specs.Loops.{times};
@@ -31,8 +29,7 @@ pub struct Components {
     pub all_marks: bool,
 }
 
-/// How a ligature is made: its components, whether it has a number of its own, whether it is one of marks alone, and its
-/// number.
+/// How a ligature is made: its components, whether it has a number of its own, whether of marks alone, and its number.
 #[derive(Clone, Copy, PartialEq, Eq, Debug)]
 pub struct Ligation {
     pub seek: Seek,
