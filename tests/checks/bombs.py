@@ -3,7 +3,7 @@
 Each runs with a text of 10,000 characters: no run ends by a signal, takes more than six seconds of
 processor time (the gate's machine may be slow), or more than 200 MB. The bombs are lookups that
 apply themselves, substitutions that grow, parts of tables that are shared, kerning of 65,535
-parts. Those that use up what a stage may ask for take up to five seconds, in step with the text
+parts. Those that use up what a stage may ask for take longer, in step with the text
 (docs/SAFE_AND_TOTAL.md): they stand in SPENT, and run over a fifth of it.
 
 The worst fonts of earlier searches are named in tests/hostile/worst.txt (`search`).
@@ -136,7 +136,7 @@ BOMBS = {
 
 
 # bombs that use up what a stage may ask for, or nearly; that of ZWNJ does too, and runs over the
-# whole text, where a search for the price of a look would take too long
+# whole text, to be slow if a search costs as little as a look
 SPENT = {
     "calls itself twice", "calls itself at each of 64 places", "one lookup, named 20,000 times",
     "one subtable, named 30,000 times", "30,000 subtables of 100 lookups",
