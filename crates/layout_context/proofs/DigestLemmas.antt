@@ -185,14 +185,19 @@ digest-over levels d here run said held apart = by_length (nat_eq (length here.b
         over-still levels d.lookup here (said.out glyph (apart glyph (held 0 some))).substitutes
         (none-covered d run here.buffer.items said held apart)
 
--- its walk is charged for all the same
+-- its walk is charged for all the same; one that can't be paid changes nothing, whatever glyphs there are
 digest-still : (levels : ℕ) (d : Digested) (here : Walk) (run : Digest) → IsDigested d → HoldsGlyphs run here.buffer.items
-    → IsApart run d → settled (looked_up levels d.lookup here) ≡ settled (walk_charged d.lookup here)
-digest-still levels d here run said held apart =
-    let t = walk_charged d.lookup here in
-    elim (nat_lt here.spot.left (walk_work d.lookup (length here.buffer.items))) as
-    (λ u. settled (if u then t else gone_over levels d.lookup t) ≡ settled t)
-    [ true ↦ refl | false ↦ digest-over levels d t run said held apart ]
+    → (walk_work d.lookup (length here.buffer.items) ≤ here.spot.left → IsApart run d)
+    → settled (looked_up levels d.lookup here) ≡ settled (walk_charged d.lookup here)
+digest-still levels d here run said held apart = by_charge (nat_lt here.spot.left (walk_work d.lookup (length here.buffer.items))) refl
+  where
+    t : Walk
+    t = walk_charged d.lookup here
+
+    by_charge : (u : Bool) → nat_lt here.spot.left (walk_work d.lookup (length here.buffer.items)) ≡ u
+        → settled (if u then t else gone_over levels d.lookup t) ≡ settled t
+    by_charge true e = refl
+    by_charge false e = digest-over levels d t run said held (apart (grind (arith, nat_tests, e)))
 
 pub charged_next : (ds : List Digested) (k : ℕ) (x : Digested) (b : Buffer) (spot next : Spot) (count : ℕ)
     → next ≡ record spot { left = spot.left - walk_work (slice_index_or ds k x).lookup count } → count ≡ length b.items
@@ -201,15 +206,18 @@ charged_next ds k x b spot next count is same =
     let l = (slice_index_or ds k x).lookup in
     ap (λ (s : Spot). record { buffer = b; spot = s }) (is ∙ ap (λ n. record spot { left = spot.left - walk_work l n }) same)
 
-pub passed_over : (levels : ℕ) (ds : List Digested) (k : ℕ) (x : Digested) (here next : Walk) (run : Digest) (b : Buffer) → k < length ds
+pub passed_over : (levels : ℕ) (ds : List Digested) (k : ℕ) (x : Digested) (here next : Walk) (run : Digest) (b : Buffer) (count : ℕ)
+    → k < length ds → count ≡ length here.buffer.items
     → IsDigested (slice_index_or ds k x) → HoldsGlyphs run here.buffer.items
-    → IsApart run (slice_index_or ds k x) → next ≡ walk_charged (slice_index_or ds k x).lookup here
+    → (walk_work (slice_index_or ds k x).lookup count ≤ here.spot.left → IsApart run (slice_index_or ds k x))
+    → next ≡ walk_charged (slice_index_or ds k x).lookup here
     → (all_looked_up levels (lookups_in (drop k ds)) here).buffer ≡ b
     → (all_looked_up levels (lookups_in (drop (k + 1) ds)) next).buffer ≡ b
-passed_over levels ds k x here next run b more said held apart is before =
+passed_over levels ds k x here next run b count more same said held apart is before =
     let d = slice_index_or ds k x in
     let still : settled (looked_up levels d.lookup here) ≡ settled next =
-    digest-still levels d here run said held apart ∙ sym (ap settled is) in
+    digest-still levels d here run said held (subst (λ n. walk_work d.lookup n ≤ here.spot.left → IsApart run d) same apart)
+    ∙ sym (ap settled is) in
     sym (all-settled levels (lookups_in (drop (k + 1) ds)) (looked_up levels d.lookup here) next still)
     ∙ sym (ap (λ (rest : List Digested). (all_looked_up levels (lookups_in rest) here).buffer) (drop_more ds k x more)) ∙ before
 
@@ -227,7 +235,7 @@ all-idle : (levels : ℕ) (ds : List Digested) (run : Digest) (s : Walk) → All
     → HoldsGlyphs run s.buffer.items → (all_looked_up levels (lookups_in ds) s).buffer ≡ s.buffer
 all-idle levels [] run s said apart held = refl
 all-idle levels (d ∷ ds) run s said apart held =
-    let still = digest-still levels d s run (said 0 d (omega arith)) held (apart 0 d (omega arith)) in
+    let still = digest-still levels d s run (said 0 d (omega arith)) held (λ paid. apart 0 d (omega arith)) in
     all-settled levels (lookups_in ds) (looked_up levels d.lookup s) (walk_charged d.lookup s) still
     ∙ all-idle levels ds run (walk_charged d.lookup s) (λ k e inside. said (suc k) e (omega (arith, inside)))
     (λ k e inside. apart (suc k) e (omega (arith, inside))) held

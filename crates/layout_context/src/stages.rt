@@ -257,7 +257,16 @@ fn any_shares(run: &Digest, lookups: &[Digested<'_>]) -> bool
     lookups.iter().any(|named| run.may_share(&named.digest))
 }
 
-/// Lookups one after the other, from a digest of the list on. One whose digest shares no glyph with the list is passed over.
+/// Whether a lookup goes over a list of so many items: enough is left, and its digest shares a glyph with that of the list.
+fn is_made(named: &Digested<'_>, run: &Digest, count: usize, left: usize) -> bool
+    requires { named.now.lookup.place < 2 ^ 17 }
+    ensures { result ≡ false → Work.walk_work named.now.lookup count ≤ left
+        → IsApart run.now named.now }
+{
+    run.may_share(&named.digest) && walk_work(&named.lookup, count) <= left
+}
+
+/// Lookups one after the other, from a digest of the list on. One that isn't made changes nothing, so that no digest is made anew.
 #[tactic(auto, using(crate::proofs::DigestLemmas::looked_on))]
 fn look_all_up(
     alloc: Global,
@@ -283,9 +292,10 @@ fn look_all_up(
     let mut is_stale = false;
     for named in lookups {
         run = renewed(run, is_stale, &buffer.items());
-        is_stale = run.may_share(&named.digest);
+        let count = buffer.len();
+        is_stale = is_made(named, &run, count, spot.left);
         if !is_stale {
-            spot = charge_walk(&named.lookup, buffer.len(), spot);
+            spot = charge_walk(&named.lookup, count, spot);
             continue;
         }
         match look_up(alloc, levels, named, buffer, spot) {

@@ -1,13 +1,15 @@
 -- a lookup whose digest holds no glyph of the list may be passed over, and a place whose glyph it doesn't hold
 use Prim.Native.Nat.{zero}
-use Rattle.std.proofs.Common.{◌≡◌, ℕ, suc, ◌+◌, ◌-◌, ◌<◌, ◌≤◌, ◌^◌, Bool, true, false, List, [], ◌∷◌, length, nat_eq, nat_lt, fold, refl, sym, ap, ◌∙◌, subst, arith, if◌then◌else◌, drop, slice_index_or, map}
+use Rattle.std.proofs.Common.{◌≡◌, ℕ, suc, ◌+◌, ◌-◌, ◌*◌, ◌<◌, ◌≤◌, ◌^◌, Bool, true, false, List, [], ◌∷◌, length, min, nat_eq, nat_lt, fold, refl, sym, ap, ◌∙◌, subst, arith, if◌then◌else◌, drop, slice_index_or, map}
 use Rattle.std.proofs.lemmas.Bool.Decides.{nat_tests}
 use Rattle.std.proofs.lemmas.List.{drop_more}
-use Rattle.shape_items.specs.Buffer.{Buffer}
+use Rattle.std.proofs.lemmas.Nat.{mul-le}
+use Rattle.shape_items.specs.Buffer.{Buffer, most_countable}
 use Rattle.shape_items.specs.Items.{Item}
+use Rattle.layout_tables.specs.Lookups.{subtable_count_of}
 use Rattle.layout_matching.specs.Loops.{times}
 use Rattle.layout_matching.specs.Skipping.{nth}
-use Rattle.layout_matching.specs.Work.{walk_work}
+use Rattle.layout_matching.specs.Work.{is_plain, walk_work, PLAIN_WORK, STEP_WORK}
 use Rattle.layout_matching.specs.declared.lookup.Lookup.{Lookup}
 use Rattle.layout_digests.specs.Digests.{has, IsWithin}
 use Rattle.layout_digests.specs.declared.digest.Digest.{Digest}
@@ -69,6 +71,38 @@ pub applied_on : (ds : List Digested) (k : ℕ) (x : Digested) (here next made :
 applied_on ds k x here next made more before is =
     ap (λ s. fold lookup_applied s (lookups_in (drop (k + 1) ds))) is
     ∙ sym (ap (λ (rest : List Digested). fold lookup_applied here (lookups_in rest)) (drop_more ds k x more)) ∙ before
+
+-- ---- once nothing is left, a lookup that costs something changes nothing
+
+product-some : (count n step : ℕ) → 0 < count → 0 < n → 0 < step → 0 < min (count * (n * step)) most_countable
+product-some count n step some parts more =
+    let one : 1 * 1 ≤ n * step = mul-le 1 1 n step (omega (arith, parts)) (omega (arith, more)) in
+    let all : 1 * 1 ≤ count * (n * step) = mul-le 1 1 count (n * step) (omega (arith, some)) (omega (arith, one)) in
+    omega (arith, all)
+
+pub walk_costs : (l : Lookup) (count : ℕ) → 0 < count → 0 < subtable_count_of l.table.now l.place → 0 < walk_work l count
+walk_costs l count some parts = by_step (is_plain l)
+  where
+    by_step : (t : Bool) → 0 < min (count * (subtable_count_of l.table.now l.place * (if t then PLAIN_WORK else STEP_WORK))) most_countable
+    by_step true = product-some count (subtable_count_of l.table.now l.place) PLAIN_WORK some parts (omega arith)
+    by_step false = product-some count (subtable_count_of l.table.now l.place) STEP_WORK some parts (omega arith)
+
+unpaid : (left work : ℕ) → left ≡ 0 → 0 < work → nat_lt left work ≡ true
+unpaid left work none some = grind (arith, nat_tests, none, some)
+
+none-less : (left work : ℕ) → left ≡ 0 → left ≡ left - work
+none-less left work none = omega (arith, none)
+
+pub spent_on : (ds : List Digested) (k : ℕ) (x : Digested) (here made : Budgeted) (count : ℕ) → k < length ds
+    → count ≡ length here.buffer.items → here.left ≡ 0 → 0 < walk_work (slice_index_or ds k x).lookup count
+    → fold lookup_applied here (lookups_in (drop k ds)) ≡ made → fold lookup_applied here (lookups_in (drop (k + 1) ds)) ≡ made
+spent_on ds k x here made count more same none costs before =
+    let l = (slice_index_or ds k x).lookup in
+    let after = walk_charged here l in
+    let some = subst (λ n. 0 < walk_work l n) same costs in
+    applied_on ds k x here here made more before
+    (ap (λ n. record here { left = n }) (none-less here.left (walk_work l (length here.buffer.items)) none)
+    ∙ sym (ap (λ t. if t then after else gone_over after l) (unpaid here.left (walk_work l (length here.buffer.items)) none some)))
 
 -- in an empty list nothing is done, whatever the lookup is
 digest-idle : (d : Digested) (here : Budgeted) (run : Digest) → IsDigested d → HoldsGlyphs run here.buffer.items

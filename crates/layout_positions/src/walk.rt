@@ -1,5 +1,5 @@
 //! Positioning: no glyph is attached at first; then lookups go over the buffer, one after the other.
-ghost use Rattle.std.specs.Prelude.{◌≡◌, ℕ, ◌<◌, ◌≤◌, ◌+◌, ◌-◌, ◌^◌, false, fold, length, All};
+ghost use Rattle.std.specs.Prelude.{◌≡◌, ℕ, ◌<◌, ◌≤◌, ◌+◌, ◌-◌, ◌^◌, false, fold, length, true, All};
 ghost use Rattle.shape_buffer.specs.Outcome.{Made};
 ghost use Rattle.layout_matching.specs.Found as found_rules;
 ghost use Rattle.layout_matching.specs.Loops.{times};
@@ -20,6 +20,7 @@ use layout_matching::found::is_context;
 use layout_matching::lookup::Lookup;
 use layout_matching::skipping::{is_on, is_transparent, item_at};
 use layout_matching::work::{lookup_charged, stage_work, walk_work};
+use layout_tables::lookups::subtable_count;
 use shape_buffer::position_walks::update_positions;
 use shape_buffer::{GlyphPosition, hb_buffer_t, hb_glyph_info_t};
 
@@ -252,6 +253,16 @@ pub fn apply_over(named: &Digested<'_>, buffer: &mut hb_buffer_t, left: usize) -
     go_over(named, buffer, after)
 }
 
+/// Whether nothing is left for a lookup that costs something. That is told at once, however many subtables the lookup has.
+#[tactic(auto, using(crate::proofs::DigestLemmas::walk_costs))]
+fn is_spent(lookup: &Lookup<'_>, count: usize, left: usize) -> bool
+    requires { lookup.now.place < 2 ^ 17 }
+    ensures none { result ≡ true → left ≡ 0 }
+    ensures costs { result ≡ true → 0 < Work.walk_work lookup.now count }
+{
+    left == 0 && 0 < count && 0 < subtable_count(lookup.table, lookup.place)
+}
+
 /// A digest that holds the glyphs of a list.
 #[tactic(auto, using(crate::proofs::DigestLemmas::one_held))]
 fn run_digest(items: &[hb_glyph_info_t]) -> Digest
@@ -276,8 +287,12 @@ fn apply_each(lookups: &[Digested<'_>], buffer: &mut hb_buffer_t) -> usize
     // No lookup changes which glyphs there are.
     let run = run_digest(buffer.infos());
     for named in lookups {
+        let count = buffer.len();
+        if is_spent(&named.lookup, count, left) {
+            continue;
+        }
         if !run.may_share(&named.digest) {
-            left = charge_walk(&named.lookup, buffer.len(), left);
+            left = charge_walk(&named.lookup, count, left);
             continue;
         }
         left = apply_over(named, buffer, left);
