@@ -115,9 +115,9 @@ def rules_past(count):
     return words(1, head, 42, *[head + len(EVERY)] * 42, 0) + EVERY + words(count, *[65535] * count)
 
 
-def nulls(count, part):
-    """A lookup of context of so many subtables that are NULL, and one that isn't."""
-    return words(5, 0, count + 1, *[0] * count, 8 + 2 * count) + part
+def nulls(count, part, kind=5):
+    """A lookup, of context say, of so many subtables that are NULL, and one that isn't."""
+    return words(kind, 0, count + 1, *[0] * count, 8 + 2 * count) + part
 
 
 def alternates():

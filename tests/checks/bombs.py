@@ -78,6 +78,7 @@ BOMBS = {
     "30,000 subtables of 100 lookups": ({"GSUB": layout(IN_VAIN, shared=100)}, "a"),
     "32,000 rules at one place": ({"GSUB": layout(RULES)}, "a"),
     "32,000 rules, 100 lookups": ({"GSUB": layout(RULES, shared=100)}, "a"),
+    "32,000 rules, 30,000 lookups": ({"GSUB": layout(RULES, shared=30000)}, "a"),
     **{f"31,000 rules {kind}, 100 lookups": ({"GSUB": layout([rows], shared=100)}, "a")
        for kind, rows in SHORT_ROWS.items()},
     "grows, then 31,000 rules of two glyphs, 100 lookups": (GROWS_FIRST, "a"),
@@ -100,6 +101,8 @@ BOMBS = {
     "a list of 5,000 ranges, searched at each ZWNJ, 1,000 lookups": (
         {"GSUB": layout([lookup(6, [list_behind(5000)])], shared=1000)}, "z"),
     "30,000 NULL subtables": ({"GSUB": layout([nulls(30000, vain())])}, "a"),
+    "30,000 NULL subtables of 31,000 lookups of pairs": (
+        {"GPOS": layout([nulls(30000, pairs(1), 2)], b"kern", shared=31000)}, "a"),
     "records that name nothing": (
         {"GSUB": layout([lookup(5, [context(1, [(9, 0)] * 10000)])], shared=1000)}, "a"),
     "1,000 lookups at random": (
@@ -140,7 +143,8 @@ BOMBS = {
 SPENT = {
     "calls itself twice", "calls itself at each of 64 places", "one lookup, named 20,000 times",
     "one subtable, named 30,000 times", "30,000 subtables of 100 lookups",
-    "32,000 rules at one place", "32,000 rules, 100 lookups", "32,000 ligatures at one place",
+    "32,000 rules at one place", "32,000 rules, 100 lookups", "32,000 rules, 30,000 lookups",
+    "32,000 ligatures at one place", "30,000 NULL subtables of 31,000 lookups of pairs",
     *(f"31,000 rules {kind}, 100 lookups" for kind in SHORT_ROWS),
     "grows, then 31,000 rules of two glyphs, 100 lookups",
     "31,000 ligatures of two glyphs, 100 lookups", "rules past the table, 100 lookups",
