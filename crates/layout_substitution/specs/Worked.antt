@@ -7,7 +7,7 @@ use Rattle.shape_items.specs.Items.{Item, new_item, new_properties}
 use Rattle.layout_matching.specs.declared.glance.Glance.{Glance}
 use Rattle.layout_matching.specs.declared.glance.Glance.TheVariants.{Open, Closed, Only}
 use Rattle.layout_matching.specs.declared.lookup.Lookup.{Lookup}
-use Rattle.layout_substitution.specs.Ligatures.{ligature_matched, second_glance, begins_with_another}
+use Rattle.layout_substitution.specs.Ligatures.{ligature_matched, second_glance, begins_with_another, following_charged}
 use Rattle.layout_substitution.specs.Replaced.{replaced, is_multiplied, taken_apart, with_components, as_ligature}
 use Rattle.layout_substitution.specs.Start.{begun_item}
 use Rattle.layout_substitution.specs.Substitutes.{has_components}
@@ -25,6 +25,11 @@ a_zwj = record (glyph 8) { properties = record new_properties { ignorable = true
 abbrev pub Glances : List Item → Glance → Type 0
 Glances items glance = (l : Lookup) → second_glance (seeing_all l) (record new_buffer { items = items }) 0 ≡ glance
 
+-- what is left of so much at place 5 after the marks up to a place followed a ligature
+abbrev pub LeftAfter : ℕ → ℕ → ℕ → Type 0
+LeftAfter end before left = (random whole : ℕ)
+    → (following_charged end (record { at = 5; random = random; left = before; whole = whole })).left ≡ left
+
 pub record WorkedLigatures : Type 0 where
   -- a glyph, a count with the first component, and the other components
   pub two_components : has_components (words (50 ∷ 2 ∷ 6 ∷ [])) 0 ≡ true
@@ -39,6 +44,12 @@ pub record WorkedLigatures : Type 0 where
   pub the_second : begins_with_another (words (50 ∷ 2 ∷ 6 ∷ [])) (Only 6) 0 ≡ false
   pub no_second_wanted : begins_with_another (words (50 ∷ 1 ∷ [])) Closed 0 ≡ false
   pub cut_stands_nowhere : (l : Lookup) (b : Buffer) (at : ℕ) → l.table.now ≡ words (50 ∷ 2 ∷ []) → ligature_matched l b at 0 ≡ None
+  -- every four marks that follow cost one; forty-four need eleven
+  pub none_follows : LeftAfter 5 10 10
+  pub three_follow : LeftAfter 8 10 10
+  pub four_follow : LeftAfter 9 10 9
+  pub all_is_spent : LeftAfter 45 10 0
+  pub too_little : LeftAfter 49 10 0
 
 pub worked_ligatures : WorkedLigatures
 worked_ligatures = record {
@@ -53,6 +64,11 @@ worked_ligatures = record {
   the_second = refl;
   no_second_wanted = refl;
   cut_stands_nowhere = λ l b at t. rw t refl;
+  none_follows = λ random whole. refl;
+  three_follow = λ random whole. refl;
+  four_follow = λ random whole. refl;
+  all_is_spent = λ random whole. refl;
+  too_little = λ random whole. refl;
 }
 
 -- a glyph that lookups ligated or multiplied before

@@ -313,8 +313,7 @@ fn join(
     };
     let end = next_place(buffer.len(), found.last);
     merge(buffer, at, end);
-    let n = found.last.saturating_sub(at);
-    let walk = join_all(lookup, buffer, made, n, walk);
+    let walk = join_all(lookup, buffer, made, found.last.saturating_sub(at), walk);
     follow(buffer, made, walk)
 }
 
@@ -341,12 +340,13 @@ fn put_over(
     );
 }
 
-/// The spot where so many items are left.
-fn with_left(buffer: &GapBuffer, spot: Spot, left: usize) -> Spot
-    ensures { result ≡ with_as_many_after left spot buffer.now }
+/// The spot where so many items are left, charged for those that followed the ligature up to `end`.
+fn with_left(buffer: &GapBuffer, spot: Spot, left: usize, end: usize) -> Spot
+    ensures { result ≡ Ligatures.following_charged end (with_as_many_after left spot buffer.now) }
 {
     let mut next = spot;
     next.at = buffer.len().saturating_sub(left);
+    next.left = spot.left.saturating_sub(end.saturating_sub(next.at) / 4);
     next
 }
 
@@ -369,7 +369,7 @@ fn ligate(
 {
     let walk = join(lookup, buffer, made, found, spot.at);
     put_over(lookup, buffer, made, found, spot.at, walk);
-    with_left(buffer, spot, left)
+    with_left(buffer, spot, left, walk.at)
 }
 
 /// How many items are after the one at `last`.
