@@ -244,6 +244,20 @@ impl GapBuffer {
         self.settings.length_limit()
     }
 
+    /// Reads what lookups may still ask for, as `hb_buffer_t::max_ops` does.
+    pub fn max_ops(&self) -> usize
+        ensures { result ≡ self.now.max_ops }
+    {
+        self.settings.max_ops()
+    }
+
+    /// Sets what lookups may still ask for, and nothing else.
+    pub fn set_max_ops(&mut self, max_ops: usize)
+        ensures { self.new ≡ record self.old { max_ops = max_ops } }
+    {
+        self.settings.set_max_ops(max_ops);
+    }
+
     /// Reads the ligature id that was given last, 0 if the run has given none.
     pub fn serial(&self) -> u8
         ensures { result ≡ self.now.serial }

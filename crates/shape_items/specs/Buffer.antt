@@ -24,10 +24,16 @@ pub record Buffer : Type 0 where
   pub not_found_variation_selector_glyph : Option GlyphId
   pub scratch_flags : ScratchFlags
   pub length_limit : Option ℕ
+  -- what lookups may still ask for, in units of about one look at a glyph
+  pub max_ops : ℕ
   -- the ligature id that was given last, 0 for none
   pub serial : ℕ
   pub pre_context : List ℕ
   pub post_context : List ℕ
+
+-- the greatest number that can be counted
+abbrev pub most_countable : ℕ
+most_countable = 18446744073709551615
 
 -- a buffer as it is made
 abbrev pub new_buffer : Buffer
@@ -43,6 +49,7 @@ new_buffer = record {
   not_found_variation_selector_glyph = None;
   scratch_flags = record { 0 = 0 };
   length_limit = None;
+  max_ops = most_countable;
   serial = 0;
   pre_context = [];
   post_context = [];
@@ -58,6 +65,7 @@ cleared b = record b {
   language = None;
   scratch_flags = record { 0 = 0 };
   length_limit = None;
+  max_ops = most_countable;
   serial = 0;
   pre_context = [];
   post_context = [];
@@ -66,10 +74,6 @@ cleared b = record b {
 -- the ligature id after that one: from 1 to 7, and from 1 again
 abbrev pub next_ligature_id : ℕ → ℕ
 next_ligature_id serial = serial % 7 + 1
-
--- the greatest number that can be counted
-abbrev pub most_countable : ℕ
-most_countable = 18446744073709551615
 
 -- a run may make so many items of each that it began with
 abbrev pub MAX_LEN_FACTOR : ℕ
@@ -86,3 +90,15 @@ limit_of b = unwrap_or b.length_limit most_countable
 -- the limit of a run that begins with n items; the product stays at the greatest number that can be counted
 abbrev pub run_limit : ℕ → ℕ
 run_limit n = max (min (n * MAX_LEN_FACTOR) most_countable) MAX_LEN_MIN
+
+-- the lookups of a run may ask for so much for each item that it began with
+abbrev pub MAX_OPS_FACTOR : ℕ
+MAX_OPS_FACTOR = 40960
+
+-- and for so much, however few it began with
+abbrev pub MAX_OPS_MIN : ℕ
+MAX_OPS_MIN = 2621440
+
+-- the work of a run that begins with n items; the product stays at the greatest number that can be counted
+abbrev pub run_ops : ℕ → ℕ
+run_ops n = max (min (n * MAX_OPS_FACTOR) most_countable) MAX_OPS_MIN

@@ -1,6 +1,6 @@
 -- A run: the list of its steps, and what it makes of a text.
 use Rattle.std.specs.Prelude.{◌≡◌, ◌≢◌, ◌<◌, ◌≤◌, ◌⊎◌, List, [], ◌∷◌, ◌++◌, Some, None, length}
-use Rattle.shape_items.specs.Buffer.{Buffer, limit_of, run_limit}
+use Rattle.shape_items.specs.Buffer.{Buffer, limit_of, most_countable, run_limit, run_ops}
 use Rattle.shape_buffer.specs.Guess.{guessed, guessed_direction}
 use Rattle.shape_buffer.specs.Outcome.{Step, step, run_steps, EachWithin, SomePast}
 use Rattle.shape_common.specs.declared.text_types.Direction.{Direction}
@@ -28,13 +28,18 @@ shaped_steps run = glyph_phase run ++ (position_steps run ++ finish_steps run)
 abbrev pub all_steps : Run → Direction → List Step
 all_steps run target = prepare_steps run target ++ (normalising run.rules ∷ shaped_steps run)
 
--- the text as a run begins: no scratch flag, no ligature id given, and a limit by its length
+-- the text as a run begins: no scratch flag, no ligature id given, and limits by its length, of items and of work
 abbrev pub entered : Buffer → Buffer
-entered b = record b { scratch_flags = record { 0 = 0 }; length_limit = Some (run_limit (length b.items)); serial = 0 }
+entered b = record b {
+  scratch_flags = record { 0 = 0 };
+  length_limit = Some (run_limit (length b.items));
+  max_ops = run_ops (length b.items);
+  serial = 0;
+}
 
--- the glyphs as they are handed out: in the direction of the text, and without a limit
+-- the glyphs as they are handed out: in the direction of the text, and without limits
 abbrev pub finished : Direction → Buffer → Buffer
-finished target b = record b { direction = target; length_limit = None }
+finished target b = record b { direction = target; length_limit = None; max_ops = most_countable }
 
 -- the text as normalising begins
 abbrev pub prepared : Run → Direction → Buffer → Buffer

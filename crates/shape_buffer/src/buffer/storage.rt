@@ -26,6 +26,12 @@ const MAX_LEN_FACTOR: usize = 64;
 /// A run may make so many items, however few it began with.
 const MAX_LEN_MIN: usize = 16384;
 
+/// The lookups of a run may ask for so much for each item that it began with.
+const MAX_OPS_FACTOR: usize = 40960;
+
+/// The lookups of a run may ask for so much, however few items it began with.
+const MAX_OPS_MIN: usize = 2_621_440;
+
 /// The items of a text with their positions, and its settings. There are always as many positions as
 /// items; an index counts either of them, from 0. A span goes from its start up to its end, which it
 /// doesn't hold.
@@ -46,6 +52,8 @@ pub struct hb_buffer_t {
     not_found_variation_selector_glyph: Option<GlyphId>,
     scratch_flags: ScratchFlags,
     length_limit: Option<usize>,
+    /// What lookups may still ask for.
+    max_ops: usize,
     /// The ligature id that was given last, 0 for none.
     serial: u8,
     pre_context: Context,
@@ -72,6 +80,7 @@ impl Model for hb_buffer_t {
       not_found_variation_selector_glyph = b.not_found_variation_selector_glyph;
       scratch_flags = b.scratch_flags;
       length_limit = b.length_limit;
+      max_ops = b.max_ops;
       serial = b.serial;
       pre_context = b.pre_context;
       post_context = b.post_context;
@@ -86,7 +95,7 @@ impl Model for hb_buffer_t {
 }
 
 impl hb_buffer_t {
-    ghost use Rattle.shape_items.specs.Buffer.{new_buffer, cleared, limit_of, run_limit};
+    ghost use Rattle.shape_items.specs.Buffer.{new_buffer, cleared, limit_of, most_countable, run_limit, run_ops};
 
     /// A buffer without text, at level MONOTONE_GRAPHEMES and without flags. It keeps the allocator;
     /// no other call takes one.
@@ -107,6 +116,7 @@ impl hb_buffer_t {
             not_found_variation_selector_glyph: None,
             scratch_flags: ScratchFlags(0),
             length_limit: None,
+            max_ops: usize::MAX,
             serial: 0,
             pre_context: Context::new(),
             post_context: Context::new(),
@@ -150,30 +160,30 @@ impl hb_buffer_t {
         self.length_limit.unwrap_or(usize::MAX)
     }
 
-    /// Begins a run: no scratch flag, no ligature id given yet, and a limit of 64 times as many items as
-    /// there are, or of 16384 if that is more.
+    /// Begins a run: no scratch flag, no ligature id given yet, a limit of 64 times as many items as
+    /// there are, or of 16384 if that is more, and work for lookups by their number.
     pub fn enter(&mut self)
         ensures { self.new ≡ record self.old {
           scratch_flags = record { 0 = 0 };
           length_limit = Some (run_limit (length self.old.items));
+          max_ops = run_ops (length self.old.items);
           serial = 0;
         } }
     {
+        let count = self.infos.len();
         self.scratch_flags = ScratchFlags(0);
         self.serial = 0;
-        self.length_limit = Some(
-            self.infos
-                .len()
-                .saturating_mul(MAX_LEN_FACTOR)
-                .max(MAX_LEN_MIN),
-        );
+        self.length_limit = Some(count.saturating_mul(MAX_LEN_FACTOR).max(MAX_LEN_MIN));
+        self.max_ops = count.saturating_mul(MAX_OPS_FACTOR).max(MAX_OPS_MIN);
     }
 
-    /// Ends a run: lifts the limit.
+    /// Ends a run: lifts its limits.
     pub fn leave(&mut self)
-        ensures { self.new ≡ record self.old { length_limit = None } }
+        ensures { self.new
+            ≡ record self.old { length_limit = None; max_ops = most_countable } }
     {
         self.length_limit = None;
+        self.max_ops = usize::MAX;
     }
 
     /// Replaces an item.
@@ -194,7 +204,7 @@ impl hb_buffer_t {
         self.has_positions = true;
     }
 
-    /// Leaves the buffer cleared: no item, direction, script, language, context, scratch flag, limit or
+    /// Leaves the buffer cleared: no item, direction, script, language, context, scratch flag, limits or
     /// ligature id. Flags, level and the two glyph settings stay.
     pub fn reset(&mut self)
         ensures { self.new ≡ cleared self.old }

@@ -29,14 +29,15 @@ use Rattle.shape_pipeline.specs.Order.{RunPreservesClusters, ClustersComeInOrder
 use Rattle.shape_pipeline.specs.Planned.{planned_for}
 use Rattle.shape_pipeline.specs.Shaped.{entered}
 
--- scratch flags and the last ligature id that an earlier use has left go, and a limit comes
+-- scratch flags and the last ligature id that an earlier use has left go, and limits come
 pub record WorkedEntries : Type 0 where
   pub scratch_flags : (entered (record new_buffer { scratch_flags = record { 0 = 63 } })).scratch_flags ≡ record { 0 = 0 }
   pub limit : (entered new_buffer).length_limit ≡ Some 16384
+  pub ops : (entered (record new_buffer { max_ops = 7 })).max_ops ≡ 2621440
   pub serial : (entered (record new_buffer { serial = 7 })).serial ≡ 0
 
 worked_entries : WorkedEntries
-worked_entries = record { scratch_flags = refl; limit = refl; serial = refl }
+worked_entries = record { scratch_flags = refl; limit = refl; ops = refl; serial = refl }
 
 -- a text of script 100, in a language of so many letters
 abbrev pub text_in : Option (List ℕ) → Buffer

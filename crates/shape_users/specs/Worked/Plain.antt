@@ -103,6 +103,7 @@ refused_text = record {
   not_found_variation_selector_glyph = glyph 4;
   scratch_flags = record { 0 = 63 };
   length_limit = Some 16384;
+  max_ops = 1000;
   serial = 5;
   pre_context = 0x61 ∷ [];
   post_context = 0x62 ∷ [];

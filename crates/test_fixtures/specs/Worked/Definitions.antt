@@ -1,6 +1,6 @@
 -- The definitions, computed on small cases whose answers are worked out by hand.
 use Rattle.std.specs.Prelude.{◌≡◌, ℕ, ◌==◌, ◌||◌, Bool, true, false, if◌then◌else◌, [], ◌∷◌, Some, None, refl}
-use Rattle.shape_items.specs.Buffer.{run_limit}
+use Rattle.shape_items.specs.Buffer.{run_limit, run_ops}
 use Rattle.canonical_form.specs.Chain.{chain_point, second_part, full}
 use Rattle.canonical_form.specs.Decompositions.{Decompositions}
 use Rattle.canonical_form.specs.Expansion.{expansion, choice}
@@ -71,6 +71,19 @@ pub record LimitsOfRuns : Type 0 where
 limits_of_runs : LimitsOfRuns
 limits_of_runs = record { of_one = refl; of_256 = refl; of_many = refl; of_most = refl; of_one_more = refl; of_too_many = refl }
 
+-- the work of a run is 40,960 for each item, and at least that of 64
+pub record WorkOfRuns : Type 0 where
+  pub of_one : run_ops 1 ≡ 2621440
+  pub of_64 : run_ops 64 ≡ 2621440
+  pub of_many : run_ops 65 ≡ 2662400
+  -- the greatest product that can be counted, the one past it, and the greatest of all
+  pub of_most : run_ops 450359962737049 ≡ 18446744073709527040
+  pub of_one_more : run_ops 450359962737050 ≡ 18446744073709551615
+  pub of_too_many : run_ops 18446744073709551615 ≡ 18446744073709551615
+
+work_of_runs : WorkOfRuns
+work_of_runs = record { of_one = refl; of_64 = refl; of_many = refl; of_most = refl; of_one_more = refl; of_too_many = refl }
+
 -- the ccc of a mark, which is written beside it
 abbrev pub ccc_of_mark : ℕ × ℕ → ℕ
 ccc_of_mark mark = mark.1
@@ -106,7 +119,8 @@ pub record WorkedCases : Type 0 where
   pub chain : ChainOfTwo
   pub choices : ChoicesOfU1EA4
   pub limits : LimitsOfRuns
+  pub work : WorkOfRuns
   pub order : OrderOfMarks
 
 pub worked_cases : WorkedCases
-worked_cases = record { chain = chain_of_two; choices = choices_of_U1EA4; limits = limits_of_runs; order = order_of_marks }
+worked_cases = record { chain = chain_of_two; choices = choices_of_U1EA4; limits = limits_of_runs; work = work_of_runs; order = order_of_marks }

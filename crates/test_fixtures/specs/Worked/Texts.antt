@@ -219,6 +219,7 @@ with_all direction script = record {
   not_found_variation_selector_glyph = Some (record { 0 = 4 });
   scratch_flags = record { 0 = 63 };
   length_limit = Some 16384;
+  max_ops = 1000;
   serial = 5;
   pre_context = 0x61 ∷ [];
   post_context = 0x62 ∷ [];
@@ -241,6 +242,7 @@ pub record Settings : Type 0 where
     not_found_variation_selector_glyph = None;
     scratch_flags = record { 0 = 0 };
     length_limit = None;
+    max_ops = 18446744073709551615;
     serial = 0;
     pre_context = [];
     post_context = [];
@@ -257,6 +259,7 @@ pub record Settings : Type 0 where
     not_found_variation_selector_glyph = Some (record { 0 = 4 });
     scratch_flags = record { 0 = 0 };
     length_limit = None;
+    max_ops = 18446744073709551615;
     serial = 0;
     pre_context = [];
     post_context = [];

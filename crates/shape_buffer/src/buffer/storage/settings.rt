@@ -166,6 +166,21 @@ impl hb_buffer_t {
         self.scratch_flags = scratch_flags;
     }
 
+    /// Reads what lookups may still ask for, in units of about one look at a glyph: `usize::MAX` if no run has
+    /// set a limit.
+    pub fn max_ops(&self) -> usize
+        ensures { result ≡ self.now.max_ops }
+    {
+        self.max_ops
+    }
+
+    /// Sets what lookups may still ask for, and nothing else.
+    pub fn set_max_ops(&mut self, max_ops: usize)
+        ensures { self.new ≡ record self.old { max_ops = max_ops } }
+    {
+        self.max_ops = max_ops;
+    }
+
     /// Reads the ligature id that was given last, 0 if the run has given none.
     pub fn serial(&self) -> u8
         ensures { result ≡ self.now.serial }
