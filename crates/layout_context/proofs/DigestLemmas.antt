@@ -3,11 +3,11 @@ use Prim.Native.Nat.{zero}
 use Rattle.std.proofs.Common.{◌≡◌, ℕ, suc, ◌+◌, ◌-◌, ◌<◌, ◌≤◌, Bool, true, false, List, [], ◌∷◌, All, length, nat_eq, nat_lt, refl, sym, ap, ◌∙◌, subst, arith, if◌then◌else◌, drop, slice_index_or}
 use Rattle.std.proofs.lemmas.Bool.Decides.{nat_tests}
 use Rattle.std.proofs.lemmas.List.{drop_more}
-use Rattle.shape_items.specs.Buffer.{Buffer, limit_of}
+use Rattle.shape_items.specs.Buffer.{Buffer}
 use Rattle.shape_items.specs.Items.{Item}
 use Rattle.layout_matching.specs.Loops.{times}
 use Rattle.layout_matching.specs.Skipping.{nth, is_on}
-use Rattle.layout_matching.specs.Work.{walk_work, stage_work}
+use Rattle.layout_matching.specs.Work.{walk_work, walks_charged}
 use Rattle.layout_matching.specs.declared.lookup.Lookup.{Lookup}
 use Rattle.layout_digests.specs.Digests.{has, IsWithin}
 use Rattle.layout_digests.specs.declared.digest.Digest.{Digest}
@@ -18,7 +18,7 @@ use Rattle.layout_context.specs.Covered.{IsUncovered, CoversNone}
 use Rattle.layout_context.specs.Digested.{IsOut, IsDigested, IsApart, HoldsFirst, HoldsGlyphs, AreUnheld, lookups_in}
 use Rattle.layout_context.specs.Nested.{nested_applied}
 use Rattle.layout_context.specs.Reverse.{Backwards, is_reverse, reversed, reverse_step}
-use Rattle.layout_context.specs.Stages.{Walk, passed, tried, lookup_step, first_walk, walked, gone_back, gone_over, walk_charged, looked_up, all_looked_up, stage_made}
+use Rattle.layout_context.specs.Stages.{Walk, passed, tried, lookup_step, first_walk, walked, gone_back, gone_over, walk_charged, looked_up, all_looked_up, stage_begun, stage_ended, stage_made}
 use Rattle.layout_matching.proofs.LoopLemmas.{times_after}
 use Rattle.layout_context.proofs.CoveredLemmas.{tried-uncovered-at, reversed-uncovered}
 use Rattle.layout_context.proofs.StageLemmas.{past_all}
@@ -108,8 +108,8 @@ looked-settled levels l s = by_charge (nat_lt s.spot.left (walk_work l (length s
     by_charge false = over-settled levels l (walk_charged l s) ∙ sym (over-settled levels l (walk_charged l (settled s)))
 
 all-settled : (levels : ℕ) (ls : List Lookup) (s t : Walk) → settled s ≡ settled t
-    → (all_looked_up levels ls s).buffer ≡ (all_looked_up levels ls t).buffer
-all-settled levels [] s t same = ap (λ (w : Walk). w.buffer) same
+    → stage_ended (all_looked_up levels ls s) ≡ stage_ended (all_looked_up levels ls t)
+all-settled levels [] s t same = ap stage_ended same
 all-settled levels (l ∷ ls) s t same =
     all-settled levels ls (looked_up levels l s) (looked_up levels l t)
     (looked-settled levels l s ∙ ap (λ (w : Walk). settled (looked_up levels l w)) same ∙ sym (looked-settled levels l t))
@@ -152,11 +152,11 @@ over-still levels l s gsub none = by_way (is_reverse l) refl
 -- ---- the loop over the lookups
 
 pub looked_on : (levels : ℕ) (ds : List Digested) (k : ℕ) (x : Digested) (here next : Walk) (b : Buffer) → k < length ds
-    → (all_looked_up levels (lookups_in (drop k ds)) here).buffer ≡ b → next ≡ looked_up levels (slice_index_or ds k x).lookup here
-    → (all_looked_up levels (lookups_in (drop (k + 1) ds)) next).buffer ≡ b
+    → stage_ended (all_looked_up levels (lookups_in (drop k ds)) here) ≡ b → next ≡ looked_up levels (slice_index_or ds k x).lookup here
+    → stage_ended (all_looked_up levels (lookups_in (drop (k + 1) ds)) next) ≡ b
 looked_on levels ds k x here next b more before is =
-    ap (λ (w : Walk). (all_looked_up levels (lookups_in (drop (k + 1) ds)) w).buffer) is
-    ∙ sym (ap (λ (rest : List Digested). (all_looked_up levels (lookups_in rest) here).buffer) (drop_more ds k x more)) ∙ before
+    ap (λ (w : Walk). stage_ended (all_looked_up levels (lookups_in (drop (k + 1) ds)) w)) is
+    ∙ sym (ap (λ (rest : List Digested). stage_ended (all_looked_up levels (lookups_in rest) here)) (drop_more ds k x more)) ∙ before
 
 none-covered : (d : Digested) (run : Digest) (items : List Item) → IsDigested d → HoldsGlyphs run items
     → IsApart run d → CoversNone d.lookup items
@@ -211,28 +211,29 @@ pub passed_over : (levels : ℕ) (ds : List Digested) (k : ℕ) (x : Digested) (
     → IsDigested (slice_index_or ds k x) → HoldsGlyphs run here.buffer.items
     → (walk_work (slice_index_or ds k x).lookup count ≤ here.spot.left → IsApart run (slice_index_or ds k x))
     → next ≡ walk_charged (slice_index_or ds k x).lookup here
-    → (all_looked_up levels (lookups_in (drop k ds)) here).buffer ≡ b
-    → (all_looked_up levels (lookups_in (drop (k + 1) ds)) next).buffer ≡ b
+    → stage_ended (all_looked_up levels (lookups_in (drop k ds)) here) ≡ b
+    → stage_ended (all_looked_up levels (lookups_in (drop (k + 1) ds)) next) ≡ b
 passed_over levels ds k x here next run b count more same said held apart is before =
     let d = slice_index_or ds k x in
     let still : settled (looked_up levels d.lookup here) ≡ settled next =
     digest-still levels d here run said held (subst (λ n. walk_work d.lookup n ≤ here.spot.left → IsApart run d) same apart)
     ∙ sym (ap settled is) in
     sym (all-settled levels (lookups_in (drop (k + 1) ds)) (looked_up levels d.lookup here) next still)
-    ∙ sym (ap (λ (rest : List Digested). (all_looked_up levels (lookups_in rest) here).buffer) (drop_more ds k x more)) ∙ before
+    ∙ sym (ap (λ (rest : List Digested). stage_ended (all_looked_up levels (lookups_in rest) here)) (drop_more ds k x more)) ∙ before
 
 pub past_digested : (levels : ℕ) (ds : List Digested) (k : ℕ) (x : Digested) (here : Walk) (b : Buffer) → k < length ds
-    → (all_looked_up levels (lookups_in (drop k ds)) here).buffer ≡ b
+    → stage_ended (all_looked_up levels (lookups_in (drop k ds)) here) ≡ b
     → is_past (looked_up levels (slice_index_or ds k x).lookup here).buffer ≡ true → is_past b ≡ true
 past_digested levels ds k x here b more before past =
     sym (ap is_past before)
-    ∙ ap (λ (rest : List Digested). is_past (all_looked_up levels (lookups_in rest) here).buffer) (drop_more ds k x more)
+    ∙ ap (λ (rest : List Digested). is_past (stage_ended (all_looked_up levels (lookups_in rest) here))) (drop_more ds k x more)
     ∙ past_all levels (lookups_in (drop (k + 1) ds)) (looked_up levels (slice_index_or ds k x).lookup here) past
 
 -- ---- lookups none of which can apply
 
 all-idle : (levels : ℕ) (ds : List Digested) (run : Digest) (s : Walk) → All IsDigested ds → All (IsApart run) ds
-    → HoldsGlyphs run s.buffer.items → (all_looked_up levels (lookups_in ds) s).buffer ≡ s.buffer
+    → HoldsGlyphs run s.buffer.items → stage_ended (all_looked_up levels (lookups_in ds) s)
+    ≡ record s.buffer { max_ops = walks_charged (lookups_in ds) (length s.buffer.items) s.spot.left }
 all-idle levels [] run s said apart held = refl
 all-idle levels (d ∷ ds) run s said apart held =
     let still = digest-still levels d s run (said 0 d (omega arith)) held (λ paid. apart 0 d (omega arith)) in
@@ -241,7 +242,13 @@ all-idle levels (d ∷ ds) run s said apart held =
     (λ k e inside. apart (suc k) e (omega (arith, inside))) held
 
 pub stage_idle : (levels : ℕ) (ds : List Digested) (run : Digest) (b : Buffer) → All IsDigested ds → All (IsApart run) ds
-    → HoldsGlyphs run b.items → b ≡ stage_made levels (lookups_in ds) b
-stage_idle levels ds run b said apart held =
-    sym (all-idle levels ds run (record { buffer = b; spot = record { at = 0; random = 1; left = stage_work (length b.items) (limit_of b); whole = 0 } })
-    said apart held)
+    → HoldsGlyphs run b.items
+    → record b { max_ops = walks_charged (lookups_in ds) (length b.items) b.max_ops } ≡ stage_made levels (lookups_in ds) b
+stage_idle levels ds run b said apart held = sym (all-idle levels ds run (stage_begun b) said apart held)
+
+pub charged_on : (ds : List Digested) (k : ℕ) (x : Digested) (here next count made : ℕ) → k < length ds
+    → walks_charged (lookups_in (drop k ds)) count here ≡ made → next ≡ here - walk_work (slice_index_or ds k x).lookup count
+    → walks_charged (lookups_in (drop (k + 1) ds)) count next ≡ made
+charged_on ds k x here next count made more before is =
+    ap (walks_charged (lookups_in (drop (k + 1) ds)) count) is
+    ∙ sym (ap (λ (rest : List Digested). walks_charged (lookups_in rest) count here) (drop_more ds k x more)) ∙ before

@@ -13,7 +13,7 @@ use Rattle.shape_buffer.specs.declared.buffer.error.ShapeError.{ShapeError}
 use Rattle.shape_buffer.specs.declared.buffer.error.ShapeError.TheVariants.{Memory, Length}
 use Rattle.layout_matching.specs.Loops.{times}
 use Rattle.layout_matching.specs.Skipping.{is_on}
-use Rattle.layout_matching.specs.Work.{lookup_charged, walk_work, stage_work}
+use Rattle.layout_matching.specs.Work.{lookup_charged, walk_work}
 use Rattle.layout_matching.specs.declared.lookup.Lookup.{Lookup}
 use Rattle.layout_matching.proofs.LoopLemmas.{times_still, times_stays}
 use Rattle.layout_substitution.specs.Applied.{Applied}
@@ -23,7 +23,7 @@ use Rattle.layout_substitution.proofs.KindLemmas.{limit-preserves}
 use Rattle.layout_substitution.proofs.PreservedLemmas.{Preserves, Preserves-same, Preserves-then, Preserves-times}
 use Rattle.layout_context.specs.Nested.{nested_applied}
 use Rattle.layout_context.specs.Reverse.{is_reverse, reversed}
-use Rattle.layout_context.specs.Stages.{Walk, passed, with_left, tried_within, tried, lookup_step, first_walk, walked, gone_back, gone_over, walk_charged, looked_up, all_looked_up, stage_made, substituted}
+use Rattle.layout_context.specs.Stages.{Walk, passed, with_left, tried_within, tried, lookup_step, first_walk, walked, gone_back, gone_over, walk_charged, looked_up, all_looked_up, stage_begun, stage_made, substituted}
 use Rattle.layout_context.proofs.NestedLemmas.{nested-preserves}
 use Rattle.layout_context.proofs.ReverseLemmas.{length-reversed, reversed-preserves}
 
@@ -122,9 +122,19 @@ all-preserves levels (l ∷ ls) s =
     (looked-preserves levels l s)
     (all-preserves levels ls (looked_up levels l s))
 
+counted-preserves : (n : ℕ) (b c : Buffer) → Preserves b c → Preserves b (record c { max_ops = n })
+counted-preserves n b c kept = record {
+  draws = kept.draws;
+  flags = record { flags = kept.flags.flags; stays_set = kept.flags.stays_set; none_new = kept.flags.none_new };
+  direction = kept.direction;
+  level = kept.level;
+  limit = kept.limit;
+}
+
 pub stage-preserves : (levels : ℕ) (ls : List Lookup) (b : Buffer) → Preserves b (stage_made levels ls b)
 stage-preserves levels ls b =
-    all-preserves levels ls (record { buffer = b; spot = record { at = 0; random = 1; left = stage_work (length b.items) (limit_of b); whole = 0 } })
+    let end = all_looked_up levels ls (stage_begun b) in
+    counted-preserves end.spot.left b end.buffer (all-preserves levels ls (stage_begun b))
 
 -- ---- outcomes
 

@@ -1,10 +1,10 @@
 -- Lookups over a buffer, nested ones included, and stages of lookups.
 use Rattle.std.specs.Prelude.{ℕ, List, [], ◌∷◌, ◌+◌, ◌-◌, ◌<◌, ◌^◌, length, nat_lt, if◌then◌else◌}
 use Rattle.std.specs.Option.{unwrap_or, option_map_or}
-use Rattle.shape_items.specs.Buffer.{Buffer, limit_of}
+use Rattle.shape_items.specs.Buffer.{Buffer}
 use Rattle.layout_matching.specs.Loops.{times}
 use Rattle.layout_matching.specs.Skipping.{is_on}
-use Rattle.layout_matching.specs.Work.{lookup_charged, walk_work, stage_work}
+use Rattle.layout_matching.specs.Work.{lookup_charged, walk_work}
 use Rattle.layout_matching.specs.declared.lookup.Lookup.{Lookup}
 use Rattle.layout_substitution.specs.Applied.{Applied}
 use Rattle.layout_substitution.specs.Edits.{item_at, is_inside, is_past}
@@ -72,10 +72,15 @@ abbrev pub all_looked_up : ℕ → List Lookup → Walk → Walk
 all_looked_up levels [] s = s
 all_looked_up levels (l ∷ ls) s = all_looked_up levels ls (looked_up levels l s)
 
--- the random state of a stage begins with 1
+-- the random state of a stage begins with 1; all stages of a run share what it may ask for
+abbrev pub stage_begun : Buffer → Walk
+stage_begun b = record { buffer = b; spot = record { at = 0; random = 1; left = b.max_ops; whole = 0 } }
+
+abbrev pub stage_ended : Walk → Buffer
+stage_ended s = record s.buffer { max_ops = s.spot.left }
+
 abbrev pub stage_made : ℕ → List Lookup → Buffer → Buffer
-stage_made levels ls b = (all_looked_up levels ls
-    (record { buffer = b; spot = record { at = 0; random = 1; left = stage_work (length b.items) (limit_of b); whole = 0 } })).buffer
+stage_made levels ls b = stage_ended (all_looked_up levels ls (stage_begun b))
 
 -- a lookup over the text names others, and these others again, 64 levels deep
 abbrev pub most_levels : ℕ

@@ -15,7 +15,7 @@ use layout_buffer::{GapBuffer, ItemList};
 use layout_digests::{Digest, Digested};
 use layout_matching::lookup::Lookup;
 use layout_matching::skipping::is_on;
-use layout_matching::work::{lookup_charged, stage_work, walk_work};
+use layout_matching::work::{lookup_charged, walk_work};
 use layout_substitution::apply::Spot;
 use shape_buffer::{ShapeError, hb_buffer_t};
 use std::alloc::Global;
@@ -285,7 +285,7 @@ fn look_all_up(
     let mut spot = Spot {
         at: 0,
         random: 1,
-        left: stage_work(buffer.len(), buffer.length_limit()),
+        left: buffer.max_ops(),
         whole: 0,
     };
     let mut run = run;
@@ -303,7 +303,21 @@ fn look_all_up(
             Ok(next) => spot = next,
         }
     }
+    buffer.set_max_ops(spot.left);
     Ok(())
+}
+
+/// What is left after each of the lookups was charged for its walk, and none was made.
+#[tactic(auto, using(crate::proofs::DigestLemmas::charged_on))]
+fn charge_walks(lookups: &[Digested<'_>], count: usize, left: usize) -> usize
+    requires said { All IsDigested lookups.now }
+    ensures { result ≡ Work.walks_charged (lookups_in lookups.now) count left }
+{
+    let mut left = left;
+    for named in lookups {
+        left = left.saturating_sub(walk_work(&named.lookup, count));
+    }
+    left
 }
 
 /// Refuses with `Length` if the list passes the limit of the run.
@@ -327,7 +341,7 @@ fn put_back(walk: GapBuffer, buffer: &mut hb_buffer_t) -> Result<(), ShapeError>
     outcome
 }
 
-/// Lookups one after the other, over a buffer that edits in linear time; if none of them can apply, the buffer isn't touched.
+/// Lookups one after the other, over a buffer that edits in linear time; if none of them can apply, all are charged for.
 fn edit_all(
     alloc: Global,
     levels: u32,
@@ -345,6 +359,7 @@ fn edit_all(
     }
     let run = digest_of(&ItemList::of_slice(buffer.infos()));
     if !any_shares(&run, lookups) {
+        buffer.set_max_ops(charge_walks(lookups, buffer.len(), buffer.max_ops()));
         return Ok(());
     }
     let mut walk = GapBuffer::open(alloc, buffer);

@@ -6,7 +6,7 @@ ghost use Rattle.layout_context.specs.Worked.Contexts.{WorkedRules, WorkedClasse
 ghost use Rattle.layout_context.specs.Worked.Contexts.{WorkedMarkSets, WorkedMarkClasses, WorkedSyllables, WorkedComponents};
 ghost use Rattle.layout_context.specs.Worked.Formats.{WorkedChainedClasses, WorkedBackwards, WorkedFlags};
 ghost use Rattle.layout_context.specs.Worked.Lookups.{WorkedLookups};
-ghost use Rattle.layout_context.specs.Worked.Marks.{WorkedVainLigatures, WorkedVainRules, WorkedRandom, WorkedIds};
+ghost use Rattle.layout_context.specs.Worked.Marks.{WorkedVainLigatures, WorkedVainRules, WorkedRandom, WorkedIds, WorkedOps};
 ghost use Rattle.layout_context.specs.Worked.Places.{WorkedPlaces};
 
 /// Where the glyphs of a rule stand after a nested lookup that changed how many items there are, and where the rule goes on.
@@ -39,12 +39,13 @@ pub fn chains_meet_worked_cases()
     ensures deletions { WorkedDeletions }
 {}
 
-/// What is marked unsafe to concat, alternates at random, and the ids of ligatures.
+/// What is marked unsafe to concat, alternates at random, the ids of ligatures, and what stages may still ask for.
 pub fn marks_meet_worked_cases()
     ensures vain_ligatures { WorkedVainLigatures }
     ensures vain_rules { WorkedVainRules }
     ensures random { WorkedRandom }
     ensures ids { WorkedIds }
+    ensures ops { WorkedOps }
 {}
 
 /// Chained context by classes over whole lists, lookahead from the end of the list, and flags that ignore classes of glyphs.

@@ -1,6 +1,6 @@
 -- What a lookup is charged for at a place before it is tried there: one for each glyph that it may have to look at, so that time is
 -- in step with what was charged.
-use Rattle.std.specs.Prelude.{ℕ, List, Bool, false, Option, Some, None, ◌+◌, ◌-◌, ◌*◌, ◌/◌, ◌&&◌, ◌||◌, not, max, min, length, nat_eq, nat_lt, if◌then◌else◌}
+use Rattle.std.specs.Prelude.{ℕ, List, Bool, false, Option, Some, None, ◌+◌, ◌-◌, ◌*◌, ◌/◌, ◌&&◌, ◌||◌, not, max, min, length, nat_eq, nat_lt, fold, if◌then◌else◌}
 use Rattle.std.specs.Option.{option_and_then, option_map, option_map_or}
 use Rattle.shape_font.specs.Bytes.{u16_of, fitting}
 use Rattle.shape_font.specs.Search.{first_at}
@@ -267,20 +267,6 @@ nested_charged l items at left =
 abbrev pub walk_work : Lookup → ℕ → ℕ
 walk_work l count = min (count * (subtable_count_of l.table.now l.place * step_work l)) most_countable
 
--- so much for each item of a list, and so much at least
-abbrev pub WORK_FACTOR : ℕ
-WORK_FACTOR = 32768
-
-abbrev pub WORK_MIN : ℕ
-WORK_MIN = 1048576
-
-abbrev pub most_work : ℕ → ℕ
-most_work count = max (min (count * WORK_FACTOR) most_countable) WORK_MIN
-
--- a run may make 64 items of each character: a stage counts two of them at most
-abbrev pub LIMIT_PART : ℕ
-LIMIT_PART = 32
-
--- what a stage may ask for that begins with so many items, in a run of this limit
-abbrev pub stage_work : ℕ → ℕ → ℕ
-stage_work count limit = most_work (min count (limit / LIMIT_PART))
+-- what is left after each of these lookups was charged for its walk over so many items, and none was made
+abbrev pub walks_charged : List Lookup → ℕ → ℕ → ℕ
+walks_charged ls count left = fold (λ rest l. rest - walk_work l count) left ls

@@ -32,15 +32,6 @@ const PLAIN_WORK: usize = 16;
 /// What a lookup costs that a rule names.
 const NESTED_WORK: usize = 32;
 
-/// How much may be asked for in a stage for each item that it begins with.
-const WORK_FACTOR: usize = 32768;
-
-/// How much may be, however few items there are.
-const WORK_MIN: usize = 1_048_576;
-
-/// Which part of the limit of its run a stage counts at most.
-const LIMIT_PART: usize = 32;
-
 fn is_ligature(lookup: &Lookup<'_>, subtable: LookupSubtable) -> bool
     ensures { result ≡ Work.is_ligature lookup.now subtable }
 {
@@ -317,19 +308,4 @@ pub fn walk_work(lookup: &Lookup<'_>, count: usize) -> usize
     ensures { result ≡ Work.walk_work lookup.now count }
 {
     count.saturating_mul(step_work(lookup))
-}
-
-/// How much may be asked for over so many items.
-fn most_work(count: usize) -> usize
-    ensures { result ≡ Work.most_work count }
-{
-    count.saturating_mul(WORK_FACTOR).max(WORK_MIN)
-}
-
-/// How much the lookups of a stage may ask for that begins with so many items, in a run of this limit: a bound on its time, by
-/// the length of the text however much a font makes it grow.
-pub fn stage_work(count: usize, limit: usize) -> usize
-    ensures { result ≡ Work.stage_work count limit }
-{
-    most_work(count.min(limit / LIMIT_PART))
 }

@@ -6,7 +6,7 @@ use Rattle.shape_buffer.specs.Outcome.{Made}
 use Rattle.layout_matching.specs.declared.lookup.Lookup.{Lookup}
 use Rattle.layout_positions.specs.Attachment.{offsets_finished}
 use Rattle.layout_positions.specs.Preserves.{Kept}
-use Rattle.layout_positions.specs.Walk.{Budgeted, lookup_applied, budgeted, positioned}
+use Rattle.layout_positions.specs.Walk.{Budgeted, lookup_applied, budgeted, settled_up, positioned}
 use Rattle.layout_positions.proofs.PreservationLemmas.{positioned-kept, finished-kept}
 
 made_kept : (f : Buffer → Buffer) (b c : Buffer) → c ≡ f b → Kept b (f b) → Made f b c
@@ -18,9 +18,10 @@ made_kept f b c is kept =
       same_limit = ap limit_of is ∙ ap (λ (o : Option ℕ). unwrap_or o most_countable) kept.limit;
     }
 
-pub positioned_made : (lookups : List Lookup) (left : ℕ) (b c : Buffer)
-    → record { buffer = c; left = left } ≡ fold lookup_applied (budgeted b) lookups → Made (positioned lookups) b c
-positioned_made lookups left b c is = made_kept (positioned lookups) b c (ap (λ (s : Budgeted). s.buffer) is) (positioned-kept lookups b)
+pub positioned_made : (lookups : List Lookup) (left : ℕ) (b c d : Buffer)
+    → record { buffer = c; left = left } ≡ fold lookup_applied (budgeted b) lookups → d ≡ record c { max_ops = left }
+    → Made (positioned lookups) b d
+positioned_made lookups left b c d is ends = made_kept (positioned lookups) b d (ends ∙ ap settled_up is) (positioned-kept lookups b)
 
 pub finished_made : (b c : Buffer) → c ≡ offsets_finished b → Made offsets_finished b c
 finished_made b c is = made_kept offsets_finished b c is (finished-kept b)

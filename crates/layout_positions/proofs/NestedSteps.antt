@@ -14,7 +14,7 @@ use Rattle.layout_matching.specs.declared.rules.Rule.{Rule}
 use Rattle.layout_positions.specs.Edits.{broken, concat_marked}
 use Rattle.layout_positions.specs.Nested.{named_place, named_lookup, Nest, skipped, spent, record_within, record_at_place, record_for, record_step, rule_placed, origin_at, tried_concat_marked, first_rule_placed, level_placed, LEVELS, nested_placed}
 use Rattle.layout_positions.specs.Subtables.{Placing, unplaced, lookup_placed}
-use Rattle.layout_positions.specs.Walk.{Walk, tried_within, lookup_step, Budgeted, first_walk, gone_over, walk_charged, lookup_applied, budgeted, positioned}
+use Rattle.layout_positions.specs.Walk.{Walk, tried_within, lookup_step, Budgeted, first_walk, gone_over, walk_charged, lookup_applied}
 use Rattle.layout_positions.specs.declared.bases.BaseSeen.{BaseSeen}
 
 module _ (P : Buffer → Buffer → Type 0) (same : (b : Buffer) → P b b) (after : (a b c : Buffer) → P a b → P b c → P a c)
@@ -127,11 +127,9 @@ module _ (P : Buffer → Buffer → Type 0) (same : (b : Buffer) → P b b) (aft
       elim (nat_lt s.left (walk_work l (length s.buffer.items))) as (λ u. P s.buffer (if u then t else gone_over t l).buffer)
       [ true ↦ same s.buffer | false ↦ step-over l t ]
 
-  step-lookups : (lookups : List Lookup) (s : Budgeted) → P s.buffer (fold lookup_applied s lookups).buffer
+  pub step-lookups : (lookups : List Lookup) (s : Budgeted) → P s.buffer (fold lookup_applied s lookups).buffer
   step-lookups [] s = same s.buffer
   step-lookups (l ∷ lookups) s =
       let here = lookup_applied s l in
       after s.buffer here.buffer (fold lookup_applied here lookups).buffer (step-lookup l s) (step-lookups lookups here)
 
-  pub step-positioned : (lookups : List Lookup) (b : Buffer) → P b (positioned lookups b)
-  step-positioned lookups b = step-lookups lookups (budgeted b)

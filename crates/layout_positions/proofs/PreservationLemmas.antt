@@ -1,5 +1,5 @@
 -- lookups and attachment preserve clusters, flags and settings
-use Rattle.std.proofs.Common.{◌≡◌, ℕ, ◌≤◌, ◌==◌, Bool, true, false, List, map, min, length, nat_le, nat_lt, refl, sym, ap, ◌∙◌, inl, inr, slice_set, arith, if◌then◌else◌}
+use Rattle.std.proofs.Common.{◌≡◌, ℕ, ◌≤◌, ◌==◌, Bool, true, false, List, map, min, length, nat_le, nat_lt, fold, refl, sym, ap, ◌∙◌, inl, inr, slice_set, arith, if◌then◌else◌}
 use Rattle.std.proofs.lemmas.Bool.Decides.{nat_tests}
 use Rattle.std.proofs.lemmas.List.{length-map}
 use Rattle.std.specs.Int.RustNames.{bit_and}
@@ -19,8 +19,8 @@ use Rattle.layout_matching.specs.declared.lookup.Lookup.{Lookup}
 use Rattle.layout_positions.specs.Attachment.{offsets_finished}
 use Rattle.layout_positions.specs.Edits.{position_put, broken, concat_marked}
 use Rattle.layout_positions.specs.Preserves.{Kept}
-use Rattle.layout_positions.specs.Walk.{started, positioned}
-use Rattle.layout_positions.proofs.NestedSteps.{step-positioned}
+use Rattle.layout_positions.specs.Walk.{started, Budgeted, budgeted, lookup_applied, positioned}
+use Rattle.layout_positions.proofs.NestedSteps.{step-lookups}
 use Rattle.layout_positions.proofs.StepLemmas.{step-tried, step-finished}
 
 Kept-same : (b : Buffer) → Kept b b
@@ -112,9 +112,23 @@ started-kept b = record {
   limit = refl;
 }
 
-pub positioned-kept : (lookups : List Lookup) (b : Buffer) → Kept b (positioned lookups b)
-positioned-kept = step-positioned Kept Kept-same Kept-then Kept-broken Kept-concat_marked
+counted-kept : (n : ℕ) (b c : Buffer) → Kept b c → Kept b (record c { max_ops = n })
+counted-kept n b c kept = record {
+  clusters = kept.clusters;
+  count = kept.count;
+  flags = record { flags = kept.flags.flags; stays_set = kept.flags.stays_set; none_new = kept.flags.none_new };
+  direction = kept.direction;
+  level = kept.level;
+  limit = kept.limit;
+}
+
+lookups-kept : (lookups : List Lookup) (s : Budgeted) → Kept s.buffer (fold lookup_applied s lookups).buffer
+lookups-kept = step-lookups Kept Kept-same Kept-then Kept-broken Kept-concat_marked
     (λ l i left seen b. step-tried Kept Kept-same Kept-then Kept-broken Kept-concat_marked Kept-put l i left seen b)
+
+pub positioned-kept : (lookups : List Lookup) (b : Buffer) → Kept b (positioned lookups b)
+positioned-kept lookups b = let end = fold lookup_applied (budgeted b) lookups in
+    counted-kept end.left b end.buffer (lookups-kept lookups (budgeted b))
 
 pub finished-kept : (b : Buffer) → Kept b (offsets_finished b)
 finished-kept = step-finished Kept Kept-same Kept-then Kept-broken Kept-concat_marked Kept-put

@@ -13,7 +13,7 @@ use Rattle.layout_matching.specs.Loops.{times, first_some}
 use Rattle.layout_matching.specs.Skipping.{nth, is_on}
 use Rattle.layout_matching.specs.Tried.{untried, whole_reach, number_reach, sets_reach, subtable_reach, reach_at_subtable, reach_of}
 use Rattle.layout_digests.proofs.TriedLemmas.{until_untried_below}
-use Rattle.layout_matching.specs.Work.{subtable_charged, charged_at_subtable, lookup_charged, walk_work}
+use Rattle.layout_matching.specs.Work.{subtable_charged, charged_at_subtable, lookup_charged, walk_work, walks_charged}
 use Rattle.layout_matching.proofs.WorkLemmas.{subtable_free, lookup_free}
 use Rattle.layout_matching.specs.declared.lookup.Lookup.{Lookup}
 use Rattle.layout_matching.specs.declared.spans.Origin.{Origin}
@@ -27,7 +27,7 @@ use Rattle.layout_positions.specs.Nested.{rule_placed, origin_at, tried_concat_m
 use Rattle.layout_positions.specs.Pairs.{single_value, single_put, single_applied, pair_at_number, has_pairs, pair_applied}
 use Rattle.layout_positions.specs.Subtables.{if_first_format, kind_applied, looks_for_base, sought_from, sought, subtable_placed, Trial, subtable_tried, next_tried, trial_of, trial_step, lookup_tried, Placing, unplaced, placed_by, lookup_placed}
 use Rattle.layout_positions.specs.Uncovered.{is_listed_at, rule_lists, subtable_lists, IsUnlisted, IsUncovered}
-use Rattle.layout_positions.specs.Walk.{Walk, gone_on, tried_within, tried, lookup_step, Budgeted, first_walk, gone_over, walk_charged, lookup_applied, budgeted, positioned}
+use Rattle.layout_positions.specs.Walk.{Walk, gone_on, tried_within, tried, lookup_step, Budgeted, first_walk, gone_over, walk_charged, lookup_applied, budgeted, settled_up, positioned}
 use Rattle.layout_positions.specs.declared.bases.BaseSeen.{BaseSeen}
 use Rattle.layout_positions.specs.declared.subtables.Sought.{Sought}
 
@@ -327,12 +327,14 @@ lookup-uncovered l s un =
     same-if (nat_lt s.left (walk_work l (length s.buffer.items))) t (gone_over t l) t refl (over-uncovered l s.buffer t.left un)
 
 lookups-un : (lookups : List Lookup) (s : Budgeted) → All (IsUncovered s.buffer) lookups
-    → (fold lookup_applied s lookups).buffer ≡ s.buffer
+    → settled_up (fold lookup_applied s lookups)
+    ≡ record s.buffer { max_ops = walks_charged lookups (length s.buffer.items) s.left }
 lookups-un [] s all = refl
 lookups-un (l ∷ lookups) s all =
     let first : IsUncovered s.buffer l = all 0 l (omega arith) in
-    ap (λ t. (fold lookup_applied t lookups).buffer) (lookup-uncovered l s first)
+    ap (λ t. settled_up (fold lookup_applied t lookups)) (lookup-uncovered l s first)
     ∙ lookups-un lookups (walk_charged s l) (λ k d inside. all (suc k) d (omega (arith, inside)))
 
-pub positioned-uncovered : (lookups : List Lookup) (b : Buffer) → All (IsUncovered b) lookups → positioned lookups b ≡ b
+pub positioned-uncovered : (lookups : List Lookup) (b : Buffer) → All (IsUncovered b) lookups
+    → positioned lookups b ≡ record b { max_ops = walks_charged lookups (length b.items) b.max_ops }
 positioned-uncovered lookups b all = lookups-un lookups (budgeted b) all

@@ -2,11 +2,11 @@
 use Rattle.std.specs.Prelude.{ℕ, pos, List, None, ◌+◌, ◌-◌, ◌<◌, ◌^◌, length, nat_lt, fold, if◌then◌else◌}
 use Rattle.std.specs.Option.{option_map_or}
 use Rattle.shape_common.specs.declared.positions.GlyphPosition.{GlyphPosition}
-use Rattle.shape_items.specs.Buffer.{Buffer, limit_of}
+use Rattle.shape_items.specs.Buffer.{Buffer}
 use Rattle.shape_buffer.specs.PositionWalks.{positions_mapped}
 use Rattle.layout_matching.specs.Loops.{times}
 use Rattle.layout_matching.specs.Skipping.{nth, is_on}
-use Rattle.layout_matching.specs.Work.{lookup_charged, walk_work, stage_work}
+use Rattle.layout_matching.specs.Work.{lookup_charged, walk_work}
 use Rattle.layout_matching.specs.declared.lookup.Lookup.{Lookup}
 use Rattle.layout_positions.specs.Nested.{LEVELS, nested_placed}
 use Rattle.layout_positions.specs.Subtables.{Placing}
@@ -67,12 +67,15 @@ walk_charged s l = record s { left = s.left - walk_work l (length s.buffer.items
 abbrev pub lookup_applied : Budgeted → Lookup → Budgeted
 lookup_applied s l = if nat_lt s.left (walk_work l (length s.buffer.items)) then walk_charged s l else gone_over (walk_charged s l) l
 
--- lookups one after the other; all of them share one bound
+-- lookups one after the other; all of them share what the stages of the run have left
 abbrev pub budgeted : Buffer → Budgeted
-budgeted b = record { buffer = b; left = stage_work (length b.items) (limit_of b) }
+budgeted b = record { buffer = b; left = b.max_ops }
+
+abbrev pub settled_up : Budgeted → Buffer
+settled_up s = record s.buffer { max_ops = s.left }
 
 abbrev pub positioned : List Lookup → Buffer → Buffer
-positioned lookups b = (fold lookup_applied (budgeted b) lookups).buffer
+positioned lookups b = settled_up (fold lookup_applied (budgeted b) lookups)
 
 -- a lookup of a list stands near the start of its table
 abbrev pub HasPlace : Lookup → Type 0

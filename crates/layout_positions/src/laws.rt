@@ -1,7 +1,8 @@
 //! What positioning preserves, for every font and every buffer.
-ghost use Rattle.std.specs.Prelude.{◌≡◌, List, All};
+ghost use Rattle.std.specs.Prelude.{◌≡◌, List, All, length};
 ghost use Rattle.shape_buffer.specs.Preservation.{IsClusterPreserving, IsFlagPreserving};
 ghost use Rattle.shape_items.specs.Buffer.{Buffer};
+ghost use Rattle.layout_matching.specs.Work.{walks_charged};
 ghost use Rattle.layout_matching.specs.declared.lookup.Lookup.{Lookup as LookupOf};
 ghost use Rattle.layout_positions.specs.Attachment.{offsets_finished};
 ghost use Rattle.layout_positions.specs.Preserves.{Kept};
@@ -27,8 +28,9 @@ pub fn positions_are_keepers()
 {}
 
 /// A list that no lookup covers stays as it is: no subtable lists one of its glyphs, and no rule of
-/// context begins with one.
+/// context begins with one. The walks over it are charged for all the same.
 pub fn uncovered_lists_stay()
     ensures { (lookups : List LookupOf) (b : Buffer) → All (IsUncovered b) lookups
-        → positioned lookups b ≡ b }
+        → positioned lookups b
+        ≡ record b { max_ops = walks_charged lookups (length b.items) b.max_ops } }
 {}

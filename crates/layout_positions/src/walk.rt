@@ -19,7 +19,7 @@ use layout_matching::beside::plain_charged;
 use layout_matching::found::is_context;
 use layout_matching::lookup::Lookup;
 use layout_matching::skipping::{is_on, is_transparent, item_at};
-use layout_matching::work::{lookup_charged, stage_work, walk_work};
+use layout_matching::work::{lookup_charged, walk_work};
 use layout_tables::lookups::subtable_count;
 use shape_buffer::position_walks::update_positions;
 use shape_buffer::{GlyphPosition, hb_buffer_t, hb_glyph_info_t};
@@ -275,7 +275,7 @@ fn run_digest(items: &[hb_glyph_info_t]) -> Digest
     all
 }
 
-/// Goes over a buffer with each lookup; all of them share one bound. A lookup whose digest shares no glyph with
+/// Goes over a buffer with each lookup, and returns what is left; all of them share one bound. A lookup whose digest shares no glyph with
 /// the buffer is passed over.
 #[tactic(auto, using(crate::proofs::DigestLemmas::applied_on, crate::proofs::DigestLemmas::passed_over, crate::proofs::GlyphLemmas::held_applied))]
 fn apply_each(lookups: &[Digested<'_>], buffer: &mut hb_buffer_t) -> usize
@@ -283,7 +283,7 @@ fn apply_each(lookups: &[Digested<'_>], buffer: &mut hb_buffer_t) -> usize
     ensures { record { buffer = buffer.new; left = result }
         ≡ fold Walk.lookup_applied (Walk.budgeted buffer.old) (lookups_in lookups.now) }
 {
-    let mut left = stage_work(buffer.len(), buffer.length_limit());
+    let mut left = buffer.max_ops();
     // No lookup changes which glyphs there are.
     let run = run_digest(buffer.infos());
     for named in lookups {
@@ -306,5 +306,6 @@ pub fn position(lookups: &[Digested<'_>], buffer: &mut hb_buffer_t)
     requires { All IsDigested lookups.now }
     ensures { Made (Walk.positioned (lookups_in lookups.now)) buffer.old buffer.new }
 {
-    apply_each(lookups, buffer);
+    let left = apply_each(lookups, buffer);
+    buffer.set_max_ops(left);
 }

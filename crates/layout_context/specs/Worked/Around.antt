@@ -1,13 +1,12 @@
 -- What may stand between the glyphs of a match and around it: joiners, masks, syllables, marks on components of ligatures; computed
 -- by hand.
 use Rattle.std.specs.Prelude.{◌≡◌, ℕ, List, [], ◌∷◌, true, false, length, refl}
-use Rattle.shape_items.specs.Buffer.{Buffer, limit_of}
+use Rattle.shape_items.specs.Buffer.{Buffer}
 use Rattle.shape_items.specs.Clusters.{merge}
 use Rattle.shape_items.specs.Items.{Item, new_properties}
 use Rattle.layout_matching.specs.declared.lookup.Lookup.{Lookup}
 use Rattle.layout_substitution.specs.Replaced.{is_multiplied, as_ligature}
 use Rattle.layout_context.specs.Covered.{subtable_covers}
-use Rattle.layout_matching.specs.Work.{stage_work}
 use Rattle.layout_context.specs.Stages.{all_looked_up, stage_made, substituted}
 use Rattle.layout_context.specs.Worked.Contexts.{HoldsOf, with_second, chained_lists, in_syllable, per_syllable}
 use Rattle.layout_context.specs.Worked.Chains.{chained_glyphs}
@@ -169,16 +168,11 @@ pub record WorkedBounds : Type 0 where
   pub backwards_matches : HoldsOf backwards_before [] (λ l. glyphs (after (on l 0 0) (glyph 5 0 ∷ glyph 9 1 ∷ [])) ≡ 60 ∷ 9 ∷ [])
   pub backwards_differs : HoldsOf backwards_before [] (λ l. glyphs (after (on l 0 0) (glyph 9 0 ∷ glyph 5 1 ∷ [])) ≡ 9 ∷ 5 ∷ [])
   pub distance_wraps : HoldsOf one_back [] (λ l. glyphs (after (on l 0 0) (glyph 5 0 ∷ [])) ≡ 4 ∷ [])
-  -- so many units of work for each item, at least so many, and no more than can be counted
-  pub at_least : stage_work 31 640000 ≡ 1048576
-  pub for_each_item : stage_work 33 640000 ≡ 1081344
-  pub grown : stage_work 640000 640000 ≡ 655360000
-  pub countable : stage_work 18446744073709551615 18446744073709551615 ≡ 18446744073709551615
-  -- by the items that the stage begins with, and the limit of the run
-  pub begun : (ls : List Lookup) (b : Buffer) → stage_made 65 ls b ≡ (all_looked_up 65 ls (record {
+  -- a stage begins with what the stages before it have left, and leaves what it doesn't use
+  pub begun : (ls : List Lookup) (b : Buffer) → let end = all_looked_up 65 ls (record {
     buffer = b;
-    spot = record { at = 0; random = 1; left = stage_work (length b.items) (limit_of b); whole = 0 };
-  })).buffer
+    spot = record { at = 0; random = 1; left = b.max_ops; whole = 0 };
+  }) in stage_made 65 ls b ≡ record end.buffer { max_ops = end.spot.left }
   -- a lookup of the plan and 64 levels below it
   pub levels : (ls : List Lookup) (b : Buffer) → substituted ls b ≡ stage_made 65 ls b
 
@@ -188,10 +182,6 @@ worked_bounds = record {
   backwards_matches = λ l. refl;
   backwards_differs = λ l. refl;
   distance_wraps = λ l. refl;
-  at_least = refl;
-  for_each_item = refl;
-  grown = refl;
-  countable = refl;
   begun = λ ls b. refl;
   levels = λ ls b. refl;
 }

@@ -1,5 +1,5 @@
 -- What is marked unsafe to concat where the buffer asks for that, alternates at random, and ids through lookups, computed by hand.
-use Rattle.std.specs.Prelude.{◌≡◌, ℕ, List, [], ◌∷◌, true, refl}
+use Rattle.std.specs.Prelude.{◌≡◌, ◌×◌, ℕ, List, [], ◌∷◌, true, refl}
 use Rattle.shape_items.specs.Buffer.{Buffer}
 use Rattle.shape_items.specs.Clusters.{merge}
 use Rattle.shape_items.specs.Items.{Item}
@@ -7,7 +7,7 @@ use Rattle.shape_common.specs.FlagNames.{PRODUCE_UNSAFE_TO_CONCAT}
 use Rattle.layout_matching.specs.declared.lookup.Lookup.{Lookup}
 use Rattle.layout_substitution.specs.Applied.{next_random}
 use Rattle.layout_substitution.specs.Replaced.{as_ligature}
-use Rattle.layout_context.specs.Stages.{looked_up}
+use Rattle.layout_context.specs.Stages.{looked_up, stage_made}
 use Rattle.layout_context.specs.Worked.Contexts.{HoldsOf, chained_lists, by_glyphs, flags_of, ids_of}
 use Rattle.layout_context.specs.Worked.Lookups.{set_words, ligatures, alternates, backwards, on, glyph, list, glyphs, after}
 
@@ -103,4 +103,38 @@ worked_ids = record {
   counted_on = λ l. refl;
   after_the_seventh = λ l. refl;
   count_is_left = λ l. refl;
+}
+
+-- glyphs of a run whose lookups may still ask for so much
+abbrev pub with_ops : ℕ → List Item → Buffer
+with_ops ops items = record (list items) { max_ops = ops }
+
+abbrev pub staged : Lookup → Buffer → Buffer
+staged l = stage_made 3 (on l 0 0 ∷ [])
+
+abbrev pub three_glyphs : List Item
+three_glyphs = glyph 5 0 ∷ glyph 6 1 ∷ glyph 7 2 ∷ []
+
+abbrev pub Leaves : (Lookup → Buffer) → List ℕ → ℕ → Type 0
+Leaves made left ops = HoldsOf ligatures [] (λ l. (glyphs (made l).items ≡ left) × ((made l).max_ops ≡ ops))
+
+pub record WorkedOps : Type 0 where
+  -- 24 for the walk over three glyphs; at the first 8 for the subtable, 4 and 3 for the ligatures
+  pub charged : Leaves (λ l. staged l (with_ops 1000 three_glyphs)) (50 ∷ []) 961
+  pub just_enough : Leaves (λ l. staged l (with_ops 39 three_glyphs)) (50 ∷ []) 0
+  pub too_little : Leaves (λ l. staged l (with_ops 38 three_glyphs)) (5 ∷ 6 ∷ 7 ∷ []) 0
+  pub too_little_for_the_walk : Leaves (λ l. staged l (with_ops 23 three_glyphs)) (5 ∷ 6 ∷ 7 ∷ []) 0
+  pub another_glyph : Leaves (λ l. staged l (with_ops 1000 (glyph 9 0 ∷ []))) (9 ∷ []) 992
+  -- the second stage has what the first one leaves: 41, and 8 go for its walk
+  pub two_stages : Leaves (λ l. staged l (staged l (with_ops 80 three_glyphs))) (50 ∷ []) 33
+
+pub worked_ops : WorkedOps
+unfolding merge as_ligature
+worked_ops = record {
+  charged = λ l. (refl, refl);
+  just_enough = λ l. (refl, refl);
+  too_little = λ l. (refl, refl);
+  too_little_for_the_walk = λ l. (refl, refl);
+  another_glyph = λ l. (refl, refl);
+  two_stages = λ l. (refl, refl);
 }

@@ -2,7 +2,7 @@
 use Rattle.std.specs.Prelude.{◌≡◌, ℕ, List, [], ◌∷◌, Some, None, true, false, refl}
 use Rattle.shape_font.specs.Worked.Glyphs.{words}
 use Rattle.shape_items.specs.Items.{Item, new_item, new_properties}
-use Rattle.layout_matching.specs.Work.{is_plain, backward_rule, lists_charged, counted_charged, lookup_charged, nested_charged, walk_work, most_work, stage_work}
+use Rattle.layout_matching.specs.Work.{is_plain, backward_rule, lists_charged, counted_charged, lookup_charged, nested_charged, walk_work, walks_charged}
 use Rattle.layout_matching.specs.declared.lookup.Lookup.{Lookup}
 
 -- three ligatures of two components that share one place, the last of them NULL
@@ -147,17 +147,9 @@ pub record WorkedWork : Type 0 where
   pub nested_singles : (l : Lookup) → l.table.now ≡ two_subtables → nested_charged (over_marks l) (plain 5 ∷ []) 0 100 ≡ Some 20
   pub walk : (l : Lookup) → l.table.now ≡ two_of_ligatures → walk_work (over_marks l) 3 ≡ 48
   pub walk_of_singles : (l : Lookup) → l.table.now ≡ two_subtables → walk_work (over_marks l) 3 ≡ 96
-  pub at_least : most_work 31 ≡ 1048576
-  pub for_each_item : most_work 33 ≡ 1081344
-  pub countable : most_work 18446744073709551615 ≡ 18446744073709551615
-  -- a text of 10,000 characters, whose run may make 640,000 items: as it is, 20,000 items, and 640,000
-  pub of_a_text : stage_work 10000 640000 ≡ 327680000
-  pub twice_as_long : stage_work 20000 640000 ≡ 655360000
-  pub grown : stage_work 640000 640000 ≡ 655360000
-  -- the run of a short text may make 16,384 items
-  pub of_a_short_text : stage_work 60 16384 ≡ 1966080
-  pub grown_from_a_short_text : stage_work 3600 16384 ≡ 16777216
-  pub without_a_limit : stage_work 33 18446744073709551615 ≡ 1081344
+  -- 48 for each lookup, and nothing is left where that doesn't suffice
+  pub walks : (l : Lookup) → l.table.now ≡ two_of_ligatures → walks_charged (over_marks l ∷ over_marks l ∷ []) 3 100 ≡ 4
+  pub walks_too_dear : (l : Lookup) → l.table.now ≡ two_of_ligatures → walks_charged (over_marks l ∷ over_marks l ∷ []) 3 95 ≡ 0
 
 pub worked_work : WorkedWork
 worked_work = record {
@@ -203,13 +195,6 @@ worked_work = record {
   nested_singles = λ l t. rw t refl;
   walk = λ l t. rw t refl;
   walk_of_singles = λ l t. rw t refl;
-  at_least = refl;
-  for_each_item = refl;
-  countable = refl;
-  of_a_text = refl;
-  twice_as_long = refl;
-  grown = refl;
-  of_a_short_text = refl;
-  grown_from_a_short_text = refl;
-  without_a_limit = refl;
+  walks = λ l t. rw t refl;
+  walks_too_dear = λ l t. rw t refl;
 }

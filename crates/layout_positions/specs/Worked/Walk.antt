@@ -5,15 +5,14 @@ use Rattle.std.specs.Int.Count.{ones}
 use Rattle.shape_common.specs.Wrapping.{◌+ʷ◌, ◌-ʷ◌}
 use Rattle.shape_common.specs.declared.text_types.Direction.TheVariants.{LeftToRight}
 use Rattle.shape_font.specs.Bytes.{i16_of}
-use Rattle.shape_items.specs.Buffer.{Buffer, limit_of}
+use Rattle.shape_items.specs.Buffer.{Buffer}
 use Rattle.shape_items.specs.Items.{Item}
-use Rattle.layout_matching.specs.Work.{stage_work}
 use Rattle.layout_matching.specs.declared.lookup.Lookup.{Lookup}
 use Rattle.layout_positions.specs.Attachment.{MOST_LINKS}
 use Rattle.layout_positions.specs.Nested.{LEVELS, nested_placed}
 use Rattle.layout_positions.specs.Subtables.{Placing}
 use Rattle.layout_positions.specs.Uncovered.{subtable_lists}
-use Rattle.layout_positions.specs.Walk.{none_seen, budgeted, positioned}
+use Rattle.layout_positions.specs.Walk.{Budgeted, none_seen, budgeted, settled_up, positioned}
 use Rattle.layout_positions.specs.Worked.Lines.{base, mark, component_of, line, advances, offsets, chains, masks}
 use Rattle.layout_positions.specs.Worked.Marks.{on_bases}
 use Rattle.layout_positions.specs.Worked.Pairs.{single_one, single_two, pairs_one, pairs_both, IsLookup}
@@ -60,22 +59,16 @@ pub record WorkedBounds : Type 0 where
   -- a lookup of the plan and 64 levels below it
   pub levels : LEVELS ≡ 65
   pub links : MOST_LINKS ≡ 64
-  pub at_least : stage_work 31 640000 ≡ 1048576
-  pub for_each_glyph : stage_work 33 640000 ≡ 1081344
-  pub grown : stage_work 640000 640000 ≡ 655360000
-  pub countable : stage_work 18446744073709551615 18446744073709551615 ≡ 18446744073709551615
-  -- by the glyphs that the stage begins with, and the limit of the run
-  pub begun : (b : Buffer) → (budgeted b).left ≡ stage_work (length b.items) (limit_of b)
+  -- what the stages have left, and what the lookups leave
+  pub begun : (b : Buffer) → (budgeted b).left ≡ b.max_ops
+  pub ended : (s : Budgeted) → settled_up s ≡ record s.buffer { max_ops = s.left }
 
 pub worked_bounds : WorkedBounds
 worked_bounds = record {
   levels = refl;
   links = refl;
-  at_least = refl;
-  for_each_glyph = refl;
-  grown = refl;
-  countable = refl;
   begun = λ b. refl;
+  ended = λ s. refl;
 }
 
 -- a lookup with these flags over these bytes of `GPOS`, at a place

@@ -1,4 +1,4 @@
-use Rattle.layout_context.specs.Worked.Marks.{worked_vain_ligatures, worked_vain_rules, worked_random, worked_ids}
+use Rattle.layout_context.specs.Worked.Marks.{worked_vain_ligatures, worked_vain_rules, worked_random, worked_ids, worked_ops}
 use Rattle.layout_context.proofs.worked.marks_meet_worked_cases.Goals as goal
 
 pub returns-clause-vain_ligatures : goal.returns-clause-vain_ligatures
@@ -12,3 +12,6 @@ returns-clause-random c = worked_random
 
 pub returns-clause-ids : goal.returns-clause-ids
 returns-clause-ids c = worked_ids
+
+pub returns-clause-ops : goal.returns-clause-ops
+returns-clause-ops c = worked_ops
