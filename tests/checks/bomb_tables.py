@@ -25,11 +25,14 @@ def lookup(kind, subtables, flag=0):
 
 
 def layout(lookups, tag=b"ccmp", shared=0, version=b""):
-    """GSUB or GPOS with one feature of all lookups; the last of them is named `shared` times
-    more."""
+    """GSUB or GPOS with one feature of all lookups, or with such a one for each of some tags; the
+    last of them is named `shared` times more."""
     count = len(lookups) + shared
-    scripts = words(1) + b"DFLT" + words(8) + words(4, 0) + words(0, 0xFFFF, 1, 0)
-    features = words(1) + tag + words(8) + words(0, count, *range(count))
+    tags = tag if isinstance(tag, tuple) else (tag,)
+    numbers = range(len(tags))
+    scripts = words(1) + b"DFLT" + words(8) + words(4, 0) + words(0, 0xFFFF, len(tags), *numbers)
+    records = b"".join(tag + words(2 + 6 * len(tags)) for tag in tags)
+    features = words(len(tags)) + records + words(0, count, *range(count))
     at, offsets, body = 2 + 2 * count, [], b""
     for part in lookups:
         offsets.append(at + len(body))
@@ -134,9 +137,14 @@ def ligatures(count, length):
     return words(1, head, 42, *[head + len(EVERY)] * 42) + EVERY + ligature_set
 
 
-def ligature_of_two():
-    """Two letters a become one letter b."""
-    return words(1, 8, 1, 14, 1, 1, 1, 1, 4, 2, 2, 1)
+def ligature_of_two(second=1):
+    """A letter a and another letter, a if none is named, become one letter b."""
+    return words(1, 8, 1, 14, 1, 1, 1, 1, 4, 2, 2, second)
+
+
+def apart():
+    """A letter b becomes a and b."""
+    return words(1, 8, 1, 14, 1, 1, 2, 2, 1, 2)
 
 
 def grows(times):

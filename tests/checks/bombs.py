@@ -3,13 +3,13 @@
 Each runs with a text of 10,000 characters: no run ends by a signal, takes more than six seconds of
 processor time (the gate's machine may be slow), or more than 200 MB. The bombs are lookups that
 apply themselves, substitutions that grow, parts of tables that are shared, kerning of 65,535
-parts. Those that use up what a stage may ask for take longer, in step with the text
+parts. Those that use up what a run may ask for take longer, in step with the text
 (docs/SAFE_AND_TOTAL.md): they stand in SPENT, and run over a fifth of it.
 
 The worst fonts of earlier searches are named in tests/hostile/worst.txt (`search`).
 """
-from checks.bomb_tables import (EVERY, LOOP, ROW, alternates, context, cursive, features, gdef,
-                                grows, kern, layout, ligature_of_two, ligatures, list_behind,
+from checks.bomb_tables import (EVERY, LOOP, ROW, alternates, apart, context, cursive, features,
+                                gdef, grows, kern, layout, ligature_of_two, ligatures, list_behind,
                                 lookup, marks_on, nulls, pairs, row_before, row_behind, rules,
                                 rules_past, vain, variations, words)
 from checks.fonts import add_table, bytes_of, new_font
@@ -47,6 +47,11 @@ BACK_AND_FORTH = [lookup(7, [context(2, [(1, 1), (0, 1)] * 100)]), *TO_BASES]
 # U+0301 and U+0302 stand on a ligature, and rules for the second look for U+0303 behind them
 ON_LIGATURE = [lookup(4, [ligature_of_two()], 8),
                lookup(5, [rules(30000, words(2, 0, 30), words(1, 1, 29))])]
+# a, marks and b become a ligature that the marks follow, which is taken apart and made anew
+FOLLOWED = [lookup(4, [ligature_of_two(2)], 8), lookup(2, [apart()]),
+            lookup(5, [context(1, [(0, 1), (0, 0)] * 5000, words(1, 1, 2))])]
+# stages of Arabic that apply to each letter
+STAGES = b"calt", b"ccmp", b"liga", b"rlig"
 
 
 def calls(depth, records, count=1):
@@ -63,8 +68,7 @@ GROWS_FIRST = {
     "GPOS": layout([lookup(7, [rules(31000, words(2, 0, 42))])], b"kern", shared=100),
 }
 GROWS_IN_ITSELF = [lookup(5, [context(1, [(0, 1), (0, 0)])]), lookup(2, [grows(9)])]
-# the tables of each, and what its text is of: letters, marks, letters and marks, marks between two
-# letters, or ZWNJ
+# the tables of each, and what its text is of (`bomb_text`)
 BOMBS = {
     "calls itself": (calls(1, [(0, 0)]), "a"),
     "calls itself twice": (calls(1, [(0, 0), (0, 0)]), "a"),
@@ -128,6 +132,11 @@ BOMBS = {
         {"GPOS": layout(BACK_AND_FORTH, b"mark"), "GDEF": gdef(0)}, "am"),
     "rules of marks on one ligature": (
         {"GSUB": layout(ON_LIGATURE, shared=100), "GDEF": gdef(0)}, "ama"),
+    "marks that follow a ligature": (
+        {"GSUB": layout(FOLLOWED, shared=100), "GDEF": gdef(0)}, "amb"),
+    "31,000 rules of two glyphs in each of four stages and GPOS, 100 lookups": (
+        {"GSUB": layout([SHORT_ROWS["of two glyphs"]], STAGES, shared=100),
+         "GPOS": layout([lookup(7, [rules(31000, words(2, 0, 42))])], b"kern", shared=100)}, "s"),
     "one chain of letters": ({"GPOS": layout([lookup(3, [cursive()], 1)], b"curs")}, "a"),
     "pairs of 15,000 records": (
         {"GPOS": layout([lookup(2, [pairs(15000)])], b"kern")}, "a"),
@@ -138,7 +147,7 @@ BOMBS = {
 }
 
 
-# bombs that use up what a stage may ask for, or nearly; that of ZWNJ does too, and runs over the
+# bombs that use up what a run may ask for, or nearly; that of ZWNJ does too, and runs over the
 # whole text, to be slow if a search costs as little as a look
 SPENT = {
     "calls itself twice", "calls itself at each of 64 places", "one lookup, named 20,000 times",
@@ -153,6 +162,8 @@ SPENT = {
     "records that name nothing", "pairs, 1,000 lookups", "positions that call themselves twice",
     "pairs over the rest of the text, 50 lookups", "marks on one base, 1,000 lookups",
     "marks on one base, nested, back and forth", "rules of marks on one ligature",
+    "marks that follow a ligature",
+    "31,000 rules of two glyphs in each of four stages and GPOS, 100 lookups",
 }
 
 
@@ -169,17 +180,18 @@ def bomb_font(tables):
 
 def bomb_text(kind, length):
     """Letters, marks, or one half of each, letters first; marks between two letters, and one mark
-    more; or ZWNJ, after one letter."""
+    more or none; ZWNJ, after one letter; or letters by the stages of Arabic."""
     half = length // 2
     texts = {"a": "a" * length, "m": "\u0301" * length, "z": "a" + chr(ZWNJ) * (length - 1),
              "ama": "a" + "\u0301" * (length - 67) + "\u0302" * 64 + "a\u0303",
+             "amb": "a" + "\u0301" * (length - 2) + "b", "s": "a" * length,
              "am": "a" * half + "\u0301" * (length - half)}
     return texts[kind]
 
 
 def take_bomb(runs, name, length):
     tables, kind = BOMBS[name]
-    options = ["--direction=ltr", "--script=Latn"]
+    options = ["--direction=ltr", "--script=" + ("Arab" if kind == "s" else "Latn")]
     runs.take(name, bomb_font(tables), bomb_text(kind, length), options)
 
 

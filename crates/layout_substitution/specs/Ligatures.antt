@@ -1,5 +1,5 @@
 -- What a ligature makes of a buffer at a place (kind 4).
-use Rattle.std.specs.Prelude.{ℕ, List, Bool, true, Option, Some, None, ◌+◌, ◌-◌, ◌*◌, ◌/◌, ◌%◌, ◌&&◌, ◌||◌, not, length, min, nat_eq, nat_lt, if◌then◌else◌}
+use Rattle.std.specs.Prelude.{ℕ, List, Bool, true, Option, Some, None, ◌+◌, ◌-◌, ◌*◌, ◌%◌, ◌&&◌, ◌||◌, not, length, min, nat_eq, nat_lt, if◌then◌else◌}
 use Rattle.std.specs.Option.{option_and_then, option_map, option_map_or}
 use Rattle.shape_font.specs.Bytes.{u16_of}
 use Rattle.shape_items.specs.Buffer.{Buffer, next_ligature_id}
@@ -191,9 +191,13 @@ abbrev pub ligature_over : Lookup → Ligation → Components → ℕ → Joined
 ligature_over l made m at s = put_at at
     (as_ligature l made.own made.id s.walk.so_far (ligature_glyph l.table.now m.ligature) (item_at s.buffer at)) s.buffer
 
--- a quarter of a unit for each item that followed it, up to a place; if what is left doesn't suffice, nothing is left
+-- what an item costs that follows a ligature, since it is written anew
+abbrev pub FOLLOWED : ℕ
+FOLLOWED = 4
+
+-- so much for each that followed it, up to a place; if what is left doesn't suffice, nothing is left
 abbrev pub following_charged : ℕ → Spot → Spot
-following_charged end spot = record spot { left = spot.left - (end - spot.at) / 4 }
+following_charged end spot = record spot { left = spot.left - (end - spot.at) * FOLLOWED }
 
 abbrev pub ligated : Lookup → Spot → Ligation → Components → ℕ → Buffer → Applied
 ligated l spot made m left b = let s = joined l made m spot.at b in

@@ -44,12 +44,11 @@ pub record WorkedLigatures : Type 0 where
   pub the_second : begins_with_another (words (50 ∷ 2 ∷ 6 ∷ [])) (Only 6) 0 ≡ false
   pub no_second_wanted : begins_with_another (words (50 ∷ 1 ∷ [])) Closed 0 ≡ false
   pub cut_stands_nowhere : (l : Lookup) (b : Buffer) (at : ℕ) → l.table.now ≡ words (50 ∷ 2 ∷ []) → ligature_matched l b at 0 ≡ None
-  -- every four marks that follow cost one; forty-four need eleven
+  -- each mark that follows costs four
   pub none_follows : LeftAfter 5 10 10
-  pub three_follow : LeftAfter 8 10 10
-  pub four_follow : LeftAfter 9 10 9
-  pub all_is_spent : LeftAfter 45 10 0
-  pub too_little : LeftAfter 49 10 0
+  pub one_follows : LeftAfter 6 10 6
+  pub three_follow : LeftAfter 8 12 0
+  pub too_little : LeftAfter 8 11 0
 
 pub worked_ligatures : WorkedLigatures
 worked_ligatures = record {
@@ -65,9 +64,8 @@ worked_ligatures = record {
   no_second_wanted = refl;
   cut_stands_nowhere = λ l b at t. rw t refl;
   none_follows = λ random whole. refl;
+  one_follows = λ random whole. refl;
   three_follow = λ random whole. refl;
-  four_follow = λ random whole. refl;
-  all_is_spent = λ random whole. refl;
   too_little = λ random whole. refl;
 }
 

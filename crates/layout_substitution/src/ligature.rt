@@ -21,6 +21,9 @@ use layout_matching::seeking::{Seek, fits};
 use layout_matching::skipping::is_skipped;
 use shape_buffer::hb_glyph_info_t;
 
+/// What a mark costs that follows a ligature, since it is written anew.
+const FOLLOWED: usize = 4;
+
 /// A ligature whose components were found: where the last one stands, and whether all after the first are marks.
 #[derive(Clone, Copy, PartialEq, Eq, Debug)]
 pub struct Components {
@@ -346,7 +349,8 @@ fn with_left(buffer: &GapBuffer, spot: Spot, left: usize, end: usize) -> Spot
 {
     let mut next = spot;
     next.at = buffer.len().saturating_sub(left);
-    next.left = spot.left.saturating_sub(end.saturating_sub(next.at) / 4);
+    let followed = end.saturating_sub(next.at).saturating_mul(FOLLOWED);
+    next.left = spot.left.saturating_sub(followed);
     next
 }
 

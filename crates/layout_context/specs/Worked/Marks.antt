@@ -1,5 +1,5 @@
 -- What is marked unsafe to concat where the buffer asks for that, alternates at random, and ids through lookups, computed by hand.
-use Rattle.std.specs.Prelude.{◌≡◌, ◌×◌, ℕ, List, [], ◌∷◌, true, refl}
+use Rattle.std.specs.Prelude.{◌≡◌, ℕ, List, [], ◌∷◌, true, refl}
 use Rattle.shape_items.specs.Buffer.{Buffer}
 use Rattle.shape_items.specs.Clusters.{merge}
 use Rattle.shape_items.specs.Items.{Item}
@@ -116,7 +116,7 @@ abbrev pub three_glyphs : List Item
 three_glyphs = glyph 5 0 ∷ glyph 6 1 ∷ glyph 7 2 ∷ []
 
 abbrev pub Leaves : (Lookup → Buffer) → List ℕ → ℕ → Type 0
-Leaves made left ops = HoldsOf ligatures [] (λ l. (glyphs (made l).items ≡ left) × ((made l).max_ops ≡ ops))
+Leaves made left ops = HoldsOf ligatures [] (λ l. (glyphs (made l) ≡ left) × ((made l).max_ops ≡ ops))
 
 pub record WorkedOps : Type 0 where
   -- 24 for the walk over three glyphs; at the first 8 for the subtable, 4 and 3 for the ligatures
