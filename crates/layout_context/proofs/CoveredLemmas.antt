@@ -17,7 +17,7 @@ use Rattle.layout_matching.proofs.WorkLemmas.{subtable_free, lookup_free}
 use Rattle.layout_digests.proofs.TriedLemmas.{until_untried_below}
 use Rattle.layout_matching.specs.declared.lookup.Lookup.{Lookup}
 use Rattle.layout_matching.specs.declared.spans.Origin.{Origin}
-use Rattle.layout_substitution.specs.Applied.{Applied, unapplied, put_one, single_applied, value_of, is_random, random_put, random_applied, alternate_applied, sequence_put, multiple_applied}
+use Rattle.layout_substitution.specs.Applied.{unapplied, put_one, single_applied, value_of, is_random, random_put, random_applied, alternate_applied, sequence_put, multiple_applied}
 use Rattle.layout_substitution.specs.Edits.{item_at, is_inside, is_past, concat_marked}
 use Rattle.layout_substitution.proofs.EditLemmas.{concat_marked_untried}
 use Rattle.layout_substitution.specs.Kinds.{kind_applied, subtable_applied, subtables_applied, or_next, lookup_applied}

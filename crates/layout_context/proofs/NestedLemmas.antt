@@ -1,6 +1,6 @@
 -- Nested lookups preserve what single ones preserve; levels and records, one by one.
 use Prim.Native.Nat.{zero}
-use Rattle.std.proofs.Common.{◌≡◌, ℕ, suc, ◌+◌, ◌-◌, ◌<◌, not, Bool, true, false, Option, Some, None, nat_eq, refl, sym, ap, ◌∙◌, arith, if◌then◌else◌}
+use Rattle.std.proofs.Common.{◌≡◌, ℕ, suc, ◌+◌, ◌-◌, ◌<◌, not, Bool, true, false, Option, Some, None, refl, sym, ap, ◌∙◌, arith, if◌then◌else◌}
 use Rattle.std.specs.Option.{option_map_or}
 use Rattle.shape_items.specs.Buffer.{Buffer}
 use Rattle.layout_matching.specs.Found.{is_context, found_of}
@@ -18,7 +18,7 @@ use Rattle.layout_substitution.specs.declared.apply.Spot.{Spot}
 use Rattle.layout_substitution.proofs.AppliedLemmas.{or_unapplied, applied-if}
 use Rattle.layout_substitution.proofs.KindLemmas.{lookup-preserves}
 use Rattle.layout_substitution.proofs.PreservedLemmas.{Preserves, Preserves-same, Preserves-then, Preserves-times, Preserves-broken, Preserves-concat_marked}
-use Rattle.layout_context.specs.Nested.{Nest, nested_spot, passed_record, stopped_record, nest_after, target_within, target_applied, target_done, record_step, first_nest, records_made, rule_applied, origin_of, tried_marked, first_rule_applied, level_applied, nested_applied}
+use Rattle.layout_context.specs.Nested.{Nest, nested_spot, passed_record, stopped_record, target_within, target_applied, target_done, record_step, first_nest, records_made, rule_applied, origin_of, tried_marked, first_rule_applied, level_applied, nested_applied}
 use Rattle.layout_context.specs.declared.nested.LookupRule.{LookupRule}
 
 -- ---- what is applied next preserves

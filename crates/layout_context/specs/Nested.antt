@@ -1,6 +1,6 @@
 -- Lookups that apply others, by the levels that are left (kinds 5 and 6).
 use Prim.Native.Nat.{zero}
-use Rattle.std.specs.Prelude.{ℕ, suc, true, false, List, Option, Some, None, ◌+◌, ◌-◌, not, length, nat_eq, if◌then◌else◌}
+use Rattle.std.specs.Prelude.{ℕ, suc, true, false, List, Option, Some, None, ◌+◌, not, length, nat_eq, if◌then◌else◌}
 use Rattle.std.specs.Option.{option_map_or, unwrap_or}
 use Rattle.shape_items.specs.Buffer.{Buffer}
 use Rattle.layout_matching.specs.Found.{is_context, found_of}

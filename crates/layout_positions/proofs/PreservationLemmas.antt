@@ -1,5 +1,5 @@
 -- lookups and attachment preserve clusters, flags and settings
-use Rattle.std.proofs.Common.{◌≡◌, ℕ, ◌≤◌, ◌==◌, Bool, true, false, List, map, min, length, nat_le, nat_lt, fold, refl, sym, ap, ◌∙◌, inl, inr, slice_set, arith, if◌then◌else◌}
+use Rattle.std.proofs.Common.{◌≡◌, ℕ, ◌≤◌, ◌==◌, Bool, true, false, List, min, length, nat_le, nat_lt, fold, refl, sym, ap, ◌∙◌, inl, inr, slice_set, arith, if◌then◌else◌}
 use Rattle.std.proofs.lemmas.Bool.Decides.{nat_tests}
 use Rattle.std.proofs.lemmas.List.{length-map}
 use Rattle.std.specs.Int.RustNames.{bit_and}
@@ -9,7 +9,6 @@ use Rattle.shape_items.specs.Buffer.{Buffer}
 use Rattle.shape_items.specs.BufferClusters.{unsafe_to_break, unsafe_to_concat, with_glyph_flags}
 use Rattle.shape_items.specs.Clusters.{clusters, map_range, mark_concat}
 use Rattle.shape_items.specs.Items.{Item}
-use Rattle.shape_items.specs.PreservesFlags.{PreservesFlags}
 use Rattle.shape_items.proofs.Flags.FlagLemmas.{glyph_flags_set, PreservesFlags-same, PreservesFlags-then, unsafe_to_break_preserves}
 use Rattle.shape_items.proofs.Merging.KeyLemmas.{keys-map_range, keys-unsafe_to_break, without_items-unsafe_to_break}
 use Rattle.shape_buffer.specs.Preservation.{PreservesOrder, IsClusterPreserving, IsFlagPreserving}

@@ -1,5 +1,5 @@
 -- Edits of a buffer's positions and flags, by places; past the end nothing changes.
-use Rattle.std.specs.Prelude.{ℕ, ℤ, pos, neg_ℤ, Bool, ◌-◌, min, length, nat_lt, nat_le, ◌==◌, slice_set, slice_index_or, if◌then◌else◌}
+use Rattle.std.specs.Prelude.{ℕ, Bool, min, length, nat_lt, nat_le, ◌==◌, slice_set, slice_index_or, if◌then◌else◌}
 use Rattle.std.specs.Int.RustNames.{bit_and}
 use Rattle.shape_common.specs.FlagNames.{PRODUCE_UNSAFE_TO_CONCAT}
 use Rattle.shape_common.specs.Positions.{zero_position}

@@ -5,7 +5,7 @@ use Rattle.std.specs.Int.Count.{ones}
 use Rattle.shape_common.specs.Positions.{zero_position}
 use Rattle.shape_common.specs.Wrapping.{◌+ʷ◌, ◌-ʷ◌}
 use Rattle.shape_font.specs.Bytes.{i16_of}
-use Rattle.layout_positions.specs.Anchors.{anchor_at, anchor_by, anchor_in, class_of_mark, anchor_of_mark, number_at}
+use Rattle.layout_positions.specs.Anchors.{anchor_at, anchor_by, anchor_in, class_of_mark, anchor_of_mark}
 use Rattle.layout_positions.specs.Values.{value_size, value_at, value_in, adjusted, has_effect}
 use Rattle.layout_positions.specs.declared.values.Adjustment.{Adjustment}
 

@@ -1,5 +1,5 @@
 -- Lookups over lines, on tables that were read by hand.
-use Rattle.std.specs.Prelude.{◌≡◌, ℕ, ℤ, pos, negsuc, List, [], ◌∷◌, ◌++◌, Some, None, true, false, length, refl}
+use Rattle.std.specs.Prelude.{◌≡◌, ℕ, ℤ, pos, negsuc, List, [], ◌∷◌, ◌++◌, Some, true, false, refl}
 use Rattle.std.specs.Int.{int_wrap}
 use Rattle.std.specs.Int.Count.{ones}
 use Rattle.shape_common.specs.Wrapping.{◌+ʷ◌, ◌-ʷ◌}
@@ -15,7 +15,7 @@ use Rattle.layout_positions.specs.Uncovered.{subtable_lists}
 use Rattle.layout_positions.specs.Walk.{Budgeted, none_seen, budgeted, settled_up, positioned}
 use Rattle.layout_positions.specs.Worked.Lines.{base, mark, component_of, line, advances, offsets, chains, masks}
 use Rattle.layout_positions.specs.Worked.Marks.{on_bases}
-use Rattle.layout_positions.specs.Worked.Pairs.{single_one, single_two, pairs_one, pairs_both, IsLookup}
+use Rattle.layout_positions.specs.Worked.Pairs.{single_one, single_two, pairs_one, IsLookup}
 
 -- a lookup of this type with one subtable, and one with two
 abbrev pub one_subtable : ℕ → List ℕ → List ℕ
