@@ -254,6 +254,10 @@ PLAIN_WORK = 16
 abbrev pub step_work : Lookup → ℕ
 step_work l = if is_plain l then PLAIN_WORK else STEP_WORK
 
+-- for all of them; a lookup without subtables costs as much as one with one, since its walk looks at the list too
+abbrev pub steps_work : Lookup → ℕ
+steps_work l = max (subtable_count_of l.table.now l.place) 1 * step_work l
+
 abbrev pub NESTED_WORK : ℕ
 NESTED_WORK = 32
 
@@ -261,11 +265,11 @@ NESTED_WORK = 32
 -- named at one
 abbrev pub nested_charged : Lookup → List Item → ℕ → ℕ → Option ℕ
 nested_charged l items at left =
-    option_and_then (subtables_charged l items at) (charged (subtable_count_of l.table.now l.place * step_work l + NESTED_WORK) left)
+    option_and_then (subtables_charged l items at) (charged (steps_work l + NESTED_WORK) left)
 
 -- one that goes over a list, for each of its subtables at each item
 abbrev pub walk_work : Lookup → ℕ → ℕ
-walk_work l count = min (count * (subtable_count_of l.table.now l.place * step_work l)) most_countable
+walk_work l count = min (count * steps_work l) most_countable
 
 -- what is left after each of these lookups was charged for its walk over so many items, and none was made
 abbrev pub walks_charged : List Lookup → ℕ → ℕ → ℕ

@@ -270,14 +270,14 @@ pub fn lookup_charged(
     }
 }
 
-/// What the subtables of the lookup cost at each item of a list, whether they begin there or not.
-fn step_work(lookup: &Lookup<'_>) -> usize
+/// What the subtables of the lookup cost at each item of a list, whether they begin there or not. One without subtables costs as
+/// much as one with one.
+fn steps_work(lookup: &Lookup<'_>) -> usize
     requires { lookup.now.place < 2 ^ 17 }
-    ensures value { result ≡ subtable_count_of lookup.now.table.now lookup.now.place *
-        Work.step_work lookup.now }
+    ensures value { result ≡ Work.steps_work lookup.now }
     ensures near { result < 2 ^ 21 }
 {
-    let count = subtable_count(lookup.table, lookup.place) as usize;
+    let count = (subtable_count(lookup.table, lookup.place) as usize).max(1);
     if is_plain(lookup) {
         count * PLAIN_WORK
     } else {
@@ -296,7 +296,7 @@ pub fn nested_charged(
     requires inside { at < length items.now }
     ensures { result ≡ Work.nested_charged lookup.now items.now at left }
 {
-    match charged(step_work(lookup) + NESTED_WORK, left) {
+    match charged(steps_work(lookup) + NESTED_WORK, left) {
         Some(left) => subtables_charged(lookup, items, at, left),
         None => None,
     }
@@ -307,5 +307,5 @@ pub fn walk_work(lookup: &Lookup<'_>, count: usize) -> usize
     requires { lookup.now.place < 2 ^ 17 }
     ensures { result ≡ Work.walk_work lookup.now count }
 {
-    count.saturating_mul(step_work(lookup))
+    count.saturating_mul(steps_work(lookup))
 }

@@ -1,6 +1,6 @@
 -- a lookup whose digest holds no glyph of the list may be passed over, and a place whose glyph it doesn't hold
 use Prim.Native.Nat.{zero}
-use Rattle.std.proofs.Common.{◌≡◌, ℕ, suc, ◌+◌, ◌-◌, ◌*◌, ◌<◌, ◌≤◌, ◌^◌, Bool, true, false, List, [], ◌∷◌, length, min, nat_eq, nat_lt, fold, refl, sym, ap, ◌∙◌, subst, arith, if◌then◌else◌, drop, slice_index_or, map}
+use Rattle.std.proofs.Common.{◌≡◌, ℕ, suc, ◌+◌, ◌-◌, ◌*◌, ◌<◌, ◌≤◌, ◌^◌, Bool, true, false, List, [], ◌∷◌, length, max, min, nat_eq, nat_lt, fold, refl, sym, ap, ◌∙◌, subst, arith, if◌then◌else◌, drop, slice_index_or, map}
 use Rattle.std.proofs.lemmas.Bool.Decides.{nat_tests}
 use Rattle.std.proofs.lemmas.List.{drop_more}
 use Rattle.std.proofs.lemmas.Nat.{mul-le}
@@ -80,12 +80,15 @@ product-some count n step some parts more =
     let all : 1 * 1 ≤ count * (n * step) = mul-le 1 1 count (n * step) (omega (arith, some)) (omega (arith, one)) in
     omega (arith, all)
 
-pub walk_costs : (l : Lookup) (count : ℕ) → 0 < count → 0 < subtable_count_of l.table.now l.place → 0 < walk_work l count
-walk_costs l count some parts = by_step (is_plain l)
+walk_costs : (l : Lookup) (count : ℕ) → 0 < count → 0 < walk_work l count
+walk_costs l count some = by_step (is_plain l)
   where
-    by_step : (t : Bool) → 0 < min (count * (subtable_count_of l.table.now l.place * (if t then PLAIN_WORK else STEP_WORK))) most_countable
-    by_step true = product-some count (subtable_count_of l.table.now l.place) PLAIN_WORK some parts (omega arith)
-    by_step false = product-some count (subtable_count_of l.table.now l.place) STEP_WORK some parts (omega arith)
+    parts : ℕ
+    parts = max (subtable_count_of l.table.now l.place) 1
+
+    by_step : (t : Bool) → 0 < min (count * (parts * (if t then PLAIN_WORK else STEP_WORK))) most_countable
+    by_step true = product-some count parts PLAIN_WORK some (omega arith) (omega arith)
+    by_step false = product-some count parts STEP_WORK some (omega arith) (omega arith)
 
 unpaid : (left work : ℕ) → left ≡ 0 → 0 < work → nat_lt left work ≡ true
 unpaid left work none some = grind (arith, nat_tests, none, some)
@@ -94,12 +97,12 @@ none-less : (left work : ℕ) → left ≡ 0 → left ≡ left - work
 none-less left work none = omega (arith, none)
 
 pub spent_on : (ds : List Digested) (k : ℕ) (x : Digested) (here made : Budgeted) (count : ℕ) → k < length ds
-    → count ≡ length here.buffer.items → here.left ≡ 0 → 0 < walk_work (slice_index_or ds k x).lookup count
+    → count ≡ length here.buffer.items → here.left ≡ 0 → 0 < count
     → fold lookup_applied here (lookups_in (drop k ds)) ≡ made → fold lookup_applied here (lookups_in (drop (k + 1) ds)) ≡ made
-spent_on ds k x here made count more same none costs before =
+spent_on ds k x here made count more same none filled before =
     let l = (slice_index_or ds k x).lookup in
     let after = walk_charged here l in
-    let some = subst (λ n. 0 < walk_work l n) same costs in
+    let some = walk_costs l (length here.buffer.items) (omega (arith, same, filled)) in
     applied_on ds k x here here made more before
     (ap (λ n. record here { left = n }) (none-less here.left (walk_work l (length here.buffer.items)) none)
     ∙ sym (ap (λ t. if t then after else gone_over after l) (unpaid here.left (walk_work l (length here.buffer.items)) none some)))

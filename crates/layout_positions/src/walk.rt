@@ -20,7 +20,6 @@ use layout_matching::found::is_context;
 use layout_matching::lookup::Lookup;
 use layout_matching::skipping::{is_on, is_transparent, item_at};
 use layout_matching::work::{lookup_charged, walk_work};
-use layout_tables::lookups::subtable_count;
 use shape_buffer::position_walks::update_positions;
 use shape_buffer::{GlyphPosition, hb_buffer_t, hb_glyph_info_t};
 
@@ -253,14 +252,13 @@ pub fn apply_over(named: &Digested<'_>, buffer: &mut hb_buffer_t, left: usize) -
     go_over(named, buffer, after)
 }
 
-/// Whether nothing is left for a lookup that costs something. That is told at once, however many subtables the lookup has.
-#[tactic(auto, using(crate::proofs::DigestLemmas::walk_costs))]
-fn is_spent(lookup: &Lookup<'_>, count: usize, left: usize) -> bool
-    requires { lookup.now.place < 2 ^ 17 }
+/// Whether nothing is left for lookups: each costs something, unless the list is empty. That is told at once, however many
+/// subtables a lookup has.
+fn is_spent(count: usize, left: usize) -> bool
     ensures none { result ≡ true → left ≡ 0 }
-    ensures costs { result ≡ true → 0 < Work.walk_work lookup.now count }
+    ensures some { result ≡ true → 0 < count }
 {
-    left == 0 && 0 < count && 0 < subtable_count(lookup.table, lookup.place)
+    left == 0 && 0 < count
 }
 
 /// A digest that holds the glyphs of a list.
@@ -288,7 +286,7 @@ fn apply_each(lookups: &[Digested<'_>], buffer: &mut hb_buffer_t) -> usize
     let run = run_digest(buffer.infos());
     for named in lookups {
         let count = buffer.len();
-        if is_spent(&named.lookup, count, left) {
+        if is_spent(count, left) {
             continue;
         }
         if !run.may_share(&named.digest) {

@@ -36,6 +36,10 @@ two_subtables = words (1 ∷ 8 ∷ 2 ∷ 10 ∷ 10 ∷ 1 ∷ 6 ∷ 3 ∷ 1 ∷ 1
 abbrev pub two_of_ligatures : List ℕ
 two_of_ligatures = words (4 ∷ 8 ∷ 2 ∷ 10 ∷ 10 ∷ 1 ∷ 8 ∷ 1 ∷ 14 ∷ 1 ∷ 1 ∷ 5 ∷ 1 ∷ 4 ∷ 50 ∷ 2 ∷ 6 ∷ [])
 
+-- one without subtables
+abbrev pub no_subtables : List ℕ
+no_subtables = words (4 ∷ 8 ∷ 0 ∷ [])
+
 -- an extension that stands for one of single substitution
 abbrev pub extended_single : List ℕ
 extended_single = words (7 ∷ 8 ∷ 1 ∷ 8 ∷ 1 ∷ 1 ∷ 0 ∷ 8 ∷ 1 ∷ 6 ∷ 3 ∷ 1 ∷ 1 ∷ 5 ∷ [])
@@ -147,6 +151,8 @@ pub record WorkedWork : Type 0 where
   pub nested_singles : (l : Lookup) → l.table.now ≡ two_subtables → nested_charged (over_marks l) (plain 5 ∷ []) 0 100 ≡ Some 20
   pub walk : (l : Lookup) → l.table.now ≡ two_of_ligatures → walk_work (over_marks l) 3 ≡ 48
   pub walk_of_singles : (l : Lookup) → l.table.now ≡ two_subtables → walk_work (over_marks l) 3 ≡ 96
+  -- 8, as for one subtable
+  pub walk_of_none : (l : Lookup) → l.table.now ≡ no_subtables → walk_work (over_marks l) 3 ≡ 24
   -- 48 for each lookup, and nothing is left where that doesn't suffice
   pub walks : (l : Lookup) → l.table.now ≡ two_of_ligatures → walks_charged (over_marks l ∷ over_marks l ∷ []) 3 100 ≡ 4
   pub walks_too_dear : (l : Lookup) → l.table.now ≡ two_of_ligatures → walks_charged (over_marks l ∷ over_marks l ∷ []) 3 95 ≡ 0
@@ -195,6 +201,7 @@ worked_work = record {
   nested_singles = λ l t. rw t refl;
   walk = λ l t. rw t refl;
   walk_of_singles = λ l t. rw t refl;
+  walk_of_none = λ l t. rw t refl;
   walks = λ l t. rw t refl;
   walks_too_dear = λ l t. rw t refl;
 }

@@ -25,7 +25,7 @@ loop-named-preserved-then-is_spent c =
     record {
       made = spent_on c.args.lookups.now c.loop-named.named-index _ here
           (fold lookup_applied (budgeted c.args.buffer.now) (lookups_in c.args.lookups.now)) _ c.loop-named-test.true c.len-count.ensures.items
-          (c.is_spent.ensures.none c.if-is_spent.true) (c.is_spent.ensures.costs c.if-is_spent.true) c.loop-named.invariant.made;
+          (c.is_spent.ensures.none c.if-is_spent.true) (c.is_spent.ensures.some c.if-is_spent.true) c.loop-named.invariant.made;
       run = c.loop-named.invariant.run;
     }
 
