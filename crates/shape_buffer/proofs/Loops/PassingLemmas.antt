@@ -31,9 +31,9 @@ four_more p xs i d within none these =
     let four : i + 3 + 1 ≡ i + 4 = omega arith in
     let one = one_more p xs i d (omega (arith, within)) none (or_left _ _ these) in
     let second : list_any p (take (i + 2) xs) ≡ false =
-        rw (← two) (one_more p xs (i + 1) d (omega (arith, within)) one (or_left _ _ after_first)) in
+    rw (← two) (one_more p xs (i + 1) d (omega (arith, within)) one (or_left _ _ after_first)) in
     let third : list_any p (take (i + 3) xs) ≡ false =
-        rw (← three) (one_more p xs (i + 2) d (omega (arith, within)) second (or_left _ _ after_second)) in
+    rw (← three) (one_more p xs (i + 2) d (omega (arith, within)) second (or_left _ _ after_second)) in
     rw (← four) (one_more p xs (i + 3) d within third (or_right (p (get_or xs (i + 2) d)) _ after_second))
 
 -- none among fewer elements

@@ -8,11 +8,11 @@ returns-then-is-3 g c = λ p tells d.
     let a = tells _ c.is.result (record { shown = _; shows = refl; says = record { met = c.is.ensures } }) in
     elim c.if-is-2.branch [
       | then-is-2 w ↦ elim c.if-is.branch [
-          | then-is v ↦ grind (arith, common_steps)
-          | else-is v ↦
-              let b = tells _ v.is-else-is.result (record { shown = _; shows = refl; says = record { met = v.is-else-is.ensures } }) in
-              grind (arith, common_steps)
-        ]
+        | then-is v ↦ grind (arith, common_steps)
+        | else-is v ↦
+            let b = tells _ v.is-else-is.result (record { shown = _; shows = refl; says = record { met = v.is-else-is.ensures } }) in
+            grind (arith, common_steps)
+      ]
       | else-is-2 w ↦
           let third = tells _ w.is-else-is-2.result (record { shown = _; shows = refl; says = record { met = w.is-else-is-2.ensures } }) in
           elim c.if-is.branch [

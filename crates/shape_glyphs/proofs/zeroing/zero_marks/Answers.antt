@@ -21,8 +21,8 @@ loop-i-init c =
     let first = c.passed_over-first.result in
     let many : length b.positions ≡ length b.items = grind (arith, common_steps) in
     let none : list_any is_mark_glyph (take first b.items) ≡ false =
-        ap (λ (xs : List Item). list_any is_mark_glyph (take first xs)) (sym c.infos.ensures)
-        ∙ c.passed_over-first.ensures.none is_mark_glyph (λ x y said. search rules) in
+    ap (λ (xs : List Item). list_any is_mark_glyph (take first xs)) (sym c.infos.ensures)
+    ∙ c.passed_over-first.ensures.none is_mark_glyph (λ x y said. search rules) in
     let unchanged = positions_passed is_mark_glyph (zeroed_mark c.args.adjust) (same c.args.adjust) b.items b.positions first many none in
     record {
       same_length = refl;

@@ -14,8 +14,8 @@ loop-i-init g c =
     let b = c.args.buffer.now in
     let first = c.passed_over-first.result in
     let none : list_any is_mark_item (take first b.items) ≡ false =
-        ap (λ (xs : List Item). list_any is_mark_item (take first xs)) (sym c.infos.ensures)
-        ∙ c.passed_over-first.ensures.none is_mark_item (λ x y said. search rules) in
+    ap (λ (xs : List Item). list_any is_mark_item (take first xs)) (sym c.infos.ensures)
+    ∙ c.passed_over-first.ensures.none is_mark_item (λ x y said. search rules) in
     let within : first ≤ length b.items = grind (arith, common_steps) in
     let after : 0 < c.max-i.result = omega (arith, c.max-i.ensures) in
     let before : c.max-i.result - 1 ≤ first - 1 = omega (arith, c.max-i.ensures) in

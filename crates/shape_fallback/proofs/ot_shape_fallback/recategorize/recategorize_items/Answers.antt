@@ -19,8 +19,8 @@ loop-i-init c =
     let b = c.args.buffer.now in
     let first = c.passed_over-first.result in
     let none : list_any is_nonspacing (take first b.items) ≡ false =
-        ap (λ (xs : List Item). list_any is_nonspacing (take first xs)) (sym c.infos.ensures)
-        ∙ c.passed_over-first.ensures.none is_nonspacing (λ x y said. search rules) in
+    ap (λ (xs : List Item). list_any is_nonspacing (take first xs)) (sym c.infos.ensures)
+    ∙ c.passed_over-first.ensures.none is_nonspacing (λ x y said. search rules) in
     let unchanged = map_passed is_nonspacing recategorized_item same b.items first none in
     record { same_length = refl; updated = ap (λ (xs : List Item). record b { items = xs }) (sym unchanged) }
 
