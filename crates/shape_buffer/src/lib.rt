@@ -10,6 +10,7 @@
 
 pub mod buffer;
 pub mod interfaces;
+pub mod passing;
 pub mod position_walks;
 pub mod walks;
 

@@ -1,7 +1,7 @@
 -- Lemmas on the bases of a buffer.
-use Rattle.std.proofs.Common.{◌≡◌, ℕ, zero, suc, ◌+◌, ◌<◌, ◌≤◌, Bool, true, false, List, [], ◌∷◌, ◌++◌, length, get_or, drop, map, refl, ap, sym, ◌∙◌, arith, cond, inl, inr}
+use Rattle.std.proofs.Common.{◌≡◌, ℕ, zero, suc, ◌+◌, ◌-◌, ◌<◌, ◌≤◌, Bool, true, false, List, [], ◌∷◌, ◌++◌, length, get_or, take, drop, map, refl, ap, sym, ◌∙◌, arith, cond, inl, inr}
 use Rattle.std.specs.Prelude.{fold}
-use Rattle.std.specs.List.{prefix_len}
+use Rattle.std.specs.List.{list_any, prefix_len}
 use Rattle.std.proofs.lemmas.List.{drop_all, length-map, drop-map, get_or_default}
 use Rattle.std.proofs.lemmas.List.Sums.{fold-append}
 use Rattle.std.proofs.Math.Seq.{drop-cons}
@@ -198,3 +198,33 @@ bases_last face s i b over = elim (cases_lt i (length b.items)) [
       ∙ bases_end face s (i + 1) b over
   | inr past ↦ bases_end face s i b past
 ]
+
+-- no mark stands among the first n items
+no_mark_at : (xs : List Item) (i n : ℕ) → i < n → list_any is_mark_item (take n xs) ≡ false → begins_with_mark (drop i xs) ≡ false
+no_mark_at [] zero n lt none = refl
+no_mark_at [] (suc i) n lt none = refl
+no_mark_at (x ∷ xs) i zero lt none = absurd (omega (arith, lt))
+no_mark_at (x ∷ xs) zero (suc n) lt none = elim (cases_Bool (is_mark_item x)) [
+  | inl mark ↦ absurd (let some : list_any is_mark_item (take (suc n) (x ∷ xs)) ≡ true = rw mark refl in let e : false ≡ true = sym none ∙ some in cc)
+  | inr other ↦ other
+]
+no_mark_at (x ∷ xs) (suc i) (suc n) lt none =
+    let fewer : list_any is_mark_item (take n xs) ≡ false = elim (cases_Bool (is_mark_item x)) [
+      | inl mark ↦ absurd (let some : list_any is_mark_item (take (suc n) (x ∷ xs)) ≡ true = rw mark refl in let e : false ≡ true = sym none ∙ some in cc)
+      | inr other ↦ let rest : list_any is_mark_item (take (suc n) (x ∷ xs)) ≡ list_any is_mark_item (take n xs) = rw other refl in sym rest ∙ none
+    ] in
+    no_mark_at xs i n (omega (arith, lt)) fewer
+
+-- places visited before the last of n items without a mark, none of which changes anything
+pub bases_passed : (face : FaceMeaning) (s : MarkFrame) (b : Buffer) (i n : ℕ) → i ≤ n - 1 → n ≤ length b.items
+    → list_any is_mark_item (take n b.items) ≡ false
+    → fold (position_span face s) b (bases i (drop i (marks_of b))) ≡ fold (position_span face s) b (bases 0 (drop 0 (marks_of b)))
+bases_passed face s b zero n le within none = refl
+bases_passed face s b (suc i) n le within none =
+    let next : suc i ≡ i + 1 = omega arith in
+    let here : i < length b.items = omega (arith, le, within) in
+    let bare = at_unfollowed face s i b here (no_mark_at b.items (i + 1) n (omega (arith, le)) none) in
+    ap (λ (k : ℕ). fold (position_span face s) b (bases k (drop k (marks_of b)))) next
+    ∙ ap (λ (c : Buffer). fold (position_span face s) c (bases (i + 1) (drop (i + 1) (marks_of c)))) (sym bare)
+    ∙ sym (bases_step face s i b here)
+    ∙ bases_passed face s b i n (omega (arith, le)) within none

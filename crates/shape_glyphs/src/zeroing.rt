@@ -18,6 +18,7 @@ ghost use Rattle.shape_glyphs.specs.Zeroing;
 use bitflags::Flags;
 use shape_buffer::buffer::{GlyphPosition, GlyphPropsFlags, hb_buffer_t, hb_glyph_info_t};
 use shape_buffer::interfaces::{hb_font_t, hb_ot_layout_t, hb_unicode_funcs_t};
+use shape_buffer::passing::passed_over;
 use shape_buffer::wrapping::difference;
 use shape_plan::ot_shaper::{
     HB_OT_SHAPE_ZERO_WIDTH_MARKS_BY_GDEF_EARLY, HB_OT_SHAPE_ZERO_WIDTH_MARKS_BY_GDEF_LATE,
@@ -84,7 +85,8 @@ fn zero_mark_at(buffer: &mut hb_buffer_t, place: usize, adjust: bool)
 fn zero_marks(adjust: bool, buffer: &mut hb_buffer_t)
     ensures { Made (positions_mapped (Zeroing.zeroed_mark adjust)) buffer.old buffer.new }
 {
-    for i in 0..buffer.len() {
+    let first = passed_over(buffer.infos(), |info| is_mark_glyph(info));
+    for i in first..buffer.len() {
         zero_mark_at(buffer, i, adjust);
     }
 }

@@ -43,6 +43,7 @@ pub use context::hb_ot_shape_normalize_context_t;
 pub use premises::meets_canonical_premises;
 use shape_buffer::buffer::{ShapeError, hb_buffer_t, hb_glyph_info_t};
 use shape_buffer::interfaces::{hb_font_t, hb_ot_layout_t, hb_unicode_funcs_t};
+use shape_buffer::passing::passed_over;
 pub use shape_plan::normalization_mode::{
     HB_OT_SHAPE_NORMALIZATION_MODE_AUTO, HB_OT_SHAPE_NORMALIZATION_MODE_COMPOSED_DIACRITICS,
     HB_OT_SHAPE_NORMALIZATION_MODE_COMPOSED_DIACRITICS_NO_SHORT_CIRCUIT,
@@ -136,8 +137,15 @@ fn has_mark_past_first(infos: &[hb_glyph_info_t]) -> bool
     has_mark(&infos[1..])
 }
 
-/// Whether one of these items is a mark.
+/// Whether one of these items is a mark. Looks one by one only at those from the first four on that have one.
 fn has_mark(infos: &[hb_glyph_info_t]) -> bool
+    ensures { result ≡ list_any is_mark_item infos.now }
+{
+    let first = passed_over(infos, |info| info._hb_glyph_info_is_unicode_mark());
+    has_mark_one_by_one(&infos[first..])
+}
+
+fn has_mark_one_by_one(infos: &[hb_glyph_info_t]) -> bool
     ensures { result ≡ list_any is_mark_item infos.now }
 {
     infos

@@ -14,6 +14,7 @@ use crate::ot_shape_fallback::marks::{
 };
 use shape_buffer::buffer::{GlyphId, hb_buffer_t, hb_glyph_info_t};
 use shape_buffer::interfaces::hb_font_t;
+use shape_buffer::passing::passed_over;
 
 /// Places the marks of one base, from its place up to another.
 fn position_span<F: hb_font_t>(
@@ -115,8 +116,9 @@ fn position_before<F: hb_font_t>(
 pub(crate) fn position_bases<F: hb_font_t>(face: &F, frame: MarkFrame, buffer: &mut hb_buffer_t)
     ensures { Made (Bases.bases_positioned (F.face face.now) frame) buffer.old buffer.new }
 {
+    let first = passed_over(buffer.infos(), |info| info._hb_glyph_info_is_unicode_mark());
     let mut done = 0;
-    for i in 1..buffer.len() {
+    for i in first.max(1)..buffer.len() {
         done = position_before(face, frame, buffer, done, i);
     }
 }

@@ -6,6 +6,7 @@ ghost use Rattle.shape_fallback.specs.Recategorized;
 
 use crate::ot_shape_fallback::ccc::fallback_ccc;
 use shape_buffer::buffer::{hb_buffer_t, hb_glyph_info_t, hb_unicode_general_category_t};
+use shape_buffer::passing::passed_over;
 
 /// Whether an item is a nonspacing mark.
 #[tactic(auto, unfolding(crate::specs::Recategorized::is_nonspacing))]
@@ -44,7 +45,8 @@ fn recategorize_at(buffer: &mut hb_buffer_t, i: usize)
 pub(crate) fn recategorize_items(buffer: &mut hb_buffer_t)
     ensures { Made Recategorized.recategorized buffer.old buffer.new }
 {
-    for i in 0..buffer.len() {
+    let first = passed_over(buffer.infos(), |info| is_nonspacing(info));
+    for i in first..buffer.len() {
         recategorize_at(buffer, i);
     }
 }

@@ -1,14 +1,31 @@
-use Rattle.std.proofs.Common.{◌≡◌, ◌<◌, ◌≤◌, ◌+◌, ◌-◌, List, Bool, ◌∙◌, ap, sym, length, drop, refl, arith}
+use Rattle.std.proofs.Common.{rules, false, take, ◌≡◌, ◌<◌, ◌≤◌, ◌+◌, ◌-◌, List, Bool, ◌∙◌, ap, sym, length, drop, refl, arith}
 use Rattle.std.specs.Prelude.{unwrap_or, fold}
-use Rattle.std.specs.List.{prefix_len}
+use Rattle.std.specs.List.{list_any, prefix_len}
+use Rattle.shape_items.specs.Items.{Item, is_mark_item}
 use Rattle.std.proofs.lemmas.Grind.{common_steps}
 use Rattle.shape_fallback.specs.Bases.{bases_positioned, position_span, bases, marks_of, marks_from, positioned_at}
-use Rattle.shape_fallback.proofs.BasesLemmas.{bases_step, bases_last, length-positioned_at, limit-positioned_at, marks_of-positioned_at}
+use Rattle.shape_fallback.proofs.BasesLemmas.{bases_step, bases_passed, bases_last, length-positioned_at, limit-positioned_at, marks_of-positioned_at}
 use Rattle.shape_fallback.proofs.ot_shape_fallback.bases.position_bases.Goals as goal
 
 pub loop-i-init : goal.loop-i-init
 unfolding bases_positioned
-loop-i-init g c = record { after = omega arith; as_many = refl; same_limit = refl; marks = omega arith; rest = refl }
+loop-i-init g c =
+    let face = g.F.hb_font_t.face c.args.face.now in
+    let b = c.args.buffer.now in
+    let first = c.passed_over-first.result in
+    let none : list_any is_mark_item (take first b.items) ≡ false =
+    ap (λ (xs : List Item). list_any is_mark_item (take first xs)) (sym c.infos.ensures)
+    ∙ c.passed_over-first.ensures.none is_mark_item (λ x y said. search rules) in
+    let within : first ≤ length b.items = grind (arith, common_steps) in
+    let after : 0 < c.max-i.result = omega (arith, c.max-i.ensures) in
+    let before : c.max-i.result - 1 ≤ first - 1 = omega (arith, c.max-i.ensures) in
+    record {
+      after = after;
+      as_many = refl;
+      same_limit = refl;
+      marks = omega arith;
+      rest = bases_passed face c.args.frame b (c.max-i.result - 1) first before within none;
+    }
 
 pub loop-i-preserved : goal.loop-i-preserved
 loop-i-preserved g c =

@@ -1,11 +1,28 @@
-use Rattle.std.proofs.Common.{◌≡◌, ◌<◌, length, get_or, arith}
+use Rattle.std.proofs.Common.{rules, ◌≡◌, ◌<◌, ◌∙◌, false, List, take, length, get_or, ap, sym, arith, refl}
+use Rattle.std.specs.List.{list_any}
 use Rattle.std.proofs.lemmas.Grind.{common_steps}
 use Rattle.std.proofs.lemmas.List.{get_or_default}
 use Rattle.std.proofs.lemmas.List.Edits.{map_over_more}
 use Rattle.shape_items.specs.Items.{Item, new_item}
+use Rattle.shape_buffer.proofs.Loops.PassingLemmas.{map_passed}
 use Rattle.shape_buffer.specs.Walks.{items_mapped}
-use Rattle.shape_fallback.specs.Recategorized.{recategorized_item}
+use Rattle.shape_fallback.specs.Recategorized.{is_nonspacing, recategorized_item}
 use Rattle.shape_fallback.proofs.ot_shape_fallback.recategorize.recategorize_items.Goals as goal
+
+-- an item that is no nonspacing mark stays
+same : (x : Item) → is_nonspacing x ≡ false → recategorized_item x ≡ x
+unfolding recategorized_item
+same x other = rw other refl
+
+pub loop-i-init : goal.loop-i-init
+loop-i-init c =
+    let b = c.args.buffer.now in
+    let first = c.passed_over-first.result in
+    let none : list_any is_nonspacing (take first b.items) ≡ false =
+    ap (λ (xs : List Item). list_any is_nonspacing (take first xs)) (sym c.infos.ensures)
+    ∙ c.passed_over-first.ensures.none is_nonspacing (λ x y said. search rules) in
+    let unchanged = map_passed is_nonspacing recategorized_item same b.items first none in
+    record { same_length = refl; updated = ap (λ (xs : List Item). record b { items = xs }) (sym unchanged) }
 
 pub loop-i-preserved : goal.loop-i-preserved
 loop-i-preserved c =
