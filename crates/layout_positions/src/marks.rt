@@ -345,6 +345,36 @@ fn put_on_mark(
     }
 }
 
+/// Attaches mark number `number` of the subtable, at place `i`, to the mark before it. Returns the place where the lookup goes on.
+/// A call of its own, since most subtables don't list a mark.
+#[inline(never)]
+fn attach_to_mark(
+    lookup: &Lookup<'_>,
+    start: usize,
+    buffer: &mut hb_buffer_t,
+    i: usize,
+    number: u32,
+) -> Option<usize>
+    requires start { start < 2 ^ 34 }
+    requires inside { i < length buffer.old.items }
+    ensures made { buffer.new ≡ (Marks.mark_mark_at lookup.now start i buffer.old number).buffer }
+    ensures next { result ≡ (Marks.mark_mark_at lookup.now start i buffer.old number).next }
+{
+    let seen = for_marks(lookup);
+    let stop = stop_before(&seen, buffer.infos(), i);
+    match glyph_at(&seen, buffer.infos(), stop) {
+        Some(base) => {
+            let at = Pairing {
+                mark: i,
+                base,
+                number,
+            };
+            put_on_mark(lookup, start, buffer, &at)
+        }
+        None => concat_from(buffer, start_at(stop), i),
+    }
+}
+
 /// Applies attachment to a mark to the mark at place `i`. Returns the place where the lookup goes
 /// on.
 pub fn apply_mark_mark(
@@ -358,20 +388,8 @@ pub fn apply_mark_mark(
     ensures made { buffer.new ≡ (Marks.mark_mark_applied lookup.now start i buffer.old).buffer }
     ensures next { result ≡ (Marks.mark_mark_applied lookup.now start i buffer.old).next }
 {
-    let number = mark_number(lookup, start, buffer, i)?;
-    let seen = for_marks(lookup);
-    let stop = stop_before(&seen, buffer.infos(), i);
-    match glyph_at(&seen, buffer.infos(), stop) {
-        Some(base) => put_on_mark(
-            lookup,
-            start,
-            buffer,
-            &Pairing {
-                mark: i,
-                base,
-                number,
-            },
-        ),
-        None => concat_from(buffer, start_at(stop), i),
+    match mark_number(lookup, start, buffer, i) {
+        Some(number) => attach_to_mark(lookup, start, buffer, i, number),
+        None => None,
     }
 }

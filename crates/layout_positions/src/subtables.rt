@@ -39,6 +39,7 @@ pub struct Sought {
 }
 
 /// Applies cursive attachment, which is of format 1, to the glyph at place `i`.
+#[inline(never)]
 fn try_cursive(
     lookup: &Lookup<'_>,
     start: usize,
@@ -158,7 +159,8 @@ fn attach(
 }
 
 /// Applies a subtable of type 4 or 5 to its mark number `number`, at place `i`, if what is left suffices for the search for its
-/// base. Else nothing is left.
+/// base. Else nothing is left. A call of its own, since most subtables don't list a mark.
+#[inline(never)]
 #[tactic(auto, using(crate::proofs::SubtableLemmas::mark_placed, crate::proofs::SubtableLemmas::mark_unpaid))]
 fn place_mark(
     lookup: &Lookup<'_>,

@@ -91,7 +91,8 @@ pub fn mark_filtering_set(table: &[u8], lookup: usize) -> u16
     )
 }
 
-/// What an extension subtable at `start` stands for.
+/// What an extension subtable at `start` stands for. A call of its own, so that the rest is inlined where subtables are tried.
+#[inline(never)]
 fn extended(table: &[u8], start: usize) -> Option<LookupSubtable>
     requires { start < 2 ^ 18 }
     ensures value { result ≡ Lookups.extended table.now start }
@@ -122,6 +123,7 @@ fn resolved(table: &[u8], extension: u16, kind: u16, start: usize) -> Option<Loo
 
 /// Subtable `i` of the lookup at `lookup`; none if its offset is NULL. A subtable of type `extension` (7 in `GSUB`,
 /// 9 in `GPOS`) stands for one of another type far away, which is returned in its place.
+#[inline(always)]
 pub fn subtable(table: &[u8], extension: u16, lookup: usize, i: u32) -> Option<LookupSubtable>
     requires lookup { lookup < 2 ^ 17 }
     requires i { i < 2 ^ 16 }
