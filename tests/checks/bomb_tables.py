@@ -14,14 +14,16 @@ GLYPHS = 43
 
 
 def lookup(kind, subtables, flag=0):
-    """A lookup: `subtables` are bytes, or pairs of how often a subtable is named and its bytes."""
+    """A lookup: `subtables` are bytes, or pairs of how often a subtable is named and its bytes. If
+    its flags have a set of marks, that is the first one."""
     pairs = [it if isinstance(it, tuple) else (1, it) for it in subtables]
     count = sum(times for times, _ in pairs)
-    at, offsets, body = 6 + 2 * count, [], b""
+    mark_set = words(0) if flag & 16 else b""
+    at, offsets, body = 6 + 2 * count + len(mark_set), [], b""
     for times, part in pairs:
         offsets += [at + len(body)] * times
         body += part
-    return words(kind, flag, count, *offsets) + body
+    return words(kind, flag, count, *offsets) + mark_set + body
 
 
 def layout(lookups, tag=b"ccmp", shared=0, version=b""):
@@ -105,11 +107,23 @@ def row_behind(length):
     return head + EVERY + words(1, 1, 42)
 
 
+def ranges_of_none(ranges, value=1):
+    """A list, or classes, of so many ranges of glyphs, none of which the font has."""
+    many = [number for i in range(ranges) for number in (60 + 2 * i, 60 + 2 * i, value)]
+    return words(2, ranges, *many)
+
+
 def list_behind(ranges):
-    """A chained context of ZWNJ, with a list behind it of so many ranges of glyphs, none of which
-    the font has."""
-    many = [number for i in range(ranges) for number in (60 + 2 * i, 60 + 2 * i, i)]
-    return words(3, 0, 1, 14, 1, 20, 0) + words(1, 1, 43) + words(2, ranges, *many)
+    """A chained context of ZWNJ, with a list behind it of so many ranges."""
+    return words(3, 0, 1, 14, 1, 20, 0) + words(1, 1, 43) + ranges_of_none(ranges)
+
+
+def class_behind(ranges):
+    """A chained context of ZWNJ, with a glyph of class 1 behind it, by classes of so many
+    ranges."""
+    rule = words(0, 1, 1, 1, 0)
+    head = words(2, 14, 0, 0, 34, 1, 20)
+    return head + words(1, 1, 43) + words(1, 4) + rule + ranges_of_none(ranges)
 
 
 def rules_past(count):
@@ -187,6 +201,13 @@ def gdef(ranges):
     """Classes of glyphs: letters are bases, marks marks; so many ranges of no glyph before."""
     classes = words(2, ranges + 2, *[0, 0, 1] * ranges, 1, 26, 1, 27, 42, 3)
     return words(1, 0, 12, 0, 0, 0) + classes
+
+
+def gdef_of_set(ranges):
+    """The same classes, and one set of marks of so many ranges of no glyph."""
+    classes = gdef(0)[12:]
+    head = words(1, 2, 14, 0, 0, 0, 14 + len(classes))
+    return head + classes + words(1, 1, 0, 8) + ranges_of_none(ranges)
 
 
 # an extension of an extension, and a rule of 64 glyphs of which the last is never there

@@ -8,10 +8,11 @@ parts. Those that use up what a run may ask for take longer, in step with the te
 
 The worst fonts of earlier searches are named in tests/hostile/worst.txt (`search`).
 """
-from checks.bomb_tables import (EVERY, LOOP, ROW, alternates, apart, context, cursive, features,
-                                gdef, grows, kern, layout, ligature_of_two, ligatures, list_behind,
-                                lookup, marks_on, nulls, pairs, row_before, row_behind, rules,
-                                rules_past, vain, variations, words)
+from checks.bomb_tables import (EVERY, LOOP, ROW, alternates, apart, class_behind, context,
+                                cursive, features, gdef, gdef_of_set, grows, kern, layout,
+                                ligature_of_two, ligatures, list_behind, lookup, marks_on, nulls,
+                                pairs, row_before, row_behind, rules, rules_past, vain,
+                                variations, words)
 from checks.fonts import add_table, bytes_of, new_font
 from checks.hostile_runs import LENGTH, SECONDS, Runs, add_run_options, need_all
 from checks.mutated import load_bases, mutated_font
@@ -41,6 +42,8 @@ NESTED_SKIPPING = [lookup(5, [context(1, [(0, 0), (0, 1), (0, 0)])], 8),
 # a rule names a set without rules 10,000 times, which looks for the next glyph that is no mark
 NO_RULES = [lookup(6, [rules(0, b"")], 8),
             lookup(5, [context(1, [(0, 0)] * 10000, words(1, 1, 1))])]
+# rules of three glyphs of which the last is never there, over marks that aren't of a set
+OUT_OF_A_SET = [lookup(5, [rules(3000, words(3, 0, 1, 42))], 16)]
 TO_BASES = [lookup(4, [marks_on(4)])]
 # at two marks after one another, the second is attached and then the first
 BACK_AND_FORTH = [lookup(7, [context(2, [(1, 1), (0, 1)] * 100)]), *TO_BASES]
@@ -104,6 +107,10 @@ BOMBS = {
         {"GSUB": layout([lookup(5, [rules_past(15000)])], shared=100)}, "a"),
     "a list of 5,000 ranges, searched at each ZWNJ, 1,000 lookups": (
         {"GSUB": layout([lookup(6, [list_behind(5000)])], shared=1000)}, "z"),
+    "classes of 5,000 ranges, searched at each ZWNJ, 1,000 lookups": (
+        {"GSUB": layout([lookup(6, [class_behind(5000)])], shared=1000)}, "z"),
+    "marks out of a set of 5,000 ranges, 3,000 rules, 100 lookups": (
+        {"GSUB": layout(OUT_OF_A_SET, shared=100), "GDEF": gdef_of_set(5000)}, "ama"),
     "30,000 NULL subtables": ({"GSUB": layout([nulls(30000, vain())])}, "a"),
     "30,000 NULL subtables of 31,000 lookups of pairs": (
         {"GPOS": layout([nulls(30000, pairs(1), 2)], b"kern", shared=31000)}, "a"),
@@ -147,8 +154,8 @@ BOMBS = {
 }
 
 
-# bombs that use up what a run may ask for, or nearly; that of ZWNJ does too, and runs over the
-# whole text, to be slow if a search costs as little as a look
+# bombs that use up what a run may ask for, or nearly; those of lists, classes and sets of 5,000
+# ranges do too, and run over the whole text, to be slow if a search costs as little as a look
 SPENT = {
     "calls itself twice", "calls itself at each of 64 places", "one lookup, named 20,000 times",
     "one subtable, named 30,000 times", "30,000 subtables of 100 lookups",

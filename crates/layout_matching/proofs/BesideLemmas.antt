@@ -9,7 +9,7 @@ use Rattle.layout_tables.specs.declared.lookups.LookupSubtable.{LookupSubtable}
 use Rattle.layout_matching.specs.Found.{is_chained, is_context_subtable, set_for, number_of}
 use Rattle.layout_matching.specs.Input.{marks_passed}
 use Rattle.layout_matching.specs.Skipping.{nth}
-use Rattle.layout_matching.specs.Work.{SUBTABLE_WORK, COMPARED, charged, beside, passed_beside, passed, passed_charged, set_charged, whole_charged, subtable_charged}
+use Rattle.layout_matching.specs.Work.{SUBTABLE_WORK, charged, beside, passed_beside, passed, passed_charged, set_charged, whole_charged, subtable_charged}
 use Rattle.layout_matching.specs.declared.lookup.Lookup.{Lookup}
 
 -- once, and it can be counted
@@ -17,10 +17,10 @@ once : (n : ℕ) → min (1 * min n most_countable) most_countable ≡ min n mos
 once n = omega arith
 
 charged-once : (l : Lookup) (items : List Item) (at left : ℕ)
-    → passed_charged l items at COMPARED (beside left) ≡ charged (passed l items at COMPARED (beside 0)) left
+    → passed_charged l false items at (beside left) ≡ charged (passed l false items at (beside 0)) left
 charged-once l items at left =
     ap (λ n. charged n left)
-    (once (min (passed_beside l items at (beside 0) * COMPARED) most_countable + marks_passed l items at / 4))
+    (once (passed_beside l false items at (beside 0) + marks_passed l items at / 4))
 
 charged-nothing : (left : ℕ) → charged 0 left ≡ Some left
 charged-nothing left = by_test (nat_lt left 0) refl
@@ -32,7 +32,7 @@ charged-nothing left = by_test (nat_lt left 0) refl
 module _ (items : List Item) (at left : ℕ) (subtable : LookupSubtable) where
   -- a subtable that begins with the glyph
   abbrev pub begun : Lookup → ℕ → Option ℕ
-  begun l number = option_and_then (charged (passed l items at COMPARED (beside 0))) (charged SUBTABLE_WORK left)
+  begun l number = option_and_then (charged (passed l false items at (beside 0))) (charged SUBTABLE_WORK left)
 
   abbrev pub Goal : Lookup → Type 0
   Goal l = subtable_charged l items at left subtable
@@ -40,17 +40,17 @@ module _ (items : List Item) (at left : ℕ) (subtable : LookupSubtable) where
 
   by-kind : (l : Lookup) (c w : Bool) (x : Option ℕ) (set : ℕ → Option ℕ) (some : ℕ → ℕ → Option ℕ) (o : Option ℕ) → c ≡ false
       → (if c && w then x else option_map_or (λ number. option_and_then (λ less. option_map_or (some less) (if c then set number else None)
-      (passed_charged l items at COMPARED (beside less))) (option_and_then (charged SUBTABLE_WORK) (charged 0 left))) o (Some left))
+      (passed_charged l false items at (beside less))) (option_and_then (charged SUBTABLE_WORK) (charged 0 left))) o (Some left))
       ≡ option_map_or (begun l) o (Some left)
   by-kind l true w x set some o is = cc
   by-kind l false w x set some None is = refl
   by-kind l false w x set some (Some number) is =
-      ap (λ o. option_and_then (λ less. passed_charged l items at COMPARED (beside less)) (option_and_then (charged SUBTABLE_WORK) o))
+      ap (λ o. option_and_then (λ less. passed_charged l false items at (beside less)) (option_and_then (charged SUBTABLE_WORK) o))
       (charged-nothing left)
       ∙ by_begun (charged SUBTABLE_WORK left)
     where
-      by_begun : (o : Option ℕ) → option_and_then (λ less. passed_charged l items at COMPARED (beside less)) o
-          ≡ option_and_then (charged (passed l items at COMPARED (beside 0))) o
+      by_begun : (o : Option ℕ) → option_and_then (λ less. passed_charged l false items at (beside less)) o
+          ≡ option_and_then (charged (passed l false items at (beside 0))) o
       by_begun None = refl
       by_begun (Some less) = charged-once l items at less
 
@@ -76,7 +76,7 @@ part_unbegun l items at left subtable positions plain none =
 pub part_begun : (l : Lookup) (items : List Item) (at left number : ℕ) (subtable : LookupSubtable) (made : Option ℕ)
     → l.positioning ≡ true → is_context_subtable l subtable ≡ false
     → number_of l.table.now subtable.start (nth items at).glyph_id ≡ Some number
-    → made ≡ option_and_then (charged (passed l items at COMPARED (beside 0))) (charged SUBTABLE_WORK left)
+    → made ≡ option_and_then (charged (passed l false items at (beside 0))) (charged SUBTABLE_WORK left)
     → made ≡ subtable_charged l items at left subtable
 part_begun l items at left number subtable made positions plain some is =
     is ∙ sym (part-charged items at left subtable l positions plain

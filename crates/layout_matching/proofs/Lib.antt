@@ -5,5 +5,6 @@ pub mod WorkLemmas
 pub mod TallyLemmas
 pub mod GlanceLemmas
 pub mod RefusalLemmas
+pub mod PassingLemmas
 pub mod BesideLemmas
 pub mod PastLemmas

@@ -22,3 +22,8 @@ first_some f (suc n) i = option_or (f i) (first_some f n (suc i))
 abbrev pub stopped : {S : Type 0} → (ℕ → S → Option S) → (ℕ → S → ℕ) → ℕ → ℕ → S → ℕ
 stopped f at zero k s = 0
 stopped f at (suc n) k s = option_map_or (stopped f at n (suc k)) (f k s) (at k s)
+
+-- steps `k`, `k + 1` and so on, `n` of them, each of which gives something
+abbrev pub along : {S : Type 0} → (ℕ → S → S) → ℕ → ℕ → S → S
+along f zero k s = s
+along f (suc n) k s = along f n (suc k) (f k s)

@@ -1,23 +1,26 @@
 -- What a lookup is charged for at a place before it is tried there: one for each glyph that it may have to look at, so that time is
 -- in step with what was charged.
-use Rattle.std.specs.Prelude.{ℕ, List, Bool, false, Option, Some, None, ◌+◌, ◌-◌, ◌*◌, ◌/◌, ◌&&◌, ◌||◌, not, max, min, length, nat_eq, nat_lt, fold, if◌then◌else◌}
+use Rattle.std.specs.Prelude.{ℕ, List, Bool, true, false, Option, Some, None, ◌+◌, ◌-◌, ◌*◌, ◌/◌, ◌&&◌, ◌||◌, not, max, min, length, nat_eq, nat_lt, fold, if◌then◌else◌}
 use Rattle.std.specs.Option.{option_and_then, option_map, option_map_or}
 use Rattle.shape_font.specs.Bytes.{u16_of, fitting}
-use Rattle.shape_font.specs.Search.{first_at}
 use Rattle.shape_items.specs.Buffer.{most_countable}
 use Rattle.shape_items.specs.Items.{Item}
 use Rattle.layout_tables.specs.Lookups.{lookup_type_of, subtable_count_of}
 use Rattle.layout_tables.specs.declared.lookups.LookupSubtable.{LookupSubtable}
 use Rattle.layout_matching.specs.Found.{is_chained, is_context, is_context_subtable, whole_rule, is_first, set_for, rule_of, number_of, subtable_at}
+use Rattle.layout_matching.specs.Glance.{glances_in, is_refused}
 use Rattle.layout_matching.specs.Input.{marks_passed}
-use Rattle.layout_matching.specs.Loops.{steps}
+use Rattle.layout_matching.specs.Loops.{steps, along}
 use Rattle.layout_matching.specs.Rules.{rules_at, row, rule_place}
-use Rattle.layout_matching.specs.Skipping.{nth, is_skipped, is_transparent}
+use Rattle.layout_matching.specs.Skipping.{nth, shares, is_skipped, is_transparent}
+use Rattle.layout_matching.specs.declared.glance.Glances.{Glances}
 use Rattle.layout_matching.specs.declared.lookup.Lookup.{Lookup}
+use Rattle.layout_matching.specs.declared.passing.Passing.{Passing}
 use Rattle.layout_matching.specs.declared.rules.Rule.{Rule}
 use Rattle.layout_matching.specs.declared.rules.Test.TheVariants.{Glyph, Coverage}
 use Rattle.layout_matching.specs.declared.tally.Counts.{Counts}
 use Rattle.layout_matching.specs.declared.tally.Tally.{Tally}
+use Rattle.layout_matching.specs.declared.tally.Tries.{Tries}
 
 -- what is left after so much, if it suffices
 abbrev pub charged : ℕ → ℕ → Option ℕ
@@ -28,20 +31,41 @@ charged work left = if nat_lt left work then None else Some (left - work)
 abbrev pub is_passed : Lookup → Item → Bool
 is_passed l item = is_skipped l item || is_transparent l false item
 
--- the next glyph that isn't, and the one before
-abbrev pub stop_after : Lookup → List Item → ℕ → Option ℕ
-stop_after l items i = first_at (λ j. not (is_passed l (nth items j))) (length items - (i + 1)) (i + 1)
+-- a look at a glyph, which is compared with another one
+abbrev pub COMPARED : ℕ
+COMPARED = 1
 
-abbrev pub stop_before : Lookup → List Item → ℕ → Option ℕ
-stop_before l items i = option_map (λ d. i - 1 - d) (first_at (λ d. not (is_passed l (nth items (i - 1 - d)))) i 0)
+-- a search for it in a list
+abbrev pub SEARCH_WORK : ℕ
+SEARCH_WORK = 7
 
--- how many are passed over on the way to glyph number `n` that isn't; all up to the end of the list if there are fewer
-abbrev pub passed_after : Lookup → List Item → ℕ → ℕ → ℕ
-passed_after l items at n =
-    option_map_or (λ j. j - at - n) (steps (λ k i. stop_after l items i) n 0 at) (length items - (at + 1))
+abbrev pub one_if : Bool → ℕ
+one_if t = if t then 1 else 0
 
-abbrev pub passed_before : Lookup → List Item → ℕ → ℕ → ℕ
-passed_before l items at n = option_map_or (λ j. at - j - n) (steps (λ k i. stop_before l items i) n 0 at) at
+-- the lists that a glyph is searched for in that is passed over: a mark in the set of marks of the lookup, and a default ignorable,
+-- which may be the glyph that is looked for, in the list that a rule names it by (`listed`), or in its classes
+abbrev pub searches : Lookup → Bool → Item → ℕ
+searches l listed item =
+    one_if (shares l.flags 16 && shares item.properties.glyph_class.0 8) + one_if (listed && not (is_skipped l item))
+
+abbrev pub passing_work : Lookup → Bool → Item → ℕ
+passing_work l listed item = COMPARED + searches l listed item * SEARCH_WORK
+
+abbrev pub passing_step : Lookup → Bool → Item → Passing → Passing
+passing_step l listed item s = if nat_eq s.stops 0 then s
+    else (if is_passed l item then record s { total = min (s.total + passing_work l listed item) most_countable }
+    else record s { stops = s.stops - 1 })
+
+abbrev pub to_stops : ℕ → Passing
+to_stops n = record { stops = n; total = 0 }
+
+-- what is passed over on the way to glyph number `n` that isn't; up to the end of the list if there are fewer
+abbrev pub passed_after : Lookup → Bool → List Item → ℕ → ℕ → ℕ
+passed_after l listed items at n =
+    (along (λ j. passing_step l listed (nth items j)) (length items - (at + 1)) (at + 1) (to_stops n)).total
+
+abbrev pub passed_before : Lookup → Bool → List Item → ℕ → ℕ → ℕ
+passed_before l listed items at n = (along (λ d. passing_step l listed (nth items (at - 1 - d))) at 0 (to_stops n)).total
 
 -- ---- rules and ligatures
 
@@ -72,34 +96,24 @@ counted c s = option_map (counts_tallied c s) (charged (counts_work c) s.left)
 abbrev pub rule_counted : Rule → Tally → Option Tally
 rule_counted rule s = counted (counts_of rule) s
 
-abbrev pub passed_beside : Lookup → List Item → ℕ → Tally → ℕ
-passed_beside l items at s = min (passed_after l items at s.after + passed_before l items at s.before) most_countable
+abbrev pub passed_beside : Lookup → Bool → List Item → ℕ → Tally → ℕ
+passed_beside l listed items at s =
+    min (passed_after l listed items at s.after + passed_before l listed items at s.before) most_countable
 
--- what is passed over, each for so much, and one for every four marks that are looked at for the ligature that a mark stands on
-abbrev pub passed : Lookup → List Item → ℕ → ℕ → Tally → ℕ
-passed l items at each s =
-    min (min (passed_beside l items at s * each) most_countable + marks_passed l items at / 4) most_countable
+-- what is passed over, and one for every four marks that are looked at for the ligature that a mark stands on
+abbrev pub passed : Lookup → Bool → List Item → ℕ → Tally → ℕ
+passed l listed items at s = min (passed_beside l listed items at s + marks_passed l items at / 4) most_countable
 
 -- each time that is looked at too
-abbrev pub passed_charged : Lookup → List Item → ℕ → ℕ → Tally → Option ℕ
-passed_charged l items at each s = charged (min (s.tries * passed l items at each s) most_countable) s.left
+abbrev pub passed_charged : Lookup → Bool → List Item → ℕ → Tally → Option ℕ
+passed_charged l listed items at s = charged (min (s.tries * passed l listed items at s) most_countable) s.left
 
--- a glyph that is compared with another one, or whose class is
-abbrev pub COMPARED : ℕ
-COMPARED = 1
-
--- a rule of format 3 or kind 8 searches a list for each of its glyphs, and for each that it passes over, which may be the one
-abbrev pub SEARCH_WORK : ℕ
-SEARCH_WORK = 7
-
-abbrev pub SEARCHED : ℕ
-SEARCHED = COMPARED + SEARCH_WORK
-
+-- a rule of format 3 or kind 8 searches a list for each of its glyphs
 abbrev pub lists_charged : Rule → ℕ → Option ℕ
 lists_charged rule left = charged ((rule.before.count + rule.input.count + rule.after.count) * SEARCH_WORK) left
 
 abbrev pub counted_charged : Lookup → List Item → ℕ → Rule → ℕ → Option ℕ
-counted_charged l items at rule left = option_and_then (passed_charged l items at SEARCHED) (rule_counted rule (uncounted left))
+counted_charged l items at rule left = option_and_then (passed_charged l true items at) (rule_counted rule (uncounted left))
 
 abbrev pub rule_charged : Lookup → List Item → ℕ → Rule → ℕ → Option ℕ
 rule_charged l items at rule left = option_and_then (counted_charged l items at rule) (lists_charged rule left)
@@ -156,8 +170,42 @@ abbrev pub set_counted : Lookup → LookupSubtable → ℕ → ℕ → Option Ta
 set_counted l subtable left set =
     steps (part_counted l subtable set) (fitting l.table.now (u16_of l.table.now set) (set + 2) 2) 0 (beside left)
 
+-- a rule that the glyph beside the place refuses looks at no other one
+abbrev pub is_vain : Lookup → LookupSubtable → Glances → ℕ → Bool
+is_vain l subtable around place = is_context_subtable l subtable && is_refused l.table.now around (is_chained l subtable) place
+
+abbrev pub rule_tried : Lookup → LookupSubtable → Glances → ℕ → Tries → Tries
+rule_tried l subtable around place s = if is_vain l subtable around place then s else record {
+  rules = min (s.rules + 1) most_countable;
+  lookups = max s.lookups (part_counts l subtable place).lookups;
+}
+
+abbrev pub tries_step : Lookup → LookupSubtable → Glances → ℕ → ℕ → Tries → Tries
+tries_step l subtable around set r s =
+    option_map_or (λ place. rule_tried l subtable around place s) (rule_place l.table.now set r) s
+
+-- in any syllable, where fewer are refused
+abbrev pub glances_at : Lookup → List Item → ℕ → LookupSubtable → Glances
+glances_at l items at subtable = glances_in l items (record { at = at; is_steady = false }) subtable
+
+abbrev pub set_tries : Lookup → List Item → ℕ → LookupSubtable → ℕ → Tries
+set_tries l items at subtable set = along (tries_step l subtable (glances_at l items at subtable) set)
+    (fitting l.table.now (u16_of l.table.now set) (set + 2) 2) 0 (record { rules = 0; lookups = 0 })
+
+-- the set looks beside the place once, each of its rules once, and the one that applies once more for each lookup that it names
+abbrev pub tries_made : Tries → ℕ
+tries_made s = min (1 + s.rules + s.lookups) most_countable
+
+-- format 2 names glyphs by classes
+abbrev pub has_classes : Lookup → LookupSubtable → Bool
+has_classes l subtable = is_context_subtable l subtable && nat_eq (u16_of l.table.now subtable.start) 2
+
+abbrev pub set_passed : Lookup → List Item → ℕ → LookupSubtable → ℕ → Tally → Option ℕ
+set_passed l items at subtable set s = passed_charged l (has_classes l subtable) items at
+    (record s { tries = tries_made (set_tries l items at subtable set) })
+
 abbrev pub set_charged : Lookup → List Item → ℕ → LookupSubtable → ℕ → ℕ → Option ℕ
-set_charged l items at subtable left set = option_and_then (passed_charged l items at COMPARED) (set_counted l subtable left set)
+set_charged l items at subtable left set = option_and_then (set_passed l items at subtable set) (set_counted l subtable left set)
 
 -- ---- subtables
 
@@ -198,7 +246,7 @@ abbrev pub parts_charged : Lookup → List Item → ℕ → LookupSubtable → �
 parts_charged l items at subtable number left = if is_backward l subtable
     then rule_charged l items at (backward_rule l.table.now subtable.start) left
     else option_map_or (set_charged l items at subtable left)
-    (parts_for l subtable (nth items at).glyph_id number) (passed_charged l items at COMPARED (beside left))
+    (parts_for l subtable (nth items at).glyph_id number) (passed_charged l false items at (beside left))
 
 abbrev pub numbered_charged : Lookup → List Item → ℕ → LookupSubtable → ℕ → ℕ → Option ℕ
 numbered_charged l items at subtable left number =

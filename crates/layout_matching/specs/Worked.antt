@@ -1,5 +1,6 @@
 -- Rules of context, computed by hand on tables of 16-bit words.
 pub mod Work
+pub mod Passing
 pub mod Glance
 use Rattle.std.specs.Prelude.{◌≡◌, ℕ, ◌+◌, Bool, List, [], ◌∷◌, Some, None, true, false, refl}
 use Rattle.shape_font.specs.Worked.Glyphs.{words}

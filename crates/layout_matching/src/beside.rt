@@ -8,7 +8,7 @@ ghost use Rattle.layout_matching.specs.Work;
 
 use crate::found::{is_context_subtable, number_in, subtable_at};
 use crate::lookup::Lookup;
-use crate::sets::{COMPARED, passed};
+use crate::sets::passed;
 use crate::tally::{beside, charged};
 use crate::work::{SUBTABLE_WORK, charged_at_subtable};
 use layout_buffer::ItemList;
@@ -23,15 +23,15 @@ fn known_passed(
 ) -> usize
     requires inside { at < length items.now }
     requires known { IfSome known.old
-        (λ n. n ≡ Work.passed lookup.now items.now at Work.COMPARED (Work.beside 0)) }
-    ensures value { result ≡ Work.passed lookup.now items.now at Work.COMPARED (Work.beside 0) }
+        (λ n. n ≡ Work.passed lookup.now false items.now at (Work.beside 0)) }
+    ensures value { result ≡ Work.passed lookup.now false items.now at (Work.beside 0) }
     ensures known { IfSome known.new
-        (λ n. n ≡ Work.passed lookup.now items.now at Work.COMPARED (Work.beside 0)) }
+        (λ n. n ≡ Work.passed lookup.now false items.now at (Work.beside 0)) }
 {
     match *known {
         Some(count) => count,
         None => {
-            let count = passed(lookup, items, at, COMPARED, beside(0));
+            let count = passed(lookup, false, items, at, beside(0));
             *known = Some(count);
             count
         }
@@ -48,12 +48,12 @@ fn begun_charged(
 ) -> Option<usize>
     requires inside { at < length items.now }
     requires known { IfSome known.old
-        (λ n. n ≡ Work.passed lookup.now items.now at Work.COMPARED (Work.beside 0)) }
+        (λ n. n ≡ Work.passed lookup.now false items.now at (Work.beside 0)) }
     ensures left { result ≡ option_and_then
-        (Work.charged (Work.passed lookup.now items.now at Work.COMPARED (Work.beside 0)))
+        (Work.charged (Work.passed lookup.now false items.now at (Work.beside 0)))
         (Work.charged Work.SUBTABLE_WORK left) }
     ensures known { IfSome known.new
-        (λ n. n ≡ Work.passed lookup.now items.now at Work.COMPARED (Work.beside 0)) }
+        (λ n. n ≡ Work.passed lookup.now false items.now at (Work.beside 0)) }
 {
     match charged(SUBTABLE_WORK, left) {
         Some(left) => charged(known_passed(lookup, items, at, known), left),
@@ -76,10 +76,10 @@ fn part_charged(
     requires positions { lookup.now.positioning ≡ true }
     requires plain { found_rules.is_context_subtable lookup.now subtable ≡ false }
     requires known { IfSome known.old
-        (λ n. n ≡ Work.passed lookup.now items.now at Work.COMPARED (Work.beside 0)) }
+        (λ n. n ≡ Work.passed lookup.now false items.now at (Work.beside 0)) }
     ensures left { result ≡ Work.subtable_charged lookup.now items.now at left subtable }
     ensures known { IfSome known.new
-        (λ n. n ≡ Work.passed lookup.now items.now at Work.COMPARED (Work.beside 0)) }
+        (λ n. n ≡ Work.passed lookup.now false items.now at (Work.beside 0)) }
 {
     match number_in(lookup.table, subtable.start, items.item(at).glyph_id) {
         Some(_number) => begun_charged(lookup, items, at, left, known),
@@ -101,10 +101,10 @@ fn one_charged(
     requires inside { at < length items.now }
     requires positions { lookup.now.positioning ≡ true }
     requires known { IfSome known.old
-        (λ n. n ≡ Work.passed lookup.now items.now at Work.COMPARED (Work.beside 0)) }
+        (λ n. n ≡ Work.passed lookup.now false items.now at (Work.beside 0)) }
     ensures left { result ≡ Work.charged_at_subtable lookup.now items.now at i left }
     ensures known { IfSome known.new
-        (λ n. n ≡ Work.passed lookup.now items.now at Work.COMPARED (Work.beside 0)) }
+        (λ n. n ≡ Work.passed lookup.now false items.now at (Work.beside 0)) }
 {
     match subtable_at(lookup, i) {
         Some(subtable) if !is_context_subtable(lookup, subtable) => {

@@ -2,14 +2,17 @@
 ghost use Rattle.std.specs.Prelude.{◌≡◌, ◌<◌, ◌^◌, length};
 ghost use Rattle.layout_matching.specs.Work;
 
+use crate::formats::rows_of;
 use crate::found::{is_chained, is_context_subtable};
+use crate::glance::{Glances, glances_around, is_refused};
 use crate::input::marks_passed;
 use crate::lookup::Lookup;
-use crate::passing::{passed_after, passed_before};
+use crate::passing::{SEARCH_WORK, passed_after, passed_before};
 use crate::rules::{Rule, rule_at};
+use crate::spans::Origin;
 use crate::tally::{
-    Counts, Tally, beside, charged, counted, counts_at, ligature_counts, null_counted,
-    rule_counted, short, uncounted,
+    Counts, Tally, Tries, beside, charged, counted, counts_at, ligature_counts, null_counted,
+    rule_counted, short, tries_made, uncounted,
 };
 use layout_buffer::ItemList;
 use layout_tables::lookups::LookupSubtable;
@@ -18,44 +21,34 @@ use shape_font::bytes::{records, u16_at};
 /// How many marks cost one that are looked at for the ligature that a mark stands on: nothing but their ligature is read.
 const MARKS_PART: usize = 4;
 
-/// What a glyph costs that is passed over and compared with another one.
-pub(crate) const COMPARED: usize = 1;
-
-/// What a search of a list costs, beside the glyph that it is asked for.
-const SEARCH_WORK: usize = 7;
-
-/// What a glyph costs that is passed over and searched for in a list.
-const SEARCHED: usize = COMPARED + SEARCH_WORK;
-
-/// What a rule or a set passes over beside a place, `each` glyph for so much.
+/// What a rule or a set passes over beside a place, by glyphs that are `listed` or aren't.
 pub(crate) fn passed(
     lookup: &Lookup<'_>,
+    listed: bool,
     items: &ItemList<'_>,
     at: usize,
-    each: usize,
     count: Tally,
 ) -> usize
     requires { at < length items.now }
-    ensures { result ≡ Work.passed lookup.now items.now at each count }
+    ensures { result ≡ Work.passed lookup.now listed items.now at count }
 {
-    let before = passed_before(lookup, items, at, count.before);
-    let beside = passed_after(lookup, items, at, count.after).saturating_add(before);
-    let marks = marks_passed(lookup, items, at) / MARKS_PART;
-    beside.saturating_mul(each).saturating_add(marks)
+    let before = passed_before(lookup, listed, items, at, count.before);
+    let beside = passed_after(lookup, listed, items, at, count.after).saturating_add(before);
+    beside.saturating_add(marks_passed(lookup, items, at) / MARKS_PART)
 }
 
 /// What is left after what a rule or a set passes over, which is looked at each time.
 pub(crate) fn passed_charged(
     lookup: &Lookup<'_>,
+    listed: bool,
     items: &ItemList<'_>,
     at: usize,
-    each: usize,
     count: Tally,
 ) -> Option<usize>
     requires { at < length items.now }
-    ensures { result ≡ Work.passed_charged lookup.now items.now at each count }
+    ensures { result ≡ Work.passed_charged lookup.now listed items.now at count }
 {
-    let passed = passed(lookup, items, at, each, count);
+    let passed = passed(lookup, listed, items, at, count);
     charged(count.tries.saturating_mul(passed), count.left)
 }
 
@@ -79,7 +72,7 @@ fn counted_charged(
     ensures { result ≡ Work.counted_charged lookup.now items.now at rule.now left }
 {
     match rule_counted(rule, uncounted(left)) {
-        Some(count) => passed_charged(lookup, items, at, SEARCHED, count),
+        Some(count) => passed_charged(lookup, true, items, at, count),
         None => None,
     }
 }
@@ -162,6 +155,138 @@ fn set_counted(
     Some(count)
 }
 
+/// Whether a rule is refused by the glyph beside the place.
+fn is_vain(lookup: &Lookup<'_>, subtable: LookupSubtable, around: &Glances, place: usize) -> bool
+    requires { place < 2 ^ 37 }
+    ensures { result ≡ Work.is_vain lookup.now subtable around.now place }
+{
+    is_context_subtable(lookup, subtable)
+        && is_refused(lookup.table, around, is_chained(lookup, subtable), place)
+}
+
+/// One rule more, or ligature, at a place of the table.
+fn rule_tried(
+    lookup: &Lookup<'_>,
+    subtable: LookupSubtable,
+    around: &Glances,
+    place: usize,
+    tries: Tries,
+) -> Tries
+    requires { place < 2 ^ 37 }
+    ensures { result ≡ Work.rule_tried lookup.now subtable around.now place tries }
+{
+    if is_vain(lookup, subtable, around, place) {
+        return tries;
+    }
+    Tries {
+        rules: tries.rules.saturating_add(1),
+        lookups: tries
+            .lookups
+            .max(short(part_counts(lookup, subtable, place).lookups)),
+    }
+}
+
+/// Number `r` of the rules, or ligatures, at `set`.
+fn tries_step(
+    lookup: &Lookup<'_>,
+    subtable: LookupSubtable,
+    around: &Glances,
+    set: usize,
+    r: u32,
+    tries: Tries,
+) -> Tries
+    requires set { set < 2 ^ 36 }
+    requires few { r < 2 ^ 16 }
+    ensures { result ≡ Work.tries_step lookup.now subtable around.now set r tries }
+{
+    match rule_at(lookup.table, set, r) {
+        Some(place) => rule_tried(lookup, subtable, around, place, tries),
+        None => tries,
+    }
+}
+
+/// What the glyphs beside a place say of the rules of a subtable, in any syllable.
+fn glances_at(
+    lookup: &Lookup<'_>,
+    items: &ItemList<'_>,
+    at: usize,
+    subtable: LookupSubtable,
+) -> Glances
+    requires near { subtable.start < 2 ^ 35 }
+    requires inside { at < length items.now }
+    ensures { result ≡ Work.glances_at lookup.now items.now at subtable }
+{
+    let is_chain = is_chained(lookup, subtable);
+    let rows = rows_of(lookup.table, is_chain, subtable.start);
+    let origin = Origin {
+        at,
+        is_steady: false,
+    };
+    glances_around(lookup, items, origin, is_chain, rows)
+}
+
+/// How often the rules, or ligatures, at `set` look beside the place.
+#[tactic(auto, using(crate::proofs::PassingLemmas::along_next, crate::proofs::PassingLemmas::along_end))]
+fn set_tries(
+    lookup: &Lookup<'_>,
+    items: &ItemList<'_>,
+    at: usize,
+    subtable: LookupSubtable,
+    set: usize,
+) -> Tries
+    requires near { subtable.start < 2 ^ 35 }
+    requires set { set < 2 ^ 36 }
+    requires inside { at < length items.now }
+    ensures { result ≡ Work.set_tries lookup.now items.now at subtable set }
+{
+    let around = glances_at(lookup, items, at, subtable);
+    let mut tries = Tries {
+        rules: 0,
+        lookups: 0,
+    };
+    for r in 0..records(
+        lookup.table,
+        u32::from(u16_at(lookup.table, set)),
+        set + 2,
+        2,
+    ) {
+        tries = tries_step(lookup, subtable, &around, set, r, tries);
+    }
+    tries
+}
+
+/// Whether the rules of the subtable name glyphs by their classes.
+fn has_classes(lookup: &Lookup<'_>, subtable: LookupSubtable) -> bool
+    requires { subtable.start < 2 ^ 35 }
+    ensures { result ≡ Work.has_classes lookup.now subtable }
+{
+    is_context_subtable(lookup, subtable) && u16_at(lookup.table, subtable.start) == 2
+}
+
+/// What is left after what the rules, or ligatures, at `set` pass over. Nearly always that is nothing, so that none of them is
+/// asked how often it looks there.
+#[tactic(auto, using(crate::proofs::PassingLemmas::passed_free))]
+fn set_passed(
+    lookup: &Lookup<'_>,
+    items: &ItemList<'_>,
+    at: usize,
+    subtable: LookupSubtable,
+    set: usize,
+    count: Tally,
+) -> Option<usize>
+    requires near { subtable.start < 2 ^ 35 }
+    requires set { set < 2 ^ 36 }
+    requires inside { at < length items.now }
+    ensures { result ≡ Work.set_passed lookup.now items.now at subtable set count }
+{
+    let passed = passed(lookup, has_classes(lookup, subtable), items, at, count);
+    if passed == 0 {
+        return Some(count.left);
+    }
+    let tries = tries_made(set_tries(lookup, items, at, subtable, set));
+    charged(tries.saturating_mul(passed), count.left)
+}
+
 /// What is left after all rules, or ligatures, at `set`.
 pub(crate) fn set_charged(
     lookup: &Lookup<'_>,
@@ -177,7 +302,7 @@ pub(crate) fn set_charged(
     ensures { result ≡ Work.set_charged lookup.now items.now at subtable left set }
 {
     match set_counted(lookup, subtable, left, set) {
-        Some(count) => passed_charged(lookup, items, at, COMPARED, count),
+        Some(count) => set_passed(lookup, items, at, subtable, set, count),
         None => None,
     }
 }

@@ -15,6 +15,21 @@ pub struct Tally {
     pub tries: usize,
 }
 
+/// How many rules of a set aren't refused by what stands beside the place, and the most lookups that one of them names: only one of
+/// them applies.
+#[derive(Clone, Copy)]
+pub struct Tries {
+    pub rules: usize,
+    pub lookups: usize,
+}
+
+/// How often a set looks beside the place: once for itself, once for each rule, and once for each lookup of the one that applies.
+pub(crate) fn tries_made(tries: Tries) -> usize
+    ensures { result ≡ Work.tries_made tries }
+{
+    tries.rules.saturating_add(1).saturating_add(tries.lookups)
+}
+
 /// What is left after so much, if it suffices.
 #[inline(always)]
 pub fn charged(work: usize, left: usize) -> Option<usize>

@@ -12,7 +12,7 @@ use crate::formats::{is_first, set_for, whole_rule};
 use crate::found::{is_chained, is_context, is_context_subtable, number_in, subtable_at};
 use crate::lookup::Lookup;
 use crate::rules::rules;
-use crate::sets::{COMPARED, passed_charged, rule_charged, set_charged};
+use crate::sets::{passed_charged, rule_charged, set_charged};
 use crate::skipping::is_transparent;
 use crate::tally::{backward_rule, beside, charged};
 use layout_buffer::ItemList;
@@ -111,7 +111,7 @@ fn parts_charged(
     let glyph = items.item(at).glyph_id;
     match parts_for(lookup, subtable, glyph, number) {
         Some(set) => set_charged(lookup, items, at, subtable, left, set),
-        None => passed_charged(lookup, items, at, COMPARED, beside(left)),
+        None => passed_charged(lookup, false, items, at, beside(left)),
     }
 }
 

@@ -1,6 +1,7 @@
 //! The definitions, computed by hand.
 ghost use Rattle.layout_matching.specs.Worked.{WorkedNullClasses, WorkedEnds, WorkedTypes};
 ghost use Rattle.layout_matching.specs.Worked.Glance.{WorkedGlance};
+ghost use Rattle.layout_matching.specs.Worked.Passing.{WorkedPassing};
 ghost use Rattle.layout_matching.specs.Worked.Work.{WorkedWork};
 
 /// Rules of context: a NULL ClassDef has all glyphs in class 0, and a rule that leads past the end of the table matches nothing.
@@ -17,6 +18,11 @@ pub fn types_meet_worked_cases()
 /// What lookups are charged for at a place, by rule, ligature and subtable, and what is passed over beside it.
 pub fn work_meets_worked_cases()
     ensures { WorkedWork }
+{}
+
+/// What lookups are charged for where they pass over glyphs that lists are searched for.
+pub fn passing_meets_worked_cases()
+    ensures { WorkedPassing }
 {}
 
 /// What the glyphs around a place say of rules, and which rules that refuses.

@@ -51,12 +51,21 @@ context_of_positions = words (7 ∷ 8 ∷ 1 ∷ 8 ∷ 3 ∷ 2 ∷ 1 ∷ 14 ∷ 1
 abbrev pub extended_context : List ℕ
 extended_context = words (9 ∷ 8 ∷ 1 ∷ 8 ∷ 1 ∷ 7 ∷ 0 ∷ 8 ∷ 3 ∷ 2 ∷ 1 ∷ 14 ∷ 14 ∷ 0 ∷ 0 ∷ 1 ∷ 1 ∷ 5 ∷ [])
 
--- a lookup of `GSUB` that ignores marks
+-- a lookup of `GSUB` that ignores marks, and is on for bit 1 of a mask
 abbrev pub over_marks : Lookup → Lookup
-over_marks l = record l { place = 0; flags = 8; positioning = false; random = false }
+over_marks l = record l {
+  place = 0;
+  flags = 8;
+  mask = 1;
+  auto_zwnj = false;
+  auto_zwj = true;
+  per_syllable = false;
+  random = false;
+  positioning = false;
+}
 
 abbrev pub plain : ℕ → Item
-plain glyph = record (new_item 0 0) { glyph_id = glyph }
+plain glyph = record (new_item 0 0) { glyph_id = glyph; mask = 1 }
 
 abbrev pub a_mark : Item
 a_mark = record (plain 9) { properties = record new_properties { glyph_class = record { 0 = 8 } } }
@@ -80,6 +89,9 @@ of_positions l = record l { place = 0; flags = 8; positioning = true; random = f
 abbrev pub a_zwnj : Item
 a_zwnj = record (plain 5) { properties = record new_properties { ignorable = true; zwnj = true } }
 
+abbrev pub a_zwj : Item
+a_zwj = record (plain 12) { properties = record new_properties { ignorable = true; zwj = true } }
+
 -- what is left of 100 at a place
 abbrev pub Leaves : List ℕ → List Item → ℕ → ℕ → Type 0
 Leaves table items at left = (l : Lookup) → l.table.now ≡ table → lookup_charged (over_marks l) items at 100 ≡ Some left
@@ -97,15 +109,15 @@ pub record WorkedWork : Type 0 where
   pub marks_behind_the_second : Leaves shared_ligatures (plain 5 ∷ plain 6 ∷ a_mark ∷ a_mark ∷ []) 0 85
   -- 4 for each rule: two glyphs, a lookup and the rule
   pub rules : Leaves shared_rules (plain 5 ∷ []) 0 84
-  -- each of them looks over the mark for itself and for its lookup, and the set once
-  pub rules_over_a_mark : Leaves shared_rules (plain 5 ∷ a_mark ∷ plain 6 ∷ []) 0 79
-  -- each looks over eight marks for the ligature that its first glyph stands on, once for itself and once for its lookup; and the
-  -- set once
-  pub rules_of_marks : Leaves shared_rules (ligature_three ∷ eight_marks (on_component ∷ [])) 9 74
-  pub rules_of_three_marks : Leaves shared_rules (ligature_three ∷ on_component ∷ on_component ∷ on_component ∷ on_component ∷ []) 4 84
+  -- each of them looks over the mark, the set once, and the one that applies once more for its lookup
+  pub rules_over_a_mark : Leaves shared_rules (plain 5 ∷ a_mark ∷ plain 6 ∷ []) 0 80
+  -- in the same way, over eight marks for the ligature that its first glyph stands on
+  pub rules_of_marks : Leaves shared_rules (ligature_three ∷ eight_marks (on_component ∷ plain 6 ∷ [])) 9 76
+  pub rules_of_three_marks :
+      Leaves shared_rules (ligature_three ∷ on_component ∷ on_component ∷ on_component ∷ on_component ∷ plain 6 ∷ []) 4 84
   pub marks_of_another_ligature : Leaves shared_rules (ligature_three ∷ eight_marks (
-      record on_component { properties = record on_component.properties { ligature_id = 4 } } ∷ [])) 9 84
-  pub marks_from_the_start : Leaves shared_rules (eight_marks (on_component ∷ [])) 8 74
+      record on_component { properties = record on_component.properties { ligature_id = 4 } } ∷ plain 6 ∷ [])) 9 84
+  pub marks_from_the_start : Leaves shared_rules (eight_marks (on_component ∷ plain 6 ∷ [])) 8 76
   -- a set without rules looks over what stands beside its glyph
   pub no_rules : Leaves empty_set (ligature_three ∷ eight_marks (on_component ∷ [])) 9 90
   pub no_rules_over_marks : Leaves empty_set (plain 5 ∷ a_mark ∷ a_mark ∷ plain 6 ∷ []) 0 90
@@ -116,19 +128,20 @@ pub record WorkedWork : Type 0 where
   -- 8 for the subtable, 8 for each of two glyphs, which are searched for in lists, a lookup and the rule
   pub whole_rule : Leaves one_rule (plain 5 ∷ []) 0 74
   pub not_its_first_glyph : Leaves one_rule (plain 6 ∷ []) 0 100
-  -- 8 more for the mark that it passes over, which its list is searched for, for itself and for its lookup
-  pub whole_rule_over_a_mark : Leaves one_rule (plain 5 ∷ a_mark ∷ plain 6 ∷ []) 0 58
+  -- 1 more for a mark that it skips, for itself and for its lookup; 8 for ZWNJ, which its list is searched for
+  pub whole_rule_over_a_mark : Leaves one_rule (plain 5 ∷ a_mark ∷ plain 6 ∷ []) 0 72
   pub whole_rule_over_zwnj : (l : Lookup) → l.table.now ≡ context_of_positions
       → lookup_charged (of_positions l) (plain 5 ∷ a_zwnj ∷ plain 6 ∷ []) 0 100 ≡ Some 58
   -- of the marks that it looks at for the ligature nothing is searched for
   pub whole_rule_of_marks : Leaves one_rule (ligature_three ∷ eight_marks (on_component ∷ [])) 9 70
-  -- 8, 8 for each of four glyphs, and the rule; 8 for a mark that is passed over
+  -- 8, 8 for each of four glyphs, and the rule; 1 for a mark that is skipped, 8 for ZWJ
   pub backwards : Leaves backward_table (plain 5 ∷ []) 0 59
-  pub back_over_a_mark : Leaves backward_table (a_mark ∷ plain 5 ∷ []) 1 51
+  pub back_over_a_mark : Leaves backward_table (a_mark ∷ plain 5 ∷ []) 1 58
+  pub back_over_zwj : Leaves backward_table (a_zwj ∷ plain 5 ∷ []) 1 51
   -- of these 8 for each of four glyphs, 7 are for the lists
   pub lists : lists_charged (backward_rule backward_table 8) 28 ≡ Some 0
   pub too_little_for_lists : lists_charged (backward_rule backward_table 8) 27 ≡ None
-  pub without_lists : (l : Lookup) → counted_charged (over_marks l) (a_mark ∷ plain 5 ∷ []) 1 (backward_rule backward_table 8) 100 ≡ Some 87
+  pub without_lists : (l : Lookup) → counted_charged (over_marks l) (a_zwj ∷ plain 5 ∷ []) 1 (backward_rule backward_table 8) 100 ≡ Some 87
   -- kinds 1 to 3 are paid by the walk, but for an alternate at random, and an extension, whose type is 7
   pub alternate : Leaves one_alternate (plain 5 ∷ plain 6 ∷ plain 7 ∷ []) 0 100
   pub at_random : (l : Lookup) → l.table.now ≡ one_alternate
@@ -184,6 +197,7 @@ worked_work = record {
   whole_rule_of_marks = λ l t. rw t refl;
   backwards = λ l t. rw t refl;
   back_over_a_mark = λ l t. rw t refl;
+  back_over_zwj = λ l t. rw t refl;
   lists = refl;
   too_little_for_lists = refl;
   without_lists = λ l. refl;
