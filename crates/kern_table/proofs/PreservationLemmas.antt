@@ -1,6 +1,6 @@
 -- kerning preserves clusters and flags
 use Prim.Native.Nat.{zero}
-use Rattle.std.proofs.Common.{◌≡◌, ◌||◌, ℕ, suc, ◌+◌, ◌==◌, Bool, true, false, if◌then◌else◌, List, [], ◌∷◌, ◌++◌, reverse, nat_lt, nat_eq, refl, sym, ap, ◌∙◌, inl, inr}
+use Rattle.std.proofs.Common.{◌≡◌, ◌||◌, ℕ, suc, ◌+◌, ◌==◌, Bool, true, false, if◌then◌else◌, List, [], ◌∷◌, ◌++◌, length, reverse, nat_lt, nat_eq, refl, sym, ap, ◌∙◌, inl, inr}
 use Rattle.std.proofs.lemmas.List.{reverse-append, reverse-reverse, map-append}
 use Rattle.std.specs.Int.RustNames.{bit_and}
 use Rattle.shape_items.specs.Buffer.{Buffer}
@@ -19,7 +19,7 @@ use Rattle.shape_font.specs.declared.face.FontFace.{FontFace}
 use Rattle.kern_table.specs.Walk.{kerned}
 use Rattle.kern_table.specs.StepLaws.{step-kerned}
 use Rattle.kern_table.specs.CountLaws.{clusters-concat}
-use Rattle.kern_table.specs.Tables.{subtable_count_of, is_read, reversed, subtable_kerned, kerned_from, table_kerned}
+use Rattle.kern_table.specs.Tables.{subtable_count_of, is_read, reversed, subtable_kerned, subtable_work, charged, kerned_from, table_kerned}
 use Rattle.kern_table.specs.Engine.{kern_lookups}
 
 -- ---- one subtable, in the order of the buffer
@@ -157,24 +157,44 @@ flags-subtable_kerned t start mask b =
 
 -- ---- the table
 
+order-charged : (b : Buffer) → PreservesOrder b (charged b)
+order-charged b = record { clusters = PreservesClusters-equal _ _ refl; direction = refl; flags = refl; level = refl }
+
+flags-charged : (b : Buffer) → PreservesFlags b (charged b)
+flags-charged b = record { flags = refl; stays_set = λ e. e; none_new = λ flag d some. inl some }
+
 order-from : (t : List ℕ) (mask n start : ℕ) (b : Buffer) → PreservesOrder b (kerned_from t mask n start b)
 order-from t mask zero start b = PreservesOrder-same b
 order-from t mask (suc n) start b =
-    let next = subtable_kerned t start mask b in
+    let paid = charged b in
+    let next = subtable_kerned t start mask paid in
     let behind = kerned_from t mask n (start + u16_of t (start + 2)) next in
-    elim (nat_lt (u16_of t (start + 2)) 6) as (λ s. PreservesOrder b (if s then b else behind)) [
+    let spent = nat_lt b.max_ops (subtable_work (length b.items)) in
+    elim (nat_lt (u16_of t (start + 2)) 6) as (λ s. PreservesOrder b (if s then b else (if spent then paid else behind))) [
       | true ↦ PreservesOrder-same b
-      | false ↦ PreservesOrder-then b next behind (order-subtable_kerned t start mask b) (order-from t mask n (start + u16_of t (start + 2)) next)
+      | false ↦ elim spent as (λ s. PreservesOrder b (if s then paid else behind)) [
+        | true ↦ order-charged b
+        | false ↦ PreservesOrder-then b paid behind (order-charged b)
+            (PreservesOrder-then paid next behind (order-subtable_kerned t start mask paid)
+            (order-from t mask n (start + u16_of t (start + 2)) next))
+      ]
     ]
 
 flags-from : (t : List ℕ) (mask n start : ℕ) (b : Buffer) → PreservesFlags b (kerned_from t mask n start b)
 flags-from t mask zero start b = PreservesFlags-same b
 flags-from t mask (suc n) start b =
-    let next = subtable_kerned t start mask b in
+    let paid = charged b in
+    let next = subtable_kerned t start mask paid in
     let behind = kerned_from t mask n (start + u16_of t (start + 2)) next in
-    elim (nat_lt (u16_of t (start + 2)) 6) as (λ s. PreservesFlags b (if s then b else behind)) [
+    let spent = nat_lt b.max_ops (subtable_work (length b.items)) in
+    elim (nat_lt (u16_of t (start + 2)) 6) as (λ s. PreservesFlags b (if s then b else (if spent then paid else behind))) [
       | true ↦ PreservesFlags-same b
-      | false ↦ PreservesFlags-then b next behind (flags-subtable_kerned t start mask b) (flags-from t mask n (start + u16_of t (start + 2)) next)
+      | false ↦ elim spent as (λ s. PreservesFlags b (if s then paid else behind)) [
+        | true ↦ flags-charged b
+        | false ↦ PreservesFlags-then b paid behind (flags-charged b)
+            (PreservesFlags-then paid next behind (flags-subtable_kerned t start mask paid)
+            (flags-from t mask n (start + u16_of t (start + 2)) next))
+      ]
     ]
 
 order-table_kerned : (t : List ℕ) (mask : ℕ) → IsClusterPreserving (table_kerned t mask)

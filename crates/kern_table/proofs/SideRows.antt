@@ -1,5 +1,5 @@
 -- The rows of glyphs at the sides of pairs.
-use Rattle.std.proofs.Common.{◌≡◌, ℕ, zero, suc, ℤ, pos, negsuc, Bool, true, false, List, [], ◌∷◌, refl, subst, arith}
+use Rattle.std.proofs.Common.{◌≡◌, zero, suc, pos, negsuc, Bool, true, false, List, [], refl, subst, arith}
 use Rattle.shape_font.specs.Bytes.{i16_of}
 use Rattle.kern_table.specs.Pairs.{HoldSides}
 use Rattle.kern_table.specs.Sides.{AreMarked}

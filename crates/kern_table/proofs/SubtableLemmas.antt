@@ -1,17 +1,28 @@
 -- what one step over the subtables of a table, or over the glyphs of a buffer, does
-use Rattle.std.proofs.Common.{◌≡◌, ℕ, suc, ◌<◌, ◌≤◌, ◌+◌, ◌-◌, true, false, nat_lt, List, refl, arith}
+use Rattle.std.proofs.Common.{◌≡◌, ℕ, suc, ◌<◌, ◌≤◌, ◌+◌, ◌-◌, Bool, true, false, not, nat_lt, List, length, refl, arith}
 use Rattle.std.proofs.lemmas.Bool.Decides.{nat_tests}
 use Rattle.shape_items.specs.Buffer.{Buffer}
 use Rattle.shape_font.specs.Bytes.{u16_of}
-use Rattle.kern_table.specs.Tables.{subtable_kerned, kerned_from}
+use Rattle.kern_table.specs.Tables.{subtable_work, charged, subtable_kerned, kerned_from}
 use Rattle.kern_table.specs.Walk.{kerned_at, left_after, kerned_to}
 
+not_true : (t : Bool) → true ≡ not t → t ≡ false
+not_true true e = cc
+not_true false e = refl
+
+not_false : (t : Bool) → false ≡ not t → t ≡ true
+not_false true e = refl
+not_false false e = cc
+
 pub kerned_from_next : (t : List ℕ) (mask n i start : ℕ) (b : Buffer) → i < n → 6 ≤ u16_of t (start + 2)
-    → kerned_from t mask (n - i) start b ≡ kerned_from t mask (n - (i + 1)) (start + u16_of t (start + 2)) (subtable_kerned t start mask b)
-kerned_from_next t mask n i start b h long =
+    → true ≡ not (nat_lt b.max_ops (subtable_work (length b.items)))
+    → kerned_from t mask (n - i) start b
+    ≡ kerned_from t mask (n - (i + 1)) (start + u16_of t (start + 2)) (subtable_kerned t start mask (charged b))
+kerned_from_next t mask n i start b h long suffices =
     let e : n - i ≡ suc (n - (i + 1)) = omega arith in
     let enough : nat_lt (u16_of t (start + 2)) 6 ≡ false = grind (arith, nat_tests, long) in
-    rw e (rw (enough, kerned_from) refl)
+    let paid : nat_lt b.max_ops (subtable_work (length b.items)) ≡ false = not_true (nat_lt b.max_ops (subtable_work (length b.items))) suffices in
+    rw e (rw (enough, kerned_from) (rw paid refl))
 
 pub kerned_from_short : (t : List ℕ) (mask n i start : ℕ) (b : Buffer) → i < n → u16_of t (start + 2) < 6
     → kerned_from t mask (n - i) start b ≡ b
@@ -19,6 +30,15 @@ kerned_from_short t mask n i start b h short =
     let e : n - i ≡ suc (n - (i + 1)) = omega arith in
     let few : nat_lt (u16_of t (start + 2)) 6 ≡ true = grind (arith, nat_tests, short) in
     rw e (rw (few, kerned_from) refl)
+
+pub kerned_from_spent : (t : List ℕ) (mask n i start : ℕ) (b : Buffer) → i < n → 6 ≤ u16_of t (start + 2)
+    → false ≡ not (nat_lt b.max_ops (subtable_work (length b.items)))
+    → kerned_from t mask (n - i) start b ≡ charged b
+kerned_from_spent t mask n i start b h long lacks =
+    let e : n - i ≡ suc (n - (i + 1)) = omega arith in
+    let enough : nat_lt (u16_of t (start + 2)) 6 ≡ false = grind (arith, nat_tests, long) in
+    let spent : nat_lt b.max_ops (subtable_work (length b.items)) ≡ true = not_false (nat_lt b.max_ops (subtable_work (length b.items))) lacks in
+    rw e (rw (enough, kerned_from) (rw spent refl))
 
 pub kerned_from_end : (t : List ℕ) (mask n start : ℕ) (b : Buffer) → kerned_from t mask (n - n) start b ≡ b
 kerned_from_end t mask n start b =

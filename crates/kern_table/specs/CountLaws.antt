@@ -12,7 +12,7 @@ use Rattle.shape_items.proofs.Merging.KeyLemmas.{keys-map_range, length-map_rang
 use Rattle.shape_font.specs.Bytes.{u16_of}
 use Rattle.kern_table.specs.Walk.{pair_moved, kerned}
 use Rattle.kern_table.specs.StepLaws.{step-pair_moved, step-kerned}
-use Rattle.kern_table.specs.Tables.{subtable_count_of, is_read, reversed, subtable_kerned, kerned_from, table_kerned}
+use Rattle.kern_table.specs.Tables.{subtable_count_of, is_read, reversed, subtable_kerned, subtable_work, charged, kerned_from, table_kerned}
 
 -- ---- unsafe to concat
 
@@ -61,10 +61,15 @@ length-subtable_kerned t start mask b =
 length-from : (t : List ℕ) (mask n start : ℕ) (b : Buffer) → length (kerned_from t mask n start b).items ≡ length b.items
 length-from t mask zero start b = refl
 length-from t mask (suc n) start b =
-    elim (nat_lt (u16_of t (start + 2)) 6) as (λ s.
-    length (if s then b else kerned_from t mask n (start + u16_of t (start + 2)) (subtable_kerned t start mask b)).items ≡ length b.items) [
+    let next = subtable_kerned t start mask (charged b) in
+    let behind = kerned_from t mask n (start + u16_of t (start + 2)) next in
+    let spent = nat_lt b.max_ops (subtable_work (length b.items)) in
+    elim (nat_lt (u16_of t (start + 2)) 6) as (λ s. length (if s then b else (if spent then charged b else behind)).items ≡ length b.items) [
       | true ↦ refl
-      | false ↦ length-from t mask n (start + u16_of t (start + 2)) (subtable_kerned t start mask b) ∙ length-subtable_kerned t start mask b
+      | false ↦ elim spent as (λ s. length (if s then charged b else behind).items ≡ length b.items) [
+        | true ↦ refl
+        | false ↦ length-from t mask n (start + u16_of t (start + 2)) next ∙ length-subtable_kerned t start mask (charged b)
+      ]
     ]
 
 pub length-table_kerned : (t : List ℕ) (mask : ℕ) (b : Buffer) → length (table_kerned t mask b).items ≡ length b.items

@@ -1,7 +1,7 @@
 -- kerning of a buffer by a whole table `kern` (OpenType, version 0)
 use Prim.Native.Nat.{zero}
-use Rattle.std.specs.Prelude.{ℕ, suc, List, Bool, ◌+◌, ◌/◌, ◌%◌, ◌&&◌, ◌||◌, nat_lt, nat_eq, reverse, slice_index, if◌then◌else◌}
-use Rattle.shape_items.specs.Buffer.{Buffer}
+use Rattle.std.specs.Prelude.{ℕ, suc, List, Bool, ◌+◌, ◌-◌, ◌*◌, ◌/◌, ◌%◌, ◌&&◌, ◌||◌, min, max, length, nat_lt, nat_eq, reverse, slice_index, if◌then◌else◌}
+use Rattle.shape_items.specs.Buffer.{Buffer, most_countable}
 use Rattle.shape_common.specs.Direction.{is_horizontal, is_backward}
 use Rattle.shape_font.specs.Bytes.{u16_of}
 use Rattle.kern_table.specs.Walk.{kerned}
@@ -25,11 +25,26 @@ subtable_kerned t start mask b = if is_read t start (is_horizontal b.direction)
     then (if is_backward b.direction then reversed (kerned t start mask (reversed b)) else kerned t start mask b)
     else b
 
--- so many subtables from a place on; a subtable whose stated length is less than its header ends the table
+-- what a subtable costs at each item, in units of about one look at a glyph: it is walked over, reversed and reversed back, and
+-- the pairs are searched for
+abbrev pub SUBTABLE_WORK : ℕ
+SUBTABLE_WORK = 16
+
+-- one unit at least, since reading its head takes time, too
+abbrev pub subtable_work : ℕ → ℕ
+subtable_work count = max (min (count * SUBTABLE_WORK) most_countable) 1
+
+-- a subtable is charged for, whether it is read or not
+abbrev pub charged : Buffer → Buffer
+charged b = record b { max_ops = b.max_ops - subtable_work (length b.items) }
+
+-- so many subtables from a place on; a subtable whose stated length is less than its header ends the table, and so does one that what
+-- is left doesn't suffice for, after which nothing is left
 abbrev pub kerned_from : List ℕ → ℕ → ℕ → ℕ → Buffer → Buffer
 kerned_from t mask zero start b = b
 kerned_from t mask (suc n) start b = let len = u16_of t (start + 2) in
-    (if nat_lt len 6 then b else kerned_from t mask n (start + len) (subtable_kerned t start mask b))
+    (if nat_lt len 6 then b else (if nat_lt b.max_ops (subtable_work (length b.items)) then charged b
+    else kerned_from t mask n (start + len) (subtable_kerned t start mask (charged b))))
 
 -- all subtables, if kerning is on somewhere
 abbrev pub table_kerned : List ℕ → ℕ → Buffer → Buffer

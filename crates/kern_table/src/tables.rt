@@ -1,5 +1,5 @@
 //! Kerning by a whole table `kern`: its subtables in order, those of formats 0 and 2 that move glyphs along the line.
-ghost use Rattle.std.specs.Prelude.{◌≡◌, ℕ, List, ◌<◌, ◌≤◌, ◌^◌, length};
+ghost use Rattle.std.specs.Prelude.{◌≡◌, ℕ, List, ◌<◌, ◌≤◌, ◌^◌, length, nat_lt, not};
 ghost use Rattle.shape_items.specs.Buffer.{limit_of};
 ghost use Rattle.kern_table.specs.Pairs.{HoldSides, IsRead};
 ghost use Rattle.kern_table.specs.Tables;
@@ -54,6 +54,29 @@ fn kern_subtable(subtable: Subtable<'_>, mask: hb_mask_t, buffer: &mut hb_buffer
     }
 }
 
+/// What a subtable costs at each item, in units of about one look at a glyph.
+const SUBTABLE_WORK: usize = 16;
+
+/// What a subtable costs a buffer of so many items.
+fn subtable_work(count: usize) -> usize
+    ensures { result ≡ Tables.subtable_work count }
+{
+    count.saturating_mul(SUBTABLE_WORK).max(1)
+}
+
+/// Charges a buffer for a subtable. Returns whether what was left suffices; else nothing is left.
+fn charge(buffer: &mut hb_buffer_t) -> bool
+    ensures made { buffer.new ≡ Tables.charged buffer.old }
+    ensures enough { result
+        ≡ not (nat_lt buffer.old.max_ops (Tables.subtable_work (length buffer.old.items))) }
+    ensures len { length buffer.new.items ≡ length buffer.old.items }
+    ensures limit { limit_of buffer.new ≡ limit_of buffer.old }
+{
+    let (left, work) = (buffer.max_ops(), subtable_work(buffer.len()));
+    buffer.set_max_ops(left.saturating_sub(work));
+    work <= left
+}
+
 /// What is stored of the subtable that begins at `start`, if this is stored of the first one.
 fn sides_at(start: usize, first: Sides<'_>) -> Sides<'_>
     ensures { (t : List ℕ) → HoldSides t 4 first.entry.lefts.now first.entry.rights.now
@@ -63,7 +86,8 @@ fn sides_at(start: usize, first: Sides<'_>) -> Sides<'_>
 }
 
 /// Kerns a buffer by all subtables of the table that are read, in order, if the mask isn't 0. A subtable that
-/// says that it is shorter than its header ends the table. Takes no memory.
+/// says that it is shorter than its header ends the table, and so does one that costs more than is left of
+/// `max_ops`. Takes no memory.
 pub fn kern_table(kern: &[u8], mask: hb_mask_t, buffer: &mut hb_buffer_t)
     ensures made { buffer.new ≡ Tables.table_kerned kern.now mask buffer.old }
     ensures len { length buffer.new.items ≡ length buffer.old.items }
@@ -74,7 +98,7 @@ pub fn kern_table(kern: &[u8], mask: hb_mask_t, buffer: &mut hb_buffer_t)
 
 /// The same, where this is stored of the first subtable ([`PairGlyphs`](crate::PairGlyphs)): two glyphs of which one has no
 /// pair take a few instructions.
-#[tactic(auto, using(crate::proofs::SubtableLemmas::kerned_from_next, crate::proofs::SubtableLemmas::kerned_from_short, crate::proofs::SubtableLemmas::kerned_from_end))]
+#[tactic(auto, using(crate::proofs::SubtableLemmas::kerned_from_next, crate::proofs::SubtableLemmas::kerned_from_short, crate::proofs::SubtableLemmas::kerned_from_spent, crate::proofs::SubtableLemmas::kerned_from_end))]
 pub fn kern_table_by(kern: &[u8], first: Sides<'_>, mask: hb_mask_t, buffer: &mut hb_buffer_t)
     requires { HoldSides kern.now 4 first.lefts.now first.rights.now }
     ensures made { buffer.new ≡ Tables.table_kerned kern.now mask buffer.old }
@@ -88,6 +112,9 @@ pub fn kern_table_by(kern: &[u8], first: Sides<'_>, mask: hb_mask_t, buffer: &mu
     for _i in 0..subtable_count(kern) {
         let len = u16_at(kern, start + 2);
         if len < 6 {
+            return;
+        }
+        if !charge(buffer) {
             return;
         }
         let subtable = read_subtable(kern, start, sides_at(start, first));

@@ -1,9 +1,10 @@
 -- advances, bearings, origins and boxes of glyphs, by `hmtx`, `vmtx`, `VORG`, `loca` and `glyf`
 use Rattle.std.specs.Prelude.{ℕ, ℤ, pos, List, Bool, Option, Some, None, ◌+◌, ◌-◌, ◌*◌, ◌/◌, ◌%◌, ◌-ℤ◌, ◌||◌, nat_lt, nat_eq, length, if◌then◌else◌, cond, int_lt, int_div, unsigned_abs}
 use Rattle.std.specs.Option.{option_map_or, unwrap_or}
+use Rattle.std.specs.declared.cmp.Ordering.{Ordering}
 use Rattle.shape_common.specs.declared.face.hb_glyph_extents_t.{hb_glyph_extents_t}
 use Rattle.shape_font.specs.Bytes.{u16_of, u32_of, i16_of, fitting}
-use Rattle.shape_font.specs.Search.{first_at}
+use Rattle.shape_font.specs.Search.{side_of, found_by}
 
 -- `hmtx`, `vmtx`: how many long metrics the table has room for, at most as many as are stated
 abbrev pub long_metrics : List ℕ → ℕ → ℕ
@@ -22,10 +23,17 @@ abbrev pub bearing_of : List ℕ → ℕ → ℕ → Option ℤ
 bearing_of table count glyph = let at = bearing_place count glyph in
     (if nat_eq count 0 || nat_lt (length table) (at + 2) then None else Some (i16_of table at))
 
--- `VORG`: the height of a glyph's origin, by the first record for it, or the one for all others
+-- `VORG`: records in the order of their glyphs, which are searched by midpoints
+abbrev pub side_of_origin : List ℕ → ℕ → ℕ → Ordering
+side_of_origin vorg glyph i = let there = u16_of vorg (8 + 4 * i) in side_of glyph there there
+
+abbrev pub origin_record_of : List ℕ → ℕ → ℕ → Option ℕ
+origin_record_of vorg glyph count = found_by (side_of_origin vorg glyph) count
+
+-- the height of a glyph's origin, by the record for it, or the one for all others
 abbrev pub listed_origin : List ℕ → ℕ → ℤ
 listed_origin vorg glyph = option_map_or (λ i. i16_of vorg (10 + 4 * i))
-    (first_at (λ i. nat_eq (u16_of vorg (8 + 4 * i)) glyph) (fitting vorg (u16_of vorg 6) 8 4) 0) (i16_of vorg 4)
+    (origin_record_of vorg glyph (fitting vorg (u16_of vorg 6) 8 4)) (i16_of vorg 4)
 
 -- whether the measures of lines are those that the designer wrote in `OS/2` (bit 7 of `fsSelection`)
 abbrev pub typographic : List ℕ → Bool

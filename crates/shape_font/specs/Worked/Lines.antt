@@ -8,6 +8,13 @@ use Rattle.shape_font.specs.Worked.Glyphs.{words}
 abbrev pub origins : ℕ → List ℕ
 origins said = words (1 ∷ 0 ∷ 880 ∷ said ∷ 3 ∷ 900 ∷ 5 ∷ 65535 ∷ [])
 
+-- glyph 5 before glyph 3, and glyph 3 twice, at 900 and at 901
+abbrev pub out_of_order : List ℕ
+out_of_order = words (1 ∷ 0 ∷ 880 ∷ 2 ∷ 5 ∷ 65535 ∷ 3 ∷ 900 ∷ [])
+
+abbrev pub alike : List ℕ
+alike = words (1 ∷ 0 ∷ 880 ∷ 3 ∷ 3 ∷ 900 ∷ 3 ∷ 901 ∷ 5 ∷ 902 ∷ [])
+
 -- `hhea`: 800 up, 200 down, a gap of 90; `OS/2`: 700 up, 300 down, a gap of -1, with these selections
 abbrev pub plain_line : List ℕ
 plain_line = words (1 ∷ 0 ∷ 800 ∷ 65336 ∷ 90 ∷ [])
@@ -36,6 +43,15 @@ pub record WorkedLines : Type 0 where
   pub half_of_minus_3 : half_down (negsuc 2) ≡ negsuc 1
   pub no_record_past_the_end : listed_origin (origins 9) 0 ≡ pos 880
   pub count_of_16_bits : listed_origin (origins 256) 5 ≡ negsuc 0
+  -- the first of two is asked first: 3 would stand before it, 5 is there
+  pub missed_out_of_order : listed_origin out_of_order 3 ≡ pos 880
+  pub found_out_of_order : listed_origin out_of_order 5 ≡ negsuc 0
+  -- the middle one of three is asked first
+  pub middle_of_those_alike : listed_origin alike 3 ≡ pos 901
+  pub after_those_alike : listed_origin alike 5 ≡ pos 902
+  pub before_all : listed_origin alike 2 ≡ pos 880
+  -- 65536 more than glyph 3
+  pub past_all_glyphs : listed_origin (origins 2) 65539 ≡ pos 880
 
 pub worked_lines : WorkedLines
 unfolding i16_of
@@ -60,4 +76,10 @@ worked_lines = record {
   half_of_minus_3 = refl;
   no_record_past_the_end = refl;
   count_of_16_bits = refl;
+  missed_out_of_order = refl;
+  found_out_of_order = refl;
+  middle_of_those_alike = refl;
+  after_those_alike = refl;
+  before_all = refl;
+  past_all_glyphs = refl;
 }

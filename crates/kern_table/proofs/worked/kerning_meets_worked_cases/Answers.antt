@@ -1,3 +1,4 @@
+use Rattle.kern_table.specs.Worked.Charges.{worked_charges}
 use Rattle.kern_table.specs.Worked.Engine.{worked_engine}
 use Rattle.kern_table.specs.Worked.Kern.{worked_values, worked_classes, worked_lines, worked_maps}
 use Rattle.kern_table.proofs.SideRows.{worked_sides}
@@ -14,6 +15,9 @@ returns-clause-sides c = worked_sides
 
 pub returns-clause-lines : goal.returns-clause-lines
 returns-clause-lines c = worked_lines
+
+pub returns-clause-charges : goal.returns-clause-charges
+returns-clause-charges c = worked_charges
 
 pub returns-clause-maps : goal.returns-clause-maps
 returns-clause-maps c = worked_maps
