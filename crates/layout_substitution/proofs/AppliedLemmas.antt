@@ -12,7 +12,7 @@ use Rattle.layout_matching.specs.Loops.{times}
 use Rattle.layout_substitution.specs.Replaced.{replaced, with_class, with_glyph, as_component, is_multiplied, taken_apart, with_components, is_ligated, as_ligature}
 use Rattle.layout_matching.specs.Skipping.{shares}
 use Rattle.layout_substitution.specs.Substitutes.{single_of, set_of, alternate_of, listed_count, listed_at, ligature_glyph, component_count}
-use Rattle.layout_substitution.specs.Applied.{Applied, unapplied, put_one, single_applied, value_of, is_random, next_random, random_put, random_applied, alternate_applied, cluster_at, is_left_in, Handing, is_handed, handed_step, handed_back, left_to_neighbours, gone, Copying, copy_put, copies_put, first_put, several_put, list_put, sequence_put, multiple_applied}
+use Rattle.layout_substitution.specs.Applied.{Applied, unapplied, put_one, single_applied, value_of, is_random, next_random, random_put, random_applied, alternate_applied, cluster_at, is_left_in, Handing, is_handed, handed_step, handed_back, left_to_neighbours, gone, Copying, copy_put, copies_put, first_put, several_put, list_put, deleted, taken_away, glyphs_put, sequence_put, multiple_applied}
 use Rattle.layout_substitution.specs.Ligatures.{Joined, between_stays, component_gone, stays, join_step, follows, follow_step, followed, first_joined, joined, ligation_of, id_given, ligatures_reach, ligature_found, ligature_put, ligature_made, set_ligated, ligature_applied}
 use Rattle.layout_matching.specs.declared.lookup.Lookup.{Lookup}
 use Rattle.layout_substitution.specs.declared.ligature.Components.{Components}
@@ -165,15 +165,20 @@ several-preserves l list at b =
 
 list-preserves : (l : Lookup) (list at : ℕ) (b : Buffer) → Preserves b (list_put l list at b)
 list-preserves l list at b =
-    let count = listed_count l.table.now list in
     let glyph = listed_at l.table.now list 0 in
     let one = put_at at (replaced l 0 glyph (item_at b at)) b in
-    Preserves-if (nat_eq count 0) b (gone at b) _ (gone-preserves at b)
-    (Preserves-if (nat_eq count 1) b one (several_put l list at b)
-    (Preserves-put at _ b (like-replaced l 0 glyph (item_at b at))) (several-preserves l list at b))
+    Preserves-if (nat_eq (listed_count l.table.now list) 1) b one (several_put l list at b)
+    (Preserves-put at _ b (like-replaced l 0 glyph (item_at b at))) (several-preserves l list at b)
+
+deleted-preserves : (spot : Spot) (b : Buffer) → Preserves b (deleted spot b).buffer
+deleted-preserves spot b =
+    applied-if (nat_eq spot.left 0) b (unapplied b) (taken_away (length b.items - (spot.at + 1)) spot b)
+    (Preserves-same b) (gone-preserves spot.at b)
 
 sequence-preserves : (l : Lookup) (spot : Spot) (b : Buffer) (list : ℕ) → Preserves b (sequence_put l spot b list).buffer
-sequence-preserves l spot b list = list-preserves l list spot.at b
+sequence-preserves l spot b list =
+    applied-if (nat_eq (listed_count l.table.now list) 0) b (deleted spot b) (glyphs_put l spot b list)
+    (deleted-preserves spot b) (list-preserves l list spot.at b)
 
 pub multiple-preserves : (l : Lookup) (start : ℕ) (spot : Spot) (b : Buffer) → Preserves b (multiple_applied l start spot b).buffer
 multiple-preserves l start spot b =

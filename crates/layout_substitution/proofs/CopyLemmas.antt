@@ -1,6 +1,6 @@
 -- Glyphs put in place of one, and a cluster handed back, step by step.
 use Prim.Native.Nat.{zero}
-use Rattle.std.proofs.Common.{◌≡◌, ℕ, suc, ◌+◌, ◌-◌, ◌<◌, ◌≤◌, true, false, length, slice_set, if◌then◌else◌, refl, ap, ◌∙◌, arith}
+use Rattle.std.proofs.Common.{◌≡◌, ℕ, suc, ◌+◌, ◌-◌, ◌<◌, ◌≤◌, true, false, length, slice_set, if◌then◌else◌, refl, ◌∙◌, arith}
 use Rattle.std.proofs.lemmas.Bool.Decides.{nat_tests}
 use Rattle.std.proofs.lemmas.List.{length-set}
 use Rattle.std.proofs.lemmas.List.Edits.{length-insert}
@@ -66,6 +66,3 @@ pub handed_stops : (cluster n i : ℕ) (first s : Handing) → i ≤ n → s ≡
 handed_stops cluster n i first s within is stops =
     let still : handed_step cluster s ≡ s = rw stops refl in
     times_stays (handed_step cluster) n i first s within is still
-
-pub handed_buffer : (b : Buffer) (at : ℕ) (s : Handing) → record { buffer = b; at = at } ≡ s → b ≡ s.buffer
-handed_buffer b at s e = ap (λ (h : Handing). h.buffer) e

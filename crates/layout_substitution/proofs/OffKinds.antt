@@ -15,7 +15,7 @@ use Rattle.layout_matching.specs.Loops.{times}
 use Rattle.layout_matching.specs.Seeking.{fits}
 use Rattle.layout_matching.specs.Skipping.{shares, is_skipped}
 use Rattle.layout_matching.specs.declared.lookup.Lookup.{Lookup}
-use Rattle.layout_substitution.specs.Applied.{Applied, unapplied, put_one, single_applied, value_of, is_random, next_random, random_put, random_applied, alternate_applied, cluster_at, is_left_in, Handing, is_handed, handed_step, handed_back, left_to_neighbours, gone, Copying, copy_like, copy_put, first_put, several_put, list_put, sequence_put, multiple_applied}
+use Rattle.layout_substitution.specs.Applied.{Applied, unapplied, put_one, single_applied, value_of, is_random, next_random, random_put, random_applied, alternate_applied, cluster_at, is_left_in, Handing, is_handed, handed_step, handed_back, left_to_neighbours, gone, Copying, copy_like, copy_put, first_put, several_put, list_put, deleted, taken_away, glyphs_put, sequence_put, multiple_applied}
 use Rattle.layout_substitution.specs.Edits.{item_at, is_inside, is_past, put_at, put_after, taken_out, merged, broken, concat_marked}
 use Rattle.layout_substitution.specs.Kinds.{kind_applied, subtable_applied, or_else, subtables_applied, lookup_applied}
 use Rattle.layout_substitution.specs.Ligatures.{Joined, between_stays, component_gone, looked_for, stays, join_step, follows, follow_step, followed, component_among, first_joined, joined, ligation_of, id_given, ligatures_reach, ligature_found, ligature_put, ligature_made, set_ligated, ligature_applied}
@@ -137,17 +137,26 @@ several-off l list at b on =
 list-off : (l : Lookup) (list at : ℕ) (b : Buffer) → HasNoFlag l → on_at l b at ≡ true
     → off_glyphs l (list_put l list at b).items ≡ off_glyphs l b.items
 list-off l list at b pure on =
-    let count = listed_count l.table.now list in
     let glyph = listed_at l.table.now list 0 in
     let one = put_at at (replaced l 0 glyph (item_at b at)) b in
-    off-if l (nat_eq count 0) b (gone at b) _ (gone-off l at b pure on)
-    (off-if l (nat_eq count 1) b one (several_put l list at b) (put-off l at _ b (like-replaced l 0 glyph (item_at b at)).mask on)
-    (several-off l list at b on))
+    off-if l (nat_eq (listed_count l.table.now list) 1) b one (several_put l list at b)
+    (put-off l at _ b (like-replaced l 0 glyph (item_at b at)).mask on) (several-off l list at b on)
+
+deleted-off : (l : Lookup) (spot : Spot) (b : Buffer) → HasNoFlag l → on_at l b spot.at ≡ true → Off l b spot.at (deleted spot b)
+deleted-off l spot b pure on =
+    off-cond l b spot.at (nat_eq spot.left 0) (unapplied b) (taken_away (length b.items - (spot.at + 1)) spot b)
+    (off-unapplied l b spot.at on) (off-made l b _ spot.at _ (gone-off l spot.at b pure on))
+
+sequence-off : (l : Lookup) (spot : Spot) (b : Buffer) (list : ℕ) → HasNoFlag l → on_at l b spot.at ≡ true
+    → Off l b spot.at (sequence_put l spot b list)
+sequence-off l spot b list pure on =
+    off-cond l b spot.at (nat_eq (listed_count l.table.now list) 0) (deleted spot b) (glyphs_put l spot b list)
+    (deleted-off l spot b pure on) (off-made l b _ spot.at _ (list-off l list spot.at b pure on))
 
 multiple-off : (l : Lookup) (start : ℕ) (spot : Spot) (b : Buffer) → HasNoFlag l → on_at l b spot.at ≡ true
     → Off l b spot.at (multiple_applied l start spot b)
 multiple-off l start spot b pure on =
-    off-option l b spot.at (sequence_put l spot b) (λ list. off-made l b _ spot.at _ (list-off l list spot.at b pure on)) on
+    off-option l b spot.at (sequence_put l spot b) (λ list. sequence-off l spot b list pure on) on
     (set_of l.table.now start (item_at b spot.at).glyph_id)
 
 -- ---- one for several

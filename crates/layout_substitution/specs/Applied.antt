@@ -82,8 +82,11 @@ handed_step cluster s = if is_handed cluster s
     then record { buffer = put_at (s.at - 1) (hand_over (item_at s.buffer s.at) (item_at s.buffer (s.at - 1))) s.buffer; at = s.at - 1 }
     else s
 
+abbrev pub all_handed : ℕ → Buffer → Handing
+all_handed i b = times (handed_step (cluster_at b (i - 1))) i (record { buffer = b; at = i })
+
 abbrev pub handed_back : ℕ → Buffer → Buffer
-handed_back i b = (times (handed_step (cluster_at b (i - 1))) i (record { buffer = b; at = i })).buffer
+handed_back i b = (all_handed i b).buffer
 
 -- the cluster of a glyph that goes, unless the glyph after it has it: a least cluster is handed to the glyphs before it; the
 -- first glyph is merged with the one after it
@@ -94,6 +97,24 @@ left_to_neighbours i b = if not (is_inside i b) || is_left_in b i then b
 
 abbrev pub gone : ℕ → Buffer → Buffer
 gone i b = taken_out i (left_to_neighbours i b)
+
+-- how many glyphs before it a cluster is handed to
+abbrev pub handed_count : ℕ → Buffer → ℕ
+handed_count i b = if not (is_inside i b) || is_left_in b i then 0
+    else (if nat_eq i 0 then 0
+    else (if nat_lt (cluster_at b i) (cluster_at b (i - 1)) then i - (all_handed i b).at else 0))
+
+-- one for each of these, since it is written anew; if what is left doesn't suffice, nothing is left
+abbrev pub handing_charged : ℕ → Spot → Spot
+handing_charged count spot = record spot { left = spot.left - count }
+
+abbrev pub taken_away : ℕ → Spot → Buffer → Applied
+taken_away after spot b = let made = gone spot.at b in
+    record { buffer = made; next = Some (handing_charged (handed_count spot.at b) (with_as_many_after after spot made)) }
+
+-- once nothing is left, no glyph is deleted
+abbrev pub deleted : Spot → Buffer → Applied
+deleted spot b = if nat_eq spot.left 0 then unapplied b else taken_away (length b.items - (spot.at + 1)) spot b
 
 -- glyph number `k` of the list put in after a place, then those before it
 pub record Copying : Type 0 where
@@ -120,17 +141,20 @@ abbrev pub several_put : Lookup → ℕ → ℕ → Buffer → Buffer
 several_put l list at b = let item = item_at b at in
     copies_put l list at item (listed_count l.table.now list - 1) (first_put l list at item b)
 
--- the glyphs listed at a place: none deletes, and one replaces
+-- the glyphs listed at a place: one replaces
 abbrev pub list_put : Lookup → ℕ → ℕ → Buffer → Buffer
-list_put l list at b = let count = listed_count l.table.now list in
-    (if nat_eq count 0 then gone at b
-    else (if nat_eq count 1 then put_at at (replaced l 0 (listed_at l.table.now list 0) (item_at b at)) b
-    else several_put l list at b))
+list_put l list at b = if nat_eq (listed_count l.table.now list) 1
+    then put_at at (replaced l 0 (listed_at l.table.now list 0) (item_at b at)) b
+    else several_put l list at b
 
-abbrev pub sequence_put : Lookup → Spot → Buffer → ℕ → Applied
-sequence_put l spot b list = let after = length b.items - (spot.at + 1) in
+abbrev pub glyphs_put : Lookup → Spot → Buffer → ℕ → Applied
+glyphs_put l spot b list = let after = length b.items - (spot.at + 1) in
     let made = list_put l list spot.at b in
     record { buffer = made; next = Some (with_as_many_after after spot made) }
+
+-- a list of none deletes
+abbrev pub sequence_put : Lookup → Spot → Buffer → ℕ → Applied
+sequence_put l spot b list = if nat_eq (listed_count l.table.now list) 0 then deleted spot b else glyphs_put l spot b list
 
 abbrev pub multiple_applied : Lookup → ℕ → Spot → Buffer → Applied
 multiple_applied l start spot b =

@@ -1,5 +1,6 @@
--- Ligatures on tables of 16-bit words, and what becomes of items, computed by hand.
-use Rattle.std.specs.Prelude.{◌≡◌, ℕ, Bool, List, [], ◌∷◌, None, true, false, refl}
+-- Ligatures on tables of 16-bit words, what becomes of items, and what deleting costs, computed by hand.
+use Rattle.std.specs.Prelude.{◌≡◌, ℕ, Bool, List, [], ◌∷◌, Option, Some, None, true, false, refl}
+use Rattle.std.specs.Option.{option_map}
 use Rattle.shape_font.specs.Worked.Glyphs.{words}
 use Rattle.shape_common.specs.declared.general_category.hb_unicode_general_category_t.TheVariants.{NonspacingMark, OtherLetter}
 use Rattle.shape_items.specs.Buffer.{Buffer, new_buffer}
@@ -7,10 +8,12 @@ use Rattle.shape_items.specs.Items.{Item, new_item, new_properties}
 use Rattle.layout_matching.specs.declared.glance.Glance.{Glance}
 use Rattle.layout_matching.specs.declared.glance.Glance.TheVariants.{Open, Closed, Only}
 use Rattle.layout_matching.specs.declared.lookup.Lookup.{Lookup}
+use Rattle.layout_substitution.specs.Applied.{deleted}
 use Rattle.layout_substitution.specs.Ligatures.{ligature_matched, second_glance, begins_with_another, following_charged}
 use Rattle.layout_substitution.specs.Replaced.{replaced, is_multiplied, taken_apart, with_components, as_ligature}
 use Rattle.layout_substitution.specs.Start.{begun_item}
 use Rattle.layout_substitution.specs.Substitutes.{has_components}
+use Rattle.layout_substitution.specs.declared.apply.Spot.{Spot}
 
 -- a lookup that skips no glyph, and passes over ZWJ within what it matches
 abbrev pub seeing_all : Lookup → Lookup
@@ -177,4 +180,47 @@ worked_counts = record {
   of_a_base = λ l g. rw g refl;
   replaced_by_a_base = λ l g. rw g refl;
   class_stays = λ l g. rw g refl;
+}
+
+-- ---- deleting
+
+abbrev pub in_cluster : ℕ → Item
+in_cluster c = new_item 0 c
+
+abbrev pub left_in : Spot → ℕ
+left_in spot = spot.left
+
+-- what is left of so much after the glyph at a place was deleted; none if it wasn't
+abbrev pub LeftDeleting : List Item → ℕ → ℕ → Option ℕ → Type 0
+LeftDeleting items at before left = (random whole : ℕ)
+    → option_map left_in (deleted (record { at = at; random = random; left = before; whole = whole })
+    (record new_buffer { items = items })).next ≡ left
+
+-- right to left clusters fall, left to right they rise
+abbrev pub falling : List Item
+falling = in_cluster 3 ∷ in_cluster 2 ∷ in_cluster 2 ∷ in_cluster 2 ∷ in_cluster 1 ∷ []
+
+abbrev pub shared : List Item
+shared = in_cluster 2 ∷ in_cluster 1 ∷ in_cluster 1 ∷ []
+
+pub record WorkedDeletions : Type 0 where
+  -- its cluster is handed to three glyphs, each of which costs one
+  pub handed_to_three : LeftDeleting falling 4 10 (Some 7)
+  pub handed_to_one : LeftDeleting (in_cluster 3 ∷ in_cluster 2 ∷ in_cluster 1 ∷ []) 1 10 (Some 9)
+  pub all_is_spent : LeftDeleting falling 4 3 (Some 0)
+  pub too_little : LeftDeleting falling 4 2 (Some 0)
+  pub nothing_left : LeftDeleting falling 4 0 None
+  -- the glyph after it has the cluster, or the cluster before is less
+  pub after_it : LeftDeleting shared 1 10 (Some 10)
+  pub handed_to_none : LeftDeleting (in_cluster 1 ∷ in_cluster 2 ∷ []) 1 10 (Some 10)
+
+pub worked_deletions : WorkedDeletions
+worked_deletions = record {
+  handed_to_three = λ random whole. refl;
+  handed_to_one = λ random whole. refl;
+  all_is_spent = λ random whole. refl;
+  too_little = λ random whole. refl;
+  nothing_left = λ random whole. refl;
+  after_it = λ random whole. refl;
+  handed_to_none = λ random whole. refl;
 }

@@ -1,15 +1,15 @@
 //! Subtables of lookups, applied at a place of a buffer.
-ghost use Rattle.std.specs.Prelude.{◌≡◌, ◌≢◌, ◌<◌, ◌-◌, ◌+◌, ◌^◌, length, None, OnOk, IfOk, IsErrOf, IsTrue};
+ghost use Rattle.std.specs.Prelude.{◌≡◌, ◌≢◌, ◌<◌, ◌+◌, ◌^◌, length, None, OnOk, IfOk, IsErrOf};
 ghost use Rattle.shape_items.specs.Buffer.{limit_of};
 ghost use Rattle.shape_buffer.specs.declared.buffer.error.ShapeError.TheVariants.{Length};
 ghost use Rattle.layout_substitution.specs.Applied;
 ghost use Rattle.layout_substitution.specs.Ligatures.{ligature_made, one_ligated, set_ligated, ligature_applied};
-ghost use Rattle.shape_items.specs.Delete.{hand_over};
 ghost use Rattle.layout_matching.specs.Loops.{times};
 ghost use Rattle.layout_substitution.specs.Edits.{item_at, put_at};
 ghost use Rattle.layout_substitution.specs.Replaced;
 
-use crate::edits::{insert_after, item, merge, next_place, put, take_out};
+use crate::deletion::delete;
+use crate::edits::{insert_after, item, next_place, put};
 use crate::ligature::{Components, found, put_ligature};
 use crate::ligature_reach::mark_tried;
 use crate::replaced::{replaced, taken_apart};
@@ -75,85 +75,6 @@ pub(crate) fn apply_single(
         Some(glyph) => replace(lookup, buffer, spot, glyph),
         None => None,
     }
-}
-
-/// Whether the item after has the cluster of the one at `i`.
-fn is_left(buffer: &GapBuffer, i: usize) -> bool
-    ensures { result ≡ Applied.is_left_in buffer.now i }
-{
-    i < buffer.len()
-        && i + 1 < buffer.len()
-        && item(buffer, i + 1).cluster == item(buffer, i).cluster
-}
-
-/// Whether the item before `at` stands in the cluster.
-fn is_handed(buffer: &GapBuffer, cluster: u32, at: usize) -> bool
-    ensures value { result ≡ Applied.is_handed cluster (record { buffer = buffer.now; at = at }) }
-    ensures some { IsTrue result → 0 < at }
-{
-    0 < at && item(buffer, at - 1).cluster == cluster
-}
-
-/// The item with the cluster and the defined flags of another one.
-fn handed_over(from: &hb_glyph_info_t, to: hb_glyph_info_t) -> hb_glyph_info_t
-    ensures { result ≡ hand_over from.now to }
-{
-    let mut to = to;
-    to.cluster = from.cluster;
-    to.mask = (to.mask & 0xFFFF_FFF8) | (from.mask & 7);
-    to
-}
-
-/// Hands the cluster and the defined flags of an item to the one before it.
-fn hand_one(buffer: &mut GapBuffer, at: usize)
-    requires { 0 < at }
-    ensures { buffer.new ≡ put_at (at - 1) (hand_over (item_at buffer.old at) (item_at buffer.old
-        (at - 1))) buffer.old }
-{
-    let there = handed_over(&item(buffer, at), item(buffer, at - 1));
-    put(buffer, at - 1, there);
-}
-
-/// Hands the cluster and the defined flags of the item at `i` to all items before it that stand in one cluster.
-#[tactic(auto, using(layout_matching::proofs::LoopLemmas::times_step, crate::proofs::CopyLemmas::handed_on, crate::proofs::CopyLemmas::handed_buffer))]
-fn hand_back(buffer: &mut GapBuffer, cluster: u32, i: usize)
-    ensures { buffer.new ≡ (times (Applied.handed_step cluster) i
-        (record { buffer = buffer.old; at = i })).buffer }
-{
-    let mut at = i;
-    for _k in 0..i {
-        if !is_handed(buffer, cluster, at) {
-            return;
-        }
-        hand_one(buffer, at);
-        at -= 1;
-    }
-}
-
-/// Leaves the cluster of an item that is to go to its neighbours, if it isn't theirs.
-fn leave_to_neighbours(buffer: &mut GapBuffer, i: usize)
-    requires { i < length buffer.old.items }
-    ensures { buffer.new ≡ Applied.left_to_neighbours i buffer.old }
-{
-    let count = buffer.len();
-    if count <= i || is_left(buffer, i) {
-        return;
-    }
-    if i == 0 {
-        merge(buffer, 0, 2);
-    } else if item(buffer, i).cluster < item(buffer, i - 1).cluster {
-        let cluster = item(buffer, i - 1).cluster;
-        hand_back(buffer, cluster, i);
-    }
-}
-
-/// Takes an item out, whose cluster is left to its neighbours.
-fn delete(buffer: &mut GapBuffer, i: usize)
-    requires { i < length buffer.old.items }
-    ensures { buffer.new ≡ Applied.gone i buffer.old }
-{
-    leave_to_neighbours(buffer, i);
-    take_out(buffer, i);
 }
 
 /// Glyph `k` of a list, in the cluster and with the mask of the item at a place.
@@ -231,7 +152,7 @@ fn put_several(
     put_copies(lookup, buffer, list, at, &there, n)
 }
 
-/// Puts a list of glyphs in place of one: none deletes it.
+/// Puts a list of glyphs in place of one.
 fn put_list(
     lookup: &Lookup<'_>,
     buffer: &mut GapBuffer,
@@ -244,20 +165,39 @@ fn put_list(
     ensures length { IsErrOf result Length
         → limit_of buffer.old < length (Applied.list_put lookup.now list at buffer.old).items }
 {
-    match count(lookup.table, list) {
-        0 => {
-            delete(buffer, at);
-            Ok(())
-        }
-        1 => {
-            put_glyph(lookup, buffer, at, u32::from(listed(lookup.table, list, 0)));
-            Ok(())
-        }
-        _ => put_several(lookup, buffer, list, at),
+    if count(lookup.table, list) == 1 {
+        put_glyph(lookup, buffer, at, u32::from(listed(lookup.table, list, 0)));
+        return Ok(());
     }
+    put_several(lookup, buffer, list, at)
 }
 
 /// Puts a list of glyphs in place of one. Returns where the lookup goes on.
+fn put_glyphs(
+    lookup: &Lookup<'_>,
+    buffer: &mut GapBuffer,
+    spot: Spot,
+    list: usize,
+) -> Result<Option<Spot>, ShapeError>
+    requires near { list < 2 ^ 36 }
+    requires inside { spot.at < length buffer.old.items }
+    ensures made { OnOk result (buffer.new
+        ≡ (Applied.glyphs_put lookup.now spot buffer.old list).buffer) }
+    ensures next { IfOk result (λ next. next
+        ≡ (Applied.glyphs_put lookup.now spot buffer.old list).next) }
+    ensures some { IfOk result (λ next. next ≢ None) }
+    ensures length { IsErrOf result Length
+        → limit_of buffer.old < length
+        (Applied.glyphs_put lookup.now spot buffer.old list).buffer.items }
+{
+    let after = buffer.len().saturating_sub(spot.at + 1);
+    put_list(lookup, buffer, list, spot.at)?;
+    let mut next = spot;
+    next.at = buffer.len().saturating_sub(after);
+    Ok(Some(next))
+}
+
+/// The same; none deletes it.
 fn put_sequence(
     lookup: &Lookup<'_>,
     buffer: &mut GapBuffer,
@@ -270,15 +210,15 @@ fn put_sequence(
         ≡ (Applied.sequence_put lookup.now spot buffer.old list).buffer) }
     ensures next { IfOk result (λ next. next
         ≡ (Applied.sequence_put lookup.now spot buffer.old list).next) }
+    ensures still { IfOk result (λ next. next ≡ None → buffer.new ≡ buffer.old) }
     ensures length { IsErrOf result Length
         → limit_of buffer.old < length
         (Applied.sequence_put lookup.now spot buffer.old list).buffer.items }
 {
-    let after = buffer.len().saturating_sub(spot.at + 1);
-    put_list(lookup, buffer, list, spot.at)?;
-    let mut next = spot;
-    next.at = buffer.len().saturating_sub(after);
-    Ok(Some(next))
+    if count(lookup.table, list) == 0 {
+        return Ok(delete(buffer, spot));
+    }
+    put_glyphs(lookup, buffer, spot, list)
 }
 
 /// Several glyphs for one.
@@ -294,6 +234,7 @@ pub(crate) fn apply_multiple(
         ≡ (Applied.multiple_applied lookup.now start spot buffer.old).buffer) }
     ensures next { IfOk result (λ next. next
         ≡ (Applied.multiple_applied lookup.now start spot buffer.old).next) }
+    ensures still { IfOk result (λ next. next ≡ None → buffer.new ≡ buffer.old) }
     ensures length { IsErrOf result Length
         → limit_of buffer.old < length
         (Applied.multiple_applied lookup.now start spot buffer.old).buffer.items }

@@ -9,6 +9,7 @@
 
 pub mod alternate;
 pub mod apply;
+pub mod deletion;
 pub mod edits;
 pub mod kinds;
 pub mod ligation;

@@ -1,5 +1,5 @@
 //! The definitions, computed by hand.
-ghost use Rattle.layout_substitution.specs.Worked.{WorkedLigatures, WorkedPasts, WorkedBeginnings, WorkedCounts};
+ghost use Rattle.layout_substitution.specs.Worked.{WorkedLigatures, WorkedPasts, WorkedBeginnings, WorkedCounts, WorkedDeletions};
 
 /// Ligatures: their components, and one that leads past the end of the table.
 pub fn ligatures_meet_worked_cases()
@@ -20,4 +20,9 @@ pub fn beginnings_meet_worked_cases()
 /// How many components a ligature has, by its class.
 pub fn counts_meet_worked_cases()
     ensures { WorkedCounts }
+{}
+
+/// What deleting a glyph costs.
+pub fn deletions_meet_worked_cases()
+    ensures { WorkedDeletions }
 {}

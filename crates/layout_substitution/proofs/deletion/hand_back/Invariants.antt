@@ -1,7 +1,7 @@
 use Rattle.std.proofs.Common.{◌≡◌}
 use Rattle.layout_matching.specs.Loops.{times}
 use Rattle.layout_substitution.specs.Applied.{Handing, handed_step}
-use Rattle.layout_substitution.proofs.apply.hand_back.Given as goal
+use Rattle.layout_substitution.proofs.deletion.hand_back.Given as goal
 
 abbrev pub invariant-loop-k : goal.invariant-loop-k
 invariant-loop-k l =
