@@ -197,6 +197,21 @@ def kern(count, length):
     return words(0, count) + words(0, length, 1, 1, 6, 0, 0, 1, 1, 50)
 
 
+def kern_heads(count):
+    """A table `kern` of `count` parts of six bytes: the pairs of each are the parts behind it."""
+    return words(0, count) + words(0xFFFF, 6, 1) * count
+
+
+def origins(count):
+    """A table `VORG` of so many records, none of them for a glyph of the font."""
+    return words(1, 0, 800, count) + words(1000, 5) * count
+
+
+def names(count):
+    """A table `post` of format 2 whose strings end before the name of each glyph."""
+    return words(2, 0, *[0] * 14) + words(count, *[65535] * count)
+
+
 def gdef(ranges):
     """Classes of glyphs: letters are bases, marks marks; so many ranges of no glyph before."""
     classes = words(2, ranges + 2, *[0, 0, 1] * ranges, 1, 26, 1, 27, 42, 3)

@@ -3,16 +3,17 @@
 Each runs with a text of 10,000 characters: no run ends by a signal, takes more than six seconds of
 processor time (the gate's machine may be slow), or more than 200 MB. The bombs are lookups that
 apply themselves, substitutions that grow, parts of tables that are shared, kerning of 65,535
-parts. Those that use up what a run may ask for take longer, in step with the text
-(docs/SAFE_AND_TOTAL.md): they stand in SPENT, and run over a fifth of it.
+parts, origins and names that are searched for. Those that use up what a run may ask for take
+longer, in step with the text (docs/SAFE_AND_TOTAL.md): they stand in SPENT, and run over a fifth
+of it.
 
 The worst fonts of earlier searches are named in tests/hostile/worst.txt (`search`).
 """
 from checks.bomb_tables import (EVERY, LOOP, ROW, alternates, apart, class_behind, context,
-                                cursive, features, gdef, gdef_of_set, grows, kern, layout,
-                                ligature_of_two, ligatures, list_behind, lookup, marks_on, nulls,
-                                pairs, row_before, row_behind, rules, rules_past, vain,
-                                variations, words)
+                                cursive, features, gdef, gdef_of_set, grows, kern, kern_heads,
+                                layout, ligature_of_two, ligatures, list_behind, lookup, marks_on,
+                                names, nulls, origins, pairs, row_before, row_behind, rules,
+                                rules_past, vain, variations, words)
 from checks.fonts import add_table, bytes_of, new_font
 from checks.hostile_runs import LENGTH, SECONDS, Runs, add_run_options, need_all
 from checks.mutated import load_bases, mutated_font
@@ -149,6 +150,13 @@ BOMBS = {
         {"GPOS": layout([lookup(2, [pairs(15000)])], b"kern")}, "a"),
     "kern of 65,535 parts at one place": ({"kern": kern(65535, 0)}, "a"),
     "kern of 65,535 parts past the end": ({"kern": kern(65535, 20)}, "a"),
+    "kern of 65,535 parts of six bytes": ({"kern": kern_heads(65535)}, "a"),
+    "grows, then kern of 65,535 parts of six bytes": (
+        {"GSUB": layout([lookup(2, [grows(60)])]), "kern": kern_heads(65535)}, "a"),
+    "grows, then origins by 25,000 records": (
+        {"GSUB": layout([lookup(2, [grows(60)])]), "VORG": origins(25000)}, "v"),
+    "grows, then names past the end": (
+        {"GSUB": layout([lookup(2, [grows(60)])]), "post": names(44)}, "a"),
     "classes of 10,000 ranges": (
         {"GDEF": gdef(10000), "GPOS": layout(TO_BASES, b"mark")}, "am"),
 }
@@ -169,7 +177,8 @@ SPENT = {
     "records that name nothing", "pairs, 1,000 lookups", "positions that call themselves twice",
     "pairs over the rest of the text, 50 lookups", "marks on one base, 1,000 lookups",
     "marks on one base, nested, back and forth", "rules of marks on one ligature",
-    "marks that follow a ligature",
+    "marks that follow a ligature", "kern of 65,535 parts of six bytes",
+    "grows, then kern of 65,535 parts of six bytes",
     "31,000 rules of two glyphs in each of four stages and GPOS, 100 lookups",
 }
 
@@ -187,18 +196,20 @@ def bomb_font(tables):
 
 def bomb_text(kind, length):
     """Letters, marks, or one half of each, letters first; marks between two letters, and one mark
-    more or none; ZWNJ, after one letter; or letters by the stages of Arabic."""
+    more or none; ZWNJ, after one letter; or letters by the stages of Arabic, or downwards."""
     half = length // 2
     texts = {"a": "a" * length, "m": "\u0301" * length, "z": "a" + chr(ZWNJ) * (length - 1),
              "ama": "a" + "\u0301" * (length - 67) + "\u0302" * 64 + "a\u0303",
              "amb": "a" + "\u0301" * (length - 2) + "b", "s": "a" * length,
+             "v": "a" * length,
              "am": "a" * half + "\u0301" * (length - half)}
     return texts[kind]
 
 
 def take_bomb(runs, name, length):
     tables, kind = BOMBS[name]
-    options = ["--direction=ltr", "--script=" + ("Arab" if kind == "s" else "Latn")]
+    options = ["--direction=" + ("ttb" if kind == "v" else "ltr"),
+               "--script=" + ("Arab" if kind == "s" else "Latn")]
     runs.take(name, bomb_font(tables), bomb_text(kind, length), options)
 
 

@@ -4,10 +4,11 @@ use Rattle.std.specs.Prelude.{ℕ, suc, List, Option, Some, None, ◌+◌, ◌-�
 use Rattle.std.specs.Option.{option_and_then}
 use Rattle.shape_font.specs.Bytes.{u16_of, u32_of, fitting}
 
--- where string `k` of those from a place on begins: each is a byte with its length, and so many bytes
+-- where string `k` of those from a place on begins: each is a byte with its length, and so many bytes; past the end, where none is,
+-- if there are fewer
 abbrev pub string_start : List ℕ → ℕ → ℕ → ℕ
 string_start t zero at = at
-string_start t (suc k) at = string_start t k (at + (1 + slice_index t at))
+string_start t (suc k) at = if nat_lt at (length t) then string_start t k (at + (1 + slice_index t at)) else at
 
 -- its bytes; none if it is empty or reaches past the end
 abbrev pub string_of : List ℕ → ℕ → ℕ → Option (List ℕ)

@@ -39,8 +39,8 @@ pub const STANDARD: &[u8] = b"\
 /// How many these are.
 const STANDARD_COUNT: u32 = 258;
 
-/// Where string `k` of those from `at` on begins.
-#[tactic(auto, using(crate::proofs::NameLemmas::string_start_next, crate::proofs::NameLemmas::string_start_end))]
+/// Where string `k` of those from `at` on begins; past the end, where none is, if there are fewer.
+#[tactic(auto, using(crate::proofs::NameLemmas::string_start_next, crate::proofs::NameLemmas::string_start_past, crate::proofs::NameLemmas::string_start_end))]
 fn string_start(table: &[u8], k: u32, at: usize) -> usize
     requires few { k < 2 ^ 16 }
     requires near { at < 2 ^ 32 }
@@ -49,6 +49,9 @@ fn string_start(table: &[u8], k: u32, at: usize) -> usize
 {
     let mut start = at;
     for _i in 0..k {
+        if table.len() <= start {
+            return start;
+        }
         start += 1 + usize::from(u8_at(table, start));
     }
     start

@@ -1,6 +1,6 @@
 -- Names of glyphs, on tables that were read by hand.
 use Rattle.std.specs.Prelude.{◌≡◌, ℕ, List, [], ◌∷◌, ◌++◌, Some, None, replicate, refl}
-use Rattle.shape_font.specs.Names.{string_of, glyph_name}
+use Rattle.shape_font.specs.Names.{string_start, string_of, glyph_name}
 use Rattle.shape_font.specs.declared.names.TheConstants.{STANDARD}
 
 -- two names that a table may leave out, X and YZ
@@ -25,6 +25,11 @@ pub record WorkedNames : Type 0 where
   pub past_all_that_are_left_out : glyph_name left_out (0 ∷ 1 ∷ 0 ∷ 0 ∷ []) 258 ≡ None
   pub other_format : glyph_name left_out (0 ∷ 3 ∷ 0 ∷ 0 ∷ []) 1 ≡ None
   pub no_table : glyph_name left_out [] 1 ≡ None
+  -- A, and nothing at 2; a string of 5 bytes, of which one is there
+  pub after_one : string_start (1 ∷ 65 ∷ []) 1 0 ≡ 2
+  pub ends_with_the_table : string_start (1 ∷ 65 ∷ []) 9 0 ≡ 2
+  pub ends_past_the_table : string_start (5 ∷ 65 ∷ []) 9 0 ≡ 6
+  pub none_at_the_end : string_of (1 ∷ 65 ∷ []) 9 0 ≡ None
   pub past_the_end : string_of (1 ∷ 65 ∷ 2 ∷ 98 ∷ []) 1 0 ≡ None
   -- .null
   pub second_standard_name : string_of STANDARD.now 1 0 ≡ Some (0x2E ∷ 0x6E ∷ 0x75 ∷ 0x6C ∷ 0x6C ∷ [])
@@ -46,6 +51,10 @@ worked_names = record {
   past_all_that_are_left_out = refl;
   other_format = refl;
   no_table = refl;
+  after_one = refl;
+  ends_with_the_table = refl;
+  ends_past_the_table = refl;
+  none_at_the_end = refl;
   past_the_end = refl;
   second_standard_name = refl;
   past_the_room = refl;
