@@ -132,4 +132,3 @@ module _ (P : Buffer → Buffer → Type 0) (same : (b : Buffer) → P b b) (aft
   step-lookups (l ∷ lookups) s =
       let here = lookup_applied s l in
       after s.buffer here.buffer (fold lookup_applied here lookups).buffer (step-lookup l s) (step-lookups lookups here)
-
