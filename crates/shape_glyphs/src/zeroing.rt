@@ -81,7 +81,9 @@ fn zero_mark_at(buffer: &mut hb_buffer_t, place: usize, adjust: bool)
     buffer.set_position(place, zeroed);
 }
 
-/// Takes the advances from the marks, which are first moved back if they are to be adjusted.
+/// Takes the advances from the marks, which are first moved back if they are to be adjusted. Inlined, since a call
+/// would cost a short word without marks more than looking for them.
+#[inline(always)]
 fn zero_marks(adjust: bool, buffer: &mut hb_buffer_t)
     ensures { Made (positions_mapped (Zeroing.zeroed_mark adjust)) buffer.old buffer.new }
 {
@@ -94,6 +96,7 @@ fn zero_marks(adjust: bool, buffer: &mut hb_buffer_t)
 /// Takes the advances from the marks; if `adjust_offsets` holds and the buffer is forward, they are
 /// first moved back by them. An offset that doesn't fit then wraps; one that fits is exact, by the clauses
 /// `exact_x` and `exact_y` of `move_back`. Takes no memory.
+#[inline(always)]
 #[tactic(auto, unfolding(crate::specs::Zeroing::marks_zeroed))]
 pub fn zero_mark_widths_by_gdef(buffer: &mut hb_buffer_t, adjust_offsets: bool)
     ensures { Made (Zeroing.marks_zeroed adjust_offsets) buffer.old buffer.new }

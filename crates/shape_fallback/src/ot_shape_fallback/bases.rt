@@ -112,7 +112,8 @@ fn position_before<F: hb_font_t>(
 }
 
 /// Places the marks of all bases. A base is looked for only before a mark, and marks that were placed are
-/// skipped.
+/// skipped. Inlined, since a call would cost a short word without marks more than looking for them.
+#[inline(always)]
 pub(crate) fn position_bases<F: hb_font_t>(face: &F, frame: MarkFrame, buffer: &mut hb_buffer_t)
     ensures { Made (Bases.bases_positioned (F.face face.now) frame) buffer.old buffer.new }
 {

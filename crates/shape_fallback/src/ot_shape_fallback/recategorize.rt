@@ -41,7 +41,9 @@ fn recategorize_at(buffer: &mut hb_buffer_t, i: usize)
     buffer.set_info(i, info);
 }
 
-/// Gives every nonspacing mark the ccc that it is placed by.
+/// Gives every nonspacing mark the ccc that it is placed by. Inlined, since a call would cost a short word without marks
+/// more than looking for them.
+#[inline(always)]
 pub(crate) fn recategorize_items(buffer: &mut hb_buffer_t)
     ensures { Made Recategorized.recategorized buffer.old buffer.new }
 {
