@@ -115,7 +115,7 @@ sought-unless false y z found none on is = cc
 
 sought-mark : (l : Lookup) (subtable : LookupSubtable) (i : ℕ) (b : Buffer) (seen : BaseSeen) (left number : ℕ) → IsOnBase subtable
     → listed l subtable i b ≡ Some number
-    → sought l subtable i b seen left ≡ sought_from i seen left (base_seen l subtable b.items i seen)
+    → sought l subtable i b seen left ≡ sought_from l subtable b.items i seen left (base_seen l subtable b.items i seen)
 sought-mark l subtable i b seen left number on is =
     let format = nat_eq (u16_of l.table.now subtable.start) 1 in
     let o = mark_number l subtable.start i b in
@@ -124,7 +124,7 @@ sought-mark l subtable i b seen left number on is =
 -- a mark of the subtable, if what is left suffices for the search
 pub mark_placed : (l : Lookup) (subtable : LookupSubtable) (i : ℕ) (b c : Buffer) (seen : BaseSeen) (left number after : ℕ) (s : Sought)
     (next : Option ℕ) → IsOnBase subtable → listed l subtable i b ≡ Some number
-    → s ≡ sought_from i seen left (base_seen l subtable b.items i seen) → s.left ≡ Some after
+    → s ≡ sought_from l subtable b.items i seen left (base_seen l subtable b.items i seen) → s.left ≡ Some after
     → c ≡ (attached_as l subtable s.seen.place i b number).buffer → next ≡ (attached_as l subtable s.seen.place i b number).next
     → record { buffer = c; next = next; seen = s.seen; left = after } ≡ subtable_placed l subtable i b (sought l subtable i b seen left)
 mark_placed l subtable i b c seen left number after s next on is found enough made goes =
@@ -138,7 +138,7 @@ mark_placed l subtable i b c seen left number after s next on is found enough ma
 -- or if it doesn't
 pub mark_unpaid : (l : Lookup) (subtable : LookupSubtable) (i : ℕ) (b : Buffer) (seen : BaseSeen) (left number : ℕ) (s : Sought)
     → IsOnBase subtable → listed l subtable i b ≡ Some number
-    → s ≡ sought_from i seen left (base_seen l subtable b.items i seen) → s.left ≡ None
+    → s ≡ sought_from l subtable b.items i seen left (base_seen l subtable b.items i seen) → s.left ≡ None
     → record { buffer = b; next = None; seen = s.seen; left = 0 } ≡ subtable_placed l subtable i b (sought l subtable i b seen left)
 mark_unpaid l subtable i b seen left number s on is found none =
     ap (λ o. option_map_or (kind_placed l subtable i b s.seen) o (unplaced 0 s.seen b)) (sym none)

@@ -114,7 +114,7 @@ seen-un l subtable i b seen left gpos un = by_kind (is_context_subtable l subtab
         let five : nat_eq subtable.kind 5 ≡ false = grind (arith, nat_tests, kinds) in
         rw four (rw five refl)
     by_kind false is none = last-out (nat_eq subtable.kind 4 || nat_eq subtable.kind 5) (nat_eq (u16_of l.table.now subtable.start) 1)
-        (is_some (mark_number l subtable.start i b)) (sought_from i seen left (base_seen l subtable b.items i seen))
+        (is_some (mark_number l subtable.start i b)) (sought_from l subtable b.items i seen left (base_seen l subtable b.items i seen))
         (record { seen = seen; left = Some left }) none
 
 -- ---- a lookup at a place

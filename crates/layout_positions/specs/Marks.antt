@@ -1,5 +1,6 @@
 -- Marks attached to bases, to ligatures and to marks (OpenType, `GPOS`, lookup types 4, 5 and 6).
-use Rattle.std.specs.Prelude.{ℕ, Bool, true, List, Option, Some, None, ◌+◌, ◌-◌, ◌*◌, ◌/◌, ◌&&◌, ◌||◌, not, max, min, is_some, unwrap_or, nat_eq, nat_lt, if◌then◌else◌}
+use Prim.Native.Nat.{zero}
+use Rattle.std.specs.Prelude.{ℕ, suc, Bool, true, List, Option, Some, None, ◌+◌, ◌-◌, ◌*◌, ◌/◌, ◌&&◌, ◌||◌, not, max, min, is_some, unwrap_or, nat_eq, nat_lt, if◌then◌else◌}
 use Rattle.std.specs.Option.{option_map, option_map_or, option_and_then, option_or}
 use Rattle.std.specs.Int.RustNames.{bit_and}
 use Rattle.shape_common.specs.Wrapping.{◌-ʷ◌}
@@ -11,6 +12,7 @@ use Rattle.shape_items.specs.Items.{Item}
 use Rattle.layout_tables.specs.Offsets.{offset16_of}
 use Rattle.layout_tables.specs.declared.lookups.LookupSubtable.{LookupSubtable}
 use Rattle.layout_matching.specs.Skipping.{nth, shares, is_transparent}
+use Rattle.layout_matching.specs.Work.{SEARCH_WORK}
 use Rattle.layout_matching.specs.declared.lookup.Lookup.{Lookup}
 use Rattle.layout_positions.specs.Anchors.{number_at, anchor_in, class_of_mark, anchor_of_mark}
 use Rattle.layout_positions.specs.Attachment.{MARK_ATTACHED, chain_to}
@@ -101,6 +103,28 @@ work_from i seen from = min (places_looked_at i seen from + (i - from) / 4) most
 
 abbrev pub base_work : ℕ → BaseSeen → Option ℕ → ℕ
 base_work i seen base = work_from i seen (unwrap_or base 0)
+
+-- for a component after the first one that might be the base, a subtable of bases searches its list
+abbrev pub is_searched : Lookup → LookupSubtable → List Item → ℕ → Bool
+is_searched l subtable items j = nat_eq subtable.kind 4 && is_base_seen l (nth items j) && is_later_component items j
+
+-- how many of the `n` places before place `i` are such
+abbrev pub places_searched : Lookup → LookupSubtable → List Item → ℕ → ℕ → ℕ
+places_searched l subtable items i zero = 0
+places_searched l subtable items i (suc n) =
+    places_searched l subtable items i n + (if is_searched l subtable items (i - 1 - n) then 1 else 0)
+
+-- each of them costs as much more as a search of a list
+abbrev pub search_from : Lookup → LookupSubtable → List Item → ℕ → BaseSeen → ℕ → ℕ
+search_from l subtable items i seen from =
+    min (places_searched l subtable items i (places_looked_at i seen from) * SEARCH_WORK) most_countable
+
+abbrev pub search_work : Lookup → LookupSubtable → List Item → ℕ → BaseSeen → Option ℕ → ℕ
+search_work l subtable items i seen base = search_from l subtable items i seen (unwrap_or base 0)
+
+-- both together
+abbrev pub seek_work : Lookup → LookupSubtable → List Item → ℕ → BaseSeen → Option ℕ → ℕ
+seek_work l subtable items i seen base = min (base_work i seen base + search_work l subtable items i seen base) most_countable
 
 -- ---- to a base
 

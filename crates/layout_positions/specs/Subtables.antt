@@ -1,8 +1,9 @@
 -- A lookup at a place: its first subtable that applies.
-use Rattle.std.specs.Prelude.{ℕ, Bool, Option, Some, None, ◌+◌, ◌&&◌, ◌||◌, is_some, nat_eq, if◌then◌else◌}
+use Rattle.std.specs.Prelude.{ℕ, Bool, List, Option, Some, None, ◌+◌, ◌&&◌, ◌||◌, is_some, nat_eq, if◌then◌else◌}
 use Rattle.std.specs.Option.{option_map_or}
 use Rattle.shape_font.specs.Bytes.{u16_of}
 use Rattle.shape_items.specs.Buffer.{Buffer}
+use Rattle.shape_items.specs.Items.{Item}
 use Rattle.layout_tables.specs.Lookups.{subtable_count_of, subtable_of}
 use Rattle.layout_tables.specs.declared.lookups.LookupSubtable.{LookupSubtable}
 use Rattle.layout_matching.specs.Loops.{times}
@@ -10,7 +11,7 @@ use Rattle.layout_matching.specs.Work.{charged}
 use Rattle.layout_matching.specs.declared.lookup.Lookup.{Lookup}
 use Rattle.layout_positions.specs.Cursive.{cursive_applied}
 use Rattle.layout_positions.specs.Lookups.{Applied, unapplied}
-use Rattle.layout_positions.specs.Marks.{base_seen, base_work, mark_number, mark_base_applied, mark_ligature_applied, mark_mark_applied}
+use Rattle.layout_positions.specs.Marks.{base_seen, seek_work, mark_number, mark_base_applied, mark_ligature_applied, mark_mark_applied}
 use Rattle.layout_positions.specs.Pairs.{single_applied, pair_applied}
 use Rattle.layout_positions.specs.declared.bases.BaseSeen.{BaseSeen}
 use Rattle.layout_positions.specs.declared.subtables.Sought.{Sought}
@@ -44,12 +45,13 @@ abbrev pub unplaced : ℕ → BaseSeen → Buffer → Placing
 unplaced left seen b = record { buffer = b; next = None; seen = seen; left = left }
 
 -- the search is charged for before the subtable is applied
-abbrev pub sought_from : ℕ → BaseSeen → ℕ → BaseSeen → Sought
-sought_from i before left seen = record { seen = seen; left = charged (base_work i before seen.place) left }
+abbrev pub sought_from : Lookup → LookupSubtable → List Item → ℕ → BaseSeen → ℕ → BaseSeen → Sought
+sought_from l subtable items i before left seen =
+    record { seen = seen; left = charged (seek_work l subtable items i before seen.place) left }
 
 abbrev pub sought : Lookup → LookupSubtable → ℕ → Buffer → BaseSeen → ℕ → Sought
 sought l subtable i b seen left = if looks_for_base l subtable i b
-    then sought_from i seen left (base_seen l subtable b.items i seen) else record { seen = seen; left = Some left }
+    then sought_from l subtable b.items i seen left (base_seen l subtable b.items i seen) else record { seen = seen; left = Some left }
 
 abbrev pub kind_placed : Lookup → LookupSubtable → ℕ → Buffer → BaseSeen → ℕ → Placing
 kind_placed l subtable i b seen left = let made = kind_applied l subtable seen.place i b in

@@ -21,6 +21,9 @@ pub struct BaseSeen {
     pub place: Option<usize>,
 }
 
+/// What a search of the list of bases costs, beside the place that is looked at.
+const SEARCH_WORK: usize = 7;
+
 /// How many glyphs that attachment flags, from the base of a mark on, cost one.
 const SPAN_PART: usize = 4;
 
@@ -175,13 +178,89 @@ pub fn base_seen(
     }
 }
 
-/// What the search for the base of the mark at place `i` costs, and attachment to the base that it found: one for each place that
-/// was looked at, and one for every four glyphs from the base on, which are marked.
-pub fn base_work(i: usize, seen: BaseSeen, base: Option<usize>) -> usize
+/// How many places were looked at for the base of the mark at place `i`, back to place `from`.
+fn places_looked_at(i: usize, seen: BaseSeen, from: usize) -> usize
+    ensures value { result ≡ Marks.places_looked_at i seen from }
+    ensures few { result ≤ i }
+{
+    let known = if i < seen.until { 0 } else { seen.until };
+    i.saturating_sub(from.max(known))
+}
+
+/// What the places cost that were looked at for the base of the mark at place `i`, and attachment
+/// to the base that was found: one for each of them, and one for every four glyphs from the base on,
+/// which are marked.
+fn base_work(i: usize, seen: BaseSeen, base: Option<usize>) -> usize
     ensures { result ≡ Marks.base_work i seen base }
 {
     let from = base.unwrap_or(0);
-    let known = if i < seen.until { 0 } else { seen.until };
-    let looked = i.saturating_sub(from.max(known));
-    looked.saturating_add(i.saturating_sub(from) / SPAN_PART)
+    places_looked_at(i, seen, from).saturating_add(i.saturating_sub(from) / SPAN_PART)
+}
+
+/// Whether the subtable searches its list for the glyph at place `j`: one of bases does, for a
+/// component after the first one.
+fn is_searched(
+    lookup: &Lookup<'_>,
+    subtable: LookupSubtable,
+    items: &[hb_glyph_info_t],
+    j: usize,
+) -> bool
+    requires { j < length items.now }
+    ensures { result ≡ Marks.is_searched lookup.now subtable items.now j }
+{
+    subtable.kind == 4 && is_base_seen(lookup, &items[j]) && is_later_component(items, j)
+}
+
+/// For how many of the `count` places before place `i` the subtable searches its list.
+fn places_searched(
+    lookup: &Lookup<'_>,
+    subtable: LookupSubtable,
+    items: &[hb_glyph_info_t],
+    i: usize,
+    count: usize,
+) -> usize
+    requires inside { i ≤ length items.now }
+    requires count { count ≤ i }
+    ensures { result ≡ Marks.places_searched lookup.now subtable items.now i count }
+{
+    let mut searched = 0;
+    for d in 0..count {
+        if is_searched(lookup, subtable, items, i - 1 - d) {
+            searched += 1;
+        }
+    }
+    searched
+}
+
+/// What the searches of the subtable's list cost that were made at places that were looked at.
+fn search_work(
+    lookup: &Lookup<'_>,
+    subtable: LookupSubtable,
+    items: &[hb_glyph_info_t],
+    i: usize,
+    seen: BaseSeen,
+    base: Option<usize>,
+) -> usize
+    requires { i ≤ length items.now }
+    ensures { result ≡ Marks.search_work lookup.now subtable items.now i seen base }
+{
+    let looked = places_looked_at(i, seen, base.unwrap_or(0));
+    places_searched(lookup, subtable, items, i, looked).saturating_mul(SEARCH_WORK)
+}
+
+/// What the search for the base of the mark at place `i` costs, and attachment to the base that it
+/// found.
+pub fn seek_work(
+    lookup: &Lookup<'_>,
+    subtable: LookupSubtable,
+    items: &[hb_glyph_info_t],
+    i: usize,
+    seen: BaseSeen,
+    base: Option<usize>,
+) -> usize
+    requires { i ≤ length items.now }
+    ensures { result ≡ Marks.seek_work lookup.now subtable items.now i seen base }
+{
+    let searches = search_work(lookup, subtable, items, i, seen, base);
+    base_work(i, seen, base).saturating_add(searches)
 }

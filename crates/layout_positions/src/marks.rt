@@ -345,8 +345,8 @@ fn put_on_mark(
     }
 }
 
-/// Attaches mark number `number` of the subtable, at place `i`, to the mark before it. Returns the place where the lookup goes on.
-/// A call of its own, since most subtables don't list a mark.
+/// Attaches mark number `number` of the subtable, at place `i`, to the mark before it. Returns the
+/// place where the lookup goes on. A call of its own, since most subtables don't list a mark.
 #[inline(never)]
 fn attach_to_mark(
     lookup: &Lookup<'_>,

@@ -8,7 +8,7 @@ ghost use Rattle.layout_positions.specs.Marks;
 ghost use Rattle.layout_positions.specs.Subtables;
 
 use crate::adjustment::{apply_pair, apply_single};
-use crate::bases::{BaseSeen, base_seen, base_work};
+use crate::bases::{BaseSeen, base_seen, seek_work};
 use crate::cursive::apply_cursive;
 use crate::marks::{apply_mark_mark, attach_to_base, attach_to_ligature, mark_number};
 use layout_matching::lookup::Lookup;
@@ -122,11 +122,12 @@ fn seek_base(
 ) -> Sought
     requires near { subtable.start < 2 ^ 34 }
     requires inside { i < length buffer.now.items }
-    ensures { result ≡ Subtables.sought_from i carried.seen carried.left
-        (Marks.base_seen lookup.now subtable buffer.now.items i carried.seen) }
+    ensures { result ≡ Subtables.sought_from lookup.now subtable buffer.now.items i carried.seen
+        carried.left (Marks.base_seen lookup.now subtable buffer.now.items i carried.seen) }
 {
-    let seen = base_seen(lookup, subtable, buffer.infos(), i, carried.seen);
-    let work = base_work(i, carried.seen, seen.place);
+    let items = buffer.infos();
+    let seen = base_seen(lookup, subtable, items, i, carried.seen);
+    let work = seek_work(lookup, subtable, items, i, carried.seen, seen.place);
     Sought {
         seen,
         left: charged(work, carried.left),

@@ -1,7 +1,7 @@
 //! The definitions, computed on tables and buffers that were read by hand.
 ghost use Rattle.layout_positions.specs.Worked.Values.{WorkedValues, WorkedAnchors};
 ghost use Rattle.layout_positions.specs.Worked.Pairs.{WorkedTables, WorkedLines};
-ghost use Rattle.layout_positions.specs.Worked.Marks.{WorkedMarks, WorkedBases, WorkedBaseWork, WorkedMultiplied, WorkedComponents};
+ghost use Rattle.layout_positions.specs.Worked.Marks.{WorkedMarks, WorkedBases, WorkedBaseWork, WorkedSearchWork, WorkedMultiplied, WorkedComponents};
 ghost use Rattle.layout_positions.specs.Worked.Cursive.{WorkedCursive};
 ghost use Rattle.layout_positions.specs.Worked.Walk.{WorkedBounds, WorkedWalk};
 ghost use Rattle.layout_positions.specs.Worked.Attachment.{WorkedAttachment, WorkedTurning};
@@ -21,6 +21,7 @@ pub fn attachment_meets_worked_cases()
     ensures marks { WorkedMarks }
     ensures bases { WorkedBases }
     ensures base_work { WorkedBaseWork }
+    ensures search_work { WorkedSearchWork }
     ensures multiplied { WorkedMultiplied }
     ensures components { WorkedComponents }
     ensures cursive { WorkedCursive }

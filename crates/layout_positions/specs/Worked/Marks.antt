@@ -8,7 +8,7 @@ use Rattle.shape_items.specs.Items.{Item}
 use Rattle.layout_tables.specs.declared.lookups.LookupSubtable.{LookupSubtable}
 use Rattle.layout_matching.specs.declared.lookup.Lookup.{Lookup}
 use Rattle.layout_positions.specs.Lookups.{Applied}
-use Rattle.layout_positions.specs.Marks.{base_of, base_work, mark_base_applied, mark_ligature_applied, mark_mark_applied}
+use Rattle.layout_positions.specs.Marks.{base_of, base_work, search_work, seek_work, mark_base_applied, mark_ligature_applied, mark_mark_applied}
 use Rattle.layout_positions.specs.Walk.{none_seen}
 use Rattle.layout_positions.specs.Worked.Lines.{base, mark, ligature, mark_on, component_of, ignorable, line, offsets, chains, masks}
 use Rattle.layout_positions.specs.Worked.Pairs.{IsLookup}
@@ -179,6 +179,36 @@ worked_multiplied = record {
   first_in_the_line = λ l is. rw is.mask refl;
   for_ligatures = λ l is. rw is.mask refl;
   passed_over_before = λ l is. refl;
+}
+
+-- ---- what a search of the list costs: 7 more for each place, which is 8 with the place
+
+-- glyphs of three components and a mark; the second component and the third are searched for
+abbrev components : List Item
+components = component_of 0 (base 5 0) ∷ component_of 1 (base 3 0) ∷ component_of 2 (base 3 0) ∷ mark 8 0 ∷ []
+
+pub record WorkedSearchWork : Type 0 where
+  pub two_components : (l : Lookup) → IsLookup l on_bases 0 → search_work l of_bases components 3 none_seen (Some 0) ≡ 14
+  pub three_places_two_searched : (l : Lookup) → IsLookup l on_bases 0 → seek_work l of_bases components 3 none_seen (Some 0) ≡ 17
+  pub one_component : (l : Lookup) → IsLookup l on_bases 0 → search_work l of_bases components 3 none_seen (Some 2) ≡ 7
+  -- no base: four places, and one for the four of them
+  pub up_to_the_start : (l : Lookup) → IsLookup l on_bases 0
+      → seek_work l of_bases (components ++ mark 8 0 ∷ []) 4 none_seen None ≡ 19
+  pub looked_at_before : (l : Lookup) → IsLookup l on_bases 0
+      → search_work l of_bases components 3 (record { until = 3; place = Some 0 }) (Some 0) ≡ 0
+  pub no_component : (l : Lookup) → IsLookup l on_bases 0
+      → seek_work l of_bases (base 2 0 ∷ mark 8 0 ∷ mark 8 0 ∷ []) 2 none_seen (Some 0) ≡ 2
+  pub not_for_ligatures : (l : Lookup) → IsLookup l on_bases 0 → search_work l of_ligatures components 3 none_seen (Some 0) ≡ 0
+
+pub worked_search_work : WorkedSearchWork
+worked_search_work = record {
+  two_components = λ l is. rw is.mask refl;
+  three_places_two_searched = λ l is. rw is.mask refl;
+  one_component = λ l is. rw is.mask refl;
+  up_to_the_start = λ l is. rw is.mask refl;
+  looked_at_before = λ l is. refl;
+  no_component = λ l is. rw is.mask refl;
+  not_for_ligatures = λ l is. refl;
 }
 
 -- ---- components, and marks on marks

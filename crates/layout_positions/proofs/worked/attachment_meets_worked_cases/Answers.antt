@@ -1,6 +1,7 @@
 use Rattle.layout_positions.specs.Worked.Marks.{worked_marks}
 use Rattle.layout_positions.specs.Worked.Marks.{worked_bases}
 use Rattle.layout_positions.specs.Worked.Marks.{worked_base_work}
+use Rattle.layout_positions.specs.Worked.Marks.{worked_search_work}
 use Rattle.layout_positions.specs.Worked.Marks.{worked_multiplied}
 use Rattle.layout_positions.specs.Worked.Marks.{worked_components}
 use Rattle.layout_positions.specs.Worked.Cursive.{worked_cursive}
@@ -16,6 +17,9 @@ returns-clause-bases c = worked_bases
 
 pub returns-clause-base_work : goal.returns-clause-base_work
 returns-clause-base_work c = worked_base_work
+
+pub returns-clause-search_work : goal.returns-clause-search_work
+returns-clause-search_work c = worked_search_work
 
 pub returns-clause-multiplied : goal.returns-clause-multiplied
 returns-clause-multiplied c = worked_multiplied
