@@ -161,6 +161,16 @@ def apart():
     return words(1, 8, 1, 14, 1, 1, 2, 2, 1, 2)
 
 
+def only_a(times):
+    """A letter a becomes so many."""
+    return words(1, 8, 1, 14, 1, 1, 1, times, *[1] * times)
+
+
+def deletes(glyph):
+    """This glyph becomes none."""
+    return words(1, 8, 1, 14, 1, 1, glyph, 0)
+
+
 def grows(times):
     """Each glyph becomes so many."""
     head = 6 + 2 * 42

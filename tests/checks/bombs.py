@@ -10,10 +10,10 @@ of it.
 The worst fonts of earlier searches are named in tests/hostile/worst.txt (`search`).
 """
 from checks.bomb_tables import (EVERY, LOOP, ROW, alternates, apart, class_behind, context,
-                                cursive, features, gdef, gdef_of_set, grows, kern, kern_heads,
-                                layout, ligature_of_two, ligatures, list_behind, lookup, marks_on,
-                                names, nulls, origins, pairs, row_before, row_behind, rules,
-                                rules_past, vain, variations, words)
+                                cursive, deletes, features, gdef, gdef_of_set, grows, kern,
+                                kern_heads, layout, ligature_of_two, ligatures, list_behind,
+                                lookup, marks_on, names, nulls, only_a, origins, pairs, row_before,
+                                row_behind, rules, rules_past, vain, variations, words)
 from checks.fonts import add_table, bytes_of, new_font
 from checks.hostile_runs import LENGTH, SECONDS, Runs, add_run_options, need_all
 from checks.mutated import load_bases, mutated_font
@@ -54,6 +54,10 @@ ON_LIGATURE = [lookup(4, [ligature_of_two()], 8),
 # a, marks and b become a ligature that the marks follow, which is taken apart and made anew
 FOLLOWED = [lookup(4, [ligature_of_two(2)], 8), lookup(2, [apart()]),
             lookup(5, [context(1, [(0, 1), (0, 0)] * 5000, words(1, 1, 2))])]
+# right to left, the last letter a comes first and grows to 61 for each letter b, and each b that is
+# deleted hands its cluster to all of them
+HANDED = [lookup(2, [only_a(60)])] * 2 + [lookup(2, [only_a(LENGTH * 61 // 3600)]),
+                                          lookup(2, [deletes(2)])]
 # stages of Arabic that apply to each letter
 STAGES = b"calt", b"ccmp", b"liga", b"rlig"
 
@@ -142,6 +146,7 @@ BOMBS = {
         {"GSUB": layout(ON_LIGATURE, shared=100), "GDEF": gdef(0)}, "ama"),
     "marks that follow a ligature": (
         {"GSUB": layout(FOLLOWED, shared=100), "GDEF": gdef(0)}, "amb"),
+    "deletions behind a long cluster": ({"GSUB": layout(HANDED)}, "ba"),
     "31,000 rules of two glyphs in each of four stages and GPOS, 100 lookups": (
         {"GSUB": layout([SHORT_ROWS["of two glyphs"]], STAGES, shared=100),
          "GPOS": layout([lookup(7, [rules(31000, words(2, 0, 42))])], b"kern", shared=100)}, "s"),
@@ -196,19 +201,22 @@ def bomb_font(tables):
 
 def bomb_text(kind, length):
     """Letters, marks, or one half of each, letters first; marks between two letters, and one mark
-    more or none; ZWNJ, after one letter; or letters by the stages of Arabic, or downwards."""
+    more or none; ZWNJ, after one letter; letters by the stages of Arabic, or downwards; or letters
+    right to left, of which the last is another one."""
     half = length // 2
     texts = {"a": "a" * length, "m": "\u0301" * length, "z": "a" + chr(ZWNJ) * (length - 1),
              "ama": "a" + "\u0301" * (length - 67) + "\u0302" * 64 + "a\u0303",
              "amb": "a" + "\u0301" * (length - 2) + "b", "s": "a" * length,
              "v": "a" * length,
+             "ba": "b" * (length - 1) + "a",
              "am": "a" * half + "\u0301" * (length - half)}
     return texts[kind]
 
 
 def take_bomb(runs, name, length):
     tables, kind = BOMBS[name]
-    options = ["--direction=" + ("ttb" if kind == "v" else "ltr"),
+    direction = {"v": "ttb", "ba": "rtl"}.get(kind, "ltr")
+    options = ["--direction=" + direction,
                "--script=" + ("Arab" if kind == "s" else "Latn")]
     runs.take(name, bomb_font(tables), bomb_text(kind, length), options)
 
