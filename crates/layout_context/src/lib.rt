@@ -12,5 +12,6 @@ pub mod nested;
 pub mod places;
 pub mod reversal_reach;
 pub mod reverse;
+mod run_digest;
 pub mod stages;
 pub mod worked;

@@ -7,10 +7,11 @@ ghost use Rattle.layout_matching.specs.Work;
 ghost use Rattle.layout_substitution.specs.Edits.{is_past};
 ghost use Rattle.layout_context.specs.Nested.{nested_applied};
 ghost use Rattle.layout_context.specs.Stages;
-ghost use Rattle.layout_context.specs.Digested.{IsDigested, IsApart, HoldsGlyphs, AreUnheld, lookups_in};
+ghost use Rattle.layout_context.specs.Digested.{IsDigested, HoldsGlyphs, AreUnheld, lookups_in};
 
 use crate::nested::apply_nested;
 use crate::reverse::{is_reverse, reverse};
+use crate::run_digest::{any_shares, digest_of, is_made, renewed};
 use layout_buffer::{GapBuffer, ItemList};
 use layout_digests::{Digest, Digested};
 use layout_matching::lookup::Lookup;
@@ -228,42 +229,6 @@ fn look_up(
         return Ok(after);
     }
     go_over(alloc, levels, named, buffer, after)
-}
-
-/// A digest that holds the glyphs of a list.
-#[tactic(auto, using(crate::proofs::DigestLemmas::one_held))]
-fn digest_of(items: &ItemList<'_>) -> Digest
-    ensures { HoldsGlyphs result items.now }
-{
-    let mut all = Digest::new();
-    for i in 0..items.len() {
-        all = all.with_glyph(items.at(i).glyph_id);
-    }
-    all
-}
-
-/// The digest of a list, made anew if a lookup has gone over the list since.
-fn renewed(run: Digest, is_stale: bool, items: &ItemList<'_>) -> Digest
-    requires { is_stale ≡ false → HoldsGlyphs run items.now }
-    ensures { HoldsGlyphs result items.now }
-{
-    if is_stale { digest_of(items) } else { run }
-}
-
-/// Whether the digest of a lookup shares a glyph with that of the list.
-fn any_shares(run: &Digest, lookups: &[Digested<'_>]) -> bool
-    ensures { result ≡ false → All (IsApart run.now) lookups.now }
-{
-    lookups.iter().any(|named| run.may_share(&named.digest))
-}
-
-/// Whether a lookup goes over a list of so many items: enough is left, and its digest shares a glyph with that of the list.
-fn is_made(named: &Digested<'_>, run: &Digest, count: usize, left: usize) -> bool
-    requires { named.now.lookup.place < 2 ^ 17 }
-    ensures { result ≡ false → Work.walk_work named.now.lookup count ≤ left
-        → IsApart run.now named.now }
-{
-    run.may_share(&named.digest) && walk_work(&named.lookup, count) <= left
 }
 
 /// Lookups one after the other, from a digest of the list on. One that isn't made changes nothing, so that no digest is made anew.

@@ -1,13 +1,18 @@
-//! How a ligature is made: which are its components, and its id.
-ghost use Rattle.std.specs.Prelude.{◌≡◌, ◌<◌, ◌^◌, length};
+//! How a ligature is made: which are its components, its id, and where the lookup goes on after it.
+ghost use Rattle.std.specs.Prelude.{◌≡◌, ◌<◌, ◌+◌, ◌-◌, ◌^◌, length};
+ghost use Rattle.layout_substitution.specs.Applied.{with_as_many_after};
 ghost use Rattle.layout_substitution.specs.Ligatures;
 
-use crate::edits::item;
+use crate::apply::Spot;
+use crate::edits::{item, next_place};
 use crate::ligature::{Components, Ligation, component_row};
 use layout_buffer::GapBuffer;
 use layout_matching::input::{is_mark_glyph, seek_input};
 use layout_matching::lookup::Lookup;
 use shape_buffer::hb_glyph_info_t;
+
+/// What a mark costs that follows a ligature, since it is written anew.
+const FOLLOWED: usize = 4;
 
 /// Whether the ligature isn't one of marks, or of a base and marks.
 fn is_own(found: Components, first: &hb_glyph_info_t) -> bool
@@ -45,4 +50,24 @@ pub(crate) fn how_to_ligate(
         marks: found.all_marks && is_mark_glyph(&first),
         id: give_id(buffer, own),
     }
+}
+
+/// How many items are after the one at `last`.
+pub(crate) fn left_after(buffer: &GapBuffer, last: usize) -> usize
+    requires { last < length buffer.now.items }
+    ensures { result ≡ length buffer.now.items - (last + 1) }
+{
+    let count = buffer.len();
+    count.saturating_sub(next_place(count, last))
+}
+
+/// The spot where so many items are left, charged for those that followed the ligature up to `end`.
+pub(crate) fn with_left(buffer: &GapBuffer, spot: Spot, left: usize, end: usize) -> Spot
+    ensures { result ≡ Ligatures.following_charged end (with_as_many_after left spot buffer.now) }
+{
+    let mut next = spot;
+    next.at = buffer.len().saturating_sub(left);
+    let followed = end.saturating_sub(next.at).saturating_mul(FOLLOWED);
+    next.left = spot.left.saturating_sub(followed);
+    next
 }

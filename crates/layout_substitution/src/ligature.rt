@@ -4,11 +4,10 @@ ghost use Rattle.std.specs.Prelude.{◌≡◌, ◌<◌, ◌-◌, ◌+◌, ◌^�
 ghost use Rattle.std.specs.Option.{IfSome};
 ghost use Rattle.layout_matching.specs.Loops.{times};
 ghost use Rattle.layout_substitution.specs.Ligatures;
-ghost use Rattle.layout_substitution.specs.Applied.{with_as_many_after};
 
 use crate::apply::Spot;
 use crate::edits::{item, merge, next_place, put, take_out};
-use crate::ligation::how_to_ligate;
+use crate::ligation::{how_to_ligate, left_after, with_left};
 use crate::replaced::{as_component, as_ligature, components_of};
 use crate::second_component::{begins_with_another, second_glance};
 use crate::substitutes::{components, count, has_components, ligature_at, ligature_glyph};
@@ -20,9 +19,6 @@ use layout_matching::rules::{Row, Test};
 use layout_matching::seeking::{Seek, fits};
 use layout_matching::skipping::is_skipped;
 use shape_buffer::hb_glyph_info_t;
-
-/// What a mark costs that follows a ligature, since it is written anew.
-const FOLLOWED: usize = 4;
 
 /// A ligature whose components were found: where the last one stands, and whether all after the first are marks.
 #[derive(Clone, Copy, PartialEq, Eq, Debug)]
@@ -343,17 +339,6 @@ fn put_over(
     );
 }
 
-/// The spot where so many items are left, charged for those that followed the ligature up to `end`.
-fn with_left(buffer: &GapBuffer, spot: Spot, left: usize, end: usize) -> Spot
-    ensures { result ≡ Ligatures.following_charged end (with_as_many_after left spot buffer.now) }
-{
-    let mut next = spot;
-    next.at = buffer.len().saturating_sub(left);
-    let followed = end.saturating_sub(next.at).saturating_mul(FOLLOWED);
-    next.left = spot.left.saturating_sub(followed);
-    next
-}
-
 /// Puts a ligature, made in this way, in place of its components. Returns where the lookup goes on: with `left` items after it.
 fn ligate(
     lookup: &Lookup<'_>,
@@ -374,15 +359,6 @@ fn ligate(
     let walk = join(lookup, buffer, made, found, spot.at);
     put_over(lookup, buffer, made, found, spot.at, walk);
     with_left(buffer, spot, left, walk.at)
-}
-
-/// How many items are after the one at `last`.
-fn left_after(buffer: &GapBuffer, last: usize) -> usize
-    requires { last < length buffer.now.items }
-    ensures { result ≡ length buffer.now.items - (last + 1) }
-{
-    let count = buffer.len();
-    count.saturating_sub(next_place(count, last))
 }
 
 /// Puts a ligature in place of its components. Returns where the lookup goes on.

@@ -19,10 +19,10 @@ loop-d-preserved c =
     let here = next c.args.lookup.now c.args.subtable c.args.items.now c.args.i c.loop-d.d in
     elim c.if-is_searched.branch [
       | then-is_searched w ↦ record {
-          searched = w.searched-is ∙ ap (λ n. n + 1) c.loop-d.invariant.searched
-              ∙ ap more (sym w.if-is_searched.true ∙ c.is_searched.ensures) ∙ sym here;
-          few = omega (arith, w.searched-is, c.loop-d.invariant.few);
-        }
+        searched = w.searched-is ∙ ap (λ n. n + 1) c.loop-d.invariant.searched
+            ∙ ap more (sym w.if-is_searched.true ∙ c.is_searched.ensures) ∙ sym here;
+        few = omega (arith, w.searched-is, c.loop-d.invariant.few);
+      }
       | else-is_searched w ↦
           let none : before ≡ before + 0 = omega arith in
           record {
