@@ -9,9 +9,9 @@ parts. Those that use up what a run may ask for take longer, in step with the te
 The worst fonts of earlier searches are named in tests/hostile/worst.txt (`search`).
 """
 from checks.bomb_tables import (EVERY, LOOP, ROW, alternates, apart, context, cursive, features,
-                                gdef, grows, kern, layout, ligature_of_two, ligatures, list_behind,
-                                lookup, marks_on, nulls, pairs, row_before, row_behind, rules,
-                                rules_past, vain, variations, words)
+                                gdef, grows, joins, kern, layout, ligature_of_two, ligatures,
+                                list_behind, lookup, marks_on, nulls, pairs, row_before, row_behind,
+                                rules, rules_past, vain, variations, words)
 from checks.fonts import add_table, bytes_of, new_font
 from checks.hostile_runs import LENGTH, SECONDS, Runs, add_run_options, need_all
 from checks.mutated import load_bases, mutated_font
@@ -50,6 +50,11 @@ ON_LIGATURE = [lookup(4, [ligature_of_two()], 8),
 # a, marks and b become a ligature that the marks follow, which is taken apart and made anew
 FOLLOWED = [lookup(4, [ligature_of_two(2)], 8), lookup(2, [apart()]),
             lookup(5, [context(1, [(0, 1), (0, 0)] * 5000, words(1, 1, 2))])]
+# each a follows the next one, each b the one before, and the last a the b behind it: one chain.
+# Each c follows the a or b behind it, and then the d before it, which turns the chain round
+TURNED = [lookup(3, [joins([1], [1])], 13), lookup(3, [joins([2], [2])], 10),
+          lookup(3, [joins([2], [1])], 1), lookup(3, [joins([1, 2], [3])], 1),
+          lookup(3, [joins([3], [4])])]
 # stages of Arabic that apply to each letter
 STAGES = b"calt", b"ccmp", b"liga", b"rlig"
 
@@ -138,6 +143,8 @@ BOMBS = {
         {"GSUB": layout([SHORT_ROWS["of two glyphs"]], STAGES, shared=100),
          "GPOS": layout([lookup(7, [rules(31000, words(2, 0, 42))])], b"kern", shared=100)}, "s"),
     "one chain of letters": ({"GPOS": layout([lookup(3, [cursive()], 1)], b"curs")}, "a"),
+    "one chain, turned again and again": (
+        {"GPOS": layout(TURNED * 200, b"curs"), "GDEF": gdef(0, (1, 1, 1, 2, 2, 2, 3, 4, 3))}, "t"),
     "pairs of 15,000 records": (
         {"GPOS": layout([lookup(2, [pairs(15000)])], b"kern")}, "a"),
     "kern of 65,535 parts at one place": ({"kern": kern(65535, 0)}, "a"),
@@ -180,10 +187,11 @@ def bomb_font(tables):
 
 def bomb_text(kind, length):
     """Letters, marks, or one half of each, letters first; marks between two letters, and one mark
-    more or none; ZWNJ, after one letter; or letters by the stages of Arabic."""
+    more or none; ZWNJ, after one letter; letters that join; or letters by the stages of Arabic."""
     half = length // 2
     texts = {"a": "a" * length, "m": "\u0301" * length, "z": "a" + chr(ZWNJ) * (length - 1),
              "ama": "a" + "\u0301" * (length - 67) + "\u0302" * 64 + "a\u0303",
+             "t": "dcadcb" * (length // 6) + "ab",
              "amb": "a" + "\u0301" * (length - 2) + "b", "s": "a" * length,
              "am": "a" * half + "\u0301" * (length - half)}
     return texts[kind]
