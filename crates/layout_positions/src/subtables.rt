@@ -66,7 +66,8 @@ fn charge_links(links: usize, left: usize) -> usize
     left.saturating_sub(links).saturating_sub(links)
 }
 
-/// Applies a subtable of type 3 to the glyph at place `i`, unless nothing is left for the links that it may turn round.
+/// Applies a subtable of type 3 to the glyph at place `i`, unless nothing is left for the links that
+/// it may turn round.
 #[tactic(auto, using(crate::proofs::SubtableLemmas::links_placed, crate::proofs::SubtableLemmas::links_unpaid))]
 fn place_cursive(
     lookup: &Lookup<'_>,
@@ -121,8 +122,8 @@ fn try_mark_mark(
     apply_mark_mark(lookup, start, buffer, i)
 }
 
-/// Applies a subtable by its type to the glyph at place `i`, but none of cursive attachment, and none that attaches marks to bases
-/// or ligatures.
+/// Applies a subtable by its type to the glyph at place `i`, but none of cursive attachment, and none
+/// that attaches marks to bases or ligatures.
 fn apply_kind(
     lookup: &Lookup<'_>,
     subtable: LookupSubtable,

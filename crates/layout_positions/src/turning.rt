@@ -79,7 +79,7 @@ fn turn_at(buffer: &mut hb_buffer_t, at: usize, was: GlyphPosition, j: usize) ->
     next
 }
 
-/// Turns the chain from place `child` on round, up to place `end`. Returns how many links it turned.
+/// Turns the chain from place `child` on round, up to place `end`. Returns how many links it turns.
 #[tactic(auto, using(layout_matching::proofs::LoopLemmas::times_step, crate::proofs::TurnLemmas::turned_whole, crate::proofs::TurnLemmas::turned_still, crate::proofs::TurnLemmas::turn_on))]
 fn turn(buffer: &mut hb_buffer_t, child: usize, end: usize) -> usize
     requires { child < length buffer.old.items }
