@@ -194,6 +194,16 @@ def cursive():
     return words(1, head, 42, *[head + len(EVERY)] * 84) + EVERY + words(1, 5, 7)
 
 
+def joins(entered, left):
+    """Glyphs that are entered, and glyphs that are left: one anchor."""
+    glyphs = sorted({*entered, *left})
+    head = 6 + 4 * len(glyphs)
+    covered = words(1, len(glyphs), *glyphs)
+    anchor = head + len(covered)
+    rows = [anchor * (glyph in ends) for glyph in glyphs for ends in (entered, left)]
+    return words(1, head, len(glyphs), *rows) + covered + words(1, 5, 7)
+
+
 def pairs(count, glyphs=42):
     """Pairs of which one list is shared by so many glyphs, and has `count` records of glyph 42."""
     head = 10 + 2 * glyphs
@@ -222,9 +232,11 @@ def names(count):
     return words(2, 0, *[0] * 14) + words(count, *[65535] * count)
 
 
-def gdef(ranges):
-    """Classes of glyphs: letters are bases, marks marks; so many ranges of no glyph before."""
-    classes = words(2, ranges + 2, *[0, 0, 1] * ranges, 1, 26, 1, 27, 42, 3)
+def gdef(ranges, letters=(1, 26, 1)):
+    """Classes of glyphs: letters are bases, if no others are named, marks marks; so many ranges of
+    no glyph before."""
+    count = ranges + len(letters) // 3 + 1
+    classes = words(2, count, *[0, 0, 1] * ranges, *letters, 27, 42, 3)
     return words(1, 0, 12, 0, 0, 0) + classes
 
 

@@ -10,7 +10,7 @@ of it.
 The worst fonts of earlier searches are named in tests/hostile/worst.txt (`search`).
 """
 from checks.bomb_tables import (EVERY, LOOP, ROW, alternates, apart, class_behind, context,
-                                cursive, deletes, features, gdef, gdef_of_set, grows, kern,
+                                cursive, deletes, features, gdef, gdef_of_set, grows, joins, kern,
                                 kern_heads, layout, ligature_of_two, ligatures, list_behind,
                                 lookup, marks_on, names, nulls, only_a, origins, pairs, row_before,
                                 row_behind, rules, rules_past, vain, variations, words)
@@ -58,6 +58,11 @@ FOLLOWED = [lookup(4, [ligature_of_two(2)], 8), lookup(2, [apart()]),
 # deleted hands its cluster to all of them
 HANDED = [lookup(2, [only_a(60)])] * 2 + [lookup(2, [only_a(LENGTH * 61 // 3600)]),
                                           lookup(2, [deletes(2)])]
+# each a follows the next one, each b the one before, and the last a the b behind it: one chain.
+# Each c follows the a or b behind it, and then the d before it, which turns the chain round
+TURNED = [lookup(3, [joins([1], [1])], 13), lookup(3, [joins([2], [2])], 10),
+          lookup(3, [joins([2], [1])], 1), lookup(3, [joins([1, 2], [3])], 1),
+          lookup(3, [joins([3], [4])])]
 # stages of Arabic that apply to each letter
 STAGES = b"calt", b"ccmp", b"liga", b"rlig"
 
@@ -151,6 +156,8 @@ BOMBS = {
         {"GSUB": layout([SHORT_ROWS["of two glyphs"]], STAGES, shared=100),
          "GPOS": layout([lookup(7, [rules(31000, words(2, 0, 42))])], b"kern", shared=100)}, "s"),
     "one chain of letters": ({"GPOS": layout([lookup(3, [cursive()], 1)], b"curs")}, "a"),
+    "one chain, turned again and again": (
+        {"GPOS": layout(TURNED * 200, b"curs"), "GDEF": gdef(0, (1, 1, 1, 2, 2, 2, 3, 4, 3))}, "t"),
     "pairs of 15,000 records": (
         {"GPOS": layout([lookup(2, [pairs(15000)])], b"kern")}, "a"),
     "kern of 65,535 parts at one place": ({"kern": kern(65535, 0)}, "a"),
@@ -201,11 +208,12 @@ def bomb_font(tables):
 
 def bomb_text(kind, length):
     """Letters, marks, or one half of each, letters first; marks between two letters, and one mark
-    more or none; ZWNJ, after one letter; letters by the stages of Arabic, or downwards; or letters
-    right to left, of which the last is another one."""
+    more or none; ZWNJ, after one letter; letters that join; letters by the stages of Arabic, or
+    downwards; or letters right to left, of which the last is another one."""
     half = length // 2
     texts = {"a": "a" * length, "m": "\u0301" * length, "z": "a" + chr(ZWNJ) * (length - 1),
              "ama": "a" + "\u0301" * (length - 67) + "\u0302" * 64 + "a\u0303",
+             "t": "dcadcb" * (length // 6) + "ab",
              "amb": "a" + "\u0301" * (length - 2) + "b", "s": "a" * length,
              "v": "a" * length,
              "ba": "b" * (length - 1) + "a",

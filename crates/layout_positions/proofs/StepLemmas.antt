@@ -20,7 +20,7 @@ use Rattle.layout_positions.specs.Edits.{position_at, position_put, broken, conc
 use Rattle.layout_positions.specs.Lookups.{Applied, unapplied, glyph_after, end_after, glyph_before, start_before}
 use Rattle.layout_positions.specs.Marks.{mark_put, mark_array, base_anchor, mark_attached, mark_number, row_of, mark_on_row, mark_on_glyph, mark_base_at, mark_base_applied, ligature_matrix, component_of, mark_on_matrix, mark_on_ligature, mark_ligature_at, mark_ligature_applied, for_marks, are_together, mark_on_mark, mark_mark_at, mark_mark_applied}
 use Rattle.layout_positions.specs.Pairs.{glyph_adjusted, single_of, single_put, single_applied, pair_of, pair_marked, pair_ended, pair_moves, pair_put, pair_with, pair_at_number, has_pairs, pair_applied}
-use Rattle.layout_positions.specs.Turning.{Turn, turn_next, turn_at, turn_step, turned, follows, parent_freed, link_put, attached}
+use Rattle.layout_positions.specs.Turning.{Turn, turn_next, turn_at, turn_step, first_turn, turned, follows, parent_freed, link_put, attached}
 use Rattle.layout_positions.specs.Subtables.{if_first_format, kind_applied, unplaced, sought, kind_placed, Trial, trial_of, subtable_tried, next_tried, trial_step, lookup_tried}
 use Rattle.layout_positions.specs.declared.anchors.Anchor.{Anchor}
 use Rattle.layout_positions.specs.declared.bases.BaseSeen.{BaseSeen}
@@ -106,7 +106,7 @@ module _ (P : Buffer → Buffer → Type 0) (same : (b : Buffer) → P b b) (aft
   step-turned child end b =
       after b (freed child b) (turned child end b) (by_position child _ b)
       (step-times (λ (s : Turn). s.buffer) (turn_step end) (λ s. step-turn_or s (turn_next end s)) (length b.items)
-      (record { buffer = freed child b; at = child; was = position_at b child }))
+      (first_turn child b))
 
   step-attached : (child parent : ℕ) (v : ℤ) (b : Buffer) → P b (attached child parent v b)
   step-attached child parent v b =

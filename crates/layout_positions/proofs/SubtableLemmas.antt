@@ -1,5 +1,5 @@
 -- a lookup preserves the number of items, and what subtables of marks on bases and ligatures come to
-use Rattle.std.proofs.Common.{◌≡◌, ℕ, ◌∙◌, ◌&&◌, ◌||◌, Bool, true, false, Option, Some, None, is_some, length, nat_eq, refl, sym, ap, subst, arith, if◌then◌else◌}
+use Rattle.std.proofs.Common.{◌≡◌, ℕ, ◌∙◌, ◌&&◌, ◌||◌, Bool, true, false, Option, Some, None, is_some, length, nat_eq, refl, sym, ap, subst, arith, ◌-◌, ◌*◌, if◌then◌else◌}
 use Rattle.std.proofs.lemmas.Bool.Decides.{nat_tests}
 use Rattle.std.specs.Option.{option_map_or}
 use Rattle.shape_font.specs.Bytes.{u16_of}
@@ -10,7 +10,7 @@ use Rattle.layout_positions.specs.Cursive.{cursive_applied}
 use Rattle.layout_positions.specs.Lookups.{Applied, unapplied}
 use Rattle.layout_positions.specs.Marks.{base_seen, mark_number, mark_base_at, mark_base_applied, mark_ligature_at, mark_ligature_applied, mark_mark_applied}
 use Rattle.layout_positions.specs.Pairs.{single_applied, pair_applied}
-use Rattle.layout_positions.specs.Subtables.{if_first_format, kind_applied, sought_from, sought, unplaced, kind_placed, subtable_placed, Trial, trial_step}
+use Rattle.layout_positions.specs.Subtables.{if_first_format, kind_applied, LINK_WORK, links_of, links_charged, sought_from, sought, unplaced, kind_placed, subtable_placed, Trial, trial_step}
 use Rattle.layout_positions.specs.declared.bases.BaseSeen.{BaseSeen}
 use Rattle.layout_positions.specs.declared.subtables.Sought.{Sought}
 use Rattle.layout_positions.proofs.CountLemmas.{length_broken, length_concat_marked, length_put}
@@ -151,8 +151,47 @@ pub mark_unplaced : (l : Lookup) (subtable : LookupSubtable) (i : ℕ) (b : Buff
 mark_unplaced l subtable i b seen left on is =
     let format = nat_eq (u16_of l.table.now subtable.start) 1 in
     let o = mark_number l subtable.start i b in
+    let third : nat_eq subtable.kind 3 ≡ false = grind (arith, nat_tests, on) in
     let none : sought l subtable i b seen left ≡ record { seen = seen; left = Some left } =
-    sought-unless (nat_eq subtable.kind 4 || nat_eq subtable.kind 5) format (is_some o) _ _ on (unlisted-format format o is) in
+    sought-unless (nat_eq subtable.kind 4 || nat_eq subtable.kind 5) format (is_some o) _ _ on (unlisted-format format o is)
+    ∙ ap (λ t. record { seen = seen; left = if t then links_charged l subtable i b left else Some left }) third in
     ap (λ (x : Applied). record { buffer = x.buffer; next = x.next; seen = seen; left = left })
     (sym (unattached-kind l subtable seen.place i b on is))
     ∙ ap (subtable_placed l subtable i b) (sym none)
+
+-- ---- cursive attachment
+
+links-kind : (l : Lookup) (subtable : LookupSubtable) (i : ℕ) (b : Buffer) (seen : BaseSeen) (left : ℕ) → subtable.kind ≡ 3
+    → sought l subtable i b seen left ≡ record { seen = seen; left = links_charged l subtable i b left }
+links-kind l subtable i b seen left is = rw is refl
+
+cursive-kind : (l : Lookup) (subtable : LookupSubtable) (base : Option ℕ) (i : ℕ) (b : Buffer) → subtable.kind ≡ 3
+    → kind_applied l subtable base i b ≡ if_first_format l subtable.start b (cursive_applied l subtable.start i b)
+cursive-kind l subtable base i b is = rw is refl
+
+-- what is left suffices for some links
+pub links_placed : (l : Lookup) (subtable : LookupSubtable) (i : ℕ) (b c : Buffer) (seen : BaseSeen) (left links after : ℕ) (next : Option ℕ)
+    → subtable.kind ≡ 3 → nat_eq left 0 ≡ false
+    → c ≡ (if_first_format l subtable.start b (cursive_applied l subtable.start i b)).buffer
+    → next ≡ (if_first_format l subtable.start b (cursive_applied l subtable.start i b)).next
+    → links ≡ links_of l subtable i b → after ≡ left - links * LINK_WORK
+    → record { buffer = c; next = next; seen = seen; left = after } ≡ subtable_placed l subtable i b (sought l subtable i b seen left)
+links_placed l subtable i b c seen left links after next kind some made goes turned charged =
+    let rest = left - links_of l subtable i b * LINK_WORK in
+    let enough : links_charged l subtable i b left ≡ Some rest = ap (λ t. if t then None else Some rest) some in
+    ap (λ d. record { buffer = d; next = next; seen = seen; left = after }) made
+    ∙ ap (λ n. record { buffer = (if_first_format l subtable.start b (cursive_applied l subtable.start i b)).buffer; next = n; seen = seen; left = after }) goes
+    ∙ ap (λ (x : Applied). record { buffer = x.buffer; next = x.next; seen = seen; left = after }) (sym (cursive-kind l subtable seen.place i b kind))
+    ∙ ap (kind_placed l subtable i b seen) (charged ∙ ap (λ n. left - n * LINK_WORK) turned)
+    ∙ ap (λ o. option_map_or (kind_placed l subtable i b seen) o (unplaced 0 seen b)) (sym enough)
+    ∙ ap (subtable_placed l subtable i b) (sym (links-kind l subtable i b seen left kind))
+
+-- nothing is left
+pub links_unpaid : (l : Lookup) (subtable : LookupSubtable) (i : ℕ) (b : Buffer) (seen : BaseSeen) (left : ℕ)
+    → subtable.kind ≡ 3 → nat_eq left 0 ≡ true
+    → record { buffer = b; next = None; seen = seen; left = 0 } ≡ subtable_placed l subtable i b (sought l subtable i b seen left)
+links_unpaid l subtable i b seen left kind none =
+    let rest = left - links_of l subtable i b * LINK_WORK in
+    let spent : links_charged l subtable i b left ≡ None = ap (λ t. if t then None else Some rest) none in
+    ap (λ o. option_map_or (kind_placed l subtable i b seen) o (unplaced 0 seen b)) (sym spent)
+    ∙ ap (subtable_placed l subtable i b) (sym (links-kind l subtable i b seen left kind))

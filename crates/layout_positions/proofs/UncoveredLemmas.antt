@@ -1,6 +1,6 @@
 -- a list that no lookup covers stays as it is
 use Prim.Native.Nat.{zero}
-use Rattle.std.proofs.Common.{◌≡◌, ℕ, suc, ◌+◌, ◌&&◌, Bool, true, false, List, [], ◌∷◌, Option, Some, None, is_some, All, fold, length, nat_eq, nat_lt, refl, sym, ap, subst, ◌∙◌, arith, ◌<◌, ◌≤◌, ◌||◌, if◌then◌else◌}
+use Rattle.std.proofs.Common.{◌≡◌, ℕ, suc, ◌+◌, ◌-◌, ◌*◌, ◌&&◌, Bool, true, false, List, [], ◌∷◌, Option, Some, None, is_some, All, fold, length, nat_eq, nat_lt, refl, sym, ap, subst, ◌∙◌, arith, ◌<◌, ◌≤◌, ◌||◌, if◌then◌else◌}
 use Rattle.std.proofs.lemmas.Bool.Decides.{nat_tests}
 use Rattle.std.specs.Option.{option_map_or, option_and_then}
 use Rattle.shape_font.specs.Bytes.{u16_of}
@@ -19,13 +19,13 @@ use Rattle.layout_matching.specs.declared.lookup.Lookup.{Lookup}
 use Rattle.layout_matching.specs.declared.spans.Origin.{Origin}
 use Rattle.layout_matching.specs.declared.tried.Reach.{Reach}
 use Rattle.layout_positions.specs.Anchors.{number_at}
-use Rattle.layout_positions.specs.Cursive.{entry_in, cursive_at, cursive_applied}
+use Rattle.layout_positions.specs.Cursive.{entry_in, cursive_at, cursive_applied, links_at, cursive_links}
 use Rattle.layout_positions.specs.Edits.{concat_marked}
 use Rattle.layout_positions.specs.Lookups.{Applied, unapplied}
 use Rattle.layout_positions.specs.Marks.{mark_base_at, mark_base_applied, mark_number, base_seen, mark_ligature_at, mark_ligature_applied, mark_mark_at, mark_mark_applied}
 use Rattle.layout_positions.specs.Nested.{rule_placed, origin_at, tried_concat_marked, first_rule_placed, level_placed, nested_placed, LEVELS}
 use Rattle.layout_positions.specs.Pairs.{single_value, single_put, single_applied, pair_at_number, has_pairs, pair_applied}
-use Rattle.layout_positions.specs.Subtables.{if_first_format, kind_applied, sought_from, sought, subtable_placed, Trial, subtable_tried, trial_of, trial_step, Placing, unplaced, placed_by, lookup_placed}
+use Rattle.layout_positions.specs.Subtables.{if_first_format, kind_applied, LINK_WORK, links_of, links_charged, unsought, sought_from, sought, kind_placed, subtable_placed, Trial, subtable_tried, trial_of, trial_step, Placing, unplaced, placed_by, lookup_placed}
 use Rattle.layout_positions.specs.Uncovered.{is_listed_at, rule_lists, subtable_lists, IsUnlisted, IsUncovered}
 use Rattle.layout_positions.specs.Walk.{Walk, gone_on, tried_within, tried, lookup_step, Budgeted, first_walk, gone_over, walk_charged, lookup_applied, budgeted, settled_up, positioned}
 use Rattle.layout_positions.specs.declared.bases.BaseSeen.{BaseSeen}
@@ -101,12 +101,13 @@ last-out false y z p q is = refl
 
 -- and looks for no base
 seen-un : (l : Lookup) (subtable : LookupSubtable) (i : ℕ) (b : Buffer) (seen : BaseSeen) (left : ℕ) → l.positioning ≡ true
-    → subtable_lists l subtable (nth b.items i).glyph_id ≡ false → sought l subtable i b seen left ≡ record { seen = seen; left = Some left }
+    → subtable_lists l subtable (nth b.items i).glyph_id ≡ false
+    → sought l subtable i b seen left ≡ record { seen = seen; left = unsought l subtable i b left }
 seen-un l subtable i b seen left gpos un = by_kind (is_context_subtable l subtable) refl un
   where
     by_kind : (t : Bool) → is_context_subtable l subtable ≡ t
         → (if t then rule_lists l subtable (nth b.items i).glyph_id else is_listed_at l subtable (nth b.items i).glyph_id) ≡ false
-        → sought l subtable i b seen left ≡ record { seen = seen; left = Some left }
+        → sought l subtable i b seen left ≡ record { seen = seen; left = unsought l subtable i b left }
     by_kind true is none =
         let kinds : (nat_eq subtable.kind 7 || nat_eq subtable.kind 8) ≡ true =
         subst (λ t. (nat_eq subtable.kind (if t then 7 else 5) || nat_eq subtable.kind (if t then 8 else 6)) ≡ true) gpos is in
@@ -115,7 +116,49 @@ seen-un l subtable i b seen left gpos un = by_kind (is_context_subtable l subtab
         rw four (rw five refl)
     by_kind false is none = last-out (nat_eq subtable.kind 4 || nat_eq subtable.kind 5) (nat_eq (u16_of l.table.now subtable.start) 1)
         (is_some (mark_number l subtable.start i b)) (sought_from l subtable b.items i seen left (base_seen l subtable b.items i seen))
-        (record { seen = seen; left = Some left }) none
+        (record { seen = seen; left = unsought l subtable i b left }) none
+
+-- and turns no chain
+links-un : (l : Lookup) (subtable : LookupSubtable) (i : ℕ) (b : Buffer) → l.positioning ≡ true
+    → subtable_lists l subtable (nth b.items i).glyph_id ≡ false → nat_eq subtable.kind 3 ≡ true → links_of l subtable i b ≡ 0
+links-un l subtable i b gpos un third = by_kind (is_context_subtable l subtable) refl un
+  where
+    by_kind : (t : Bool) → is_context_subtable l subtable ≡ t
+        → (if t then rule_lists l subtable (nth b.items i).glyph_id else is_listed_at l subtable (nth b.items i).glyph_id) ≡ false
+        → links_of l subtable i b ≡ 0
+    by_kind true is none =
+        let kinds : (nat_eq subtable.kind 7 || nat_eq subtable.kind 8) ≡ true =
+        subst (λ t. (nat_eq subtable.kind (if t then 7 else 5) || nat_eq subtable.kind (if t then 8 else 6)) ≡ true) gpos is in
+        let other : nat_eq subtable.kind 3 ≡ false = grind (arith, nat_tests, kinds) in
+        cc
+    by_kind false is none =
+        same-if (nat_eq (u16_of l.table.now subtable.start) 1) (cursive_links l subtable.start i b) 0 0
+        (ap (λ o. option_map_or (links_at l subtable.start i b) (option_and_then (entry_in l.table.now subtable.start) o) 0)
+        (none_of (number_at l.table.now subtable.start (subtable.start + 2) (nth b.items i).glyph_id) none)) refl
+
+-- so that what is left stays
+left-un : (l : Lookup) (subtable : LookupSubtable) (i : ℕ) (b : Buffer) (seen : BaseSeen) (left : ℕ) → l.positioning ≡ true
+    → subtable_lists l subtable (nth b.items i).glyph_id ≡ false → kind_applied l subtable seen.place i b ≡ unapplied b
+    → subtable_placed l subtable i b (record { seen = seen; left = unsought l subtable i b left }) ≡ unplaced left seen b
+left-un l subtable i b seen left gpos un still = by_kind (nat_eq subtable.kind 3) refl
+  where
+    applied : (n : ℕ) → n ≡ left → kind_placed l subtable i b seen n ≡ unplaced left seen b
+    applied n is = ap (λ (a : Applied). record { buffer = a.buffer; next = a.next; seen = seen; left = n }) still
+        ∙ ap (λ m. unplaced m seen b) is
+
+    by_left : (t : Bool) → nat_eq left 0 ≡ t → links_of l subtable i b ≡ 0
+        → option_map_or (kind_placed l subtable i b seen) (if t then None else Some (left - links_of l subtable i b * LINK_WORK)) (unplaced 0 seen b)
+        ≡ unplaced left seen b
+    by_left true is none = ap (λ m. unplaced m seen b) (grind (arith, nat_tests, is))
+    by_left false is none =
+        let whole : left - 0 ≡ left = omega arith in
+        applied _ (ap (λ n. left - n * LINK_WORK) none ∙ whole)
+
+    by_kind : (t : Bool) → nat_eq subtable.kind 3 ≡ t
+        → option_map_or (kind_placed l subtable i b seen) (if t then links_charged l subtable i b left else Some left) (unplaced 0 seen b)
+        ≡ unplaced left seen b
+    by_kind true is = by_left (nat_eq left 0) refl (links-un l subtable i b gpos un is)
+    by_kind false is = applied left refl
 
 -- ---- a lookup at a place
 
@@ -129,11 +172,10 @@ tried-un : (l : Lookup) (b : Buffer) (i n left : ℕ) (seen : BaseSeen) → l.po
     ≡ still left seen b (n + 1)
 tried-un l b i n left seen gpos un below None e = refl
 tried-un l b i n left seen gpos un below (Some subtable) e =
-    let same : sought l subtable i b seen left ≡ record { seen = seen; left = Some left } =
-    seen-un l subtable i b seen left gpos (un n subtable below e) in
-    ap (λ (s : Sought). trial_of (still left seen b n) (subtable_placed l subtable i b s)) same
-    ∙ ap (λ (a : Applied). trial_of (still left seen b n) (record { buffer = a.buffer; next = a.next; seen = seen; left = left }))
-    (subtable-un l b i gpos un n subtable below e seen.place)
+    let unlisted : subtable_lists l subtable (nth b.items i).glyph_id ≡ false = un n subtable below e in
+    ap (λ (s : Sought). trial_of (still left seen b n) (subtable_placed l subtable i b s)) (seen-un l subtable i b seen left gpos unlisted)
+    ∙ ap (trial_of (still left seen b n))
+    (left-un l subtable i b seen left gpos unlisted (subtable-un l b i gpos un n subtable below e seen.place))
 
 times-un : (l : Lookup) (b : Buffer) (i left : ℕ) (seen : BaseSeen) → l.positioning ≡ true → IsUnlisted l (nth b.items i).glyph_id
     → (n : ℕ) → n ≤ subtable_count_of l.table.now l.place → times (trial_step l i) n (still left seen b 0) ≡ still left seen b n

@@ -13,7 +13,7 @@ use Rattle.layout_matching.specs.declared.lookup.Lookup.{Lookup}
 use Rattle.layout_positions.specs.Anchors.{anchor_by, number_at}
 use Rattle.layout_positions.specs.Edits.{position_changed, broken, concat_marked}
 use Rattle.layout_positions.specs.Lookups.{Applied, unapplied, glyph_before, start_before}
-use Rattle.layout_positions.specs.Turning.{attached}
+use Rattle.layout_positions.specs.Turning.{attached, links_turned}
 use Rattle.layout_positions.specs.declared.anchors.Anchor.{Anchor}
 
 -- for each glyph the anchor where it is entered, and the one where it is left
@@ -96,3 +96,22 @@ cursive_at l start j b entry = option_map_or (cursive_with l start j entry b) (g
 abbrev pub cursive_applied : Lookup → ℕ → ℕ → Buffer → Applied
 cursive_applied l start j b =
     option_map_or (cursive_at l start j b) (entry_of l.table.now start (nth b.items j).glyph_id) (unapplied b)
+
+-- ---- how many links of chains that turns round
+
+abbrev pub links_across : Bool → ℕ → ℕ → Buffer → ℕ
+links_across true i j b = links_turned i j b
+links_across false i j b = links_turned j i b
+
+abbrev pub links_put : Lookup → ℕ → ℕ → Anchor → Buffer → Anchor → ℕ
+links_put l i j entry b exit = links_across (shares l.flags 1) i j (joined_along i j entry exit b)
+
+abbrev pub links_with : Lookup → ℕ → ℕ → Anchor → Buffer → ℕ → ℕ
+links_with l start j entry b i =
+    option_map_or (links_put l i j entry b) (exit_of l.table.now start (nth b.items i).glyph_id) 0
+
+abbrev pub links_at : Lookup → ℕ → ℕ → Buffer → Anchor → ℕ
+links_at l start j b entry = option_map_or (links_with l start j entry b) (glyph_before l b.items j) 0
+
+abbrev pub cursive_links : Lookup → ℕ → ℕ → Buffer → ℕ
+cursive_links l start j b = option_map_or (links_at l start j b) (entry_of l.table.now start (nth b.items j).glyph_id) 0

@@ -1,5 +1,5 @@
 -- A lookup at a place: its first subtable that applies.
-use Rattle.std.specs.Prelude.{ℕ, Bool, List, Option, Some, None, ◌+◌, ◌&&◌, ◌||◌, is_some, nat_eq, if◌then◌else◌}
+use Rattle.std.specs.Prelude.{ℕ, Bool, List, Option, Some, None, ◌+◌, ◌-◌, ◌*◌, ◌&&◌, ◌||◌, is_some, nat_eq, if◌then◌else◌}
 use Rattle.std.specs.Option.{option_map_or}
 use Rattle.shape_font.specs.Bytes.{u16_of}
 use Rattle.shape_items.specs.Buffer.{Buffer}
@@ -9,7 +9,7 @@ use Rattle.layout_tables.specs.declared.lookups.LookupSubtable.{LookupSubtable}
 use Rattle.layout_matching.specs.Loops.{times}
 use Rattle.layout_matching.specs.Work.{charged}
 use Rattle.layout_matching.specs.declared.lookup.Lookup.{Lookup}
-use Rattle.layout_positions.specs.Cursive.{cursive_applied}
+use Rattle.layout_positions.specs.Cursive.{cursive_applied, cursive_links}
 use Rattle.layout_positions.specs.Lookups.{Applied, unapplied}
 use Rattle.layout_positions.specs.Marks.{base_seen, seek_work, mark_number, mark_base_applied, mark_ligature_applied, mark_mark_applied}
 use Rattle.layout_positions.specs.Pairs.{single_applied, pair_applied}
@@ -49,9 +49,23 @@ abbrev pub sought_from : Lookup → LookupSubtable → List Item → ℕ → Bas
 sought_from l subtable items i before left seen =
     record { seen = seen; left = charged (seek_work l subtable items i before seen.place) left }
 
+-- a link of a chain that cursive attachment turns round
+abbrev pub LINK_WORK : ℕ
+LINK_WORK = 2
+
+abbrev pub links_of : Lookup → LookupSubtable → ℕ → Buffer → ℕ
+links_of l subtable i b = if nat_eq (u16_of l.table.now subtable.start) 1 then cursive_links l subtable.start i b else 0
+
+-- each of them is charged, as far as what is left suffices; once nothing is left, none is turned
+abbrev pub links_charged : Lookup → LookupSubtable → ℕ → Buffer → ℕ → Option ℕ
+links_charged l subtable i b left = if nat_eq left 0 then None else Some (left - links_of l subtable i b * LINK_WORK)
+
+abbrev pub unsought : Lookup → LookupSubtable → ℕ → Buffer → ℕ → Option ℕ
+unsought l subtable i b left = if nat_eq subtable.kind 3 then links_charged l subtable i b left else Some left
+
 abbrev pub sought : Lookup → LookupSubtable → ℕ → Buffer → BaseSeen → ℕ → Sought
 sought l subtable i b seen left = if looks_for_base l subtable i b
-    then sought_from l subtable b.items i seen left (base_seen l subtable b.items i seen) else record { seen = seen; left = Some left }
+    then sought_from l subtable b.items i seen left (base_seen l subtable b.items i seen) else record { seen = seen; left = unsought l subtable i b left }
 
 abbrev pub kind_placed : Lookup → LookupSubtable → ℕ → Buffer → BaseSeen → ℕ → Placing
 kind_placed l subtable i b seen left = let made = kind_applied l subtable seen.place i b in

@@ -1,5 +1,5 @@
 -- Cursive attachment: a glyph that gets another one to follow, and the chain that it was in.
-use Rattle.std.specs.Prelude.{ℕ, ℤ, pos, Bool, true, false, Option, Some, None, length, nat_eq, if◌then◌else◌}
+use Rattle.std.specs.Prelude.{ℕ, ℤ, pos, Bool, true, false, Option, Some, None, ◌+◌, length, nat_eq, if◌then◌else◌}
 use Rattle.std.specs.Option.{option_and_then, option_map_or}
 use Rattle.shape_common.specs.Direction.{is_horizontal}
 use Rattle.shape_common.specs.Wrapping.{neg_w}
@@ -21,11 +21,12 @@ offset_across false p = p.x_offset
 abbrev pub linked : Bool → ℕ → ℕ → ℤ → GlyphPosition → GlyphPosition
 linked horizontal i j v p = across horizontal v (record p { attach_chain = chain_to i j; attach_type = CURSIVE_ATTACHED })
 
--- the glyph at `at`, whose link is to be turned round, and its position before
+-- the glyph at `at`, whose link is to be turned round, its position before, and how many links have been turned
 pub record Turn : Type 0 where
   pub buffer : Buffer
   pub at : ℕ
   pub was : GlyphPosition
+  pub links : ℕ
 
 -- the glyph that it followed in a cursive line, if that isn't the one where the walk ends
 abbrev pub unless_end : ℕ → ℕ → Option ℕ
@@ -43,15 +44,24 @@ turn_at s j = let horizontal = is_horizontal s.buffer.direction in
       buffer = position_put j (linked horizontal j s.at (neg_w (offset_across horizontal s.was)) next) s.buffer;
       at = j;
       was = next;
+      links = s.links + 1;
     }
 
 abbrev pub turn_step : ℕ → Turn → Turn
 turn_step end s = option_map_or (turn_at s) (turn_next end s) s
 
 -- the chain from a glyph on turned round, up to the one that the glyph is to follow
+abbrev pub first_turn : ℕ → Buffer → Turn
+first_turn child b = record { buffer = freed child b; at = child; was = position_at b child; links = 0 }
+
+abbrev pub last_turn : ℕ → ℕ → Buffer → Turn
+last_turn child end b = times (turn_step end) (length b.items) (first_turn child b)
+
 abbrev pub turned : ℕ → ℕ → Buffer → Buffer
-turned child end b =
-    (times (turn_step end) (length b.items) (record { buffer = freed child b; at = child; was = position_at b child })).buffer
+turned child end b = (last_turn child end b).buffer
+
+abbrev pub links_turned : ℕ → ℕ → Buffer → ℕ
+links_turned child end b = (last_turn child end b).links
 
 -- two glyphs don't follow each other
 abbrev pub follows : ℕ → ℕ → Buffer → Bool

@@ -15,6 +15,19 @@ use shape_buffer::wrapping::{difference, sum};
 use shape_buffer::{GlyphPosition, hb_buffer_t};
 use shape_font::bytes::{records, u16_at};
 
+/// Where the lookup goes on, nowhere if it didn't apply, and how many links of chains it turned.
+#[derive(Clone, Copy)]
+pub struct Joined {
+    pub next: Option<usize>,
+    pub links: usize,
+}
+
+/// What a lookup returns that doesn't apply.
+pub(crate) const UNJOINED: Joined = Joined {
+    next: None,
+    links: 0,
+};
+
 /// Whether the subtable has anchors for glyph number `number`.
 fn has_anchors(table: &[u8], start: usize, number: u32) -> bool
     requires { start < 2 ^ 34 }
@@ -129,6 +142,7 @@ fn gap_across(horizontal: bool, a: Anchor, b: Anchor) -> i32
 }
 
 /// Lets one of two glyphs follow the other across the line: the first one the second if `reversed`.
+/// Returns how many links that turned round.
 fn join_across(
     buffer: &mut hb_buffer_t,
     reversed: bool,
@@ -136,16 +150,17 @@ fn join_across(
     j: usize,
     entry: Anchor,
     exit: Anchor,
-)
+) -> usize
     requires i { i < length buffer.old.items }
     requires j { j < length buffer.old.items }
-    ensures { buffer.new ≡ Cursive.joined_across reversed i j entry exit buffer.old }
+    ensures made { buffer.new ≡ Cursive.joined_across reversed i j entry exit buffer.old }
+    ensures links { result ≡ Cursive.links_across reversed i j buffer.old }
 {
     let horizontal = buffer.direction().is_horizontal();
     if reversed {
-        attach(buffer, i, j, gap_across(horizontal, entry, exit));
+        attach(buffer, i, j, gap_across(horizontal, entry, exit))
     } else {
-        attach(buffer, j, i, gap_across(horizontal, exit, entry));
+        attach(buffer, j, i, gap_across(horizontal, exit, entry))
     }
 }
 
@@ -172,49 +187,57 @@ fn cursive_with(
     j: usize,
     entry: Anchor,
     i: usize,
-) -> Option<usize>
+) -> Joined
     requires start { start < 2 ^ 34 }
     requires i { i < j }
     requires j { j < length buffer.old.items }
     ensures made { buffer.new
         ≡ (Cursive.cursive_with lookup.now start j entry buffer.old i).buffer }
-    ensures next { result ≡ (Cursive.cursive_with lookup.now start j entry buffer.old i).next }
+    ensures next { result.next
+        ≡ (Cursive.cursive_with lookup.now start j entry buffer.old i).next }
+    ensures links { result.links ≡ Cursive.links_with lookup.now start j entry buffer.old i }
 {
     let count = buffer.len();
     match exit(lookup.table, start, item_at(buffer.infos(), i).glyph_id) {
         Some(exit) => {
             join_along(buffer, i, j, entry, exit);
-            join_across(buffer, lookup.flags & 1 != 0, i, j, entry, exit);
-            Some(after(count, j))
+            let links = join_across(buffer, lookup.flags & 1 != 0, i, j, entry, exit);
+            Joined {
+                next: Some(after(count, j)),
+                links,
+            }
         }
         None => {
             concat_between(buffer, i, after(count, j));
-            None
+            UNJOINED
         }
     }
 }
 
 /// Applies cursive attachment to the glyph at place `j` and the one before it that the lookup sees.
-/// Returns the place where the lookup goes on.
 pub fn apply_cursive(
     lookup: &Lookup<'_>,
     start: usize,
     buffer: &mut hb_buffer_t,
     j: usize,
-) -> Option<usize>
+) -> Joined
     requires start { start < 2 ^ 34 }
     requires inside { j < length buffer.old.items }
     ensures made { buffer.new ≡ (Cursive.cursive_applied lookup.now start j buffer.old).buffer }
-    ensures next { result ≡ (Cursive.cursive_applied lookup.now start j buffer.old).next }
+    ensures next { result.next ≡ (Cursive.cursive_applied lookup.now start j buffer.old).next }
+    ensures links { result.links ≡ Cursive.cursive_links lookup.now start j buffer.old }
 {
     let count = buffer.len();
-    let entry = entry(lookup.table, start, item_at(buffer.infos(), j).glyph_id)?;
+    let glyph = item_at(buffer.infos(), j).glyph_id;
+    let Some(entry) = entry(lookup.table, start, glyph) else {
+        return UNJOINED;
+    };
     let stop = stop_before(lookup, buffer.infos(), j);
     match glyph_at(lookup, buffer.infos(), stop) {
         Some(i) => cursive_with(lookup, start, buffer, j, entry, i),
         None => {
             concat_between(buffer, start_at(stop), after(count, j));
-            None
+            UNJOINED
         }
     }
 }

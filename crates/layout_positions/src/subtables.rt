@@ -1,5 +1,5 @@
 //! A lookup at a place: its first subtable that applies.
-ghost use Rattle.std.specs.Prelude.{◌≡◌, ◌<◌, ◌≤◌, ◌+◌, ◌^◌, ◌||◌, true, false, length, nat_eq, Some, None, if◌then◌else◌};
+ghost use Rattle.std.specs.Prelude.{◌≡◌, ◌<◌, ◌≤◌, ◌+◌, ◌-◌, ◌*◌, ◌^◌, ◌||◌, true, false, length, nat_eq, Some, None, if◌then◌else◌};
 ghost use Rattle.std.specs.Option.{IfSome};
 ghost use Rattle.shape_font.specs.Bytes.{u16_of};
 ghost use Rattle.layout_positions.specs.Cursive;
@@ -9,7 +9,7 @@ ghost use Rattle.layout_positions.specs.Subtables;
 
 use crate::adjustment::{apply_pair, apply_single};
 use crate::bases::{BaseSeen, base_seen, seek_work};
-use crate::cursive::apply_cursive;
+use crate::cursive::{Joined, UNJOINED, apply_cursive};
 use crate::marks::{apply_mark_mark, attach_to_base, attach_to_ligature, mark_number};
 use layout_matching::lookup::Lookup;
 use layout_matching::tally::charged;
@@ -42,21 +42,65 @@ pub struct Sought {
 #[inline(never)]
 fn try_cursive(
     lookup: &Lookup<'_>,
-    start: usize,
+    subtable: LookupSubtable,
     buffer: &mut hb_buffer_t,
     i: usize,
-) -> Option<usize>
-    requires near { start < 2 ^ 34 }
+) -> Joined
+    requires near { subtable.start < 2 ^ 34 }
     requires inside { i < length buffer.old.items }
-    ensures made { buffer.new ≡ (Subtables.if_first_format lookup.now start buffer.old
-        (Cursive.cursive_applied lookup.now start i buffer.old)).buffer }
-    ensures next { result ≡ (Subtables.if_first_format lookup.now start buffer.old
-        (Cursive.cursive_applied lookup.now start i buffer.old)).next }
+    ensures made { buffer.new ≡ (Subtables.if_first_format lookup.now subtable.start buffer.old
+        (Cursive.cursive_applied lookup.now subtable.start i buffer.old)).buffer }
+    ensures next { result.next ≡ (Subtables.if_first_format lookup.now subtable.start buffer.old
+        (Cursive.cursive_applied lookup.now subtable.start i buffer.old)).next }
+    ensures links { result.links ≡ Subtables.links_of lookup.now subtable i buffer.old }
 {
-    if u16_at(lookup.table, start) != 1 {
-        return None;
+    if u16_at(lookup.table, subtable.start) != 1 {
+        return UNJOINED;
     }
-    apply_cursive(lookup, start, buffer, i)
+    apply_cursive(lookup, subtable.start, buffer, i)
+}
+
+/// What is left after so many links of a chain were turned round.
+fn charge_links(links: usize, left: usize) -> usize
+    ensures { result ≡ left - links * Subtables.LINK_WORK }
+{
+    left.saturating_sub(links).saturating_sub(links)
+}
+
+/// Applies a subtable of type 3 to the glyph at place `i`, unless nothing is left for the links that
+/// it may turn round.
+#[tactic(auto, using(crate::proofs::SubtableLemmas::links_placed, crate::proofs::SubtableLemmas::links_unpaid))]
+fn place_cursive(
+    lookup: &Lookup<'_>,
+    subtable: LookupSubtable,
+    buffer: &mut hb_buffer_t,
+    i: usize,
+    carried: Carried,
+) -> Outcome
+    requires near { subtable.start < 2 ^ 34 }
+    requires inside { i < length buffer.old.items }
+    requires kind { subtable.kind ≡ 3 }
+    ensures { record {
+      buffer = buffer.new;
+      next = result.next;
+      seen = result.carried.seen;
+      left = result.carried.left;
+    } ≡ Subtables.subtable_placed lookup.now subtable i buffer.old
+        (Subtables.sought lookup.now subtable i buffer.old carried.seen carried.left) }
+{
+    let seen = carried.seen;
+    if carried.left == 0 {
+        return Outcome {
+            next: None,
+            carried: Carried { seen, left: 0 },
+        };
+    }
+    let joined = try_cursive(lookup, subtable, buffer, i);
+    let left = charge_links(joined.links, carried.left);
+    Outcome {
+        next: joined.next,
+        carried: Carried { seen, left },
+    }
 }
 
 /// Applies attachment to a mark, which is of format 1, to the glyph at place `i`.
@@ -79,7 +123,8 @@ fn try_mark_mark(
     apply_mark_mark(lookup, start, buffer, i)
 }
 
-/// Applies a subtable by its type to the glyph at place `i`, but none that attaches marks to bases or ligatures.
+/// Applies a subtable by its type to the glyph at place `i`, but none of cursive attachment, and none
+/// that attaches marks to bases or ligatures.
 fn apply_kind(
     lookup: &Lookup<'_>,
     subtable: LookupSubtable,
@@ -90,6 +135,7 @@ fn apply_kind(
 ) -> Outcome
     requires near { subtable.start < 2 ^ 34 }
     requires inside { i < length buffer.old.items }
+    requires lone { nat_eq subtable.kind 3 ≡ false }
     requires baseless { nat_eq subtable.kind 4 || nat_eq subtable.kind 5 ≡ false }
     requires known { IfSome ahead.old
         (λ stop. stop ≡ Lookups.stop_after lookup.now buffer.old.items i) }
@@ -105,7 +151,6 @@ fn apply_kind(
     let next = match subtable.kind {
         1 => apply_single(lookup, subtable.start, buffer, i),
         2 => apply_pair(lookup, subtable.start, buffer, i, ahead),
-        3 => try_cursive(lookup, subtable.start, buffer, i),
         6 => try_mark_mark(lookup, subtable.start, buffer, i),
         _ => None,
     };
@@ -262,10 +307,10 @@ fn apply_subtable(
     ensures known { IfSome ahead.new
         (λ stop. stop ≡ Lookups.stop_after lookup.now buffer.old.items i) }
 {
-    if subtable.kind == 4 || subtable.kind == 5 {
-        try_mark(lookup, subtable, buffer, i, carried)
-    } else {
-        apply_kind(lookup, subtable, buffer, i, carried, ahead)
+    match subtable.kind {
+        3 => place_cursive(lookup, subtable, buffer, i, carried),
+        4 | 5 => try_mark(lookup, subtable, buffer, i, carried),
+        _ => apply_kind(lookup, subtable, buffer, i, carried, ahead),
     }
 }
 

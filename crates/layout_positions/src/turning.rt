@@ -1,6 +1,6 @@
 //! Cursive attachment: a glyph that gets another one to follow, and the chain that it was in, which
 //! is turned round.
-ghost use Rattle.std.specs.Prelude.{◌≡◌, ◌<◌, length};
+ghost use Rattle.std.specs.Prelude.{◌≡◌, ℕ, ◌<◌, ◌+◌, length};
 ghost use Rattle.std.specs.Option.{IfSome};
 ghost use Rattle.layout_positions.specs.Edits.{position_at};
 ghost use Rattle.layout_positions.specs.Turning;
@@ -54,7 +54,7 @@ fn linked(
 fn turn_next(buffer: &hb_buffer_t, end: usize, at: usize, was: GlyphPosition) -> Option<usize>
     requires { at < length buffer.now.items }
     ensures value { result
-        ≡ Turning.turn_next end (record { buffer = buffer.now; at = at; was = was }) }
+        ≡ Turning.turn_next end (record { buffer = buffer.now; at = at; was = was; links = 0 }) }
     ensures inside { IfSome result (λ j. j < length buffer.now.items) }
 {
     if was.attach_type != CURSIVE_ATTACHED {
@@ -68,8 +68,8 @@ fn turn_next(buffer: &hb_buffer_t, end: usize, at: usize, was: GlyphPosition) ->
 
 /// Turns the link from place `at` to place `j` round. Returns the position at `j` before.
 fn turn_at(buffer: &mut hb_buffer_t, at: usize, was: GlyphPosition, j: usize) -> GlyphPosition
-    ensures made { record { buffer = buffer.new; at = j; was = result }
-        ≡ Turning.turn_at (record { buffer = buffer.old; at = at; was = was }) j }
+    ensures made { (links : ℕ) → record { buffer = buffer.new; at = j; was = result; links = links + 1 }
+        ≡ Turning.turn_at (record { buffer = buffer.old; at = at; was = was; links = links }) j }
     ensures items { buffer.new.items ≡ buffer.old.items }
 {
     let horizontal = buffer.direction().is_horizontal();
@@ -79,25 +79,28 @@ fn turn_at(buffer: &mut hb_buffer_t, at: usize, was: GlyphPosition, j: usize) ->
     next
 }
 
-/// Turns the chain from place `child` on round, up to place `end`.
+/// Turns the chain from place `child` on round, up to place `end`. Returns how many links it turns.
 #[tactic(auto, using(layout_matching::proofs::LoopLemmas::times_step, crate::proofs::TurnLemmas::turned_whole, crate::proofs::TurnLemmas::turned_still, crate::proofs::TurnLemmas::turn_on))]
-fn turn(buffer: &mut hb_buffer_t, child: usize, end: usize)
+fn turn(buffer: &mut hb_buffer_t, child: usize, end: usize) -> usize
     requires { child < length buffer.old.items }
     ensures made { buffer.new ≡ Turning.turned child end buffer.old }
+    ensures links { result ≡ Turning.links_turned child end buffer.old }
     ensures items { buffer.new.items ≡ buffer.old.items }
 {
     let mut at = child;
     let mut was = position(buffer, child);
     free(buffer, child);
-    for _i in 0..buffer.len() {
+    let count = buffer.len();
+    for i in 0..count {
         match turn_next(buffer, end, at, was) {
             Some(j) => {
                 was = turn_at(buffer, at, was, j);
                 at = j;
             }
-            None => return,
+            None => return i,
         }
     }
+    count
 }
 
 /// Whether the glyph at place `i` is attached to the one at place `j`.
@@ -144,14 +147,17 @@ fn link(buffer: &mut hb_buffer_t, child: usize, parent: usize, offset: i32)
 }
 
 /// Lets the glyph at place `child` follow the one at place `parent`, so far from it across the
-/// line. The chain that `child` was in follows it from now on.
-pub fn attach(buffer: &mut hb_buffer_t, child: usize, parent: usize, offset: i32)
+/// line. The chain that `child` was in follows it from now on. Returns how many of its links were
+/// turned.
+pub fn attach(buffer: &mut hb_buffer_t, child: usize, parent: usize, offset: i32) -> usize
     requires child { child < length buffer.old.items }
     requires parent { parent < length buffer.old.items }
     ensures made { buffer.new ≡ Turning.attached child parent offset buffer.old }
+    ensures links { result ≡ Turning.links_turned child parent buffer.old }
     ensures items { buffer.new.items ≡ buffer.old.items }
 {
-    turn(buffer, child, parent);
+    let links = turn(buffer, child, parent);
     link(buffer, child, parent, offset);
     free_parent(buffer, child, parent);
+    links
 }

@@ -9,7 +9,7 @@ use Rattle.shape_common.specs.declared.text_types.Direction.TheVariants.{LeftToR
 use Rattle.shape_items.specs.Buffer.{Buffer, new_buffer}
 use Rattle.shape_items.specs.Items.{new_item}
 use Rattle.layout_positions.specs.Attachment.{chain_to, place_at, offsets_finished}
-use Rattle.layout_positions.specs.Turning.{attached}
+use Rattle.layout_positions.specs.Turning.{attached, links_turned}
 use Rattle.layout_positions.specs.Worked.Lines.{offsets, chains}
 
 abbrev placed : Direction → List GlyphPosition → Buffer
@@ -104,6 +104,15 @@ first_follows = placed RightToLeft (joins (pos 0) (pos 7) (pos 1) ∷ at (pos 0)
 abbrev second_follows : Buffer
 second_follows = placed RightToLeft (at (pos 0) (pos 9) (pos 600) ∷ joins (pos 0) (pos 7) (negsuc 0) ∷ [])
 
+-- 0 follows 1, and 1 follows 2
+abbrev two_follow : Buffer
+two_follow = placed RightToLeft
+    (joins (pos 0) (pos 7) (pos 1) ∷ joins (pos 0) (pos 8) (pos 1) ∷ at (pos 0) (pos 9) (pos 600) ∷ at (pos 0) (pos 0) (pos 600) ∷ [])
+
+-- 0 stands on 1, as a mark
+abbrev first_hangs : Buffer
+first_hangs = placed RightToLeft (hangs (pos 0) (pos 7) (pos 0) (pos 1) ∷ at (pos 0) (pos 9) (pos 600) ∷ at (pos 0) (pos 0) (pos 600) ∷ [])
+
 pub record WorkedTurning : Type 0 where
   -- the one that it followed follows it, on the other side
   pub turned_round : offsets (attached 0 2 (pos 5) first_follows) ≡ (pos 0, pos 5) ∷ (pos 0, negsuc 6) ∷ (pos 0, pos 0) ∷ []
@@ -112,6 +121,13 @@ pub record WorkedTurning : Type 0 where
   -- two glyphs don't follow each other
   pub concat_marked : chains (attached 0 1 (pos 5) second_follows) ≡ pos 1 ∷ pos 0 ∷ []
   pub concat_marked_across : offsets (attached 0 1 (pos 5) second_follows) ≡ (pos 0, pos 5) ∷ (pos 0, pos 0) ∷ []
+  pub one_link : links_turned 0 2 first_follows ≡ 1
+  pub two_links : links_turned 0 3 two_follow ≡ 2
+  pub from_within : links_turned 1 3 two_follow ≡ 1
+  pub up_to_the_new_one : links_turned 0 2 two_follow ≡ 1
+  pub no_link_to_the_new_one : links_turned 0 1 first_follows ≡ 0
+  pub none_followed : links_turned 0 1 second_follows ≡ 0
+  pub no_mark : links_turned 0 2 first_hangs ≡ 0
 
 pub worked_turning : WorkedTurning
 unfolding ◌+ʷ◌ ◌-ʷ◌ neg_w int_wrap
@@ -121,4 +137,11 @@ worked_turning = record {
   not_past_the_new_one = refl;
   concat_marked = refl;
   concat_marked_across = refl;
+  one_link = refl;
+  two_links = refl;
+  from_within = refl;
+  up_to_the_new_one = refl;
+  no_link_to_the_new_one = refl;
+  none_followed = refl;
+  no_mark = refl;
 }

@@ -10,13 +10,13 @@ use Rattle.shape_font.specs.Bytes.{i16_of}
 use Rattle.shape_items.specs.Buffer.{Buffer}
 use Rattle.shape_items.specs.Items.{Item}
 use Rattle.layout_matching.specs.declared.lookup.Lookup.{Lookup}
-use Rattle.layout_positions.specs.Cursive.{cursive_applied}
+use Rattle.layout_positions.specs.Cursive.{cursive_applied, cursive_links}
 use Rattle.layout_positions.specs.Lookups.{Applied}
 use Rattle.layout_positions.specs.Worked.Lines.{base, line, advances, offsets, chains, masks}
 use Rattle.layout_positions.specs.Worked.Pairs.{IsLookup}
 
 -- glyph 2 is left at 500, 50, and glyph 3 entered at 20, 80
-abbrev joins : List ℕ
+abbrev pub joins : List ℕ
 joins = 0 ∷ 1 ∷ 0 ∷ 14 ∷ 0 ∷ 2 ∷ 0 ∷ 0 ∷ 0 ∷ 22 ∷ 0 ∷ 28 ∷ 0 ∷ 0 ∷ 0 ∷ 1 ∷ 0 ∷ 2 ∷ 0 ∷ 2 ∷ 0 ∷ 3
     ∷ 0 ∷ 1 ∷ 1 ∷ 244 ∷ 0 ∷ 50 ∷ 0 ∷ 1 ∷ 0 ∷ 20 ∷ 0 ∷ 80 ∷ []
 
@@ -30,6 +30,12 @@ moved = record zero_position { x_advance = pos 600; x_offset = pos 7; y_offset =
 abbrev joined_moved : Lookup → Direction → Buffer
 joined_moved l direction =
     (cursive_applied l 0 1 (record (line direction (base 2 0 ∷ base 3 1 ∷ [])) { positions = moved ∷ moved ∷ [] })).buffer
+
+-- glyph 3 follows the glyph after it already
+abbrev pub followed : Direction → Buffer
+followed direction = record (line direction (base 2 0 ∷ base 3 1 ∷ base 7 2 ∷ [])) {
+  positions = zero_position ∷ record zero_position { attach_chain = pos 1; attach_type = 2 } ∷ zero_position ∷ [];
+}
 
 -- the masks of a line in which what is unsafe to concat is asked for
 abbrev masks_asked : Lookup → ℕ → List Item → List ℕ
@@ -73,6 +79,14 @@ pub record WorkedCursive : Type 0 where
       → offsets (joined_moved l BottomToTop) ≡ (pos 7, negsuc 49) ∷ (pos 480, pos 9) ∷ []
   -- 2 is UNSAFE_TO_CONCAT
   pub no_exit_in_vain : (l : Lookup) → IsLookup l joins 0 → masks_asked l 1 (base 3 0 ∷ base 3 1 ∷ []) ≡ 18 ∷ 18 ∷ []
+  -- the link of the second one is turned round if it is to follow the first one
+  pub one_link_turned : (l : Lookup) → IsLookup l joins 0 → cursive_links l 0 1 (followed LeftToRight) ≡ 1
+  pub now_followed : (l : Lookup) → IsLookup l joins 0
+      → chains (cursive_applied l 0 1 (followed LeftToRight)).buffer ≡ pos 0 ∷ negsuc 0 ∷ negsuc 0 ∷ []
+  pub no_link_turned : (l : Lookup) → IsLookup l joins 1 → cursive_links l 0 1 (followed LeftToRight) ≡ 0
+  pub still_followed : (l : Lookup) → IsLookup l joins 1
+      → chains (cursive_applied l 0 1 (followed LeftToRight)).buffer ≡ pos 1 ∷ pos 1 ∷ pos 0 ∷ []
+  pub no_exit_no_link : (l : Lookup) → IsLookup l joins 0 → cursive_links l 0 1 (line LeftToRight (base 3 0 ∷ base 3 1 ∷ [])) ≡ 0
   pub no_glyph_before : (l : Lookup) → IsLookup l joins 0 → masks_asked l 0 (base 3 0 ∷ base 7 1 ∷ []) ≡ 18 ∷ 16 ∷ []
 
 pub worked_cursive : WorkedCursive
@@ -101,5 +115,10 @@ worked_cursive = record {
   moved_upwards = λ l is. rw (is.table, is.flags, is.mask) refl;
   moved_upwards_on = λ l is. rw (is.table, is.flags, is.mask) refl;
   no_exit_in_vain = λ l is. rw (is.table, is.flags, is.mask) refl;
+  one_link_turned = λ l is. rw (is.table, is.flags, is.mask) refl;
+  now_followed = λ l is. rw (is.table, is.flags, is.mask) refl;
+  no_link_turned = λ l is. rw (is.table, is.flags, is.mask) refl;
+  still_followed = λ l is. rw (is.table, is.flags, is.mask) refl;
+  no_exit_no_link = λ l is. rw (is.table, is.flags, is.mask) refl;
   no_glyph_before = λ l is. rw is.table refl;
 }

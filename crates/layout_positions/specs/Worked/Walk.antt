@@ -1,8 +1,8 @@
 -- Lookups over lines, on tables that were read by hand.
-use Rattle.std.specs.Prelude.{◌≡◌, ℕ, ℤ, pos, negsuc, List, [], ◌∷◌, ◌++◌, Some, true, false, refl}
+use Rattle.std.specs.Prelude.{◌≡◌, ℕ, ℤ, pos, negsuc, List, [], ◌∷◌, ◌++◌, Some, None, true, false, refl}
 use Rattle.std.specs.Int.{int_wrap}
 use Rattle.std.specs.Int.Count.{ones}
-use Rattle.shape_common.specs.Wrapping.{◌+ʷ◌, ◌-ʷ◌}
+use Rattle.shape_common.specs.Wrapping.{◌+ʷ◌, ◌-ʷ◌, neg_w}
 use Rattle.shape_common.specs.declared.text_types.Direction.TheVariants.{LeftToRight}
 use Rattle.shape_font.specs.Bytes.{i16_of}
 use Rattle.shape_items.specs.Buffer.{Buffer}
@@ -14,6 +14,7 @@ use Rattle.layout_positions.specs.Subtables.{Placing}
 use Rattle.layout_positions.specs.Uncovered.{subtable_lists}
 use Rattle.layout_positions.specs.Walk.{Budgeted, none_seen, budgeted, settled_up, positioned}
 use Rattle.layout_positions.specs.Worked.Lines.{base, mark, component_of, line, advances, offsets, chains, masks}
+use Rattle.layout_positions.specs.Worked.Cursive.{joins, followed}
 use Rattle.layout_positions.specs.Worked.Marks.{on_bases}
 use Rattle.layout_positions.specs.Worked.Pairs.{single_one, single_two, pairs_one, IsLookup}
 
@@ -54,6 +55,10 @@ named l left = nested_placed LEVELS l 0 left none_seen (line LeftToRight (base 2
 -- a mark, or another glyph, on a base, with so much left
 abbrev sought : Lookup → Item → ℕ → Placing
 sought l item left = nested_placed LEVELS l 1 left none_seen (line LeftToRight (base 2 0 ∷ item ∷ []))
+
+-- a glyph that is to follow the one before it, and follows the one after it, with so much left
+abbrev turned_with : Lookup → ℕ → Placing
+turned_with l left = nested_placed LEVELS l 1 left none_seen (followed LeftToRight)
 
 pub record WorkedBounds : Type 0 where
   -- a lookup of the plan and 64 levels below it
@@ -102,6 +107,14 @@ pub record WorkedWalk : Type 0 where
   pub just_enough_for_a_search : Over (one_subtable 4 on_bases) 0 0 (λ l. (sought l (mark 8 0) 1).next ≡ Some 2)
   pub too_little_for_a_search : Over (one_subtable 4 on_bases) 0 0 (λ l. chains (sought l (mark 8 0) 0).buffer ≡ pos 0 ∷ pos 0 ∷ [])
   pub no_search : Over (one_subtable 4 on_bases) 0 0 (λ l. (sought l (mark 7 0) 5).left ≡ 5)
+  -- two for the one link that is turned; it is turned if anything is left
+  pub turned_link : Over (one_subtable 3 joins) 0 0 (λ l. (turned_with l 5).left ≡ 3)
+  pub last_link : Over (one_subtable 3 joins) 0 0 (λ l. (turned_with l 1).left ≡ 0)
+  pub last_link_turned : Over (one_subtable 3 joins) 0 0 (λ l. chains (turned_with l 1).buffer ≡ pos 0 ∷ negsuc 0 ∷ negsuc 0 ∷ [])
+  pub no_more_links : Over (one_subtable 3 joins) 0 0 (λ l. chains (turned_with l 0).buffer ≡ pos 0 ∷ pos 1 ∷ pos 0 ∷ [])
+  pub not_joined : Over (one_subtable 3 joins) 0 0 (λ l. (turned_with l 0).next ≡ None)
+  -- by the flag RIGHT_TO_LEFT the first one follows the second one, and no link is turned
+  pub no_turned_link : Over (one_subtable 3 joins) 1 0 (λ l. (turned_with l 5).left ≡ 5)
   pub mark_on_the_first_component : Over (one_subtable 4 on_bases) 0 0
       (λ l. chains (over l (component_of 0 (base 2 0) ∷ component_of 1 (base 3 0) ∷ mark 8 0 ∷ [])) ≡ pos 0 ∷ pos 0 ∷ negsuc 1 ∷ [])
   pub mark_on_the_listed_component : Over (one_subtable 4 on_bases) 0 0
@@ -130,7 +143,7 @@ pub record WorkedWalk : Type 0 where
   pub not_first_of_a_rule : (l : Lookup) → IsLookup l in_context 0 → subtable_lists l (record { kind = 7; start = 24 }) 7 ≡ false
 
 pub worked_walk : WorkedWalk
-unfolding i16_of ◌+ʷ◌ ◌-ʷ◌ int_wrap ones
+unfolding i16_of ◌+ʷ◌ ◌-ʷ◌ neg_w int_wrap ones
 worked_walk = record {
   each_glyph = λ l. refl;
   where_it_is_on = λ l. refl;
@@ -142,6 +155,12 @@ worked_walk = record {
   just_enough_for_a_search = λ l. refl;
   too_little_for_a_search = λ l. refl;
   no_search = λ l. refl;
+  turned_link = λ l. refl;
+  last_link = λ l. refl;
+  last_link_turned = λ l. refl;
+  no_more_links = λ l. refl;
+  not_joined = λ l. refl;
+  no_turned_link = λ l. refl;
   mark_on_the_first_component = λ l. refl;
   mark_on_the_listed_component = λ l. refl;
   named_glyph_alone = λ l. refl;
