@@ -24,7 +24,12 @@ WORST = TESTS / "hostile" / "worst.txt"
 GATE_SECONDS = 3 * SECONDS
 LETTERS = range(0x61, 0x7B)
 MARKS = range(0x300, 0x310)
-ZWNJ = 0x200C
+ZWNJ, ZWJ, ALEF = 0x200C, 0x200D, 0x627
+# forms of Arabic: letters that begin a ligature, other letters, ligatures
+FIRST = {0xFE91, 0xFE92, 0xFE97, 0xFE98, 0xFE9B, 0xFE9F, 0xFEA3, 0xFEA7, 0xFEB3, 0xFEB7, 0xFED3,
+         0xFEDF, 0xFEE0, 0xFEE3, 0xFEE7, 0xFEE8, 0xFEF3, 0xFEF4}
+OTHERS = sorted({*range(0xFE80, 0xFEF5)} - FIRST)
+MADE = [*range(0xFC08, 0xFD89), *range(0xFEF5, 0xFEFD)]
 
 AT_ONCE = [lookup(1, [words(1, 6, 0) + EVERY])]
 IN_VAIN = [lookup(5, [(30000, vain())])]
@@ -171,6 +176,7 @@ BOMBS = {
         {"GSUB": layout([lookup(2, [grows(60)])]), "post": names(44)}, "a"),
     "classes of 10,000 ranges": (
         {"GDEF": gdef(10000), "GPOS": layout(TO_BASES, b"mark")}, "am"),
+    "joiners with the glyph of letters that begin ligatures": ({}, "j"),
 }
 
 
@@ -195,11 +201,19 @@ SPENT = {
 }
 
 
-def bomb_font(tables):
-    """The bytes of a font of letters a to z, glyphs 1 to 26, of marks U+0300 to U+030F, glyphs 27
-    to 42, and of ZWNJ, with these tables."""
-    characters = {c: f"u{c:04X}" for c in [*LETTERS, *MARKS, ZWNJ]}
-    advances = {name: 500 for name in [".notdef", *characters.values()]}
+def bomb_characters(kind):
+    """The glyphs of characters: of letters a to z, 1 to 26, of marks U+0300 to U+030F, 27 to 42,
+    and of ZWNJ; or of Arabic, where ZWJ has that of each letter that begins a ligature."""
+    if kind != "j":
+        return {c: f"u{c:04X}" for c in [*LETTERS, *MARKS, ZWNJ]}
+    return {ALEF: "alef", **dict.fromkeys([ZWJ, *FIRST], "first"),
+            **dict.fromkeys(OTHERS, "other"), **dict.fromkeys(MADE, "ligature")}
+
+
+def bomb_font(tables, kind):
+    """The bytes of a font of these characters with these tables."""
+    characters = bomb_characters(kind)
+    advances = {name: 500 for name in [".notdef", *dict.fromkeys(characters.values())]}
     font = new_font(characters, advances, glyph_names=False)
     for tag, data in tables.items():
         add_table(font, tag, data)
@@ -209,7 +223,7 @@ def bomb_font(tables):
 def bomb_text(kind, length):
     """Letters, marks, or one half of each, letters first; marks between two letters, and one mark
     more or none; ZWNJ, after one letter; letters that join; letters by the stages of Arabic, or
-    downwards; or letters right to left, of which the last is another one."""
+    downwards; letters right to left, of which the last is another one; or ZWJ in Arabic."""
     half = length // 2
     texts = {"a": "a" * length, "m": "\u0301" * length, "z": "a" + chr(ZWNJ) * (length - 1),
              "ama": "a" + "\u0301" * (length - 67) + "\u0302" * 64 + "a\u0303",
@@ -217,6 +231,7 @@ def bomb_text(kind, length):
              "amb": "a" + "\u0301" * (length - 2) + "b", "s": "a" * length,
              "v": "a" * length,
              "ba": "b" * (length - 1) + "a",
+             "j": chr(ALEF) + chr(ZWJ) * (length - 1),
              "am": "a" * half + "\u0301" * (length - half)}
     return texts[kind]
 
@@ -224,9 +239,8 @@ def bomb_text(kind, length):
 def take_bomb(runs, name, length):
     tables, kind = BOMBS[name]
     direction = {"v": "ttb", "ba": "rtl"}.get(kind, "ltr")
-    options = ["--direction=" + direction,
-               "--script=" + ("Arab" if kind == "s" else "Latn")]
-    runs.take(name, bomb_font(tables), bomb_text(kind, length), options)
+    options = ["--direction=" + direction, "--script=" + ("Arab" if kind in "sj" else "Latn")]
+    runs.take(name, bomb_font(tables, kind), bomb_text(kind, length), options)
 
 
 def take_worst(runs):
@@ -252,7 +266,7 @@ def run(args):
         if args.bomb:
             if args.write:
                 with open(args.write, "wb") as file:
-                    file.write(bomb_font(BOMBS[args.bomb][0]))
+                    file.write(bomb_font(*BOMBS[args.bomb]))
             take_bomb(runs, args.bomb, LENGTH)
         else:
             for name in BOMBS:

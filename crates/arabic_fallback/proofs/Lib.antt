@@ -1,3 +1,4 @@
 pub mod KeptLemmas
 pub mod MadeLemmas
 pub mod PreservationLemmas
+pub mod VainLemmas

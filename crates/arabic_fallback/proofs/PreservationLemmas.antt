@@ -23,8 +23,9 @@ use Rattle.arabic_fallback.specs.Replaced.{with_glyph, classed_by, with_componen
 use Rattle.arabic_fallback.specs.Seeking.{nth, is_on}
 use Rattle.arabic_fallback.specs.Forms.{listed, formed, form_rows, formed_by}
 use Rattle.arabic_fallback.specs.Ligatures.{Row, found_in, ligature_rows}
-use Rattle.arabic_fallback.specs.Ligating.{put_at, merged, is_component, component_among, joined_item, joined_at, joined_to, followers, total_of, put_over, ligature_made, is_own, id_given, ligation_of, ligature_put, Walked, tried_at, ligated_at, ligated_to, each_ligated, cleared_away}
+use Rattle.arabic_fallback.specs.Ligating.{put_at, merged, is_component, component_among, joined_item, joined_at, joined_to, followers, total_of, put_over, ligature_made, is_own, id_given, ligation_of, ligature_put, Walked, tried_at, with_left, tried_with, searched_at, ligated_at, ligated_to, each_ligated, cleared_away}
 use Rattle.arabic_fallback.specs.Vain.{vain_end, concat_marked, vain_marked}
+use Rattle.arabic_fallback.specs.Work.{search_charged}
 use Rattle.arabic_fallback.specs.Fallback.{ligated_by, all_formed, all_ligated, fallback_shaped}
 use Rattle.arabic_fallback.specs.declared.classes.GlyphClass.{GlyphClass}
 use Rattle.arabic_fallback.specs.declared.fallback.FallbackMasks.{FallbackMasks}
@@ -223,23 +224,42 @@ module _ (rule : Rule) (rows : List LigatureGlyphs) where
   found-flags at None b = PreservesFlags-same b
   found-flags at (Some found) b = put_ligature-flags at found b
 
+  left-order : (left : ℕ) (b : Buffer) → PreservesOrder b (with_left left b)
+  left-order left b = record { clusters = PreservesClusters-same _; direction = refl; flags = refl; level = refl }
+
+  left-flags : (left : ℕ) (b : Buffer) → PreservesFlags b (with_left left b)
+  left-flags left b = record { flags = refl; stays_set = λ e. e; none_new = λ flag is some. inl some }
+
+  tried-order : (at : ℕ) (o : Option ℕ) (b : Buffer) → IsMonotoneLevel b.cluster_level → PreservesOrder b (tried_with rule rows at b o).buffer
+  tried-order at None b monotone = left-order 0 b
+  tried-order at (Some left) b monotone =
+      let found = found_in rule rows b.items at in
+      let d = with_left left b in
+      let c = vain_marked rule rows at d in
+      let marked : PreservesOrder d c = concat-order at (vain_end rule rows b.items at) d in
+      PreservesOrder-then b d _ (left-order left b)
+      (PreservesOrder-then d c _ marked (found-order at found c (subst IsMonotoneLevel (sym marked.level) monotone)))
+
+  tried-flags : (at : ℕ) (o : Option ℕ) (b : Buffer) → PreservesFlags b (tried_with rule rows at b o).buffer
+  tried-flags at None b = left-flags 0 b
+  tried-flags at (Some left) b =
+      let found = found_in rule rows b.items at in
+      let d = with_left left b in
+      let c = vain_marked rule rows at d in
+      let marked : PreservesFlags d c = concat-flags at (vain_end rule rows b.items at) d in
+      PreservesFlags-then b d _ (left-flags left b) (PreservesFlags-then d c _ marked (found-flags at found c))
+
   at-order : (at : ℕ) (s : Walked) → IsMonotoneLevel s.buffer.cluster_level → PreservesOrder s.buffer (ligated_at rule rows at s).buffer
   at-order at s monotone =
-      let found = found_in rule rows s.buffer.items at in
-      let c = vain_marked rule rows at s.buffer in
-      let marked : PreservesOrder s.buffer c = concat-order at (vain_end rule rows s.buffer.items at) s.buffer in
-      elim (not (nat_lt at s.next) && is_on rule (nth s.buffer.items at)) as (λ t. PreservesOrder s.buffer (if t then tried_at at found c else s).buffer) [
-        | true ↦ PreservesOrder-then s.buffer c _ marked (found-order at found c (subst IsMonotoneLevel (sym marked.level) monotone))
+      elim (not (nat_lt at s.next) && is_on rule (nth s.buffer.items at)) as (λ t. PreservesOrder s.buffer (if t then searched_at rule rows at s.buffer else s).buffer) [
+        | true ↦ tried-order at (search_charged rule rows s.buffer.items at s.buffer.max_ops) s.buffer monotone
         | false ↦ PreservesOrder-same s.buffer
       ]
 
   at-flags : (at : ℕ) (s : Walked) → PreservesFlags s.buffer (ligated_at rule rows at s).buffer
   at-flags at s =
-      let found = found_in rule rows s.buffer.items at in
-      let c = vain_marked rule rows at s.buffer in
-      let marked : PreservesFlags s.buffer c = concat-flags at (vain_end rule rows s.buffer.items at) s.buffer in
-      elim (not (nat_lt at s.next) && is_on rule (nth s.buffer.items at)) as (λ t. PreservesFlags s.buffer (if t then tried_at at found c else s).buffer) [
-        | true ↦ PreservesFlags-then s.buffer c _ marked (found-flags at found c)
+      elim (not (nat_lt at s.next) && is_on rule (nth s.buffer.items at)) as (λ t. PreservesFlags s.buffer (if t then searched_at rule rows at s.buffer else s).buffer) [
+        | true ↦ tried-flags at (search_charged rule rows s.buffer.items at s.buffer.max_ops) s.buffer
         | false ↦ PreservesFlags-same s.buffer
       ]
 

@@ -4,6 +4,7 @@ pub mod Seeking
 pub mod Forms
 pub mod Ligatures
 pub mod Vain
+pub mod Work
 pub mod Ligating
 pub mod Fallback
 pub mod Worked

@@ -10,6 +10,7 @@ use Rattle.arabic_fallback.specs.Ligatures.{found_in}
 use Rattle.arabic_fallback.specs.Replaced.{shares, as_component, as_ligature, components_of, gone, is_gone}
 use Rattle.arabic_fallback.specs.Seeking.{nth, is_mark, is_on}
 use Rattle.arabic_fallback.specs.Vain.{vain_marked}
+use Rattle.arabic_fallback.specs.Work.{search_charged}
 use Rattle.arabic_fallback.specs.declared.ligating.Counts.{Counts}
 use Rattle.arabic_fallback.specs.declared.ligating.Ligation.{Ligation}
 use Rattle.arabic_fallback.specs.declared.ligatures.Found.{Found}
@@ -121,10 +122,21 @@ abbrev pub tried_at : ℕ → Option Found → Buffer → Walked
 tried_at at (Some found) b = record { buffer = ligature_put at found b; next = found.last + 1 }
 tried_at at None b = record { buffer = b; next = at + 1 }
 
--- what is looked at in vain is marked before the ligature is made
+abbrev pub with_left : ℕ → Buffer → Buffer
+with_left left b = record b { max_ops = left }
+
+-- what is looked at in vain is marked before the ligature is made; if what is left doesn't suffice for the search, nothing is left
+abbrev pub tried_with : Rule → List LigatureGlyphs → ℕ → Buffer → Option ℕ → Walked
+tried_with rule rows at b None = tried_at at None (with_left 0 b)
+tried_with rule rows at b (Some left) =
+    tried_at at (found_in rule rows b.items at) (vain_marked rule rows at (with_left left b))
+
+abbrev pub searched_at : Rule → List LigatureGlyphs → ℕ → Buffer → Walked
+searched_at rule rows at b = tried_with rule rows at b (search_charged rule rows b.items at b.max_ops)
+
 abbrev pub ligated_at : Rule → List LigatureGlyphs → ℕ → Walked → Walked
 ligated_at rule rows at s = if not (nat_lt at s.next) && is_on rule (nth s.buffer.items at)
-    then tried_at at (found_in rule rows s.buffer.items at) (vain_marked rule rows at s.buffer) else s
+    then searched_at rule rows at s.buffer else s
 
 abbrev pub ligated_to : Rule → List LigatureGlyphs → ℕ → Buffer → Walked
 ligated_to rule rows zero b = record { buffer = b; next = 0 }

@@ -1,7 +1,9 @@
 -- How far the ligatures that are tried at a place look in vain: what was looked at is unsafe to concat.
 use Rattle.std.specs.Prelude.{ℕ, Bool, false, Option, Some, None, is_some, ◌+◌, ◌==◌, ◌&&◌, ◌||◌, not, max, nat_lt, nat_le, List, length, drop, fold, if◌then◌else◌}
+use Rattle.std.specs.Int.RustNames.{bit_and}
 use Rattle.std.specs.List.{prefix_len}
 use Rattle.std.specs.Option.{option_map_or}
+use Rattle.shape_common.specs.FlagNames.{PRODUCE_UNSAFE_TO_CONCAT}
 use Rattle.shape_items.specs.Buffer.{Buffer}
 use Rattle.shape_items.specs.BufferClusters.{unsafe_to_concat}
 use Rattle.shape_items.specs.Items.{Item}
@@ -72,6 +74,9 @@ only_of rule rows items at = if nat_lt 4 (count_of rows (nth items at).glyph_id)
 
 abbrev pub vain_end : Rule → List LigatureGlyphs → List Item → ℕ → ℕ
 vain_end rule rows items at = rows_end rule (only_of rule rows items at) rows items at
+
+abbrev pub asks_concat : Buffer → Bool
+asks_concat b = bit_and b.flags.0 PRODUCE_UNSAFE_TO_CONCAT == PRODUCE_UNSAFE_TO_CONCAT
 
 abbrev pub concat_marked : ℕ → ℕ → Buffer → Buffer
 concat_marked at end b = if nat_lt at end && nat_le end (length b.items) then unsafe_to_concat at end b else b

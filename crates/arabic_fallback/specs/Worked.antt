@@ -2,3 +2,4 @@ pub mod Forms
 pub mod Ligatures
 pub mod Faces
 pub mod Vain
+pub mod Charges

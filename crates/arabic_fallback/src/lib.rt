@@ -8,6 +8,7 @@
 
 pub mod classes;
 pub mod fallback;
+pub mod following;
 pub mod forms;
 pub mod laws;
 pub mod ligating;
@@ -16,6 +17,7 @@ pub mod replaced;
 pub mod seeking;
 pub mod tables;
 pub mod vain;
+pub mod work;
 pub mod worked;
 
 pub use fallback::{FallbackMasks, shape_fallback};

@@ -1,6 +1,5 @@
 //! How a ligature is made: its components become one glyph, and marks between and after them stand on it.
 ghost use Rattle.std.specs.Prelude.{◌≡◌, ◌<◌, ◌≤◌, ◌+◌, length, IfOk, OnOk, IsOkUnless};
-ghost use Rattle.std.specs.List.{prefix_len};
 ghost use Rattle.shape_items.specs.Buffer.{limit_of};
 ghost use Rattle.shape_buffer.specs.Outcome.{Made};
 ghost use Rattle.arabic_fallback.specs.Seeking.{nth};
@@ -8,10 +7,12 @@ ghost use Rattle.arabic_fallback.specs.Ligating;
 ghost use Rattle.arabic_fallback.specs.Ligatures.{found_in};
 ghost use Rattle.arabic_fallback.specs.Vain.{vain_marked};
 
+use crate::following::followers;
 use crate::ligatures::{Found, LigatureGlyphs, found_in};
 use crate::replaced::{NewGlyph, as_component, as_ligature, components_of, gone, is_gone};
 use crate::seeking::{Rule, is_mark, is_on};
 use crate::vain::mark_vain;
+use crate::work::search_charged;
 use shape_buffer::buffer::{ShapeError, hb_buffer_t, hb_glyph_info_t};
 use std::alloc::Global;
 
@@ -188,34 +189,6 @@ fn merge(buffer: &mut hb_buffer_t, start: usize, end: usize)
     }
 }
 
-/// Whether a mark stands on a component of the ligature that the last component was.
-fn follows(id: u8, there: &hb_glyph_info_t) -> bool
-    ensures { result ≡ Ligating.follows id there.now }
-{
-    there._hb_glyph_info_get_ligature_id() == id
-        && 0 < there._hb_glyph_info_get_ligature_component()
-}
-
-/// How many marks at the beginning of a list follow.
-fn count_following(id: u8, rest: &[hb_glyph_info_t]) -> usize
-    ensures value { result ≡ prefix_len (Ligating.follows id) rest.now }
-    ensures within { result ≤ length rest.now }
-{
-    rest.iter().take_while(|there| follows(id, there)).count()
-}
-
-/// How many marks after the last component follow it. None follow a ligature of marks, or a component that was no ligature.
-fn followers(made: &Ligation, infos: &[hb_glyph_info_t]) -> usize
-    requires { made.now.found.last < length infos.now }
-    ensures value { result ≡ Ligating.followers made.now infos.now }
-    ensures within { made.now.found.last + 1 + result ≤ length infos.now }
-{
-    if made.marks || made.last_id == 0 {
-        return 0;
-    }
-    count_following(made.last_id, &infos[made.found.last + 1..])
-}
-
 /// What becomes of the item at a place after the first component.
 fn join_at(buffer: &mut hb_buffer_t, made: &Ligation, k: usize)
     ensures made { buffer.new ≡ Ligating.joined_at made.now k buffer.old }
@@ -306,6 +279,26 @@ fn try_found(buffer: &mut hb_buffer_t, rule: Rule, rows: &[LigatureGlyphs], at: 
     }
 }
 
+/// The same, if what lookups may still ask for suffices for the search. Else nothing is left.
+fn search_at(buffer: &mut hb_buffer_t, rule: Rule, rows: &[LigatureGlyphs], at: usize) -> usize
+    requires { at < length buffer.old.items }
+    ensures made { record { buffer = buffer.new; next = result }
+        ≡ Ligating.searched_at rule rows.now at buffer.old }
+    ensures as_many { length buffer.new.items ≡ length buffer.old.items }
+    ensures limit { limit_of buffer.new ≡ limit_of buffer.old }
+{
+    match search_charged(rule, rows, buffer.infos(), at, buffer.max_ops()) {
+        Some(left) => {
+            buffer.set_max_ops(left);
+            try_found(buffer, rule, rows, at)
+        }
+        None => {
+            buffer.set_max_ops(0);
+            at + 1
+        }
+    }
+}
+
 /// Makes the first ligature that stands at a place, if the lookup goes on there and is on. Returns the place that it goes on at.
 fn ligate_at(
     buffer: &mut hb_buffer_t,
@@ -321,7 +314,7 @@ fn ligate_at(
     ensures limit { limit_of buffer.new ≡ limit_of buffer.old }
 {
     if at >= next && is_on(rule, &buffer.infos()[at]) {
-        try_found(buffer, rule, rows, at)
+        search_at(buffer, rule, rows, at)
     } else {
         next
     }

@@ -9,7 +9,8 @@ ghost use Rattle.arabic_fallback.specs.Vain;
 
 use crate::ligatures::{LigatureGlyphs, component_at, found_by, found_in};
 use crate::seeking::{Rule, has_mask, is_skipped, passes, place_from, stop_from};
-use shape_buffer::buffer::{hb_buffer_t, hb_glyph_info_t};
+use bitflags::Flags;
+use shape_buffer::buffer::{BufferFlags, hb_buffer_t, hb_glyph_info_t};
 
 /// How far ligatures looked in vain, up to the first whose components were found.
 #[derive(Clone, Copy, PartialEq, Eq, Debug)]
@@ -132,7 +133,7 @@ fn rows_end(
 }
 
 /// How many ligatures begin with a glyph.
-fn count_of(rows: &[LigatureGlyphs], glyph: u32) -> usize
+pub fn count_of(rows: &[LigatureGlyphs], glyph: u32) -> usize
     ensures value { result ≡ Vain.count_of rows.now glyph }
     ensures few { result ≤ length rows.now }
 {
@@ -203,13 +204,25 @@ fn mark_concat(buffer: &mut hb_buffer_t, at: usize, end: usize)
     }
 }
 
-/// Marks what ligatures look at in vain from a place on.
+/// Whether the buffer asks for marks of what is unsafe to concat.
+fn asks_concat(buffer: &hb_buffer_t) -> bool
+    ensures { result ≡ Vain.asks_concat buffer.now }
+{
+    buffer
+        .flags()
+        .contains(BufferFlags::PRODUCE_UNSAFE_TO_CONCAT)
+}
+
+/// Marks what ligatures look at in vain from a place on. They are sought again only if the buffer asks for that.
 pub fn mark_vain(buffer: &mut hb_buffer_t, rule: Rule, rows: &[LigatureGlyphs], at: usize)
     requires { at < length buffer.old.items }
     ensures made { buffer.new ≡ Vain.vain_marked rule rows.now at buffer.old }
     ensures as_many { length buffer.new.items ≡ length buffer.old.items }
     ensures limit { limit_of buffer.new ≡ limit_of buffer.old }
 {
+    if !asks_concat(buffer) {
+        return;
+    }
     let end = vain_end(rule, rows, buffer.infos(), at);
     mark_concat(buffer, at, end);
 }

@@ -1,4 +1,5 @@
 //! The definitions, computed by hand.
+ghost use Rattle.arabic_fallback.specs.Worked.Charges.{WorkedCharges};
 ghost use Rattle.arabic_fallback.specs.Worked.Faces.{WorkedFaces};
 ghost use Rattle.arabic_fallback.specs.Worked.Forms.{WorkedForms};
 ghost use Rattle.arabic_fallback.specs.Worked.Ligatures.{WorkedLigatures};
@@ -22,4 +23,9 @@ pub fn faces_meet_worked_cases()
 /// How far ligatures look in vain, what is marked, and where a lookup goes on.
 pub fn vain_searches_meet_worked_cases()
     ensures { WorkedVain }
+{}
+
+/// What searches for ligatures are charged, and what becomes of those that what is left doesn't suffice for.
+pub fn charges_meet_worked_cases()
+    ensures { WorkedCharges }
 {}
