@@ -28,18 +28,16 @@ abbrev above : List Item → ℕ → ℕ
 above items i = suffix_len is_above_item (take i items)
 
 above-next : (items : List Item) (i : ℕ) → i < length items → above items (i + 1) ≤ above items i + 1
-above-next items i within =
-    let p : Bool = is_above_item (get_or items (i + 1 - 1) (new_item 0 0)) in
-    let same : above items (i + 1 - 1) ≡ above items i = ap (above items) (omega arith) in
-    let cases : (t : Bool) → p ≡ t → above items (i + 1) ≤ above items i + 1 = λ t. elim t [
-      | true ↦ λ e.
-          let more = suffix_len-take_yes is_above_item items (i + 1) (new_item 0 0) (omega arith) (omega (arith, within)) e in
-          omega (arith, more, same)
-      | false ↦ λ e.
-          let none = suffix_len-take_no is_above_item items (i + 1) (new_item 0 0) (omega arith) (omega (arith, within)) e in
-          omega (arith, none)
-    ] in
-    cases p refl
+above-next items i within = by_last (is_above_item (get_or items (i + 1 - 1) (new_item 0 0))) refl
+  where
+    by_last : (t : Bool) → is_above_item (get_or items (i + 1 - 1) (new_item 0 0)) ≡ t → above items (i + 1) ≤ above items i + 1
+    by_last true e =
+        let more = suffix_len-take_yes is_above_item items (i + 1) (new_item 0 0) (omega arith) (omega (arith, within)) e in
+        let same : above items (i + 1 - 1) ≡ above items i = ap (above items) (omega arith) in
+        omega (arith, more, same)
+    by_last false e =
+        let none = suffix_len-take_no is_above_item items (i + 1) (new_item 0 0) (omega arith) (omega (arith, within)) e in
+        omega (arith, none)
 
 lowest : (c : Bool) (m i : ℕ) → (c ≡ true → m ≡ 0) → (if c then i - 1 else i - m) ≤ i - m
 lowest true m i none = let e = none refl in omega (arith, e)
