@@ -2,7 +2,7 @@
 use Prim.Native.Nat.{zero}
 use Rattle.std.proofs.Common.{◌≡◌, ℕ, suc, ◌+◌, ◌-◌, ◌*◌, ◌<◌, ◌≤◌, ◌^◌, Bool, true, false, List, [], ◌∷◌, length, max, min, nat_eq, nat_lt, fold, refl, sym, ap, ◌∙◌, subst, arith, if◌then◌else◌, drop, slice_index_or, map}
 use Rattle.std.proofs.lemmas.Bool.Decides.{nat_tests}
-use Rattle.std.proofs.lemmas.List.{drop_more}
+use Rattle.std.proofs.lemmas.List.{drop_more, length-drop}
 use Rattle.std.proofs.lemmas.Nat.{mul-le}
 use Rattle.shape_items.specs.Buffer.{Buffer, most_countable}
 use Rattle.shape_items.specs.Items.{Item}
@@ -96,16 +96,26 @@ unpaid left work none some = grind (arith, nat_tests, none, some)
 none-less : (left work : ℕ) → left ≡ 0 → left ≡ left - work
 none-less left work none = omega (arith, none)
 
-pub spent_on : (ds : List Digested) (k : ℕ) (x : Digested) (here made : Budgeted) (count : ℕ) → k < length ds
+pub spent_on : (ds : List Digested) (k : ℕ) (here made : Budgeted) (count : ℕ) → k < length ds
     → count ≡ length here.buffer.items → here.left ≡ 0 → 0 < count
     → fold lookup_applied here (lookups_in (drop k ds)) ≡ made → fold lookup_applied here (lookups_in (drop (k + 1) ds)) ≡ made
-spent_on ds k x here made count more same none filled before =
-    let l = (slice_index_or ds k x).lookup in
-    let after = walk_charged here l in
-    let some = walk_costs l (length here.buffer.items) (omega (arith, same, filled)) in
-    applied_on ds k x here here made more before
-    (ap (λ n. record here { left = n }) (none-less here.left (walk_work l (length here.buffer.items)) none)
-    ∙ sym (ap (λ t. if t then after else gone_over after l) (unpaid here.left (walk_work l (length here.buffer.items)) none some)))
+spent_on ds k here made count more same none filled before = by_rest (drop k ds) refl
+  where
+    by_first : (x : Digested) → fold lookup_applied here (lookups_in (drop (k + 1) ds)) ≡ made
+    by_first x =
+        let l = (slice_index_or ds k x).lookup in
+        let after = walk_charged here l in
+        let some = walk_costs l (length here.buffer.items) (omega (arith, same, filled)) in
+        applied_on ds k x here here made more before
+        (ap (λ n. record here { left = n }) (none-less here.left (walk_work l (length here.buffer.items)) none)
+        ∙ sym (ap (λ t. if t then after else gone_over after l) (unpaid here.left (walk_work l (length here.buffer.items)) none some)))
+
+    by_rest : (rest : List Digested) → drop k ds ≡ rest → fold lookup_applied here (lookups_in (drop (k + 1) ds)) ≡ made
+    by_rest [] e =
+        let long : length (drop k ds) ≡ length ds - k = length-drop k ds in
+        let gone : length (drop k ds) ≡ 0 = ap length e in
+        absurd (omega (arith, more, long, gone))
+    by_rest (x ∷ rest) e = by_first x
 
 -- in an empty list nothing is done, whatever the lookup is
 digest-idle : (d : Digested) (here : Budgeted) (run : Digest) → IsDigested d → HoldsGlyphs run here.buffer.items

@@ -23,7 +23,7 @@ pub loop-named-preserved-then-is_spent : goal.loop-named-preserved-then-is_spent
 loop-named-preserved-then-is_spent c =
     let here : Budgeted = record { buffer = c.loop-named.buffer; left = c.loop-named.left } in
     record {
-      made = spent_on c.args.lookups.now c.loop-named.named-index _ here
+      made = spent_on c.args.lookups.now c.loop-named.named-index here
           (fold lookup_applied (budgeted c.args.buffer.now) (lookups_in c.args.lookups.now)) _ c.loop-named-test.true c.len-count.ensures.items
           (c.is_spent.ensures.none c.if-is_spent.true) (c.is_spent.ensures.some c.if-is_spent.true) c.loop-named.invariant.made;
       run = c.loop-named.invariant.run;
