@@ -3,9 +3,9 @@
 
     bench/demand.py [FONT ..]    all fonts of /usr/share/fonts if none is named
 
-A line for each table of lookups, the most demanding last: the font, the table, what the walks over a list cost for each item, and
-what an item costs at most in all, in a text that repeats the dearest glyph, with all lookups of all features in one stage. Marks
-that are passed over, searches for bases and NULL offsets are left out. Wants fontTools."""
+A line for each table of lookups, and one for both tables of a font, the most demanding last: the font, the table, what the walks
+over a list cost for each item, and what an item costs at most in all, in a text that repeats the dearest glyph, with all lookups of
+all features. Marks that are passed over, searches for bases and NULL offsets are left out. Wants fontTools."""
 import glob, os, sys
 from collections import defaultdict
 from fontTools.ttLib import TTCollection, TTFont
@@ -98,9 +98,12 @@ def main():
     rows = []
     for path in sys.argv[1:] or sorted(glob.glob("/usr/share/fonts/**/*.[ot]t[fc]", recursive=True)):
         for font in TTCollection(path).fonts if path.endswith("c") else [TTFont(path, lazy=True)]:
+            name, found = os.path.basename(path), []
             for tag in "GSUB", "GPOS":
                 if tag in font and font[tag].table.LookupList and font[tag].table.FeatureList:
-                    rows.append((os.path.basename(path), tag) + demand(font[tag].table, tag == "GPOS"))
+                    found.append((name, tag) + demand(font[tag].table, tag == "GPOS"))
+            both = (name, "both", sum(it[2] for it in found), sum(it[3] for it in found))
+            rows += [*found, both] if len(found) == 2 else found
     for row in sorted(rows, key=lambda it: it[3]): print(*row)
 
 
