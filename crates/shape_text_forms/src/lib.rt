@@ -17,6 +17,7 @@ pub mod glyph_json;
 pub mod glyph_list;
 pub mod glyph_text;
 pub mod names;
+pub mod opened_names;
 pub mod scan;
 pub mod worked;
 
@@ -24,3 +25,4 @@ pub use content::{NoNames, SerializeFlags, glyph_names};
 pub use feature::feature_from_string;
 pub use glyph_list::{serialize, serialize_json, serialize_placed, serialize_placed_json};
 pub use names::{direction_from_string, language_from_string, script_from_string, tag_from_string};
+pub use opened_names::OpenedNames;
