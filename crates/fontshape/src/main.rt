@@ -22,10 +22,9 @@ use crate::failure::Failure;
 use crate::line::Line;
 use crate::options::{Format, Options, Source};
 use crate::picture::Picture;
-use crate::shaping::{opened, shaped};
+use crate::shaping::{Planned, opened, shaped};
 use crate::written::{Font, Given, written};
 use glyph_outlines::Outlines;
-use opentype_layout::OpenedOpenTypeFace;
 use shape_font::FontFace;
 use shape_pipeline::hb_font_t;
 use shape_text_forms::SerializeFlags;
@@ -45,7 +44,7 @@ const OUTPUT: &str = "standard output";
 struct Work<'a, W: Write + Drop> {
     options: &'a Options,
     font: Font<'a>,
-    opened: Option<OpenedOpenTypeFace<'a>>,
+    planned: Option<Planned<'a>>,
     outlines: Option<Outlines<'a>>,
     picture: Picture,
     writer: BufWriter<W>,
@@ -67,7 +66,7 @@ impl<'a, W: Write + Drop> Work<'a, W> {
             alloc,
             self.options,
             &self.font.face,
-            self.opened.as_ref(),
+            self.planned.as_mut(),
             &line,
         ) {
             Ok(glyphs) => glyphs,
@@ -210,7 +209,7 @@ fn run_to<W: Write + Drop>(
     let mut work = Work {
         options,
         font: Font::new(alloc, options, face)?,
-        opened,
+        planned: opened.as_ref().map(Planned::new),
         outlines,
         picture: Picture::new(alloc, face.units_per_em()),
         writer,

@@ -1,11 +1,18 @@
 //! Shaping one text as the options ask.
 ghost use Rattle.std.specs.Prelude.{◌≡◌};
+ghost use Rattle.script_shapers.specs.ScriptPlans.{PlanFits};
+ghost use Rattle.shape_unicode.specs.Meaning.{unicode_database};
 
 use crate::line::Line;
 use crate::options::Options;
 use kern_table::KernTable;
+use layout_map::map::hb_ot_map_t;
 use opentype_layout::{OpenTypeFace, OpenTypeLayout, OpenedOpenTypeFace};
 use script_shapers::choice::shape_by_script;
+use script_shapers::{
+    ArabicShaper, HangulShaper, HebrewShaper, ScriptPlan, ScriptShapers, ThaiShaper,
+    plan_by_script, shape_with_script_plan,
+};
 use shape_font::FontFace;
 use shape_pipeline::ot_shaper::{
     ComposedDiacritics, ComposedDiacriticsNoShortCircuit, Decomposed, Preference, Shortest,
@@ -16,6 +23,96 @@ use shape_pipeline::{
 };
 use shape_unicode::UnicodeDatabase;
 use std::alloc::Global;
+
+/// The shapers of all plans.
+const SHAPERS: ScriptShapers = ScriptShapers {
+    default: DEFAULT_SHAPER,
+    arabic: ArabicShaper,
+    hangul: HangulShaper,
+    hebrew: HebrewShaper,
+    thai: ThaiShaper,
+};
+
+/// The face for the font's tables of lookups, with the plan of the last line. A line of the same script and direction
+/// needs no other one, since language and features are those of the options: making a plan takes as long as shaping
+/// a line of some hundred letters, and longer in a font of many features.
+#[derive(Drop)]
+pub struct Planned<'a> {
+    face: &'a OpenedOpenTypeFace<'a>,
+    plan: Option<ScriptPlan<'a, hb_ot_map_t>>,
+}
+
+impl<'a> Planned<'a> {
+    /// No plan yet.
+    pub fn new(face: &'a OpenedOpenTypeFace<'a>) -> Self {
+        Planned { face, plan: None }
+    }
+
+    /// Whether the plan serves a buffer.
+    fn serves(&self, buffer: &UnicodeBuffer) -> bool {
+        match &self.plan {
+            Some(plan) => plan.fits::<UnicodeDatabase>(buffer),
+            None => false,
+        }
+    }
+
+    /// A plan for a buffer.
+    fn plan_for(
+        &self,
+        alloc: Global,
+        options: &Options,
+        buffer: &UnicodeBuffer,
+    ) -> Result<ScriptPlan<'a, hb_ot_map_t>, ShapeError> {
+        let inner = buffer.as_inner();
+        let script = inner.guessed_script::<UnicodeDatabase>();
+        plan_by_script::<UnicodeDatabase, OpenedOpenTypeFace, OpenTypeLayout>(
+            alloc,
+            self.face,
+            &SHAPERS,
+            inner.direction_by::<UnicodeDatabase>(script),
+            script,
+            buffer.language(),
+            options.features(),
+        )
+    }
+
+    /// The glyphs of a buffer by the shaper of its script, by the plan that is kept if it serves.
+    fn shaped(
+        &mut self,
+        alloc: Global,
+        options: &Options,
+        buffer: UnicodeBuffer,
+    ) -> Result<GlyphBuffer, ShapeError> {
+        if !self.serves(&buffer) {
+            self.plan = Some(self.plan_for(alloc, options, &buffer)?);
+        }
+        match &self.plan {
+            Some(plan) if plan.fits::<UnicodeDatabase>(&buffer) => by_plan(
+                alloc, self.face, plan, buffer,
+            ),
+            _ => shaped_by_script::<OpenedOpenTypeFace, OpenTypeLayout>(
+                alloc, options, self.face, buffer,
+            ),
+        }
+    }
+}
+
+/// The glyphs of a buffer by a plan that serves it.
+fn by_plan(
+    alloc: Global,
+    face: &OpenedOpenTypeFace,
+    plan: &ScriptPlan<'_, hb_ot_map_t>,
+    buffer: UnicodeBuffer,
+) -> Result<GlyphBuffer, ShapeError>
+    requires { PlanFits unicode_database plan.now buffer }
+{
+    match shape_with_script_plan::<UnicodeDatabase, OpenedOpenTypeFace, OpenTypeLayout>(
+        alloc, face, plan, buffer,
+    ) {
+        Ok(glyphs) => Ok(glyphs),
+        Err(fault) => Err(fault.cause),
+    }
+}
 
 /// A line as a buffer with the settings that are asked for, script and direction guessed if they aren't.
 pub fn filled(alloc: Global, options: &Options, line: &Line) -> Result<UnicodeBuffer, ShapeError> {
@@ -146,13 +243,14 @@ pub fn shaped(
     alloc: Global,
     options: &Options,
     face: &FontFace,
-    opened: Option<&OpenedOpenTypeFace>,
+    planned: Option<&mut Planned>,
     line: &Line,
 ) -> Result<GlyphBuffer, ShapeError> {
     let buffer = filled(alloc, options, line)?;
-    match opened {
-        Some(opened) => {
-            shaped_with::<OpenedOpenTypeFace, OpenTypeLayout>(alloc, options, opened, buffer)
+    match planned {
+        Some(planned) if options.mode().is_none() => planned.shaped(alloc, options, buffer),
+        Some(planned) => {
+            shaped_with::<OpenedOpenTypeFace, OpenTypeLayout>(alloc, options, planned.face, buffer)
         }
         None => shaped_without_layout(alloc, options, face, buffer),
     }
