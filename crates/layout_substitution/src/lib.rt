@@ -15,6 +15,7 @@ pub mod kinds;
 pub mod ligation;
 pub mod ligature;
 pub mod ligature_reach;
+pub mod merging;
 pub mod replaced;
 pub mod second_component;
 pub mod start;
