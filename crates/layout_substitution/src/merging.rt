@@ -1,7 +1,7 @@
 //! What the merging of a ligature's components writes beside them.
 //!
 //! A cluster may be as long as the text, and may be merged again with each ligature: so each item beside the components is
-//! charged for. Each walk looks at no more items than are charged, and at one that ends it.
+//! charged for. The walks look at no more items than are charged, and at the one that ends each.
 ghost use Rattle.std.specs.Prelude.{◌≡◌, ◌<◌, ◌≤◌, ◌+◌, ◌-◌, drop, length, slice_range, take};
 ghost use Rattle.std.specs.List.{prefix_len, suffix_len};
 ghost use Rattle.layout_substitution.specs.Ligatures;
@@ -9,33 +9,30 @@ ghost use Rattle.shape_items.specs.Clusters;
 ghost use Rattle.shape_items.specs.Items.{has_cluster};
 
 use crate::apply::Spot;
-use crate::edits::{item, next_place};
-use layout_buffer::GapBuffer;
+use layout_buffer::{GapBuffer, ItemList};
 use shape_buffer::BufferClusterLevel;
 
 /// The least cluster of a span that ends with `last`.
 #[tactic(auto, using(crate::proofs::MergingLemmas::least_first, crate::proofs::MergingLemmas::least_next))]
-fn least_cluster(buffer: &GapBuffer, at: usize, last: usize) -> u32
+fn least_cluster(items: &ItemList<'_>, at: usize, last: usize) -> u32
     requires ordered { at ≤ last }
-    requires within { last < length buffer.now.items }
-    ensures { result ≡ Clusters.least_cluster (slice_range buffer.now.items at (last + 1)) }
+    requires within { last < length items.now }
+    ensures { result ≡ Clusters.least_cluster (slice_range items.now at (last + 1)) }
 {
-    let mut least = item(buffer, at).cluster;
-    let end = next_place(buffer.len(), last);
-    for i in at + 1..end {
-        least = least.min(item(buffer, i).cluster);
+    let mut least = items.at(at).cluster;
+    for i in items.place_after(at)..items.place_after(last) {
+        least = least.min(items.at(i).cluster);
     }
     least
 }
 
 /// How many items directly before a place stand in the cluster.
-fn count_before(buffer: &GapBuffer, at: usize, cluster: u32) -> usize
-    requires { at ≤ length buffer.now.items }
-    ensures value { result ≡ suffix_len (has_cluster cluster) (take at buffer.now.items) }
-    ensures within { result ≤ at }
+fn count_before(items: &ItemList<'_>, at: usize, cluster: u32) -> usize
+    requires { at ≤ length items.now }
+    ensures { result ≡ suffix_len (has_cluster cluster) (take at items.now) }
 {
     for n in 0..at {
-        if item(buffer, at - n - 1).cluster != cluster {
+        if items.at(at - n - 1).cluster != cluster {
             return n;
         }
     }
@@ -43,45 +40,42 @@ fn count_before(buffer: &GapBuffer, at: usize, cluster: u32) -> usize
 }
 
 /// How many items from a place on stand in the cluster.
-fn count_from(buffer: &GapBuffer, from: usize, cluster: u32) -> usize
-    requires { from ≤ length buffer.now.items }
-    ensures value { result ≡ prefix_len (has_cluster cluster) (drop from buffer.now.items) }
-    ensures within { from + result ≤ length buffer.now.items }
+fn count_from(items: &ItemList<'_>, from: usize, cluster: u32) -> usize
+    requires { from ≤ length items.now }
+    ensures { result ≡ prefix_len (has_cluster cluster) (drop from items.now) }
 {
-    for i in from..buffer.len() {
-        if item(buffer, i).cluster != cluster {
+    for i in from..items.len() {
+        if items.at(i).cluster != cluster {
             return i - from;
         }
     }
-    buffer.len() - from
+    items.len() - from
 }
 
 /// How many items before a span of that least cluster its merging grows over.
 #[tactic(auto, using(crate::proofs::MergingLemmas::cluster_there))]
-fn growth_left(buffer: &GapBuffer, start: usize, least: u32) -> usize
-    requires { start < length buffer.now.items }
-    ensures value { result ≡ Clusters.growth_left buffer.now.items start least }
-    ensures within { result ≤ start }
+fn growth_left(items: &ItemList<'_>, start: usize, least: u32) -> usize
+    requires { start < length items.now }
+    ensures { result ≡ Clusters.growth_left items.now start least }
 {
-    let first = item(buffer, start).cluster;
+    let first = items.at(start).cluster;
     if first == least {
         return 0;
     }
-    count_before(buffer, start, first)
+    count_before(items, start, first)
 }
 
 /// How many items after a span of that least cluster, which ends with `last`, its merging grows over.
 #[tactic(auto, using(crate::proofs::MergingLemmas::cluster_there))]
-fn growth_right(buffer: &GapBuffer, last: usize, least: u32) -> usize
-    requires { last < length buffer.now.items }
-    ensures value { result ≡ Clusters.growth_right buffer.now.items last least }
-    ensures within { last + result < length buffer.now.items }
+fn growth_right(items: &ItemList<'_>, last: usize, least: u32) -> usize
+    requires { last < length items.now }
+    ensures { result ≡ Clusters.growth_right items.now last least }
 {
-    let cluster = item(buffer, last).cluster;
+    let cluster = items.at(last).cluster;
     if cluster == least {
         return 0;
     }
-    count_from(buffer, next_place(buffer.len(), last), cluster)
+    count_from(items, items.place_after(last), cluster)
 }
 
 /// What is left of so much after the components from `at` to `last` were merged.
@@ -92,9 +86,10 @@ fn left_after(buffer: &GapBuffer, at: usize, last: usize, left: usize) -> usize
     if last <= at || buffer.cluster_level() == BufferClusterLevel::Characters {
         return left;
     }
-    let least = least_cluster(buffer, at, last);
-    let before = growth_left(buffer, at, least);
-    let after = growth_right(buffer, last, least);
+    let items = buffer.items();
+    let least = least_cluster(&items, at, last);
+    let before = growth_left(&items, at, least);
+    let after = growth_right(&items, last, least);
     left.saturating_sub(before).saturating_sub(after)
 }
 
