@@ -60,14 +60,19 @@ ON_LIGATURE = [lookup(4, [ligature_of_two()], 8),
 # a, marks and b become a ligature that the marks follow, which is taken apart and made anew
 FOLLOWED = [lookup(4, [ligature_of_two(2)], 8), lookup(2, [apart()]),
             lookup(5, [context(1, [(0, 1), (0, 0)] * 5000, words(1, 1, 2))])]
-# a letter a grows to 61 for each character
-LONG_CLUSTER = [lookup(2, [only_a(60)])] * 2 + [lookup(2, [only_a(LENGTH * 61 // 3600)])]
+
+
+def a_grows(count):
+    """Lookups by which a letter a becomes about so many."""
+    return [lookup(2, [only_a(60)])] * 2 + [lookup(2, [only_a(count // 3600)])]
+
+
 # right to left, the last letter a comes first and grows, and each letter b that is deleted hands its
 # cluster to all that it became
-HANDED = [*LONG_CLUSTER, lookup(2, [deletes(2)])]
+HANDED = [*a_grows(61 * LENGTH), lookup(2, [deletes(2)])]
 # right to left, the last letter c becomes a and c, the a grows, and into the cluster of each letter b
-# that the c swallows all of them go
-MERGED = [lookup(2, [apart(3)]), *LONG_CLUSTER,
+# that the c swallows all of them go; over three quarters of the text it takes as long as HANDED
+MERGED = [lookup(2, [apart(3)]), *a_grows(61 * LENGTH * 3 // 4),
           lookup(5, [context(1, [(0, 5)] * LENGTH, words(1, 1, 3))]), lookup(4, [swallows()])]
 # each a follows the next one, each b the one before, and the last a the b behind it: one chain.
 # Each c follows the a or b behind it, and then the d before it, which turns the chain round
@@ -230,14 +235,15 @@ def bomb_font(tables, kind):
 def bomb_text(kind, length):
     """Letters, marks, or one half of each, letters first; marks between two letters, and one mark
     more or none; ZWNJ, after one letter; letters that join; letters by the stages of Arabic, or
-    downwards; letters right to left, of which the last is another one; or ZWJ in Arabic."""
+    downwards; letters right to left, of which the last is another one, or three quarters as
+    many; or ZWJ in Arabic."""
     half = length // 2
     texts = {"a": "a" * length, "m": "\u0301" * length, "z": "a" + chr(ZWNJ) * (length - 1),
              "ama": "a" + "\u0301" * (length - 67) + "\u0302" * 64 + "a\u0303",
              "t": "dcadcb" * (length // 6) + "ab",
              "amb": "a" + "\u0301" * (length - 2) + "b", "s": "a" * length,
              "v": "a" * length,
-             "ba": "b" * (length - 1) + "a", "bc": "b" * (length - 1) + "c",
+             "ba": "b" * (length - 1) + "a", "bc": "b" * (length * 3 // 4 - 1) + "c",
              "j": chr(ALEF) + chr(ZWJ) * (length - 1),
              "am": "a" * half + "\u0301" * (length - half)}
     return texts[kind]
