@@ -67,11 +67,11 @@ def a_grows(count):
     return [lookup(2, [only_a(60)])] * 2 + [lookup(2, [only_a(count // 3600)])]
 
 
-# right to left, the last letter a comes first and grows, and each letter b that is deleted hands its
-# cluster to all that it became
+# right to left, the last letter a comes first and grows, and each letter b that is deleted hands
+# its cluster to all that it became
 HANDED = [*a_grows(61 * LENGTH), lookup(2, [deletes(2)])]
-# right to left, the last letter c becomes a and c, the a grows, and into the cluster of each letter b
-# that the c swallows all of them go; over three quarters of the text it takes as long as HANDED
+# right to left, the last letter c becomes a and c, the a grows, and into the cluster of each letter
+# b that the c swallows all of them go; over three quarters of the text it takes as long as HANDED
 MERGED = [lookup(2, [apart(3)]), *a_grows(61 * LENGTH * 3 // 4),
           lookup(5, [context(1, [(0, 5)] * LENGTH, words(1, 1, 3))]), lookup(4, [swallows()])]
 # each a follows the next one, each b the one before, and the last a the b behind it: one chain.
