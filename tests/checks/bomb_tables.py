@@ -156,9 +156,14 @@ def ligature_of_two(second=1):
     return words(1, 8, 1, 14, 1, 1, 1, 1, 4, 2, 2, second)
 
 
-def apart():
-    """A letter b becomes a and b."""
-    return words(1, 8, 1, 14, 1, 1, 2, 2, 1, 2)
+def swallows():
+    """A letter c and a letter b become a letter c."""
+    return words(1, 8, 1, 14, 1, 1, 3, 1, 4, 3, 2, 2)
+
+
+def apart(glyph=2):
+    """A letter, b if no other is named, becomes a and itself."""
+    return words(1, 8, 1, 14, 1, 1, glyph, 2, 1, glyph)
 
 
 def only_a(times):

@@ -13,7 +13,8 @@ from checks.bomb_tables import (EVERY, LOOP, ROW, alternates, apart, class_behin
                                 cursive, deletes, features, gdef, gdef_of_set, grows, joins, kern,
                                 kern_heads, layout, ligature_of_two, ligatures, list_behind,
                                 lookup, marks_on, names, nulls, only_a, origins, pairs, row_before,
-                                row_behind, rules, rules_past, vain, variations, words)
+                                row_behind, rules, rules_past, swallows, vain, variations,
+                                words)
 from checks.fonts import add_table, bytes_of, new_font
 from checks.hostile_runs import LENGTH, SECONDS, Runs, add_run_options, need_all
 from checks.mutated import load_bases, mutated_font
@@ -59,10 +60,20 @@ ON_LIGATURE = [lookup(4, [ligature_of_two()], 8),
 # a, marks and b become a ligature that the marks follow, which is taken apart and made anew
 FOLLOWED = [lookup(4, [ligature_of_two(2)], 8), lookup(2, [apart()]),
             lookup(5, [context(1, [(0, 1), (0, 0)] * 5000, words(1, 1, 2))])]
-# right to left, the last letter a comes first and grows to 61 for each letter b, and each b that is
-# deleted hands its cluster to all of them
-HANDED = [lookup(2, [only_a(60)])] * 2 + [lookup(2, [only_a(LENGTH * 61 // 3600)]),
-                                          lookup(2, [deletes(2)])]
+
+
+def a_grows(count):
+    """Lookups by which a letter a becomes about so many."""
+    return [lookup(2, [only_a(60)])] * 2 + [lookup(2, [only_a(count // 3600)])]
+
+
+# right to left, the last letter a comes first and grows, and each letter b that is deleted hands
+# its cluster to all that it became
+HANDED = [*a_grows(61 * LENGTH), lookup(2, [deletes(2)])]
+# right to left, the last letter c becomes a and c, the a grows, and into the cluster of each letter
+# b that the c swallows all of them go; over three quarters of the text it takes as long as HANDED
+MERGED = [lookup(2, [apart(3)]), *a_grows(61 * LENGTH * 3 // 4),
+          lookup(5, [context(1, [(0, 5)] * LENGTH, words(1, 1, 3))]), lookup(4, [swallows()])]
 # each a follows the next one, each b the one before, and the last a the b behind it: one chain.
 # Each c follows the a or b behind it, and then the d before it, which turns the chain round
 TURNED = [lookup(3, [joins([1], [1])], 13), lookup(3, [joins([2], [2])], 10),
@@ -157,6 +168,7 @@ BOMBS = {
     "marks that follow a ligature": (
         {"GSUB": layout(FOLLOWED, shared=100), "GDEF": gdef(0)}, "amb"),
     "deletions behind a long cluster": ({"GSUB": layout(HANDED)}, "ba"),
+    "ligatures that merge a long cluster": ({"GSUB": layout(MERGED)}, "bc"),
     "31,000 rules of two glyphs in each of four stages and GPOS, 100 lookups": (
         {"GSUB": layout([SHORT_ROWS["of two glyphs"]], STAGES, shared=100),
          "GPOS": layout([lookup(7, [rules(31000, words(2, 0, 42))])], b"kern", shared=100)}, "s"),
@@ -223,14 +235,15 @@ def bomb_font(tables, kind):
 def bomb_text(kind, length):
     """Letters, marks, or one half of each, letters first; marks between two letters, and one mark
     more or none; ZWNJ, after one letter; letters that join; letters by the stages of Arabic, or
-    downwards; letters right to left, of which the last is another one; or ZWJ in Arabic."""
+    downwards; letters right to left, of which the last is another one, or three quarters as
+    many; or ZWJ in Arabic."""
     half = length // 2
     texts = {"a": "a" * length, "m": "\u0301" * length, "z": "a" + chr(ZWNJ) * (length - 1),
              "ama": "a" + "\u0301" * (length - 67) + "\u0302" * 64 + "a\u0303",
              "t": "dcadcb" * (length // 6) + "ab",
              "amb": "a" + "\u0301" * (length - 2) + "b", "s": "a" * length,
              "v": "a" * length,
-             "ba": "b" * (length - 1) + "a",
+             "ba": "b" * (length - 1) + "a", "bc": "b" * (length * 3 // 4 - 1) + "c",
              "j": chr(ALEF) + chr(ZWJ) * (length - 1),
              "am": "a" * half + "\u0301" * (length - half)}
     return texts[kind]
@@ -238,7 +251,7 @@ def bomb_text(kind, length):
 
 def take_bomb(runs, name, length):
     tables, kind = BOMBS[name]
-    direction = {"v": "ttb", "ba": "rtl"}.get(kind, "ltr")
+    direction = {"v": "ttb", "ba": "rtl", "bc": "rtl"}.get(kind, "ltr")
     options = ["--direction=" + direction, "--script=" + ("Arab" if kind in "sj" else "Latn")]
     runs.take(name, bomb_font(tables, kind), bomb_text(kind, length), options)
 
