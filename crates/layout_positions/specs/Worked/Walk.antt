@@ -14,7 +14,7 @@ use Rattle.layout_positions.specs.Subtables.{Placing}
 use Rattle.layout_positions.specs.Uncovered.{subtable_lists}
 use Rattle.layout_positions.specs.Walk.{Budgeted, none_seen, budgeted, settled_up, positioned}
 use Rattle.layout_positions.specs.Worked.Lines.{base, mark, component_of, line, advances, offsets, chains, masks}
-use Rattle.layout_positions.specs.Worked.Cursive.{joins, followed}
+use Rattle.layout_positions.specs.Worked.Cursive.{joins, joins_by, followed}
 use Rattle.layout_positions.specs.Worked.Marks.{on_bases}
 use Rattle.layout_positions.specs.Worked.Pairs.{single_one, single_two, pairs_one, IsLookup}
 
@@ -128,6 +128,7 @@ pub record WorkedWalk : Type 0 where
   pub not_joined : Over (one_subtable 3 joins) 0 0 (λ l. (turned_with l 0).next ≡ None)
   -- by the flag RIGHT_TO_LEFT the first one follows the second one, and no link is turned
   pub no_turned_link : Over (one_subtable 3 joins) 1 0 (λ l. (turned_with l 5).left ≡ 5)
+  pub no_link_of_another_format : Over (one_subtable 3 (joins_by 2)) 0 0 (λ l. (turned_with l 5).left ≡ 5)
   pub mark_on_the_first_component : Over (one_subtable 4 on_bases) 0 0
       (λ l. chains (over l (component_of 0 (base 2 0) ∷ component_of 1 (base 3 0) ∷ mark 8 0 ∷ [])) ≡ pos 0 ∷ pos 0 ∷ negsuc 1 ∷ [])
   pub mark_on_the_listed_component : Over (one_subtable 4 on_bases) 0 0
@@ -177,6 +178,7 @@ worked_walk = record {
   no_more_links = λ l. refl;
   not_joined = λ l. refl;
   no_turned_link = λ l. refl;
+  no_link_of_another_format = λ l. refl;
   mark_on_the_first_component = λ l. refl;
   mark_on_the_listed_component = λ l. refl;
   named_glyph_alone = λ l. refl;
