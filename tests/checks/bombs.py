@@ -135,7 +135,7 @@ BOMBS = {
         {"GPOS": layout([nulls(30000, pairs(1), 2)], b"kern", shared=31000)}, "a"),
     "65,000 NULL subtables of 31,000 lookups of pairs, over nothing": (
         {"GSUB": layout([lookup(2, [deletes(1)])]),
-         "GPOS": layout([all_null(65000)], b"kern", shared=31000)}, "a"),
+         "GPOS": layout([all_null(65000)], b"kern", shared=31000)}, "l"),
     "10,000 records of the last of 64 glyphs, 9 lookups": (
         {"GPOS": layout(AT_THE_LAST, b"kern", shared=8)}, "a"),
     "records that name nothing": (
@@ -189,8 +189,8 @@ BOMBS = {
 }
 
 
-# bombs that use up what a run may ask for, or nearly; those of lists, classes and sets of many ranges
-# do too, and run over the whole text, to be slow if a search costs as little as a look
+# bombs that use up what a run may ask for, or nearly; those of lists, classes and sets of many
+# ranges do too, and run over the whole text, to be slow if a search costs as little as a look
 SPENT = {
     "calls itself twice", "calls itself at each of 64 places", "one lookup, named 20,000 times",
     "one subtable, named 30,000 times", "30,000 subtables of 100 lookups",
@@ -230,15 +230,16 @@ def bomb_font(tables, kind):
 
 
 def bomb_text(kind, length):
-    """Letters, marks, or one half of each, letters first; marks between two letters, and one mark
-    more or none; ZWNJ, after one letter; letters that join; letters by the stages of Arabic, or
-    downwards; letters right to left, of which the last is another one; or ZWJ in Arabic."""
+    """Letters, in eight lines too, marks, or one half of each, letters first; marks between two
+    letters, and one mark more or none; ZWNJ, after one letter; letters that join; letters by the
+    stages of Arabic, or downwards; letters right to left, of which the last is another one; or ZWJ
+    in Arabic."""
     half = length // 2
     texts = {"a": "a" * length, "m": "\u0301" * length, "z": "a" + chr(ZWNJ) * (length - 1),
              "ama": "a" + "\u0301" * (length - 67) + "\u0302" * 64 + "a\u0303",
              "t": "dcadcb" * (length // 6) + "ab",
              "amb": "a" + "\u0301" * (length - 2) + "b", "s": "a" * length,
-             "v": "a" * length,
+             "v": "a" * length, "l": "\n".join(["a" * (length // 8)] * 8),
              "ba": "b" * (length - 1) + "a",
              "j": chr(ALEF) + chr(ZWJ) * (length - 1),
              "am": "a" * half + "\u0301" * (length - half)}
