@@ -113,6 +113,11 @@ def ranges_of_none(ranges, value=1):
     return words(2, ranges, *many)
 
 
+def among_none(ranges):
+    """The list of all glyphs, with so many ranges of glyphs that the font doesn't have."""
+    return words(2, ranges + 1, 1, 42, 0) + ranges_of_none(ranges)[4:]
+
+
 def list_behind(ranges):
     """A chained context of ZWNJ, with a list behind it of so many ranges."""
     return words(3, 0, 1, 14, 1, 20, 0) + words(1, 1, 43) + ranges_of_none(ranges)
@@ -135,6 +140,11 @@ def rules_past(count):
 def nulls(count, part, kind=5):
     """A lookup, of context say, of so many subtables that are NULL, and one that isn't."""
     return words(kind, 0, count + 1, *[0] * count, 8 + 2 * count) + part
+
+
+def all_null(count, kind=2):
+    """A lookup, of pairs say, of so many subtables that are all NULL."""
+    return words(kind, 0, count, *[0] * count)
 
 
 def alternates():

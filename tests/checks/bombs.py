@@ -9,12 +9,12 @@ of it.
 
 The worst fonts of earlier searches are named in tests/hostile/worst.txt (`search`).
 """
-from checks.bomb_tables import (EVERY, LOOP, ROW, alternates, apart, class_behind, context,
-                                cursive, deletes, features, gdef, gdef_of_set, grows, joins, kern,
-                                kern_heads, layout, ligature_of_two, ligatures, list_behind,
-                                lookup, marks_on, names, nulls, only_a, origins, pairs, row_before,
-                                row_behind, rules, rules_past, swallows, vain, variations,
-                                words)
+from checks.bomb_tables import (EVERY, LOOP, ROW, all_null, alternates, among_none, apart,
+                                 class_behind, context, cursive, deletes, features, gdef,
+                                 gdef_of_set, grows, joins, kern, kern_heads, layout,
+                                 ligature_of_two, ligatures, list_behind, lookup, marks_on, names,
+                                 nulls, only_a, origins, pairs, row_before, row_behind, rules,
+                                 rules_past, swallows, vain, variations, words)
 from checks.fonts import add_table, bytes_of, new_font
 from checks.hostile_runs import LENGTH, SECONDS, Runs, add_run_options, need_all
 from checks.mutated import load_bases, mutated_font
@@ -60,6 +60,9 @@ ON_LIGATURE = [lookup(4, [ligature_of_two()], 8),
 # a, marks and b become a ligature that the marks follow, which is taken apart and made anew
 FOLLOWED = [lookup(4, [ligature_of_two(2)], 8), lookup(2, [apart()]),
             lookup(5, [context(1, [(0, 1), (0, 0)] * 5000, words(1, 1, 2))])]
+# each record of a rule looks for the last of its glyphs, each of them in a list
+AT_THE_LAST = [lookup(1, [words(1, 6, 0) + words(1, 1, 42)]),
+               lookup(7, [context(64, [(63, 0)] * 10000, among_none(4000))])]
 
 
 def a_grows(count):
@@ -140,6 +143,11 @@ BOMBS = {
     "30,000 NULL subtables": ({"GSUB": layout([nulls(30000, vain())])}, "a"),
     "30,000 NULL subtables of 31,000 lookups of pairs": (
         {"GPOS": layout([nulls(30000, pairs(1), 2)], b"kern", shared=31000)}, "a"),
+    "65,000 NULL subtables of 31,000 lookups of pairs, over nothing": (
+        {"GSUB": layout([lookup(2, [deletes(1)])]),
+         "GPOS": layout([all_null(65000)], b"kern", shared=31000)}, "l"),
+    "10,000 records of the last of 64 glyphs, 9 lookups": (
+        {"GPOS": layout(AT_THE_LAST, b"kern", shared=8)}, "a"),
     "records that name nothing": (
         {"GSUB": layout([lookup(5, [context(1, [(9, 0)] * 10000)])], shared=1000)}, "a"),
     "1,000 lookups at random": (
@@ -192,7 +200,7 @@ BOMBS = {
 }
 
 
-# bombs that use up what a run may ask for, or nearly; those of lists, classes and sets of 5,000
+# bombs that use up what a run may ask for, or nearly; those of lists, classes and sets of many
 # ranges do too, and run over the whole text, to be slow if a search costs as little as a look
 SPENT = {
     "calls itself twice", "calls itself at each of 64 places", "one lookup, named 20,000 times",
@@ -233,16 +241,16 @@ def bomb_font(tables, kind):
 
 
 def bomb_text(kind, length):
-    """Letters, marks, or one half of each, letters first; marks between two letters, and one mark
-    more or none; ZWNJ, after one letter; letters that join; letters by the stages of Arabic, or
-    downwards; letters right to left, of which the last is another one, or three quarters as
-    many; or ZWJ in Arabic."""
+    """Letters, in eight lines too, marks, or one half of each, letters first; marks between two
+    letters, and one mark more or none; ZWNJ, after one letter; letters that join; letters by the
+    stages of Arabic, or downwards; letters right to left, of which the last is another one, or
+    three quarters as many; or ZWJ in Arabic."""
     half = length // 2
     texts = {"a": "a" * length, "m": "\u0301" * length, "z": "a" + chr(ZWNJ) * (length - 1),
              "ama": "a" + "\u0301" * (length - 67) + "\u0302" * 64 + "a\u0303",
              "t": "dcadcb" * (length // 6) + "ab",
              "amb": "a" + "\u0301" * (length - 2) + "b", "s": "a" * length,
-             "v": "a" * length,
+             "v": "a" * length, "l": "\n".join(["a" * (length // 8)] * 8),
              "ba": "b" * (length - 1) + "a", "bc": "b" * (length * 3 // 4 - 1) + "c",
              "j": chr(ALEF) + chr(ZWJ) * (length - 1),
              "am": "a" * half + "\u0301" * (length - half)}
