@@ -288,11 +288,11 @@ def run_full_device(folder):
 
 def run_heavy_font(folder):
     """The picture of a line has at most a megabyte and takes little time, whatever the font: A has
-    65,536 points. Returns whether it does."""
-    given = b"A" * 5000 + b"\n" + b"A" * 5000 + b"\n"
+    65,536 points, and B is made of 256 of itself, again and again. Returns whether it does."""
+    given = b"A" * 5000 + b"\n" + b"A" * 5000 + b"\n" + b"B" * 5000 + b"\n"
     ended = subprocess.run([FONTSHAPE, "heavy.ttf", "--svg"], input=given, stdout=subprocess.PIPE,
                            cwd=folder, timeout=LIMIT, preexec_fn=limit_processor_time)
-    right = ended.returncode == 0 and 1_500_000 < len(ended.stdout) < 2_001_000
+    right = ended.returncode == 0 and 2_500_000 < len(ended.stdout) < 3_001_000
     if not right:
         print(f"fontshape draws a heavy font: status {ended.returncode}, "
               f"{len(ended.stdout)} bytes")

@@ -242,9 +242,10 @@ def origins(count):
     return words(1, 0, 800, count) + words(1000, 5) * count
 
 
-def names(count):
-    """A table `post` of format 2 whose strings end before the name of each glyph."""
-    return words(2, 0, *[0] * 14) + words(count, *[65535] * count)
+def names(count, strings=b""):
+    """A table `post` of format 2 that names each glyph by the last of 65,278 strings. Without
+    these its strings end before the name of each glyph."""
+    return words(2, 0, *[0] * 14) + words(count, *[65535] * count) + strings
 
 
 def gdef(ranges, letters=(1, 26, 1)):

@@ -194,6 +194,10 @@ BOMBS = {
         {"GSUB": layout([lookup(2, [grows(60)])]), "VORG": origins(25000)}, "v"),
     "grows, then names past the end": (
         {"GSUB": layout([lookup(2, [grows(60)])]), "post": names(44)}, "a"),
+    "grows, then names behind 65,277 others": (
+        {"GSUB": layout([lookup(2, [grows(60)])]), "post": names(44, b"\1a" * 65278)}, "a"),
+    "grows, then names behind 65,277 empty ones": (
+        {"GSUB": layout([lookup(2, [grows(60)])]), "post": names(44, bytes(65278))}, "a"),
     "classes of 10,000 ranges": (
         {"GDEF": gdef(10000), "GPOS": layout(TO_BASES, b"mark")}, "am"),
     "joiners with the glyph of letters that begin ligatures": ({}, "j"),

@@ -2,7 +2,7 @@
 """Makes the tests' fonts, of seven and eight glyphs of boxes, from nothing. It writes `tiny.ttf` beside itself and, as
 text, to the crate `test_fonts`; to tests/fontshape, `first_shape` and `fill_paragraph` `tall.ttf`, which has metrics of vertical
 lines, a dotted circle and its kerning in GPOS too; and to tests/fontshape `two.ttc`, a collection of both, `flat.ttf`, which has no outlines, and `heavy.ttf`, whose A
-has 65,536 points in few bytes. They are under this repository's licence.
+has 65,536 points in few bytes, and whose B is made of 256 of itself. They are under this repository's licence.
 
 Each glyph is a rectangle, except for the space, which is empty, and Aacute, which is made of two others.
 """
@@ -174,11 +174,15 @@ def flat():
 
 
 def heavy():
-    """A is one contour of 65,536 points at one place: flags that are repeated, and no coordinates."""
+    """A is one contour of 65,536 points at one place: flags that are repeated, and no coordinates. B is made of 256 of
+    itself."""
     tables = tiny()
-    data = struct.pack(">5h2H", 1, 10, 0, 590, 700, 65535, 0) + bytes([0x31 | 8, 255]) * 256
-    tables[b"glyf"] = data
-    tables[b"loca"] = struct.pack(">8H", 0, 0, 0, *[len(data) // 2] * 5)
+    points = struct.pack(">5h2H", 1, 10, 0, 590, 700, 65535, 0) + bytes([0x31 | 8, 255]) * 256
+    parts = struct.pack(">5h", -1, 60, 0, 540, 700)
+    parts += b"".join(struct.pack(">2H2b", 0x22 if more else 2, 3, 0, 0) for more in range(255, -1, -1))
+    tables[b"glyf"] = points + parts
+    ends = len(points) // 2, len(points + parts) // 2
+    tables[b"loca"] = struct.pack(">8H", 0, 0, 0, ends[0], *[ends[1]] * 4)
     return tables
 
 

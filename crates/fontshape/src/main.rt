@@ -23,7 +23,7 @@ use crate::line::Line;
 use crate::options::{Format, Options, Source};
 use crate::picture::Picture;
 use crate::shaping::{opened, shaped};
-use crate::written::{Given, written};
+use crate::written::{Font, Given, written};
 use glyph_outlines::Outlines;
 use opentype_layout::OpenedOpenTypeFace;
 use shape_font::FontFace;
@@ -44,7 +44,7 @@ const OUTPUT: &str = "standard output";
 #[derive(Drop)]
 struct Work<'a, W: Write + Drop> {
     options: &'a Options,
-    face: FontFace<'a>,
+    font: Font<'a>,
     opened: Option<OpenedOpenTypeFace<'a>>,
     outlines: Option<Outlines<'a>>,
     picture: Picture,
@@ -63,7 +63,13 @@ impl<'a, W: Write + Drop> Work<'a, W> {
     /// Shapes a line, and draws it or writes it.
     fn take_line(&mut self, alloc: Global, text: &[u8], number: usize) -> Result<(), Failure> {
         let line = Line::new(alloc, text, self.options.utf8_clusters())?;
-        let glyphs = match shaped(alloc, self.options, &self.face, self.opened.as_ref(), &line) {
+        let glyphs = match shaped(
+            alloc,
+            self.options,
+            &self.font.face,
+            self.opened.as_ref(),
+            &line,
+        ) {
             Ok(glyphs) => glyphs,
             Err(error) => return Err(Failure::line(alloc, number, error)),
         };
@@ -74,7 +80,7 @@ impl<'a, W: Write + Drop> Work<'a, W> {
             },
             None => {
                 let given = Given { text, number };
-                let output = written(alloc, self.options, &self.face, given, &line, &glyphs)?;
+                let output = written(alloc, self.options, &self.font, given, &line, &glyphs)?;
                 self.write(alloc, output.bytes())
             }
         }
@@ -203,7 +209,7 @@ fn run_to<W: Write + Drop>(
     };
     let mut work = Work {
         options,
-        face,
+        font: Font::new(alloc, options, face)?,
         opened,
         outlines,
         picture: Picture::new(alloc, face.units_per_em()),

@@ -10,7 +10,7 @@ use std::alloc::{AllocError, Global};
 /// The most bytes of a line.
 const MOST_BYTES: usize = 1_000_000;
 
-/// The most points and contours that are read for a line, except for those of its last glyph.
+/// The most points, contours and components that are read for a line, except for those of its last glyph.
 const MOST_POINTS: u32 = 200_000;
 
 /// Where bars of clusters stand, seen from the pen, and how long the marks across them are.

@@ -4,8 +4,34 @@ use crate::options::{Format, Options};
 use crate::size::Scale;
 use shape_font::FontFace;
 use shape_pipeline::{GlyphBuffer, GlyphPosition, hb_font_t};
-use shape_text_forms::{serialize_placed, serialize_placed_json};
+use shape_text_forms::{
+    NoNames, OpenedNames, SerializeFlags, glyph_names, serialize_placed, serialize_placed_json,
+};
 use std::alloc::{AllocError, Global};
+
+/// The font of what is written: its face, and the names of its glyphs if they are written.
+#[derive(Drop)]
+pub struct Font<'a> {
+    pub face: FontFace<'a>,
+    names: Option<OpenedNames<'a>>,
+}
+
+impl<'a> Font<'a> {
+    /// Opens the names of a face, once for all lines, if the options ask for them.
+    pub fn new(
+        alloc: Global,
+        options: &Options,
+        face: FontFace<'a>,
+    ) -> Result<Font<'a>, AllocError> {
+        let numbers = options.form().asks(SerializeFlags::NO_GLYPH_NAMES);
+        let names = if numbers || options.format() == Format::Svg {
+            None
+        } else {
+            Some(OpenedNames::new(alloc, face)?)
+        };
+        Ok(Font { face, names })
+    }
+}
 
 /// The characters of a line with their clusters, as `<U+0041=0|U+0042=1>`.
 fn unicode_text(alloc: Global, line: &Line) -> Result<String, AllocError> {
@@ -22,11 +48,11 @@ fn unicode_text(alloc: Global, line: &Line) -> Result<String, AllocError> {
     Ok(out)
 }
 
-/// The glyphs at these positions, with the boxes of this face.
-fn glyph_text<F: hb_font_t>(
+/// The glyphs at these positions, with these names and the boxes of this face.
+fn glyph_text<F: hb_font_t, N: glyph_names>(
     alloc: Global,
     options: &Options,
-    names: &FontFace,
+    names: &N,
     boxes: &F,
     glyphs: &GlyphBuffer,
     positions: &[GlyphPosition],
@@ -48,11 +74,12 @@ fn glyph_text<F: hb_font_t>(
     }
 }
 
-/// The glyphs of a line, in the size that is asked for.
-pub fn glyphs_text(
+/// The glyphs of a line with these names, in the size that is asked for.
+fn named_glyphs_text<N: glyph_names>(
     alloc: Global,
     options: &Options,
     face: &FontFace,
+    names: &N,
     glyphs: &GlyphBuffer,
 ) -> Result<String, AllocError> {
     match options.size() {
@@ -60,19 +87,32 @@ pub fn glyphs_text(
             let scale = Scale::new(size, face.units_per_em());
             let positions = scale.positions(alloc, face, glyphs)?;
             let boxes = scale.boxes(alloc, face, glyphs)?;
-            glyph_text(alloc, options, face, &boxes, glyphs, positions.as_slice())
+            glyph_text(alloc, options, names, &boxes, glyphs, positions.as_slice())
         }
         None => {
             let boxes = *face;
             glyph_text(
                 alloc,
                 options,
-                face,
+                names,
                 &boxes,
                 glyphs,
                 glyphs.glyph_positions(),
             )
         }
+    }
+}
+
+/// The glyphs of a line, in the size that is asked for, by name if names are written.
+fn glyphs_text(
+    alloc: Global,
+    options: &Options,
+    font: &Font,
+    glyphs: &GlyphBuffer,
+) -> Result<String, AllocError> {
+    match &font.names {
+        Some(names) => named_glyphs_text(alloc, options, &font.face, names, glyphs),
+        None => named_glyphs_text(alloc, options, &font.face, &NoNames, glyphs),
     }
 }
 
@@ -128,7 +168,7 @@ pub struct Given<'a> {
 pub fn written(
     alloc: Global,
     options: &Options,
-    face: &FontFace,
+    font: &Font,
     given: Given,
     line: &Line,
     glyphs: &GlyphBuffer,
@@ -149,7 +189,7 @@ pub fn written(
         let characters = unicode_text(alloc, line)?;
         output.append(alloc, "", characters.as_bytes(), "")?;
     }
-    let glyphs = glyphs_text(alloc, options, face, glyphs)?;
+    let glyphs = glyphs_text(alloc, options, font, glyphs)?;
     output.append(alloc, "", glyphs.as_bytes(), "")?;
     Ok(output)
 }

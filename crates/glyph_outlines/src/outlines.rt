@@ -22,7 +22,8 @@ const GLYF: u32 = 0x676c_7966;
 /// The most glyphs that one is drawn of.
 pub const MOST_COMPONENTS: u32 = 256;
 
-/// The most points and contours after which another glyph is added to one. A few bytes can stand for 65,536 points.
+/// The most points, contours and components after which another glyph is added to one. A few bytes can stand for 65,536
+/// points.
 pub const MOST_POINTS: u32 = 65536;
 
 /// The outlines of a font. It borrows the bytes of the file.
@@ -55,7 +56,7 @@ impl Outline {
         self.segments.as_slice()
     }
 
-    /// How many points and contours of the font were read for it.
+    /// How many points, contours and components of the font were read for it.
     pub fn points(&self) -> u32
         ensures { result ≡ self.now.points }
     {
@@ -114,7 +115,7 @@ impl<'a> Outlines<'a> {
         })
     }
 
-    /// Appends the outline of a glyph. Gives how many points and contours were read.
+    /// Appends the outline of a glyph. Gives how many points, contours and components were read.
     fn append(&self, alloc: Global, path: &mut Path, glyph: u16) -> Result<u32, AllocError> {
         let mut components = Vec::new(alloc);
         components.push(Component {
@@ -133,7 +134,7 @@ impl<'a> Outlines<'a> {
     }
 
     /// Appends the contours of a component, unless more than [`MOST_POINTS`] were read already; or adds those that it is
-    /// made of to those still to be drawn. Gives how many points and contours that took.
+    /// made of to those still to be drawn. Gives how many points, contours and components that took.
     fn append_component(
         &self,
         alloc: Global,
@@ -144,8 +145,7 @@ impl<'a> Outlines<'a> {
     ) -> Result<u32, AllocError> {
         let outline = self.bytes(component.glyph);
         if number(outline, 0) < 0 {
-            append_components(components, outline, &component.frame)?;
-            Ok(0)
+            append_components(components, outline, &component.frame)
         } else if read <= MOST_POINTS {
             append_contours(alloc, path, outline, &component.frame)
         } else {
@@ -154,14 +154,14 @@ impl<'a> Outlines<'a> {
     }
 }
 
-/// Appends the components of a glyph that is made of others.
+/// Appends the components of a glyph that is made of others. Gives how many there were.
 fn append_components(
     components: &mut Vec<Component>,
     outline: &[u8],
     frame: &Frame,
-) -> Result<(), AllocError> {
+) -> Result<u32, AllocError> {
     let mut at: usize = 10;
-    for _ in 0..MOST_COMPONENTS {
+    for before in 0..MOST_COMPONENTS {
         let flags = natural(outline, at);
         let glyph = natural(outline, at.saturating_add(2));
         let words = flags & 1 != 0;
@@ -171,12 +171,12 @@ fn append_components(
             frame: frame.within(&inner),
         })?;
         if flags & 0x20 == 0 {
-            return Ok(());
+            return Ok(before + 1);
         }
         let offsets = if words { 8 } else { 6 };
         at = at.saturating_add(offsets).saturating_add(scale_len(flags));
     }
-    Ok(())
+    Ok(MOST_COMPONENTS)
 }
 
 /// How many bytes the scale of a component takes.

@@ -192,6 +192,13 @@ impl<'a> FontFace<'a> {
         self.gpos
     }
 
+    /// The table `post`, for names that are looked up often; an empty one if the font has none.
+    pub fn post_table(&self) -> &'a [u8]
+        ensures { result.now ≡ self.now.post.now }
+    {
+        self.post
+    }
+
     /// The glyph's name by `post`; none if the table has none for it, or an empty one.
     pub fn glyph_name(&self, glyph: GlyphId) -> Option<&'a [u8]>
         ensures { option_map (λ s. s.now) result

@@ -36,8 +36,8 @@ pub const STANDARD: &[u8] = b"\
     \x0aonequarter\x0dthreequarters\x05franc\x06Gbreve\x06gbreve\x0aIdotaccent\x08Scedilla\x08scedilla\
     \x06Cacute\x06cacute\x06Ccaron\x06ccaron\x06dcroat";
 
-/// How many these are.
-const STANDARD_COUNT: u32 = 258;
+/// How many names the table leaves out.
+pub const STANDARD_COUNT: u32 = 258;
 
 /// Where string `k` of those from `at` on begins; past the end, where none is, if there are fewer.
 #[tactic(auto, using(crate::proofs::NameLemmas::string_start_next, crate::proofs::NameLemmas::string_start_past, crate::proofs::NameLemmas::string_start_end))]
@@ -57,13 +57,11 @@ fn string_start(table: &[u8], k: u32, at: usize) -> usize
     start
 }
 
-/// String `k` of those from `at` on; none if it is empty or reaches past the end.
-fn string(table: &[u8], k: u32, at: usize) -> Option<&[u8]>
-    requires few { k < 2 ^ 16 }
-    requires near { at < 2 ^ 32 }
-    ensures { option_map (λ s. s.now) result ≡ Names.string_of table.now k at }
+/// The string that begins at this place; none if it is empty or reaches past the end.
+pub fn string_at(table: &[u8], start: usize) -> Option<&[u8]>
+    requires { start < 2 ^ 40 }
+    ensures { option_map (λ s. s.now) result ≡ Names.string_at table.now start }
 {
-    let start = string_start(table, k, at);
     let len = usize::from(u8_at(table, start));
     if 0 < len && start + 1 + len <= table.len() {
         Some(&table[start + 1..start + 1 + len])
@@ -72,8 +70,25 @@ fn string(table: &[u8], k: u32, at: usize) -> Option<&[u8]>
     }
 }
 
+/// String `k` of those from `at` on, as [`string_at`] has it.
+fn string(table: &[u8], k: u32, at: usize) -> Option<&[u8]>
+    requires few { k < 2 ^ 16 }
+    requires near { at < 2 ^ 32 }
+    ensures { option_map (λ s. s.now) result ≡ Names.string_of table.now k at }
+{
+    string_at(table, string_start(table, k, at))
+}
+
+/// Where the strings of format 2 begin: after its list.
+pub fn strings_at(post: &[u8]) -> usize
+    ensures value { result ≡ Names.strings_at post.now }
+    ensures near { result < 2 ^ 18 }
+{
+    34 + 2 * usize::from(u16_at(post, 32))
+}
+
 /// The number of a glyph's name: its own in format 1, the one in the list of format 2.
-fn name_index(post: &[u8], glyph: u32) -> Option<u32>
+pub fn name_index(post: &[u8], glyph: u32) -> Option<u32>
     ensures value { result ≡ Names.name_index post.now glyph }
     ensures small { IfSome result (λ index. index < 2 ^ 16) }
 {
@@ -92,19 +107,16 @@ fn name_index(post: &[u8], glyph: u32) -> Option<u32>
     }
 }
 
-/// The name with a number: one of those that are left out, or one of the strings after the list.
-fn name(post: &[u8], index: u32) -> Option<&[u8]>
+/// The name with a number: one of those that are left out, or one of the strings after the list. It takes a step for
+/// each string before.
+pub fn name(post: &[u8], index: u32) -> Option<&[u8]>
     requires { index < 2 ^ 16 }
     ensures { option_map (λ s. s.now) result ≡ Names.name_of STANDARD.now post.now index }
 {
     if index < STANDARD_COUNT {
         string(STANDARD, index, 0)
     } else {
-        string(
-            post,
-            index - STANDARD_COUNT,
-            34 + 2 * usize::from(u16_at(post, 32)),
-        )
+        string(post, index - STANDARD_COUNT, strings_at(post))
     }
 }
 

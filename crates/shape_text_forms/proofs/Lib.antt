@@ -1,2 +1,3 @@
 pub mod AppendLemmas
 mod TextLemmas
+mod StartLemmas

@@ -6,3 +6,4 @@ pub mod Worked
 pub mod Json
 pub mod Lists
 pub mod FontNames
+pub mod OpenedNames

@@ -1,3 +1,4 @@
 pub mod Features
 pub mod Texts
 pub mod Json
+pub mod Starts

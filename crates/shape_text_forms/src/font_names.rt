@@ -10,7 +10,7 @@ use shape_font::FontFace;
 
 /// The bytes as text; none if they aren't UTF-8.
 #[tactic(auto, using(crate::proofs::TextLemmas::text_of_utf8, crate::proofs::TextLemmas::text_of_other))]
-fn text(bytes: &[u8]) -> Option<&str>
+pub(crate) fn text(bytes: &[u8]) -> Option<&str>
     ensures { option_map (λ s. s.now) result ≡ text_of bytes.now }
 {
     match str::from_utf8(bytes) {

@@ -1,6 +1,7 @@
 //! The definitions, computed on texts that were read by hand.
 ghost use Rattle.shape_text_forms.specs.Worked.Features.{WorkedFeatures, WorkedRefusals};
 ghost use Rattle.shape_text_forms.specs.Worked.Json.{WorkedLists};
+ghost use Rattle.shape_text_forms.specs.Worked.Starts.{WorkedStarts};
 ghost use Rattle.shape_text_forms.specs.Worked.Texts.{WorkedNames, WorkedTexts, WorkedFontNames};
 
 /// Features, and texts that are none.
@@ -9,10 +10,12 @@ pub fn features_meet_worked_cases()
     ensures refusals { WorkedRefusals }
 {}
 
-/// Tags, scripts, directions and languages, glyphs as text and as JSON, and the names of a font's glyphs.
+/// Tags, scripts, directions and languages, glyphs as text and as JSON, and the names of a font's glyphs and where
+/// these are stored.
 pub fn texts_meet_worked_cases()
     ensures names { WorkedNames }
     ensures texts { WorkedTexts }
     ensures lists { WorkedLists }
     ensures font_names { WorkedFontNames }
+    ensures starts { WorkedStarts }
 {}

@@ -1,6 +1,6 @@
 -- Names of glyphs, on tables that were read by hand.
 use Rattle.std.specs.Prelude.{◌≡◌, ℕ, List, [], ◌∷◌, ◌++◌, Some, None, replicate, refl}
-use Rattle.shape_font.specs.Names.{string_start, string_of, glyph_name}
+use Rattle.shape_font.specs.Names.{string_start, string_at, string_of, strings_at, glyph_name}
 use Rattle.shape_font.specs.declared.names.TheConstants.{STANDARD}
 
 -- two names that a table may leave out, X and YZ
@@ -31,6 +31,9 @@ pub record WorkedNames : Type 0 where
   pub ends_past_the_table : string_start (5 ∷ 65 ∷ []) 9 0 ≡ 6
   pub none_at_the_end : string_of (1 ∷ 65 ∷ []) 9 0 ≡ None
   pub past_the_end : string_of (1 ∷ 65 ∷ 2 ∷ 98 ∷ []) 1 0 ≡ None
+  -- the string bc, by its place; the list of four numbers ends at 42
+  pub by_place : string_at (1 ∷ 65 ∷ 2 ∷ 98 ∷ 99 ∷ []) 2 ≡ Some (98 ∷ 99 ∷ [])
+  pub after_the_list : strings_at four_names ≡ 42
   -- .null
   pub second_standard_name : string_of STANDARD.now 1 0 ≡ Some (0x2E ∷ 0x6E ∷ 0x75 ∷ 0x6C ∷ 0x6C ∷ [])
   pub past_the_room : glyph_name left_out (0 ∷ 2 ∷ 0 ∷ 0 ∷ replicate 28 0 ++ 0 ∷ 9 ∷ 0 ∷ 0 ∷ []) 1 ≡ None
@@ -56,6 +59,8 @@ worked_names = record {
   ends_past_the_table = refl;
   none_at_the_end = refl;
   past_the_end = refl;
+  by_place = refl;
+  after_the_list = refl;
   second_standard_name = refl;
   past_the_room = refl;
   version_2_5 = refl;

@@ -5,7 +5,7 @@ use shape_font::FontFace;
 use shape_pipeline::{
     DEFAULT_SHAPER, GlyphBuffer, NoLookups, UnicodeBuffer, hb_default_shaper_t, shape,
 };
-use shape_text_forms::{SerializeFlags, serialize, serialize_json};
+use shape_text_forms::{OpenedNames, SerializeFlags, glyph_names, serialize, serialize_json};
 use shape_unicode::UnicodeDatabase;
 use std::alloc::Global;
 use std::process::Abort;
@@ -28,18 +28,19 @@ fn glyphs_of_ab(alloc: Global, face: &FontFace<'_>) -> Option<GlyphBuffer> {
     }
 }
 
-/// Compares glyphs as text and as JSON.
-fn assert_written(
+/// Compares glyphs as text and as JSON, with these names.
+fn assert_written<N: glyph_names>(
     rt: &impl Abort,
     alloc: Global,
-    face: FontFace<'_>,
+    face: &FontFace<'_>,
+    names: &N,
     glyphs: &GlyphBuffer,
     (text, json): (&str, &str),
 ) {
     let plain = SerializeFlags(0);
-    let found = serialize(alloc, glyphs, &face, &face, plain).expect(rt, "memory");
+    let found = serialize(alloc, glyphs, face, names, plain).expect(rt, "memory");
     assert_that(rt, found.as_str() == text);
-    let found = serialize_json(alloc, glyphs, &face, &face, plain).expect(rt, "memory");
+    let found = serialize_json(alloc, glyphs, face, names, plain).expect(rt, "memory");
     assert_that(rt, found.as_str() == json);
 }
 
@@ -52,5 +53,7 @@ fn texts(rt: HostRuntime) {
     let text = "[A=0+600|B=1+640]";
     let json = "[{\"g\":\"A\",\"cl\":0,\"dx\":0,\"dy\":0,\"ax\":600,\"ay\":0},\
         {\"g\":\"B\",\"cl\":1,\"dx\":0,\"dy\":0,\"ax\":640,\"ay\":0}]";
-    assert_written(&rt, alloc, face, &glyphs, (text, json));
+    assert_written(&rt, alloc, &face, &face, &glyphs, (text, json));
+    let names = OpenedNames::new(alloc, face).expect(&rt, "memory");
+    assert_written(&rt, alloc, &face, &names, &glyphs, (text, json));
 }
