@@ -7,6 +7,7 @@ use Rattle.shape_items.specs.BufferClusters.{merge_clusters}
 use Rattle.shape_common.specs.Positions.{zero_position}
 use Rattle.shape_items.specs.Items.{Item}
 use Rattle.arabic_fallback.specs.Ligatures.{found_in}
+use Rattle.arabic_fallback.specs.Merging.{merging_charged}
 use Rattle.arabic_fallback.specs.Replaced.{shares, as_component, as_ligature, components_of, gone, is_gone}
 use Rattle.arabic_fallback.specs.Seeking.{nth, is_mark, is_on}
 use Rattle.arabic_fallback.specs.Vain.{vain_marked}
@@ -109,8 +110,12 @@ abbrev pub ligature_made : Ligation → Buffer → Buffer
 ligature_made made b = put_over made
     (joined_to made (made.found.last - made.at + followers made b.items) (merged made.at (made.found.last + 1) b))
 
+abbrev pub ligature_given : ℕ → Found → Buffer → Buffer
+ligature_given at found b = ligature_made (ligation_of at found b) (id_given (is_own b.items at found) b)
+
+-- it is made whatever is left
 abbrev pub ligature_put : ℕ → Found → Buffer → Buffer
-ligature_put at found b = ligature_made (ligation_of at found b) (id_given (is_own b.items at found) b)
+ligature_put at found b = ligature_given at found (merging_charged at found.last b)
 
 -- a buffer, and the place that the lookup goes on at
 pub record Walked : Type 0 where
