@@ -31,7 +31,8 @@ pub fn charges_meet_worked_cases()
     ensures { WorkedCharges }
 {}
 
-/// How many items the merging of a ligature's components writes beside them, and what it is charged for these.
+/// How many items the merging of a ligature's components writes beside them, and what it is charged for these and for those that
+/// follow it.
 pub fn mergings_meet_worked_cases()
     ensures { WorkedMergings }
 {}

@@ -1,17 +1,18 @@
--- What a ligature is charged for the items beside its components: lam 1 and alef 2 make 9, and each search for that costs 12.
+-- What a ligature is charged for the items beside its components, and for those that follow it: lam 1 and alef 2 make 9, and each search
+-- for that costs 6 for each glyph that is looked at.
 use Rattle.std.specs.Prelude.{◌≡◌, ℕ, List, [], ◌∷◌, map, refl}
 use Rattle.shape_common.specs.Positions.{zero_position}
 use Rattle.shape_common.specs.declared.text_types.BufferClusterLevel.{BufferClusterLevel}
 use Rattle.shape_common.specs.declared.text_types.BufferClusterLevel.TheVariants.{MonotoneCharacters, Characters}
 use Rattle.shape_items.specs.Buffer.{Buffer, new_buffer}
 use Rattle.shape_items.specs.Clusters.{merge}
-use Rattle.shape_items.specs.Items.{Item}
+use Rattle.shape_items.specs.Items.{Item, new_properties}
 use Rattle.arabic_fallback.specs.Ligating.{ligated}
 use Rattle.arabic_fallback.specs.Merging.{merged_beside}
 use Rattle.arabic_fallback.specs.Replaced.{as_ligature}
 use Rattle.arabic_fallback.specs.Worked.Charges.{Leaves, made}
 use Rattle.arabic_fallback.specs.Worked.Forms.{rule}
-use Rattle.arabic_fallback.specs.Worked.Ligatures.{glyph, lam_alef}
+use Rattle.arabic_fallback.specs.Worked.Ligatures.{glyph, lam_alef, mark, on_component}
 
 abbrev pub at_level : BufferClusterLevel → List ℕ → Buffer
 at_level level clusters = record new_buffer { items = map (glyph 1) clusters; cluster_level = level }
@@ -23,6 +24,14 @@ Beside at last clusters count = merged_beside at last (record new_buffer { items
 -- a lam in the cluster of two glyphs before it, which goes over into that of the alef
 abbrev pub behind_two : List Item → List Item
 behind_two items = glyph 3 5 ∷ glyph 3 5 ∷ glyph 1 5 ∷ glyph 2 4 ∷ items
+
+-- an alef that was a ligature
+abbrev pub ligated_alef : ℕ → Item
+ligated_alef cluster = record (glyph 2 cluster) { properties = record new_properties { ligature_id = 3 } }
+
+-- marks on it, and a letter
+abbrev pub two_marks : List Item
+two_marks = on_component 5 1 ∷ on_component 6 1 ∷ glyph 4 9 ∷ []
 
 pub record WorkedMergings : Type 0 where
   pub none : Beside 1 2 (4 ∷ 3 ∷ 2 ∷ 1 ∷ []) 0
@@ -55,6 +64,13 @@ pub record WorkedMergings : Type 0 where
   pub first_made : Leaves (made 25 (behind_two (glyph 1 3 ∷ glyph 2 2 ∷ []))) (3 ∷ 3 ∷ 9 ∷ 1 ∷ 2 ∷ []) 0
   -- clusters that fall: all before the second one are merged again, the components that are to go among them
   pub again : Leaves (made 30 (glyph 3 5 ∷ glyph 1 5 ∷ glyph 2 4 ∷ glyph 1 4 ∷ glyph 2 3 ∷ [])) (3 ∷ 9 ∷ 9 ∷ []) 2
+  -- four for each mark that follows
+  pub two_follow : Leaves (made 40 (glyph 1 0 ∷ ligated_alef 0 ∷ two_marks)) (9 ∷ 5 ∷ 6 ∷ 4 ∷ []) 8
+  pub just_enough_for_them : Leaves (made 32 (glyph 1 0 ∷ ligated_alef 0 ∷ two_marks)) (9 ∷ 5 ∷ 6 ∷ 4 ∷ []) 0
+  pub too_little_for_them : Leaves (made 31 (glyph 1 0 ∷ ligated_alef 0 ∷ two_marks)) (9 ∷ 5 ∷ 6 ∷ 4 ∷ []) 0
+  pub of_another : Leaves (made 40 (glyph 1 0 ∷ ligated_alef 0 ∷ mark 5 0 ∷ glyph 4 9 ∷ [])) (9 ∷ 5 ∷ 4 ∷ []) 22
+  pub on_no_ligature : Leaves (made 40 (glyph 1 0 ∷ glyph 2 0 ∷ two_marks)) (9 ∷ 5 ∷ 6 ∷ 4 ∷ []) 16
+  pub both_charged : Leaves (made 40 (glyph 3 5 ∷ glyph 1 5 ∷ ligated_alef 4 ∷ two_marks)) (3 ∷ 9 ∷ 5 ∷ 6 ∷ 4 ∷ []) 7
 
 pub worked_mergings : WorkedMergings
 unfolding merge as_ligature
@@ -79,4 +95,10 @@ worked_mergings = record {
   both_made = (refl, refl);
   first_made = (refl, refl);
   again = (refl, refl);
+  two_follow = (refl, refl);
+  just_enough_for_them = (refl, refl);
+  too_little_for_them = (refl, refl);
+  of_another = (refl, refl);
+  on_no_ligature = (refl, refl);
+  both_charged = (refl, refl);
 }
