@@ -161,9 +161,9 @@ def ligatures(count, length):
     return words(1, head, 42, *[head + len(EVERY)] * 42) + EVERY + ligature_set
 
 
-def ligature_of_two(second=1):
-    """A letter a and another letter, a if none is named, become one letter b."""
-    return words(1, 8, 1, 14, 1, 1, 1, 1, 4, 2, 2, second)
+def ligature_of_two(second=1, first=1):
+    """Two letters, a if none is named, become one letter b."""
+    return words(1, 8, 1, 14, 1, 1, first, 1, 4, 2, 2, second)
 
 
 def swallows():
@@ -178,7 +178,12 @@ def apart(glyph=2):
 
 def only_a(times):
     """A letter a becomes so many."""
-    return words(1, 8, 1, 14, 1, 1, 1, times, *[1] * times)
+    return becomes(*[1] * times)
+
+
+def becomes(*glyphs):
+    """A letter a becomes these."""
+    return words(1, 8, 1, 14, 1, 1, 1, len(glyphs), *glyphs)
 
 
 def deletes(glyph):
