@@ -24,7 +24,8 @@ alone_first x (y ∷ rest) = elim (cases_Bool (is_mark_item y)) [
   | inr parts ↦ rw (parts, one-add) (ap (λ (l : List (List Item)). (x ∷ []) ∷ l) (alone_first y rest))
 ]
 
-pub alone_at : (items : List Item) (x : Item) (rest : List Item) (n : ℕ) → items ≡ x ∷ rest → n ≡ prefix_len (λ item. not (is_mark_item item)) rest
+pub alone_at : (items : List Item) (x : Item) (rest : List Item) (n : ℕ) → items ≡ x ∷ rest
+    → n ≡ prefix_len (λ item. not (is_mark_item item)) rest
     → sequences items ≡ map (λ item. item ∷ []) (take n items) ++ sequences (drop n items)
 alone_at items x rest n is counted =
     subst (λ (l : List Item). sequences l ≡ map (λ item. item ∷ []) (take n l) ++ sequences (drop n l)) (sym is)
@@ -42,7 +43,8 @@ variation_sequences-alone unicode face place (x ∷ alone) parts =
     variation_sequences-alone unicode face (place + 1) alone parts ∙ ap (λ n. variation_sequences_from unicode face n parts) same
 
 -- so the spans that are sought are those of the rest
-pub spans_passed : (unicode : UnicodeMeaning) (face : FaceMeaning) (place next : ℕ) (items alone rest : List Item) (done whole : List (ℕ × ℕ))
+pub spans_passed : (unicode : UnicodeMeaning) (face : FaceMeaning) (place next : ℕ)
+    → (items alone rest : List Item) (done whole : List (ℕ × ℕ))
     → sequences items ≡ map (λ item. item ∷ []) alone ++ sequences rest → next ≡ place + length alone
     → done ++ variation_sequences_from unicode face place (sequences items) ≡ whole
     → done ++ variation_sequences_from unicode face next (sequences rest) ≡ whole
@@ -53,7 +55,8 @@ spans_passed unicode face place next items alone rest done whole parts at is =
     ∙ is
 
 -- the spans of a sequence are those of its variation sequences, none if it holds no selector
-pub spans_with : (unicode : UnicodeMeaning) (face : FaceMeaning) (place : ℕ) (items sequence after : List Item) (done put whole : List (ℕ × ℕ))
+pub spans_with : (unicode : UnicodeMeaning) (face : FaceMeaning) (place : ℕ)
+    → (items sequence after : List Item) (done put whole : List (ℕ × ℕ))
     → sequences items ≡ sequence ∷ sequences after → is_selector_sequence unicode sequence ≡ true
     → put ≡ done ++ variation_sequence_spans face place (variants unicode sequence)
     → done ++ variation_sequences_from unicode face place (sequences items) ≡ whole
@@ -65,7 +68,8 @@ spans_with unicode face place items sequence after done put whole first selects 
     ap (λ (l : List (ℕ × ℕ)). l ++ later) puts ∙ append_assoc done here later
     ∙ ap (λ (l : List (ℕ × ℕ)). done ++ l) (sym (ap (variation_sequences_from unicode face place) first ∙ both)) ∙ is
 
-pub spans_without : (unicode : UnicodeMeaning) (face : FaceMeaning) (place : ℕ) (items sequence after : List Item) (done put whole : List (ℕ × ℕ))
+pub spans_without : (unicode : UnicodeMeaning) (face : FaceMeaning) (place : ℕ)
+    → (items sequence after : List Item) (done put whole : List (ℕ × ℕ))
     → sequences items ≡ sequence ∷ sequences after → is_selector_sequence unicode sequence ≡ false → put ≡ done
     → done ++ variation_sequences_from unicode face place (sequences items) ≡ whole
     → put ++ variation_sequences_from unicode face (place + length sequence) (sequences after) ≡ whole
@@ -104,7 +108,8 @@ module _ (rules : Rules) (invisible not_found : Option GlyphId) where
       ap (λ (l : List Item). l ++ later) is ∙ append_assoc out (flat_map becomes alone) later
       ∙ ap (λ (l : List Item). out ++ l) (sym (ap (flat_map sequence_becomes) parts ∙ items_alone alone (sequences rest)))
 
-  pub alone_seen : (items alone rest : List Item) (flags seen : ScratchFlags) → sequences items ≡ map (λ item. item ∷ []) alone ++ sequences rest
+  pub alone_seen : (items alone rest : List Item) (flags seen : ScratchFlags)
+      → sequences items ≡ map (λ item. item ∷ []) alone ++ sequences rest
       → seen ≡ fold (seen_emitted rules invisible (rules.short false)) flags alone
       → fold (seen_sequence rules invisible) seen (sequences rest) ≡ fold (seen_sequence rules invisible) flags (sequences items)
   alone_seen items alone rest flags seen parts is =

@@ -91,7 +91,11 @@ impl Emitted {
             (⟦<T as Meaning>⟧.rules plan.now face.now) buffer.now.invisible_glyph
             buffer.now.not_found_variation_selector_glyph infos.now) }
     {
-        let (alone, rest) = infos.split_at(count_alone(infos));
+        let count = count_alone(infos);
+        if count == 0 {
+            return Ok(infos);
+        }
+        let (alone, rest) = infos.split_at(count);
         let shortest = goes_short::<T>(plan, false);
         self.put_items::<T>(plan, face, buffer, alone, shortest)?;
         Ok(rest)

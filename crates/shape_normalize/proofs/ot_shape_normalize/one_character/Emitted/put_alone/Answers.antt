@@ -15,7 +15,7 @@ returns-in_err-put_items-clause-length g c is_length =
     let rest = c.split_at.result.1.now in
     let short : c.goes_short-shortest.result ≡ planned.short false = c.goes_short-shortest.ensures in
     let parts : sequences items ≡ map (λ item. item ∷ []) alone ++ sequences rest =
-    rw (c.split_at.ensures.front, c.split_at.ensures.back) c.count_alone.ensures.alone in
+    rw (c.split_at.ensures.front, c.split_at.ensures.back) c.count_alone-count.ensures.alone in
     let out = c.args.self.now.infos.items in
     let past : c.args.self.now.limit < length (out ++ flat_map (emitted_for planned invisible c.goes_short-shortest.result) alone) =
     c.in_err-put_items.ensures.length (search rules) in
@@ -32,7 +32,7 @@ returns-clause-infos g c =
     let rest = c.split_at.result.1.now in
     let short : c.goes_short-shortest.result ≡ planned.short false = c.goes_short-shortest.ensures in
     let parts : sequences items ≡ map (λ item. item ∷ []) alone ++ sequences rest =
-    rw (c.split_at.ensures.front, c.split_at.ensures.back) c.count_alone.ensures.alone in
+    rw (c.split_at.ensures.front, c.split_at.ensures.back) c.count_alone-count.ensures.alone in
     let out = c.args.self.now.infos.items in
     let put : c.put_items.new.self.infos.items ≡ out ++ flat_map (emitted_for planned invisible c.goes_short-shortest.result) alone =
     search (rules, c.in_ok-put_items.ensures.infos) in
@@ -49,7 +49,9 @@ returns-clause-flags g c =
     let rest = c.split_at.result.1.now in
     let short : c.goes_short-shortest.result ≡ planned.short false = c.goes_short-shortest.ensures in
     let parts : sequences items ≡ map (λ item. item ∷ []) alone ++ sequences rest =
-    rw (c.split_at.ensures.front, c.split_at.ensures.back) c.count_alone.ensures.alone in
-    let seen : c.put_items.new.self.scratch_flags ≡ fold (seen_emitted planned invisible c.goes_short-shortest.result) c.args.self.now.scratch_flags alone =
+    rw (c.split_at.ensures.front, c.split_at.ensures.back) c.count_alone-count.ensures.alone in
+    let seen : c.put_items.new.self.scratch_flags ≡ fold (seen_emitted planned invisible c.goes_short-shortest.result)
+    c.args.self.now.scratch_flags alone =
     search (rules, c.in_ok-put_items.ensures.flags) in
-    alone_seen planned invisible not_found items alone rest c.args.self.now.scratch_flags c.put_items.new.self.scratch_flags parts (rw short at seen)
+    alone_seen planned invisible not_found items alone rest c.args.self.now.scratch_flags c.put_items.new.self.scratch_flags parts
+    (rw short at seen)
