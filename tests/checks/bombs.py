@@ -208,7 +208,7 @@ BOMBS = {
         {"GDEF": gdef(10000), "GPOS": layout(TO_BASES, b"mark")}, "am"),
     "joiners with the glyph of letters that begin ligatures": ({}, "j"),
     "ligatures of joiners and letters, against the direction, that merge a long cluster": (
-        {"GSUB": layout(LONG_CLUSTER)}, "ja"),
+        {"GSUB": layout(a_grows(61 * LENGTH))}, "ja"),
     "ligatures of letters without lookups, followed by all of one ligature": (
         {"GSUB": layout(ON_ONE_LIGATURE), "GDEF": gdef(0, (1, 1, 1, 2, 2, 2))}, "jb"),
 }
