@@ -23,10 +23,10 @@ def either(table, names):
 
 
 def rule(of, input_count):
-    """How many glyphs and lookups a rule names, and which lookups."""
+    """How many glyphs and lookups a rule names, and which lookups, each at which of its glyphs."""
     records = getattr(of, "SubstLookupRecord", None) or getattr(of, "PosLookupRecord", None) or []
     beside = [getattr(of, name, None) or [] for name in ("Backtrack", "LookAhead")]
-    return input_count + sum(map(len, beside)) + len(records), [it.LookupListIndex for it in records]
+    return input_count + sum(map(len, beside)) + len(records), [(it.LookupListIndex, it.SequenceIndex) for it in records]
 
 
 def rules_of_set(found, names):
@@ -85,10 +85,11 @@ def demand(table, positions):
     lookups = [lookup(it, positions) for it in table.LookupList.Lookup]
     used = {i for it in table.FeatureList.FeatureRecord for i in it.Feature.LookupListIndex if i < len(lookups)}
     nested = [NESTED + walk + max((tried(*it) for it in glyphs.values()), default=0) for walk, glyphs in lookups]
+    way = LISTED if positions else 0
     at_glyph = defaultdict(int)
     for i in used:
         for glyph, (count, rules) in lookups[i][1].items():
-            named = max((sum(nested[n] for n in names if n < len(nested)) for _, names in rules), default=0)
+            named = max((sum(nested[n] + way * at for n, at in names if n < len(nested)) for _, names in rules), default=0)
             at_glyph[glyph] += tried(count, rules) + named
     walks = sum(lookups[i][0] for i in used)
     return walks, walks + max(at_glyph.values(), default=0)

@@ -5,8 +5,10 @@
  *
  * ENGINE: hblook, look, opened (glyph and advance of each character of a text, by HarfBuzz, by the face, by the face that is
  * opened once), hbrun, rbrun, run, runopened, kern, kernopened, layout, layoutopened (whole runs without lookups, with kern alone
- * or with all tables of lookups, one plan; built with -DRUNS, rbrun by rustybuzz with -DRUSTYBUZZ), hbopen, open, openonce (the
- * face is made anew each time). TEXT is a file in UTF-8. Prints a sum, or the number of glyphs, which must be equal for all.
+ * or with all tables of lookups, one plan; built with -DRUNS, rbrun by rustybuzz with -DRUSTYBUZZ), hbplan, rbplan, plan,
+ * planopened (the same with all tables, and a plan for each run), hbfirst, rbfirst, first, firstopened (the face opened for each
+ * run, too), hbopen, open, openonce (the face alone made anew each time). TEXT is a file in UTF-8. Prints a sum, or the number of
+ * glyphs, which must be equal for all.
  * check in place of ENGINE compares the look-ups of the three for every character of Unicode. */
 #include <hb.h>
 #include <stdint.h>
@@ -20,7 +22,7 @@ size_t bench_open(const uint8_t *font, size_t n, uint32_t opened, uint32_t times
 size_t bench_font(const uint8_t *font, size_t n, const uint8_t *utf8, size_t u, uint32_t how, uint32_t times);
 #endif
 #ifdef RUSTYBUZZ
-size_t rustybuzz_runs(const uint8_t *font, size_t n, const uint8_t *utf8, size_t u, uint32_t times);
+size_t rustybuzz_runs(const uint8_t *font, size_t n, const uint8_t *utf8, size_t u, uint32_t fresh, uint32_t times);
 #endif
 
 static char *
@@ -72,19 +74,32 @@ hb_run(hb_shape_plan_t *plan, hb_font_t *font, hb_buffer_t *b)
   hb_shape_plan_execute(plan, font, b, NULL, 0);
 }
 
-static unsigned
-hb_runs(int times)
+static hb_shape_plan_t *
+hb_planned(hb_font_t *font, hb_buffer_t *b)
 {
   static const char *const only_ot[] = {"ot", NULL};
-  hb_font_t *font = hb_opened();
-  hb_buffer_t *b = hb_buffer_create();
   hb_segment_properties_t p;
   hb_fill(b);
   hb_buffer_guess_segment_properties(b);
   hb_buffer_get_segment_properties(b, &p);
-  hb_shape_plan_t *plan = hb_shape_plan_create(hb_font_get_face(font), &p, NULL, 0, only_ot);
-  for (int k = 0; k < times; k++) { hb_fill(b); hb_run(plan, font, b); }
-  return hb_buffer_get_length(b);
+  return hb_shape_plan_create(hb_font_get_face(font), &p, NULL, 0, only_ot);
+}
+
+/* Runs with one plan, or with a plan for each. */
+static unsigned
+hb_runs(int fresh, int times)
+{
+  hb_font_t *font = hb_opened();
+  hb_buffer_t *b = hb_buffer_create();
+  hb_shape_plan_t *plan = hb_planned(font, b);
+  for (int k = 0; k < times; k++) {
+    if (fresh) { hb_shape_plan_destroy(plan); plan = hb_planned(font, b); }
+    hb_fill(b);
+    hb_run(plan, font, b);
+  }
+  unsigned n = hb_buffer_get_length(b);
+  hb_shape_plan_destroy(plan); hb_buffer_destroy(b); hb_font_destroy(font);
+  return n;
 }
 
 static uint32_t *
@@ -147,11 +162,22 @@ main(int argc, char **argv)
   }
   else if (!strcmp(engine, "hbopen"))
     for (int k = 0; k < times; k++) { hb_font_t *font = hb_opened(); sum = hb_looked_up(font, chars, 1, 0); hb_font_destroy(font); }
-  else if (!strcmp(engine, "hbrun")) sum = hb_runs(times);
+  else if (!strcmp(engine, "hbrun") || !strcmp(engine, "hbplan")) sum = hb_runs(engine[2] == 'p', times);
+  else if (!strcmp(engine, "hbfirst"))
+    for (int k = 0; k < times; k++) sum = hb_runs(0, 1);
 #ifdef RUSTYBUZZ
-  else if (!strcmp(engine, "rbrun")) sum = rustybuzz_runs(bytes, font_size, (uint8_t *) text, text_size, (uint32_t) times);
+  else if (!strcmp(engine, "rbrun") || !strcmp(engine, "rbplan"))
+    sum = rustybuzz_runs(bytes, font_size, (uint8_t *) text, text_size, engine[2] == 'p', (uint32_t) times);
+  else if (!strcmp(engine, "rbfirst"))
+    for (int k = 0; k < times; k++) sum = rustybuzz_runs(bytes, font_size, (uint8_t *) text, text_size, 0, 1);
 #endif
 #ifdef RUNS
+  else if (!strncmp(engine, "plan", 4) || !strncmp(engine, "first", 5)) {
+    uint32_t how = 8 | (strstr(engine, "opened") != NULL) << 2 | (engine[0] == 'f');
+    uint32_t calls = engine[0] == 'f' ? (uint32_t) times : 1;
+    for (uint32_t k = 0; k < calls; k++)
+      sum = bench_font(bytes, font_size, (uint8_t *) text, text_size, how, engine[0] == 'f' ? 1 : (uint32_t) times);
+  }
   else if (!strncmp(engine, "run", 3) || !strncmp(engine, "kern", 4) || !strncmp(engine, "layout", 6)) {
     uint32_t how = 1 | (engine[0] == 'k') << 1 | (strstr(engine, "opened") != NULL) << 2 | (engine[0] == 'l') << 3;
     sum = bench_font(bytes, font_size, (uint8_t *) text, text_size, how, (uint32_t) times);

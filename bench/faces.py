@@ -1,5 +1,5 @@
 #!/usr/bin/env python3
-"""Prints what look-ups, runs and openings of a face cost: faces.py FOLDER FONT PLAIN KERN.
+"""Prints what look-ups, runs, plans and openings of a face cost: faces.py FOLDER FONT PLAIN KERN.
 
 FOLDER has `faces`; over PLAIN, which is FONT without tables of lookups, and KERN, which has `kern` beside it, runs are measured.
 Where `faces` was built without runs, or without rustybuzz, their columns are empty."""
@@ -58,6 +58,14 @@ with tempfile.TemporaryDirectory() as folder:
             print("| text | HarfBuzz | rustybuzz | `FontFace` | `OpenedFace` |\n|---|---|---|---|---|")
             for kind in KINDS:
                 print(f"| {kind} | " + " | ".join(row(folder, kind, size, engines, font)) + " |", flush=True)
+    print("\nA word of five with all tables of lookups, instructions: a run with its plan, less one whose plan is kept; the face opened, too\n")
+    print("| text | what | HarfBuzz | rustybuzz | `OpenTypeFace` | `OpenedOpenTypeFace` |\n|---|---|---|---|---|---|")
+    for kind in "latin", "cyrillic":
+        text = written(folder, kind, 5)
+        kept, planned, first = ([cost(engine, FONT, text) for engine in engines] for engines in (
+            ("hbrun", "rbrun", "layout", "layoutopened"), ("hbplan", "rbplan", "plan", "planopened"), ("hbfirst", "rbfirst", "first", "firstopened")))
+        print(f"| {kind} | plan | " + " | ".join(p and f"{p[0] - k[0]:,.0f}" or "" for p, k in zip(planned, kept)) + " |")
+        print(f"| {kind} | first word | " + " | ".join(f and f"{f[0]:,.0f}" or "" for f in first) + " |", flush=True)
     print("\nOpening, instructions\n\n| | |\n|---|---|")
     text = written(folder, "latin", 5)
     for engine, what in (("hbopen", "HarfBuzz: a font, and one glyph of it"), ("open", "`FontFace::from_slice`"), ("openonce", "that and `OpenedFace::new`")):

@@ -19,8 +19,8 @@ fn plan_for(face: &Face, text: &str) -> ShapePlan {
     ShapePlan::new(face, buffer.direction(), Some(buffer.script()), buffer.language().as_ref(), &[])
 }
 
-/// Shapes the text so many times by one plan and returns the number of its glyphs; 0 if the bytes are no font or the text is
-/// no UTF-8.
+/// Shapes the text so many times, by one plan or by a plan for each, and returns the number of its glyphs; 0 if the bytes are
+/// no font or the text is no UTF-8.
 ///
 /// # Safety
 /// `font` points to `font_size` bytes, `text` to `text_size`.
@@ -30,6 +30,7 @@ pub unsafe extern "C" fn rustybuzz_runs(
     font_size: usize,
     text: *const u8,
     text_size: usize,
+    fresh: u32,
     times: u32,
 ) -> usize {
     let font = std::slice::from_raw_parts(font, font_size);
@@ -37,10 +38,13 @@ pub unsafe extern "C" fn rustybuzz_runs(
     let (Some(face), Ok(text)) = (Face::from_slice(font, 0), text) else {
         return 0;
     };
-    let plan = plan_for(&face, text);
+    let mut plan = plan_for(&face, text);
     let mut buffer = UnicodeBuffer::new();
     let mut glyphs = 0;
     for _ in 0..times {
+        if fresh != 0 {
+            plan = plan_for(&face, text);
+        }
         rustybuzz_fill(&mut buffer, text);
         let shaped = rustybuzz_run(&face, &plan, buffer);
         glyphs = shaped.len();

@@ -113,6 +113,11 @@ def ranges_of_none(ranges, value=1):
     return words(2, ranges, *many)
 
 
+def among_none(ranges):
+    """The list of all glyphs, with so many ranges of glyphs that the font doesn't have."""
+    return words(2, ranges + 1, 1, 42, 0) + ranges_of_none(ranges)[4:]
+
+
 def list_behind(ranges):
     """A chained context of ZWNJ, with a list behind it of so many ranges."""
     return words(3, 0, 1, 14, 1, 20, 0) + words(1, 1, 43) + ranges_of_none(ranges)
@@ -137,6 +142,11 @@ def nulls(count, part, kind=5):
     return words(kind, 0, count + 1, *[0] * count, 8 + 2 * count) + part
 
 
+def all_null(count, kind=2):
+    """A lookup, of pairs say, of so many subtables that are all NULL."""
+    return words(kind, 0, count, *[0] * count)
+
+
 def alternates():
     """One alternate for each glyph."""
     head = 6 + 2 * 42
@@ -151,19 +161,29 @@ def ligatures(count, length):
     return words(1, head, 42, *[head + len(EVERY)] * 42) + EVERY + ligature_set
 
 
-def ligature_of_two(second=1):
-    """A letter a and another letter, a if none is named, become one letter b."""
-    return words(1, 8, 1, 14, 1, 1, 1, 1, 4, 2, 2, second)
+def ligature_of_two(second=1, first=1):
+    """Two letters, a if none is named, become one letter b."""
+    return words(1, 8, 1, 14, 1, 1, first, 1, 4, 2, 2, second)
 
 
-def apart():
-    """A letter b becomes a and b."""
-    return words(1, 8, 1, 14, 1, 1, 2, 2, 1, 2)
+def swallows():
+    """A letter c and a letter b become a letter c."""
+    return words(1, 8, 1, 14, 1, 1, 3, 1, 4, 3, 2, 2)
+
+
+def apart(glyph=2):
+    """A letter, b if no other is named, becomes a and itself."""
+    return words(1, 8, 1, 14, 1, 1, glyph, 2, 1, glyph)
 
 
 def only_a(times):
     """A letter a becomes so many."""
-    return words(1, 8, 1, 14, 1, 1, 1, times, *[1] * times)
+    return becomes(*[1] * times)
+
+
+def becomes(*glyphs):
+    """A letter a becomes these."""
+    return words(1, 8, 1, 14, 1, 1, 1, len(glyphs), *glyphs)
 
 
 def deletes(glyph):

@@ -9,11 +9,12 @@ of it.
 
 The worst fonts of earlier searches are named in tests/hostile/worst.txt (`search`).
 """
-from checks.bomb_tables import (EVERY, LOOP, ROW, alternates, apart, class_behind, context,
-                                cursive, deletes, features, gdef, gdef_of_set, grows, joins, kern,
-                                kern_heads, layout, ligature_of_two, ligatures, list_behind,
-                                lookup, marks_on, names, nulls, only_a, origins, pairs, row_before,
-                                row_behind, rules, rules_past, vain, variations, words)
+from checks.bomb_tables import (EVERY, LOOP, ROW, all_null, alternates, among_none, apart, becomes,
+                                 class_behind, context, cursive, deletes, features, gdef,
+                                 gdef_of_set, grows, joins, kern, kern_heads, layout,
+                                 ligature_of_two, ligatures, list_behind, lookup, marks_on, names,
+                                 nulls, only_a, origins, pairs, row_before, row_behind, rules,
+                                 rules_past, swallows, vain, variations, words)
 from checks.fonts import add_table, bytes_of, new_font
 from checks.hostile_runs import LENGTH, SECONDS, Runs, add_run_options, need_all
 from checks.mutated import load_bases, mutated_font
@@ -30,6 +31,8 @@ FIRST = {0xFE91, 0xFE92, 0xFE97, 0xFE98, 0xFE9B, 0xFE9F, 0xFEA3, 0xFEA7, 0xFEB3,
          0xFEDF, 0xFEE0, 0xFEE3, 0xFEE7, 0xFEE8, 0xFEF3, 0xFEF4}
 OTHERS = sorted({*range(0xFE80, 0xFEF5)} - FIRST)
 MADE = [*range(0xFC08, 0xFD89), *range(0xFEF5, 0xFEFD)]
+# what texts are of that get these (`bomb_text`)
+ARABIC = "j", "ja", "jb"
 
 AT_ONCE = [lookup(1, [words(1, 6, 0) + EVERY])]
 IN_VAIN = [lookup(5, [(30000, vain())])]
@@ -59,10 +62,27 @@ ON_LIGATURE = [lookup(4, [ligature_of_two()], 8),
 # a, marks and b become a ligature that the marks follow, which is taken apart and made anew
 FOLLOWED = [lookup(4, [ligature_of_two(2)], 8), lookup(2, [apart()]),
             lookup(5, [context(1, [(0, 1), (0, 0)] * 5000, words(1, 1, 2))])]
-# right to left, the last letter a comes first and grows to 61 for each letter b, and each b that is
-# deleted hands its cluster to all of them
-HANDED = [lookup(2, [only_a(60)])] * 2 + [lookup(2, [only_a(LENGTH * 61 // 3600)]),
-                                          lookup(2, [deletes(2)])]
+# each record of a rule looks for the last of its glyphs, each of them in a list
+AT_THE_LAST = [lookup(1, [words(1, 6, 0) + words(1, 1, 42)]),
+               lookup(7, [context(64, [(63, 0)] * 10000, among_none(4000))])]
+
+
+def a_grows(count):
+    """Lookups by which a letter a becomes about so many."""
+    return [lookup(2, [only_a(60)])] * 2 + [lookup(2, [only_a(count // 3600)])]
+
+
+# right to left, the last letter a comes first and grows, and each letter b that is deleted hands
+# its cluster to all that it became
+HANDED = [*a_grows(61 * LENGTH), lookup(2, [deletes(2)])]
+# right to left, the last letter c becomes a and c, the a grows, and into the cluster of each letter
+# b that the c swallows all of them go; over three quarters of the text it takes as long as HANDED
+MERGED = [lookup(2, [apart(3)]), *a_grows(61 * LENGTH * 3 // 4),
+          lookup(5, [context(1, [(0, 5)] * LENGTH, words(1, 1, 3))]), lookup(4, [swallows()])]
+# the letter a between two b stands on the ligature of these, and becomes letters of Arabic by turns,
+# of which ligatures are made without lookups: all that are left follow each
+ON_ONE_LIGATURE = [lookup(4, [ligature_of_two(2, first=2)], 2), *[lookup(2, [only_a(30)])] * 2,
+                   lookup(2, [only_a(LENGTH * 61 // 1800)]), lookup(2, [becomes(4, 5)])]
 # each a follows the next one, each b the one before, and the last a the b behind it: one chain.
 # Each c follows the a or b behind it, and then the d before it, which turns the chain round
 TURNED = [lookup(3, [joins([1], [1])], 13), lookup(3, [joins([2], [2])], 10),
@@ -129,6 +149,11 @@ BOMBS = {
     "30,000 NULL subtables": ({"GSUB": layout([nulls(30000, vain())])}, "a"),
     "30,000 NULL subtables of 31,000 lookups of pairs": (
         {"GPOS": layout([nulls(30000, pairs(1), 2)], b"kern", shared=31000)}, "a"),
+    "65,000 NULL subtables of 31,000 lookups of pairs, over nothing": (
+        {"GSUB": layout([lookup(2, [deletes(1)])]),
+         "GPOS": layout([all_null(65000)], b"kern", shared=31000)}, "l"),
+    "10,000 records of the last of 64 glyphs, 9 lookups": (
+        {"GPOS": layout(AT_THE_LAST, b"kern", shared=8)}, "a"),
     "records that name nothing": (
         {"GSUB": layout([lookup(5, [context(1, [(9, 0)] * 10000)])], shared=1000)}, "a"),
     "1,000 lookups at random": (
@@ -157,6 +182,7 @@ BOMBS = {
     "marks that follow a ligature": (
         {"GSUB": layout(FOLLOWED, shared=100), "GDEF": gdef(0)}, "amb"),
     "deletions behind a long cluster": ({"GSUB": layout(HANDED)}, "ba"),
+    "ligatures that merge a long cluster": ({"GSUB": layout(MERGED)}, "bc"),
     "31,000 rules of two glyphs in each of four stages and GPOS, 100 lookups": (
         {"GSUB": layout([SHORT_ROWS["of two glyphs"]], STAGES, shared=100),
          "GPOS": layout([lookup(7, [rules(31000, words(2, 0, 42))])], b"kern", shared=100)}, "s"),
@@ -181,10 +207,14 @@ BOMBS = {
     "classes of 10,000 ranges": (
         {"GDEF": gdef(10000), "GPOS": layout(TO_BASES, b"mark")}, "am"),
     "joiners with the glyph of letters that begin ligatures": ({}, "j"),
+    "ligatures of joiners and letters, against the direction, that merge a long cluster": (
+        {"GSUB": layout(a_grows(61 * LENGTH))}, "ja"),
+    "ligatures of letters without lookups, followed by all of one ligature": (
+        {"GSUB": layout(ON_ONE_LIGATURE), "GDEF": gdef(0, (1, 1, 1, 2, 2, 2))}, "jb"),
 }
 
 
-# bombs that use up what a run may ask for, or nearly; those of lists, classes and sets of 5,000
+# bombs that use up what a run may ask for, or nearly; those of lists, classes and sets of many
 # ranges do too, and run over the whole text, to be slow if a search costs as little as a look
 SPENT = {
     "calls itself twice", "calls itself at each of 64 places", "one lookup, named 20,000 times",
@@ -207,10 +237,11 @@ SPENT = {
 
 def bomb_characters(kind):
     """The glyphs of characters: of letters a to z, 1 to 26, of marks U+0300 to U+030F, 27 to 42,
-    and of ZWNJ; or of Arabic, where ZWJ has that of each letter that begins a ligature."""
-    if kind != "j":
+    and of ZWNJ; or of letters a and b, 1 and 2, and of Arabic, where ZWJ has that of each letter
+    that begins a ligature, 4, and others share one, 5."""
+    if kind not in ARABIC:
         return {c: f"u{c:04X}" for c in [*LETTERS, *MARKS, ZWNJ]}
-    return {ALEF: "alef", **dict.fromkeys([ZWJ, *FIRST], "first"),
+    return {0x61: "a", 0x62: "b", ALEF: "alef", **dict.fromkeys([ZWJ, *FIRST], "first"),
             **dict.fromkeys(OTHERS, "other"), **dict.fromkeys(MADE, "ligature")}
 
 
@@ -225,25 +256,30 @@ def bomb_font(tables, kind):
 
 
 def bomb_text(kind, length):
-    """Letters, marks, or one half of each, letters first; marks between two letters, and one mark
-    more or none; ZWNJ, after one letter; letters that join; letters by the stages of Arabic, or
-    downwards; letters right to left, of which the last is another one; or ZWJ in Arabic."""
+    """Letters, in eight lines too, marks, or one half of each, letters first; marks between two
+    letters, and one mark more or none; ZWNJ, after one letter; letters that join; letters by the
+    stages of Arabic, or downwards; letters right to left, of which the last is another one, or
+    three quarters as many; or ZWJ in Arabic, after one letter or each, of which the last is a
+    letter a; or Arabic after a letter a between two b."""
     half = length // 2
     texts = {"a": "a" * length, "m": "\u0301" * length, "z": "a" + chr(ZWNJ) * (length - 1),
              "ama": "a" + "\u0301" * (length - 67) + "\u0302" * 64 + "a\u0303",
              "t": "dcadcb" * (length // 6) + "ab",
              "amb": "a" + "\u0301" * (length - 2) + "b", "s": "a" * length,
-             "v": "a" * length,
-             "ba": "b" * (length - 1) + "a",
+             "v": "a" * length, "l": "\n".join(["a" * (length // 8)] * 8),
+             "ba": "b" * (length - 1) + "a", "bc": "b" * (length * 3 // 4 - 1) + "c",
              "j": chr(ALEF) + chr(ZWJ) * (length - 1),
+             "ja": (chr(ALEF) + chr(ZWJ)) * (half - 1) + "a" + chr(ZWJ),
+             "jb": "bab" + chr(ALEF) * (length - 3),
              "am": "a" * half + "\u0301" * (length - half)}
     return texts[kind]
 
 
 def take_bomb(runs, name, length):
     tables, kind = BOMBS[name]
-    direction = {"v": "ttb", "ba": "rtl"}.get(kind, "ltr")
-    options = ["--direction=" + direction, "--script=" + ("Arab" if kind in "sj" else "Latn")]
+    direction = {"v": "ttb", "ba": "rtl", "bc": "rtl"}.get(kind, "ltr")
+    script = "Arab" if kind == "s" or kind in ARABIC else "Latn"
+    options = ["--direction=" + direction, "--script=" + script]
     runs.take(name, bomb_font(tables, kind), bomb_text(kind, length), options)
 
 

@@ -23,7 +23,8 @@ use Rattle.arabic_fallback.specs.Replaced.{with_glyph, classed_by, with_componen
 use Rattle.arabic_fallback.specs.Seeking.{nth, is_on}
 use Rattle.arabic_fallback.specs.Forms.{listed, formed, form_rows, formed_by}
 use Rattle.arabic_fallback.specs.Ligatures.{Row, found_in, ligature_rows}
-use Rattle.arabic_fallback.specs.Ligating.{put_at, merged, is_component, component_among, joined_item, joined_at, joined_to, followers, total_of, put_over, ligature_made, is_own, id_given, ligation_of, ligature_put, Walked, tried_at, with_left, tried_with, searched_at, ligated_at, ligated_to, each_ligated, cleared_away}
+use Rattle.arabic_fallback.specs.Ligating.{put_at, merged, is_component, component_among, joined_item, joined_at, joined_to, followers, total_of, put_over, ligature_made, id_given, ligation_of, following_charged, ligature_given, ligature_put, Walked, tried_at, with_left, tried_with, searched_at, ligated_at, ligated_to, each_ligated, cleared_away}
+use Rattle.arabic_fallback.specs.Merging.{merging_charged}
 use Rattle.arabic_fallback.specs.Vain.{vain_end, concat_marked, vain_marked}
 use Rattle.arabic_fallback.specs.Work.{search_charged}
 use Rattle.arabic_fallback.specs.Fallback.{ligated_by, all_formed, all_ligated, fallback_shaped}
@@ -172,16 +173,35 @@ given-flags : (own : Bool) (b : Buffer) → PreservesFlags b (id_given own b)
 given-flags true b = record { flags = refl; stays_set = λ e. e; none_new = λ flag is some. inl some }
 given-flags false b = PreservesFlags-same b
 
+left-order : (left : ℕ) (b : Buffer) → PreservesOrder b (with_left left b)
+left-order left b = record { clusters = PreservesClusters-same _; direction = refl; flags = refl; level = refl }
+
+left-flags : (left : ℕ) (b : Buffer) → PreservesFlags b (with_left left b)
+left-flags left b = record { flags = refl; stays_set = λ e. e; none_new = λ flag is some. inl some }
+
+ligature_given-order : (made : Ligation) → IsClusterPreserving (ligature_given made)
+ligature_given-order made b monotone =
+    let c = id_given made.own b in
+    let d = following_charged made c in
+    let given = given-order made.own b in
+    PreservesOrder-then b c _ given
+    (PreservesOrder-then c d _ (left-order d.max_ops c) (made-order made d (subst IsMonotoneLevel (sym given.level) monotone)))
+
+ligature_given-flags : (made : Ligation) → IsFlagPreserving (ligature_given made)
+ligature_given-flags made b =
+    let c = id_given made.own b in
+    let d = following_charged made c in
+    PreservesFlags-then b c _ (given-flags made.own b) (PreservesFlags-then c d _ (left-flags d.max_ops c) (made-flags made d))
+
 put_ligature-order : (at : ℕ) (found : Found) → IsClusterPreserving (ligature_put at found)
 put_ligature-order at found b monotone =
-    let c = id_given (is_own b.items at found) b in
-    let given = given-order (is_own b.items at found) b in
-    PreservesOrder-then b c _ given (made-order (ligation_of at found b) c (subst IsMonotoneLevel (sym given.level) monotone))
+    let c = merging_charged at found.last b in
+    PreservesOrder-then b c _ (left-order c.max_ops b) (ligature_given-order (ligation_of at found c) c monotone)
 
 put_ligature-flags : (at : ℕ) (found : Found) → IsFlagPreserving (ligature_put at found)
 put_ligature-flags at found b =
-    let c = id_given (is_own b.items at found) b in
-    PreservesFlags-then b c _ (given-flags (is_own b.items at found) b) (made-flags (ligation_of at found b) c)
+    let c = merging_charged at found.last b in
+    PreservesFlags-then b c _ (left-flags c.max_ops b) (ligature_given-flags (ligation_of at found c) c)
 
 -- ---- all ligatures
 
@@ -223,12 +243,6 @@ module _ (rule : Rule) (rows : List LigatureGlyphs) where
   found-flags : (at : ℕ) (o : Option Found) (b : Buffer) → PreservesFlags b (tried_at at o b).buffer
   found-flags at None b = PreservesFlags-same b
   found-flags at (Some found) b = put_ligature-flags at found b
-
-  left-order : (left : ℕ) (b : Buffer) → PreservesOrder b (with_left left b)
-  left-order left b = record { clusters = PreservesClusters-same _; direction = refl; flags = refl; level = refl }
-
-  left-flags : (left : ℕ) (b : Buffer) → PreservesFlags b (with_left left b)
-  left-flags left b = record { flags = refl; stays_set = λ e. e; none_new = λ flag is some. inl some }
 
   tried-order : (at : ℕ) (o : Option ℕ) (b : Buffer) → IsMonotoneLevel b.cluster_level → PreservesOrder b (tried_with rule rows at b o).buffer
   tried-order at None b monotone = left-order 0 b

@@ -5,6 +5,7 @@ pub mod Forms
 pub mod Ligatures
 pub mod Vain
 pub mod Work
+pub mod Merging
 pub mod Ligating
 pub mod Fallback
 pub mod Worked

@@ -1,5 +1,5 @@
 -- How a ligature is made: its components become one glyph, and marks between and after them stand on it.
-use Rattle.std.specs.Prelude.{ℕ, zero, suc, Bool, true, false, ◌+◌, ◌-◌, ◌==◌, ◌&&◌, ◌||◌, not, min, nat_lt, nat_le, Option, Some, None, List, [], ◌∷◌, ◌++◌, fold, replicate, length, drop, set, if◌then◌else◌}
+use Rattle.std.specs.Prelude.{ℕ, zero, suc, Bool, true, false, ◌+◌, ◌-◌, ◌*◌, ◌==◌, ◌&&◌, ◌||◌, not, min, nat_lt, nat_le, Option, Some, None, List, [], ◌∷◌, ◌++◌, fold, replicate, length, drop, set, if◌then◌else◌}
 use Rattle.std.specs.List.{prefix_len}
 use Rattle.std.specs.Option.{option_map_or}
 use Rattle.shape_items.specs.Buffer.{Buffer, next_ligature_id}
@@ -7,6 +7,7 @@ use Rattle.shape_items.specs.BufferClusters.{merge_clusters}
 use Rattle.shape_common.specs.Positions.{zero_position}
 use Rattle.shape_items.specs.Items.{Item}
 use Rattle.arabic_fallback.specs.Ligatures.{found_in}
+use Rattle.arabic_fallback.specs.Merging.{merging_charged}
 use Rattle.arabic_fallback.specs.Replaced.{shares, as_component, as_ligature, components_of, gone, is_gone}
 use Rattle.arabic_fallback.specs.Seeking.{nth, is_mark, is_on}
 use Rattle.arabic_fallback.specs.Vain.{vain_marked}
@@ -109,8 +110,23 @@ abbrev pub ligature_made : Ligation → Buffer → Buffer
 ligature_made made b = put_over made
     (joined_to made (made.found.last - made.at + followers made b.items) (merged made.at (made.found.last + 1) b))
 
+-- what an item costs that follows a ligature, since it is written anew
+abbrev pub FOLLOWED : ℕ
+FOLLOWED = 4
+
+-- so much for each of those; if what is left doesn't suffice, nothing is left
+abbrev pub following_charged : Ligation → Buffer → Buffer
+following_charged made b = record b { max_ops = b.max_ops - followers made b.items * FOLLOWED }
+
+abbrev pub ligature_given : Ligation → Buffer → Buffer
+ligature_given made b = ligature_made made (following_charged made (id_given made.own b))
+
+abbrev pub ligature_of : ℕ → Found → Buffer → Buffer
+ligature_of at found b = ligature_given (ligation_of at found b) b
+
+-- it is made whatever is left
 abbrev pub ligature_put : ℕ → Found → Buffer → Buffer
-ligature_put at found b = ligature_made (ligation_of at found b) (id_given (is_own b.items at found) b)
+ligature_put at found b = ligature_of at found (merging_charged at found.last b)
 
 -- a buffer, and the place that the lookup goes on at
 pub record Walked : Type 0 where

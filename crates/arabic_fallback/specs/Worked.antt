@@ -3,3 +3,4 @@ pub mod Ligatures
 pub mod Faces
 pub mod Vain
 pub mod Charges
+pub mod Merging

@@ -13,6 +13,7 @@ pub mod forms;
 pub mod laws;
 pub mod ligating;
 pub mod ligatures;
+pub mod merging;
 pub mod replaced;
 pub mod seeking;
 pub mod tables;

@@ -7,8 +7,9 @@ ghost use Rattle.arabic_fallback.specs.Ligating;
 ghost use Rattle.arabic_fallback.specs.Ligatures.{found_in};
 ghost use Rattle.arabic_fallback.specs.Vain.{vain_marked};
 
-use crate::following::followers;
+use crate::following::{charge_following, followers};
 use crate::ligatures::{Found, LigatureGlyphs, found_in};
+use crate::merging::charge_merging;
 use crate::replaced::{NewGlyph, as_component, as_ligature, components_of, gone, is_gone};
 use crate::seeking::{Rule, is_mark, is_on};
 use crate::vain::mark_vain;
@@ -255,7 +256,9 @@ fn put_ligature(buffer: &mut hb_buffer_t, at: usize, found: Found)
     ensures as_many { length buffer.new.items ≡ length buffer.old.items }
     ensures limit { limit_of buffer.new ≡ limit_of buffer.old }
 {
+    charge_merging(buffer, at, found.last);
     let made = ligation_of(buffer, at, found);
+    charge_following(buffer, &made);
     ligate(buffer, &made);
 }
 

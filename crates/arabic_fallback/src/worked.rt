@@ -3,6 +3,7 @@ ghost use Rattle.arabic_fallback.specs.Worked.Charges.{WorkedCharges};
 ghost use Rattle.arabic_fallback.specs.Worked.Faces.{WorkedFaces};
 ghost use Rattle.arabic_fallback.specs.Worked.Forms.{WorkedForms};
 ghost use Rattle.arabic_fallback.specs.Worked.Ligatures.{WorkedLigatures};
+ghost use Rattle.arabic_fallback.specs.Worked.Merging.{WorkedMergings};
 ghost use Rattle.arabic_fallback.specs.Worked.Vain.{WorkedVain};
 
 /// The forms of letters by the code charts, and where they are put.
@@ -28,4 +29,10 @@ pub fn vain_searches_meet_worked_cases()
 /// What searches for ligatures are charged, and what becomes of those that what is left doesn't suffice for.
 pub fn charges_meet_worked_cases()
     ensures { WorkedCharges }
+{}
+
+/// How many items the merging of a ligature's components writes beside them, and what it is charged for these and for those that
+/// follow it.
+pub fn mergings_meet_worked_cases()
+    ensures { WorkedMergings }
 {}

@@ -337,6 +337,7 @@ pub fn allot(
         global: GLOBAL_BIT,
         required_stage: 0,
     };
+    features.reserve(settings.len())?;
     for setting in settings {
         room = add(gsub, gpos, features, room, *setting)?;
     }

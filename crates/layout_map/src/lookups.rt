@@ -144,6 +144,7 @@ fn empty_slots(alloc: Global, count: u32) -> Result<Vec<LookupUse>, ShapeError>
     ensures memory { IsOkUnless result ShapeError.Memory }
 {
     let mut uses = Vec::new(alloc);
+    uses.reserve(count as usize)?;
     for _i in 0..count {
         uses.push(unused())?;
     }

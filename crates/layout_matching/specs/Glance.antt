@@ -79,13 +79,15 @@ refuses t at (Only value) = not (nat_eq value (u16_of t at))
 abbrev pub plain_refused : List ℕ → Glances → ℕ → Bool
 plain_refused t glances at = nat_lt 1 (u16_of t at) && refuses t (min (at + 4) FAR) glances.input
 
--- a chained one: its glyph before; then its second glyph, or, if it has none, the one behind
+-- a chained one: its second glyph, or, if it has none, the one behind
+abbrev pub refused_on : List ℕ → Glances → ℕ → Bool
+refused_on t glances middle = if nat_lt 1 (u16_of t middle) then refuses t (min (middle + 2) FAR) glances.input
+    else nat_lt 0 (u16_of t (middle + 2)) && refuses t (min (middle + 4) FAR) glances.after
+
+-- after its glyph before
 abbrev pub chain_refused : List ℕ → Glances → ℕ → Bool
 chain_refused t glances at = let before = u16_of t at in
-    let middle = at + 2 + 2 * before in
-    ((nat_lt 0 before && refuses t (min (at + 2) FAR) glances.before)
-    || (if nat_lt 1 (u16_of t middle) then refuses t (min (middle + 2) FAR) glances.input
-    else nat_lt 0 (u16_of t (middle + 2)) && refuses t (min (middle + 4) FAR) glances.after))
+    (nat_lt 0 before && refuses t (min (at + 2) FAR) glances.before) || refused_on t glances (at + 2 + 2 * before)
 
 abbrev pub is_refused : List ℕ → Glances → Bool → ℕ → Bool
 is_refused t glances is_chain at = if is_chain then chain_refused t glances at else plain_refused t glances at

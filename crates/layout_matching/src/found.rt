@@ -1,13 +1,14 @@
 //! The rule of a lookup that matches at a place (OpenType, "Common table formats", sequence context 1 to 3, chained 1 to 3).
 //!
 //! Rules are asked in the order of the table, and the first that matches is taken. Nothing is changed, and no memory is taken.
-ghost use Rattle.std.specs.Prelude.{◌≡◌, ◌<◌, ◌+◌, ◌^◌, length};
-ghost use Rattle.std.specs.Option.{IfSome};
+ghost use Rattle.std.specs.Prelude.{◌≡◌, ◌<◌, ◌+◌, ◌^◌, length, true, None};
+ghost use Rattle.std.specs.Option.{IfSome, option_and_then};
 ghost use Rattle.layout_matching.specs.Found as found_rules;
 ghost use Rattle.layout_matching.specs.Glance as glances;
 
-use crate::formats::{is_first, rows_of, rule_by, set_for, whole_rule};
-use crate::glance::{Glances, glances_around, is_refused};
+use crate::around::{GlancedSet, glanced, is_refused_there};
+use crate::formats::{is_first, rule_by, set_for, whole_rule};
+use crate::glance::Glances;
 use crate::lookup::Lookup;
 use crate::rules::{Rule, begins_inside, is_inside, rule_at};
 use crate::spans::{Origin, Span, span_at};
@@ -92,14 +93,6 @@ fn found_whole(
     }
 }
 
-/// A set of rules, and what the glyphs around a place say of all of them.
-#[derive(Clone, Copy)]
-pub struct GlancedSet {
-    pub subtable: LookupSubtable,
-    pub place: usize,
-    pub around: Glances,
-}
-
 /// The rule at a place of the table, if it matches.
 #[inline(never)]
 fn found_at(
@@ -120,82 +113,63 @@ fn found_at(
     found_if(lookup, items, origin, rule)
 }
 
-/// The same, by what the glyphs around say. Most rules are refused here, by a few numbers.
+/// Whether the rule at a place of the table matches nothing, as a few numbers say of most rules.
 #[tactic(auto, using(crate::proofs::RefusalLemmas::refused_rule, crate::proofs::PastLemmas::found_past))]
 #[inline(always)]
-fn found_unless_refused(
+fn is_vain(
     lookup: &Lookup<'_>,
     items: &ItemList<'_>,
     origin: Origin,
     set: &GlancedSet,
     place: usize,
-) -> Option<Found>
+    known: &mut Option<Glances>,
+) -> bool
     requires near { set.now.subtable.start < 2 ^ 35 }
     requires place { place < 2 ^ 37 }
     requires inside { origin.at < length items.now }
-    requires around { set.now.around
-        ≡ glances.glances_in lookup.now items.now origin set.now.subtable }
-    ensures value { result
-        ≡ found_rules.found_at lookup.now items.now origin set.now.subtable place }
-    ensures last { IfSome result (λ f. f.span.last < length items.now) }
+    requires before { set.now.before
+        ≡ (glances.glances_in lookup.now items.now origin set.now.subtable).before }
+    requires known { IfSome known.old
+        (λ g. g ≡ glances.glances_in lookup.now items.now origin set.now.subtable) }
+    ensures none { result ≡ true
+        → found_rules.found_at lookup.now items.now origin set.now.subtable place ≡ None }
+    ensures known { IfSome known.new
+        (λ g. g ≡ glances.glances_in lookup.now items.now origin set.now.subtable) }
 {
-    if !begins_inside(lookup.table, place) {
-        return None;
-    }
-    let is_chain = is_chained(lookup, set.subtable);
-    if is_refused(lookup.table, &set.around, is_chain, place) {
-        return None;
-    }
-    found_at(lookup, items, origin, set.subtable, place)
+    !begins_inside(lookup.table, place)
+        || is_refused_there(lookup, items, origin, set, place, known)
 }
 
-/// Rule `r` of the set, if it matches.
+/// Where rule `r` of the set stands, unless it matches nothing. It is read in the loop alone, since each call copies what it
+/// found.
 #[inline(always)]
-fn found_rule(
+fn unrefused(
     lookup: &Lookup<'_>,
     items: &ItemList<'_>,
     origin: Origin,
     set: &GlancedSet,
     r: u32,
-) -> Option<Found>
+    known: &mut Option<Glances>,
+) -> Option<usize>
     requires near { set.now.subtable.start < 2 ^ 35 }
     requires set { set.now.place < 2 ^ 36 }
     requires few { r < 2 ^ 16 }
     requires inside { origin.at < length items.now }
-    requires around { set.now.around
-        ≡ glances.glances_in lookup.now items.now origin set.now.subtable }
-    ensures value { result
-        ≡ found_rules.found_rule lookup.now items.now origin set.now.subtable set.now.place r }
-    ensures last { IfSome result (λ f. f.span.last < length items.now) }
+    requires before { set.now.before
+        ≡ (glances.glances_in lookup.now items.now origin set.now.subtable).before }
+    requires known { IfSome known.old
+        (λ g. g ≡ glances.glances_in lookup.now items.now origin set.now.subtable) }
+    ensures value { found_rules.found_rule lookup.now items.now origin set.now.subtable
+        set.now.place r
+        ≡ option_and_then (found_rules.found_at lookup.now items.now origin set.now.subtable)
+        result }
+    ensures near { IfSome result (λ place. place < 2 ^ 37) }
+    ensures known { IfSome known.new
+        (λ g. g ≡ glances.glances_in lookup.now items.now origin set.now.subtable) }
 {
     match rule_at(lookup.table, set.place, r) {
-        Some(place) => found_unless_refused(lookup, items, origin, set, place),
-        None => None,
-    }
-}
-
-/// The set of rules at a place of the table, seen from `origin`.
-fn glanced(
-    lookup: &Lookup<'_>,
-    items: &ItemList<'_>,
-    origin: Origin,
-    subtable: LookupSubtable,
-    place: usize,
-) -> GlancedSet
-    requires near { subtable.start < 2 ^ 35 }
-    requires inside { origin.at < length items.now }
-    ensures { result ≡ record {
-      subtable = subtable;
-      place = place;
-      around = glances.glances_in lookup.now items.now origin subtable;
-    } }
-{
-    let is_chain = is_chained(lookup, subtable);
-    let rows = rows_of(lookup.table, is_chain, subtable.start);
-    GlancedSet {
-        subtable,
-        place,
-        around: glances_around(lookup, items, origin, is_chain, rows),
+        Some(place) if !is_vain(lookup, items, origin, set, place, known) => Some(place),
+        _ => None,
     }
 }
 
@@ -210,62 +184,26 @@ fn first_found(
     requires near { set.now.subtable.start < 2 ^ 35 }
     requires set { set.now.place < 2 ^ 36 }
     requires inside { origin.at < length items.now }
-    requires around { set.now.around
-        ≡ glances.glances_in lookup.now items.now origin set.now.subtable }
+    requires before { set.now.before
+        ≡ (glances.glances_in lookup.now items.now origin set.now.subtable).before }
     ensures value { result
         ≡ found_rules.found_in_set lookup.now items.now origin set.now.subtable set.now.place }
     ensures last { IfSome result (λ f. f.span.last < length items.now) }
 {
+    let mut known = None;
     for r in 0..records(
         lookup.table,
         u32::from(u16_at(lookup.table, set.place)),
         set.place + 2,
         2,
     ) {
-        if let Some(found) = found_rule(lookup, items, origin, set, r) {
-            return Some(found);
+        if let Some(place) = unrefused(lookup, items, origin, set, r, &mut known) {
+            if let Some(found) = found_at(lookup, items, origin, set.subtable, place) {
+                return Some(found);
+            }
         }
     }
     None
-}
-
-/// The first rule of those at `set` that matches.
-fn found_in_set(
-    lookup: &Lookup<'_>,
-    items: &ItemList<'_>,
-    origin: Origin,
-    subtable: LookupSubtable,
-    set: usize,
-) -> Option<Found>
-    requires near { subtable.start < 2 ^ 35 }
-    requires set { set < 2 ^ 36 }
-    requires inside { origin.at < length items.now }
-    ensures value { result ≡ found_rules.found_in_set lookup.now items.now origin subtable set }
-    ensures last { IfSome result (λ f. f.span.last < length items.now) }
-{
-    let seen = glanced(lookup, items, origin, subtable, set);
-    first_found(lookup, items, origin, &seen)
-}
-
-fn found_by_number(
-    lookup: &Lookup<'_>,
-    items: &ItemList<'_>,
-    origin: Origin,
-    subtable: LookupSubtable,
-    number: u32,
-) -> Option<Found>
-    requires near { subtable.start < 2 ^ 35 }
-    requires inside { origin.at < length items.now }
-    ensures value { result ≡ found_rules.found_by_number lookup.now items.now origin subtable
-        number }
-    ensures last { IfSome result (λ f. f.span.last < length items.now) }
-{
-    let glyph = items.item(origin.at).glyph_id;
-    let is_chain = is_chained(lookup, subtable);
-    match set_for(lookup.table, is_chain, subtable.start, glyph, number) {
-        Some(set) => found_in_set(lookup, items, origin, subtable, set),
-        None => None,
-    }
 }
 
 /// The number of a glyph in the list of the subtable at `start`, whose offset stands 2 bytes after `start`.
@@ -277,6 +215,8 @@ pub fn number_in(table: &[u8], start: usize, glyph: u32) -> Option<u32>
     coverage_index(table, list, glyph)
 }
 
+/// The first rule of the set for the glyph that matches. In one body with what finds the set, since each call copies what it
+/// returns.
 fn found_in_sets(
     lookup: &Lookup<'_>,
     items: &ItemList<'_>,
@@ -289,31 +229,15 @@ fn found_in_sets(
     ensures last { IfSome result (λ f. f.span.last < length items.now) }
 {
     let glyph = items.item(origin.at).glyph_id;
-    match number_in(lookup.table, subtable.start, glyph) {
-        Some(i) => found_by_number(lookup, items, origin, subtable, i),
-        None => None,
-    }
-}
-
-fn found_in_subtable(
-    lookup: &Lookup<'_>,
-    items: &ItemList<'_>,
-    origin: Origin,
-    subtable: LookupSubtable,
-) -> Option<Found>
-    requires near { subtable.start < 2 ^ 35 }
-    requires inside { origin.at < length items.now }
-    ensures value { result ≡ found_rules.found_in_subtable lookup.now items.now origin subtable }
-    ensures last { IfSome result (λ f. f.span.last < length items.now) }
-{
-    if !is_context_subtable(lookup, subtable) {
-        return None;
-    }
-    if u16_at(lookup.table, subtable.start) == 3 {
-        found_whole(lookup, items, origin, subtable)
-    } else {
-        found_in_sets(lookup, items, origin, subtable)
-    }
+    let number = number_in(lookup.table, subtable.start, glyph)?;
+    let is_chain = is_chained(lookup, subtable);
+    let set = set_for(lookup.table, is_chain, subtable.start, glyph, number)?;
+    first_found(
+        lookup,
+        items,
+        origin,
+        &glanced(lookup, items, origin, subtable, set),
+    )
 }
 
 /// The rule of subtable `i` that matches.
@@ -329,9 +253,14 @@ fn found_at_subtable(
     ensures value { result ≡ found_rules.found_at_subtable lookup.now items.now origin i }
     ensures last { IfSome result (λ f. f.span.last < length items.now) }
 {
-    match subtable(lookup.table, extension_kind(lookup), lookup.place, i) {
-        Some(subtable) => found_in_subtable(lookup, items, origin, subtable),
-        None => None,
+    let subtable = subtable(lookup.table, extension_kind(lookup), lookup.place, i)?;
+    if !is_context_subtable(lookup, subtable) {
+        return None;
+    }
+    if u16_at(lookup.table, subtable.start) == 3 {
+        found_whole(lookup, items, origin, subtable)
+    } else {
+        found_in_sets(lookup, items, origin, subtable)
     }
 }
 

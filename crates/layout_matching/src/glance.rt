@@ -79,7 +79,12 @@ pub fn glance_after(lookup: &Lookup<'_>, seek: &Seek, items: &ItemList<'_>, i: u
 }
 
 /// What the glyph before place `i` says of it.
-fn glance_before(lookup: &Lookup<'_>, seek: &Seek, items: &ItemList<'_>, i: usize) -> Glance
+pub(crate) fn glance_before(
+    lookup: &Lookup<'_>,
+    seek: &Seek,
+    items: &ItemList<'_>,
+    i: usize,
+) -> Glance
     requires { i ≤ length items.now }
     ensures { result ≡ glances.glance_before lookup.now seek.now items.now i }
 {

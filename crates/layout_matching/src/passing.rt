@@ -55,6 +55,7 @@ fn passing_work(lookup: &Lookup<'_>, listed: bool, there: &hb_glyph_info_t) -> u
 }
 
 /// One glyph more on the way.
+#[inline(always)]
 fn passing_step(
     lookup: &Lookup<'_>,
     listed: bool,

@@ -136,6 +136,7 @@ fn ends(lookup: &Lookup<'_>, seek: &Seek, items: &ItemList<'_>, k: u32, j: usize
 
 /// How far before place `i` the nearest glyph stands that may not stand between.
 #[tactic(auto, using(shape_font::proofs::SearchLemmas::first_at_next, shape_font::proofs::SearchLemmas::first_at_found, shape_font::proofs::SearchLemmas::first_at_end))]
+#[inline(always)]
 pub(crate) fn distance_back(
     lookup: &Lookup<'_>,
     seek: &Seek,

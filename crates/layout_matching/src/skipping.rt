@@ -4,7 +4,8 @@
 //! unless it is the very glyph that is looked for. Positioning passes over more of them than substitution does.
 //!
 //! These are asked of each glyph that a rule looks at, so what most glyphs need is inlined, and the rest isn't.
-ghost use Rattle.std.specs.Prelude.{◌≡◌};
+ghost use Rattle.std.specs.Prelude.{◌≡◌, ◌||◌, nat_lt};
+ghost use Rattle.layout_matching.specs.Skipping.{shares};
 ghost use Rattle.layout_matching.specs.Skipping;
 
 use crate::lookup::Lookup;
@@ -35,13 +36,22 @@ fn mark_is_left_out(lookup: &Lookup<'_>, item: &hb_glyph_info_t) -> bool
         && lookup.flags / 256 != u16::from(item._hb_glyph_info_get_mark_attachment_class())
 }
 
+/// Whether the lookup has a set of marks, or a class of marks. Few have.
+#[inline(always)]
+fn chooses_marks(lookup: &Lookup<'_>) -> bool
+    ensures { result ≡ (shares lookup.now.flags 16 || nat_lt 255 lookup.now.flags) }
+{
+    lookup.flags & 16 != 0 || 255 < lookup.flags
+}
+
 /// Whether the lookup's flags skip the glyph.
 #[inline(always)]
 pub fn is_skipped(lookup: &Lookup<'_>, item: &hb_glyph_info_t) -> bool
     ensures { result ≡ Skipping.is_skipped lookup.now item.now }
 {
     let class = item._hb_glyph_info_get_glyph_class().0;
-    class & lookup.flags & 14 != 0 || (class & 8 != 0 && mark_is_left_out(lookup, item))
+    class & lookup.flags & 14 != 0
+        || (class & 8 != 0 && chooses_marks(lookup) && mark_is_left_out(lookup, item))
 }
 
 fn passes_zwnj(lookup: &Lookup<'_>, is_input: bool) -> bool

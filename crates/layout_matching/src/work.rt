@@ -307,5 +307,9 @@ pub fn walk_work(lookup: &Lookup<'_>, count: usize) -> usize
     requires { lookup.now.place < 2 ^ 17 }
     ensures { result ≡ Work.walk_work lookup.now count }
 {
+    // A list that substitution has emptied: its subtables aren't looked at, however many there are.
+    if count == 0 {
+        return 0;
+    }
     count.saturating_mul(steps_work(lookup))
 }

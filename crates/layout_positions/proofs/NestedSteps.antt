@@ -12,7 +12,7 @@ use Rattle.layout_matching.specs.declared.found.Found.{Found}
 use Rattle.layout_matching.specs.declared.lookup.Lookup.{Lookup}
 use Rattle.layout_matching.specs.declared.rules.Rule.{Rule}
 use Rattle.layout_positions.specs.Edits.{broken, concat_marked}
-use Rattle.layout_positions.specs.Nested.{named_place, named_lookup, Nest, skipped, spent, record_within, record_at_place, record_for, record_step, rule_placed, origin_at, tried_concat_marked, first_rule_placed, level_placed, LEVELS, nested_placed}
+use Rattle.layout_positions.specs.Nested.{named_place, named_lookup, Nest, skipped, spent, place_charged, record_within, record_at_place, record_for, record_step, rule_placed, origin_at, tried_concat_marked, first_rule_placed, level_placed, LEVELS, nested_placed}
 use Rattle.layout_positions.specs.Subtables.{Placing, unplaced, lookup_placed}
 use Rattle.layout_positions.specs.Walk.{Walk, tried_within, lookup_step, Budgeted, first_walk, gone_over, walk_charged, lookup_applied}
 use Rattle.layout_positions.specs.declared.bases.BaseSeen.{BaseSeen}
@@ -51,15 +51,15 @@ module _ (P : Buffer → Buffer → Type 0) (same : (b : Buffer) → P b b) (aft
       by_charge None = same s.buffer
       by_charge (Some left) = preserves other place left s.seen s.buffer
 
-  step-for : (next : Lookup → ℕ → ℕ → BaseSeen → Buffer → Placing) → Preserves next → (s : Nest) (other : Lookup) (o : Option ℕ)
-      → P s.buffer (option_map_or (record_at_place next s other) o (skipped s)).buffer
-  step-for next preserves s other None = same s.buffer
-  step-for next preserves s other (Some place) = step-place next preserves s other place
+  step-for : (next : Lookup → ℕ → ℕ → BaseSeen → Buffer → Placing) → Preserves next → (l : Lookup) (rule : Rule) (s : Nest) (other : Lookup)
+      (o : Option ℕ) → P s.buffer (option_map_or (record_at_place next (place_charged l rule s) other) o (skipped s)).buffer
+  step-for next preserves l rule s other None = same s.buffer
+  step-for next preserves l rule s other (Some place) = step-place next preserves (place_charged l rule s) other place
 
   step-named : (next : Lookup → ℕ → ℕ → BaseSeen → Buffer → Placing) → Preserves next → (l : Lookup) (at : ℕ) (rule : Rule) (s : Nest)
       (o : Option Lookup) → P s.buffer (option_map_or (record_for next l at rule s) o (skipped s)).buffer
   step-named next preserves l at rule s None = same s.buffer
-  step-named next preserves l at rule s (Some other) = step-for next preserves s other (named_place l s.buffer.items at rule s.r)
+  step-named next preserves l at rule s (Some other) = step-for next preserves l rule s other (named_place l s.buffer.items at rule s.r)
 
   step-record : (next : Lookup → ℕ → ℕ → BaseSeen → Buffer → Placing) → Preserves next → (l : Lookup) (at : ℕ) (rule : Rule) (s : Nest)
       → P s.buffer (record_step next l at rule s).buffer

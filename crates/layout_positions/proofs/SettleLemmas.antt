@@ -32,6 +32,13 @@ settled_on level i j b some is =
     let e : level ≡ suc (level - 1) = omega (arith, some) in
     ap (λ n. settled n i b) e ∙ ap (λ o. option_map_or (λ j. followed i j (settled (level - 1) j (freed i b))) o (freed i b)) is
 
+-- the one that it is attached to isn't attached itself
+pub settled_beside : (level i j : ℕ) (b c : Buffer) → 0 < level → parent_of b i ≡ Some j → c ≡ freed i b
+    → (position_at c j).attach_chain ≡ pos 0 → settled level i b ≡ followed i j c
+settled_beside level i j b c some is made free =
+    let still : (position_at (freed i b) j).attach_chain ≡ pos 0 = ap (λ d. (position_at d j).attach_chain) (sym made) ∙ free in
+    settled_on level i j b some is ∙ ap (followed i j) (settled_still (level - 1) j (freed i b) still ∙ sym made)
+
 each_next : {S : Type 0} (f : ℕ → S → S) (i : ℕ) (s : S) → each f (i + 1) s ≡ f i (each f i s)
 each_next f i s =
     let e : i + 1 ≡ suc i = omega arith in

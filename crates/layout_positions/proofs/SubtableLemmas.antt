@@ -8,7 +8,7 @@ use Rattle.layout_tables.specs.declared.lookups.LookupSubtable.{LookupSubtable}
 use Rattle.layout_matching.specs.declared.lookup.Lookup.{Lookup}
 use Rattle.layout_positions.specs.Cursive.{cursive_applied}
 use Rattle.layout_positions.specs.Lookups.{Applied, unapplied}
-use Rattle.layout_positions.specs.Marks.{base_seen, mark_number, mark_base_at, mark_base_applied, mark_ligature_at, mark_ligature_applied, mark_mark_applied}
+use Rattle.layout_positions.specs.Marks.{base_seen, mark_number, mark_base_at, mark_base_applied, mark_ligature_at, mark_ligature_applied, mark_mark_at, mark_mark_applied}
 use Rattle.layout_positions.specs.Pairs.{single_applied, pair_applied}
 use Rattle.layout_positions.specs.Subtables.{if_first_format, kind_applied, LINK_WORK, links_of, links_charged, sought_from, sought, unplaced, kind_placed, subtable_placed, Trial, trial_step}
 use Rattle.layout_positions.specs.declared.bases.BaseSeen.{BaseSeen}
@@ -158,6 +158,53 @@ mark_unplaced l subtable i b seen left on is =
     ap (λ (x : Applied). record { buffer = x.buffer; next = x.next; seen = seen; left = left })
     (sym (unattached-kind l subtable seen.place i b on is))
     ∙ ap (subtable_placed l subtable i b) (sym none)
+
+-- ---- marks on marks
+
+kind-on-mark : (l : Lookup) (subtable : LookupSubtable) (base : Option ℕ) (i : ℕ) (b : Buffer) → subtable.kind ≡ 6
+    → kind_applied l subtable base i b ≡ if_first_format l subtable.start b (mark_mark_applied l subtable.start i b)
+kind-on-mark l subtable base i b is = rw is refl
+
+sought-on-mark : (l : Lookup) (subtable : LookupSubtable) (i : ℕ) (b : Buffer) (seen : BaseSeen) (left : ℕ) → subtable.kind ≡ 6
+    → sought l subtable i b seen left ≡ record { seen = seen; left = Some left }
+sought-on-mark l subtable i b seen left is = rw is refl
+
+pub mark_on_mark_placed : (l : Lookup) (subtable : LookupSubtable) (i : ℕ) (b c : Buffer) (seen : BaseSeen) (left number : ℕ)
+    (next : Option ℕ) → subtable.kind ≡ 6 → listed l subtable i b ≡ Some number
+    → c ≡ (mark_mark_at l subtable.start i b number).buffer → next ≡ (mark_mark_at l subtable.start i b number).next
+    → record { buffer = c; next = next; seen = seen; left = left } ≡ subtable_placed l subtable i b (sought l subtable i b seen left)
+mark_on_mark_placed l subtable i b c seen left number next kind is made goes =
+    let at = mark_mark_at l subtable.start i b in
+    let format = nat_eq (u16_of l.table.now subtable.start) 1 in
+    ap (λ d. record { buffer = d; next = next; seen = seen; left = left }) made
+    ∙ ap (λ n. record { buffer = (at number).buffer; next = n; seen = seen; left = left }) goes
+    ∙ ap (λ (x : Applied). record { buffer = x.buffer; next = x.next; seen = seen; left = left })
+    (sym (kind-on-mark l subtable seen.place i b kind
+    ∙ listed-made format (mark_number l subtable.start i b) number at (unapplied b) is))
+    ∙ ap (subtable_placed l subtable i b) (sym (sought-on-mark l subtable i b seen left kind))
+
+mark_on_mark_unplaced : (l : Lookup) (subtable : LookupSubtable) (i : ℕ) (b : Buffer) (seen : BaseSeen) (left : ℕ)
+    → subtable.kind ≡ 6 → listed l subtable i b ≡ None
+    → record { buffer = b; next = None; seen = seen; left = left } ≡ subtable_placed l subtable i b (sought l subtable i b seen left)
+mark_on_mark_unplaced l subtable i b seen left kind is =
+    let at = mark_mark_at l subtable.start i b in
+    let format = nat_eq (u16_of l.table.now subtable.start) 1 in
+    ap (λ (x : Applied). record { buffer = x.buffer; next = x.next; seen = seen; left = left })
+    (sym (kind-on-mark l subtable seen.place i b kind
+    ∙ unlisted-made format (mark_number l subtable.start i b) at (unapplied b) is))
+    ∙ ap (subtable_placed l subtable i b) (sym (sought-on-mark l subtable i b seen left kind))
+
+-- a subtable of any of these types that doesn't list the glyph
+pub unlisted_unplaced : (l : Lookup) (subtable : LookupSubtable) (i : ℕ) (b : Buffer) (seen : BaseSeen) (left : ℕ) (next : Option ℕ)
+    → (nat_eq subtable.kind 4 || nat_eq subtable.kind 5 || nat_eq subtable.kind 6) ≡ true → listed l subtable i b ≡ None → next ≡ None
+    → record { buffer = b; next = next; seen = seen; left = left } ≡ subtable_placed l subtable i b (sought l subtable i b seen left)
+unlisted_unplaced l subtable i b seen left next on is still =
+    ap (λ n. record { buffer = b; next = n; seen = seen; left = left }) still ∙ by_type (nat_eq subtable.kind 6) refl
+  where
+    by_type : (t : Bool) → nat_eq subtable.kind 6 ≡ t
+        → record { buffer = b; next = None; seen = seen; left = left } ≡ subtable_placed l subtable i b (sought l subtable i b seen left)
+    by_type true six = mark_on_mark_unplaced l subtable i b seen left (grind (arith, nat_tests, six)) is
+    by_type false six = mark_unplaced l subtable i b seen left (grind (arith, nat_tests, six, on)) is
 
 -- ---- cursive attachment
 

@@ -1,6 +1,6 @@
 -- Lookups of context, which apply others where a rule matches (OpenType, `GPOS`, lookup types 7 and 8).
 use Prim.Native.Nat.{zero}
-use Rattle.std.specs.Prelude.{ℕ, suc, true, List, Option, Some, None, ◌+◌, length, nat_eq, nat_lt, if◌then◌else◌}
+use Rattle.std.specs.Prelude.{ℕ, suc, true, List, Option, Some, None, ◌+◌, ◌-◌, ◌*◌, length, nat_eq, nat_lt, if◌then◌else◌}
 use Rattle.std.specs.Option.{option_map, option_map_or}
 use Rattle.shape_font.specs.Bytes.{u16_of}
 use Rattle.shape_items.specs.Buffer.{Buffer}
@@ -29,8 +29,12 @@ abbrev pub matched_place : Lookup → List Item → ℕ → Rule → ℕ → Opt
 matched_place l items at rule index =
     if nat_lt index rule.input.count then last_after l (seek_input l (nth items at) rule.input) items index at else None
 
+-- the number of the glyph that record `r` names
+abbrev pub named_index : Lookup → Rule → ℕ → ℕ
+named_index l rule r = u16_of l.table.now (record_at rule r)
+
 abbrev pub named_place : Lookup → List Item → ℕ → Rule → ℕ → Option ℕ
-named_place l items at rule r = matched_place l items at rule (u16_of l.table.now (record_at rule r))
+named_place l items at rule r = matched_place l items at rule (named_index l rule r)
 
 abbrev pub named_lookup : Lookup → Rule → ℕ → Option Lookup
 named_lookup l rule r = option_map (lookup_with l) (lookup_of l.table.now (u16_of l.table.now (record_at rule r + 2)))
@@ -62,8 +66,16 @@ abbrev pub record_at_place : (Lookup → ℕ → ℕ → BaseSeen → Buffer →
 record_at_place next s other place =
     option_map_or (record_within next s other place) (nested_charged other s.buffer.items place s.left) (spent s)
 
+-- each record looks for its glyph from the first one of the rule on; each glyph on the way is compared, and searched for in a list
+abbrev pub PLACE_WORK : ℕ
+PLACE_WORK = 8
+
+abbrev pub place_charged : Lookup → Rule → Nest → Nest
+place_charged l rule s = record s { left = s.left - named_index l rule s.r * PLACE_WORK }
+
 abbrev pub record_for : (Lookup → ℕ → ℕ → BaseSeen → Buffer → Placing) → Lookup → ℕ → Rule → Nest → Lookup → Nest
-record_for next l at rule s other = option_map_or (record_at_place next s other) (named_place l s.buffer.items at rule s.r) (skipped s)
+record_for next l at rule s other =
+    option_map_or (record_at_place next (place_charged l rule s) other) (named_place l s.buffer.items at rule s.r) (skipped s)
 
 -- nothing is done once nothing is left
 abbrev pub record_step : (Lookup → ℕ → ℕ → BaseSeen → Buffer → Placing) → Lookup → ℕ → Rule → Nest → Nest

@@ -130,8 +130,8 @@ fn follow(buffer: &mut hb_buffer_t, i: usize, j: usize, last: Measured) -> Measu
 }
 
 /// The glyph at place `i` follows the one that it is attached to, after that one has followed its
-/// own, over so many links.
-#[tactic(auto, using(crate::proofs::SettleLemmas::settled_free, crate::proofs::SettleLemmas::settled_out, crate::proofs::SettleLemmas::settled_on, crate::proofs::WayLemmas::measured_freed))]
+/// own, over so many links. Most follow one that isn't attached any more.
+#[tactic(auto, using(crate::proofs::SettleLemmas::settled_beside, crate::proofs::SettleLemmas::settled_free, crate::proofs::SettleLemmas::settled_out, crate::proofs::SettleLemmas::settled_on, crate::proofs::WayLemmas::measured_freed))]
 fn settle(buffer: &mut hb_buffer_t, level: u32, i: usize, last: Measured) -> Measured
     requires inside { i < length buffer.old.items }
     requires last { IsMeasured buffer.old last }
@@ -143,6 +143,9 @@ fn settle(buffer: &mut hb_buffer_t, level: u32, i: usize, last: Measured) -> Mea
     free(buffer, i);
     match found {
         Some(j) if level != 0 => {
+            if position(buffer, j).attach_chain == 0 {
+                return follow(buffer, i, j, last);
+            }
             let last = settle(buffer, level - 1, j, last);
             follow(buffer, i, j, last)
         }

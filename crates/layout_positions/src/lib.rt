@@ -15,6 +15,7 @@ pub mod bases;
 pub mod cursive;
 pub mod edits;
 pub mod laws;
+pub mod listed;
 pub mod marks;
 pub mod neighbours;
 pub mod nested;

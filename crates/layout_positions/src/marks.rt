@@ -59,16 +59,6 @@ fn mark_array(table: &[u8], start: usize) -> Option<usize>
     offset16(table, start, start + 8)
 }
 
-/// The anchor for mark number `number` in a row of a matrix.
-fn base_anchor(table: &[u8], start: usize, number: u32, row: u32, matrix: usize) -> Option<Anchor>
-    requires start { start < 2 ^ 34 }
-    requires matrix { matrix < 2 ^ 36 }
-    ensures { result ≡ Marks.base_anchor table.now start number row matrix }
-{
-    let class = mark_class(table, mark_array(table, start), number);
-    anchor_of_class(table, matrix, u16_at(table, start + 6), row, class)
-}
-
 /// Attaches a mark to a glyph by a row of a matrix, if that has an anchor for the mark's class.
 fn attach_mark(
     lookup: &Lookup<'_>,
@@ -87,18 +77,12 @@ fn attach_mark(
         at.now.number
         row matrix buffer.old).next }
 {
-    let base = base_anchor(lookup.table, start, at.number, row, matrix?)?;
-    let mark = mark_anchor(lookup.table, mark_array(lookup.table, start), at.number);
+    let table = lookup.table;
+    let marks = mark_array(table, start);
+    let class = mark_class(table, marks, at.number);
+    let mark = mark_anchor(table, marks, at.number);
+    let base = anchor_of_class(table, matrix?, u16_at(table, start + 6), row, class)?;
     put_mark(buffer, at, mark, base)
-}
-
-/// The number of the mark at place `i` in the subtable.
-pub fn mark_number(lookup: &Lookup<'_>, start: usize, buffer: &hb_buffer_t, i: usize) -> Option<u32>
-    requires { start < 2 ^ 34 }
-    ensures { result ≡ Marks.mark_number lookup.now start i buffer.now }
-{
-    let glyph = item_at(buffer.infos(), i).glyph_id;
-    number_there(lookup.table, start, start + 2, glyph)
 }
 
 /// The row of the glyph at place `j` in the subtable.
@@ -346,9 +330,8 @@ fn put_on_mark(
 }
 
 /// Attaches mark number `number` of the subtable, at place `i`, to the mark before it. Returns the
-/// place where the lookup goes on. A call of its own, since most subtables don't list a mark.
-#[inline(never)]
-fn attach_to_mark(
+/// place where the lookup goes on.
+pub(crate) fn attach_to_mark(
     lookup: &Lookup<'_>,
     start: usize,
     buffer: &mut hb_buffer_t,
@@ -372,24 +355,5 @@ fn attach_to_mark(
             put_on_mark(lookup, start, buffer, &at)
         }
         None => concat_from(buffer, start_at(stop), i),
-    }
-}
-
-/// Applies attachment to a mark to the mark at place `i`. Returns the place where the lookup goes
-/// on.
-pub fn apply_mark_mark(
-    lookup: &Lookup<'_>,
-    start: usize,
-    buffer: &mut hb_buffer_t,
-    i: usize,
-) -> Option<usize>
-    requires start { start < 2 ^ 34 }
-    requires inside { i < length buffer.old.items }
-    ensures made { buffer.new ≡ (Marks.mark_mark_applied lookup.now start i buffer.old).buffer }
-    ensures next { result ≡ (Marks.mark_mark_applied lookup.now start i buffer.old).next }
-{
-    match mark_number(lookup, start, buffer, i) {
-        Some(number) => attach_to_mark(lookup, start, buffer, i, number),
-        None => None,
     }
 }

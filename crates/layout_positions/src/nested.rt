@@ -3,7 +3,7 @@
 //!
 //! Positioning leaves the items where they are, so that the place of a matched glyph is looked for
 //! again where a record names it, and no list of places is kept.
-ghost use Rattle.std.specs.Prelude.{◌≡◌, ◌<◌, ◌+◌, ◌^◌, length};
+ghost use Rattle.std.specs.Prelude.{◌≡◌, ◌<◌, ◌+◌, ◌-◌, ◌*◌, ◌^◌, length};
 ghost use Rattle.std.specs.Option.{IfSome};
 ghost use Rattle.layout_positions.specs.Nested;
 ghost use Rattle.layout_matching.specs.Loops.{times};
@@ -25,6 +25,9 @@ use layout_matching::work::nested_charged;
 use layout_tables::lookups::lookup;
 use shape_buffer::{hb_buffer_t, hb_glyph_info_t};
 use shape_font::bytes::u16_at;
+
+/// What a glyph costs on the way to the one that a record names.
+const PLACE_WORK: usize = 8;
 
 /// A rule that matches: the lookup that it is of, and the place of its first glyph.
 #[derive(Clone, Copy)]
@@ -49,6 +52,13 @@ fn matched_place(site: &Site<'_>, items: &[hb_glyph_info_t], index: u16) -> Opti
     last_after(&site.lookup, &seek, &items, u32::from(index), site.at)
 }
 
+/// The number of the glyph that record `r` of a rule names.
+fn named_index(site: &Site<'_>, r: u32) -> u16
+    ensures { result ≡ Nested.named_index site.now.lookup site.now.rule r }
+{
+    u16_at(site.lookup.table, record_at(&site.rule, r))
+}
+
 /// Where record `r` of a rule applies its lookup.
 fn named_place(site: &Site<'_>, items: &[hb_glyph_info_t], r: u32) -> Option<usize>
     requires { site.now.at < length items.now }
@@ -56,8 +66,15 @@ fn named_place(site: &Site<'_>, items: &[hb_glyph_info_t], r: u32) -> Option<usi
         r }
     ensures inside { IfSome result (λ j. j < length items.now) }
 {
-    let index = u16_at(site.lookup.table, record_at(&site.rule, r));
-    matched_place(site, items, index)
+    matched_place(site, items, named_index(site, r))
+}
+
+/// What is left after the glyph that record `r` of a rule names was looked for.
+fn charge_place(site: &Site<'_>, r: u32, left: usize) -> usize
+    ensures { result
+        ≡ left - Nested.named_index site.now.lookup site.now.rule r * Nested.PLACE_WORK }
+{
+    left.saturating_sub(usize::from(named_index(site, r)) * PLACE_WORK)
 }
 
 /// The lookup that record `r` of a rule names.
@@ -97,7 +114,8 @@ fn apply_record(
         Some(place) => {
             let seen = carried.seen;
             let items = ItemList::of_slice(buffer.infos());
-            match nested_charged(&other, &items, place, carried.left) {
+            let rest = charge_place(site, r, carried.left);
+            match nested_charged(&other, &items, place, rest) {
                 Some(left) => {
                     let fewer = Carried { seen, left };
                     apply_nested(level, &other, buffer, place, fewer).carried

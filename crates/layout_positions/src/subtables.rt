@@ -1,18 +1,15 @@
 //! A lookup at a place: its first subtable that applies.
-ghost use Rattle.std.specs.Prelude.{◌≡◌, ◌<◌, ◌≤◌, ◌+◌, ◌-◌, ◌*◌, ◌^◌, ◌||◌, true, false, length, nat_eq, Some, None, if◌then◌else◌};
+ghost use Rattle.std.specs.Prelude.{◌≡◌, ◌<◌, ◌≤◌, ◌+◌, ◌-◌, ◌*◌, ◌^◌, ◌||◌, true, false, length, nat_eq, None};
 ghost use Rattle.std.specs.Option.{IfSome};
-ghost use Rattle.shape_font.specs.Bytes.{u16_of};
 ghost use Rattle.layout_positions.specs.Cursive;
 ghost use Rattle.layout_positions.specs.Lookups;
-ghost use Rattle.layout_positions.specs.Marks;
 ghost use Rattle.layout_positions.specs.Subtables;
 
 use crate::adjustment::{apply_pair, apply_single};
-use crate::bases::{BaseSeen, base_seen, seek_work};
+use crate::bases::BaseSeen;
 use crate::cursive::{Joined, UNJOINED, apply_cursive};
-use crate::marks::{apply_mark_mark, attach_to_base, attach_to_ligature, mark_number};
+use crate::listed::try_mark;
 use layout_matching::lookup::Lookup;
-use layout_matching::tally::charged;
 use layout_tables::lookups::{LookupSubtable, subtable, subtable_count};
 use shape_buffer::hb_buffer_t;
 use shape_font::bytes::u16_at;
@@ -103,28 +100,8 @@ fn place_cursive(
     }
 }
 
-/// Applies attachment to a mark, which is of format 1, to the glyph at place `i`.
-fn try_mark_mark(
-    lookup: &Lookup<'_>,
-    start: usize,
-    buffer: &mut hb_buffer_t,
-    i: usize,
-) -> Option<usize>
-    requires near { start < 2 ^ 34 }
-    requires inside { i < length buffer.old.items }
-    ensures made { buffer.new ≡ (Subtables.if_first_format lookup.now start buffer.old
-        (Marks.mark_mark_applied lookup.now start i buffer.old)).buffer }
-    ensures next { result ≡ (Subtables.if_first_format lookup.now start buffer.old
-        (Marks.mark_mark_applied lookup.now start i buffer.old)).next }
-{
-    if u16_at(lookup.table, start) != 1 {
-        return None;
-    }
-    apply_mark_mark(lookup, start, buffer, i)
-}
-
 /// Applies a subtable by its type to the glyph at place `i`, but none of cursive attachment, and none
-/// that attaches marks to bases or ligatures.
+/// that attaches marks.
 fn apply_kind(
     lookup: &Lookup<'_>,
     subtable: LookupSubtable,
@@ -137,6 +114,7 @@ fn apply_kind(
     requires inside { i < length buffer.old.items }
     requires lone { nat_eq subtable.kind 3 ≡ false }
     requires baseless { nat_eq subtable.kind 4 || nat_eq subtable.kind 5 ≡ false }
+    requires markless { nat_eq subtable.kind 6 ≡ false }
     requires known { IfSome ahead.old
         (λ stop. stop ≡ Lookups.stop_after lookup.now buffer.old.items i) }
     ensures placed { record {
@@ -151,137 +129,9 @@ fn apply_kind(
     let next = match subtable.kind {
         1 => apply_single(lookup, subtable.start, buffer, i),
         2 => apply_pair(lookup, subtable.start, buffer, i, ahead),
-        6 => try_mark_mark(lookup, subtable.start, buffer, i),
         _ => None,
     };
     Outcome { next, carried }
-}
-
-/// Looks for the base of the mark at place `i`, and charges for that.
-fn seek_base(
-    lookup: &Lookup<'_>,
-    subtable: LookupSubtable,
-    buffer: &hb_buffer_t,
-    i: usize,
-    carried: Carried,
-) -> Sought
-    requires near { subtable.start < 2 ^ 34 }
-    requires inside { i < length buffer.now.items }
-    ensures { result ≡ Subtables.sought_from lookup.now subtable buffer.now.items i carried.seen
-        carried.left (Marks.base_seen lookup.now subtable buffer.now.items i carried.seen) }
-{
-    let items = buffer.infos();
-    let seen = base_seen(lookup, subtable, items, i, carried.seen);
-    let work = seek_work(lookup, subtable, items, i, carried.seen, seen.place);
-    Sought {
-        seen,
-        left: charged(work, carried.left),
-    }
-}
-
-/// Attaches mark number `number` of a subtable of type 4 or 5, at place `i`, to the glyph at place `base`.
-fn attach(
-    lookup: &Lookup<'_>,
-    subtable: LookupSubtable,
-    base: Option<usize>,
-    buffer: &mut hb_buffer_t,
-    i: usize,
-    number: u32,
-) -> Option<usize>
-    requires near { subtable.start < 2 ^ 34 }
-    requires inside { i < length buffer.old.items }
-    ensures made { buffer.new ≡ (if nat_eq subtable.kind 4
-        then Marks.mark_base_at lookup.now subtable.start base i buffer.old number
-        else Marks.mark_ligature_at lookup.now subtable.start base i buffer.old number).buffer }
-    ensures next { result ≡ (if nat_eq subtable.kind 4
-        then Marks.mark_base_at lookup.now subtable.start base i buffer.old number
-        else Marks.mark_ligature_at lookup.now subtable.start base i buffer.old number).next }
-{
-    if subtable.kind == 4 {
-        attach_to_base(lookup, subtable.start, base, buffer, i, number)
-    } else {
-        attach_to_ligature(lookup, subtable.start, base, buffer, i, number)
-    }
-}
-
-/// Applies a subtable of type 4 or 5 to its mark number `number`, at place `i`, if what is left suffices for the search for its
-/// base. Else nothing is left. A call of its own, since most subtables don't list a mark.
-#[inline(never)]
-#[tactic(auto, using(crate::proofs::SubtableLemmas::mark_placed, crate::proofs::SubtableLemmas::mark_unpaid))]
-fn place_mark(
-    lookup: &Lookup<'_>,
-    subtable: LookupSubtable,
-    buffer: &mut hb_buffer_t,
-    i: usize,
-    carried: Carried,
-    number: u32,
-) -> Outcome
-    requires near { subtable.start < 2 ^ 34 }
-    requires inside { i < length buffer.old.items }
-    requires kind { nat_eq subtable.kind 4 || nat_eq subtable.kind 5 ≡ true }
-    requires listed { (if nat_eq (u16_of lookup.now.table.now subtable.start) 1
-        then Marks.mark_number lookup.now subtable.start i buffer.old else None) ≡ Some number }
-    ensures { record {
-      buffer = buffer.new;
-      next = result.next;
-      seen = result.carried.seen;
-      left = result.carried.left;
-    } ≡ Subtables.subtable_placed lookup.now subtable i buffer.old
-        (Subtables.sought lookup.now subtable i buffer.old carried.seen carried.left) }
-{
-    let sought = seek_base(lookup, subtable, buffer, i, carried);
-    let seen = sought.seen;
-    match sought.left {
-        Some(left) => Outcome {
-            next: attach(lookup, subtable, seen.place, buffer, i, number),
-            carried: Carried { seen, left },
-        },
-        None => Outcome {
-            next: None,
-            carried: Carried { seen, left: 0 },
-        },
-    }
-}
-
-/// The number of the mark at place `i` in a subtable of format 1; none in one of another format.
-fn listed_mark(lookup: &Lookup<'_>, start: usize, buffer: &hb_buffer_t, i: usize) -> Option<u32>
-    requires { start < 2 ^ 34 }
-    ensures { result ≡ (if nat_eq (u16_of lookup.now.table.now start) 1
-        then Marks.mark_number lookup.now start i buffer.now else None) }
-{
-    if u16_at(lookup.table, start) != 1 {
-        return None;
-    }
-    mark_number(lookup, start, buffer, i)
-}
-
-/// Applies a subtable of type 4 or 5 to the glyph at place `i`. Its marks are searched once.
-#[tactic(auto, using(crate::proofs::SubtableLemmas::mark_unplaced))]
-fn try_mark(
-    lookup: &Lookup<'_>,
-    subtable: LookupSubtable,
-    buffer: &mut hb_buffer_t,
-    i: usize,
-    carried: Carried,
-) -> Outcome
-    requires near { subtable.start < 2 ^ 34 }
-    requires inside { i < length buffer.old.items }
-    requires kind { nat_eq subtable.kind 4 || nat_eq subtable.kind 5 ≡ true }
-    ensures { record {
-      buffer = buffer.new;
-      next = result.next;
-      seen = result.carried.seen;
-      left = result.carried.left;
-    } ≡ Subtables.subtable_placed lookup.now subtable i buffer.old
-        (Subtables.sought lookup.now subtable i buffer.old carried.seen carried.left) }
-{
-    match listed_mark(lookup, subtable.start, buffer, i) {
-        Some(number) => place_mark(lookup, subtable, buffer, i, carried, number),
-        None => Outcome {
-            next: None,
-            carried,
-        },
-    }
 }
 
 /// Applies a subtable to the glyph at place `i`.
@@ -290,11 +140,12 @@ fn apply_subtable(
     subtable: LookupSubtable,
     buffer: &mut hb_buffer_t,
     i: usize,
-    carried: Carried,
+    placed: Outcome,
     ahead: &mut Option<Option<usize>>,
 ) -> Outcome
     requires near { subtable.start < 2 ^ 34 }
     requires inside { i < length buffer.old.items }
+    requires unplaced { placed.next ≡ None }
     requires known { IfSome ahead.old
         (λ stop. stop ≡ Lookups.stop_after lookup.now buffer.old.items i) }
     ensures placed { record {
@@ -303,14 +154,14 @@ fn apply_subtable(
       seen = result.carried.seen;
       left = result.carried.left;
     } ≡ Subtables.subtable_placed lookup.now subtable i buffer.old
-        (Subtables.sought lookup.now subtable i buffer.old carried.seen carried.left) }
+        (Subtables.sought lookup.now subtable i buffer.old placed.carried.seen placed.carried.left) }
     ensures known { IfSome ahead.new
         (λ stop. stop ≡ Lookups.stop_after lookup.now buffer.old.items i) }
 {
     match subtable.kind {
-        3 => place_cursive(lookup, subtable, buffer, i, carried),
-        4 | 5 => try_mark(lookup, subtable, buffer, i, carried),
-        _ => apply_kind(lookup, subtable, buffer, i, carried, ahead),
+        3 => place_cursive(lookup, subtable, buffer, i, placed.carried),
+        4 | 5 | 6 => try_mark(lookup, subtable, buffer, i, placed),
+        _ => apply_kind(lookup, subtable, buffer, i, placed.carried, ahead),
     }
 }
 
@@ -351,7 +202,7 @@ fn try_subtable(
         return placed;
     }
     match subtable(lookup.table, 9, lookup.place, k) {
-        Some(subtable) => { apply_subtable(lookup, subtable, buffer, i, placed.carried, ahead) }
+        Some(subtable) => apply_subtable(lookup, subtable, buffer, i, placed, ahead),
         None => placed,
     }
 }

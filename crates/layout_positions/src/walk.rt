@@ -18,7 +18,7 @@ use layout_digests::{Digest, Digested};
 use layout_matching::beside::plain_charged;
 use layout_matching::found::is_context;
 use layout_matching::lookup::Lookup;
-use layout_matching::skipping::{is_on, is_transparent, item_at};
+use layout_matching::skipping::{is_on, is_transparent};
 use layout_matching::work::{lookup_charged, walk_work};
 use shape_buffer::position_walks::update_positions;
 use shape_buffer::{GlyphPosition, hb_buffer_t, hb_glyph_info_t};
@@ -55,20 +55,21 @@ pub fn position_start(buffer: &mut hb_buffer_t)
 fn charge(
     lookup: &Lookup<'_>,
     has_rules: bool,
-    items: &ItemList<'_>,
+    buffer: &hb_buffer_t,
     at: usize,
     left: usize,
 ) -> Option<usize>
     requires near { lookup.now.place < 2 ^ 17 }
     requires kind { has_rules ≡ found_rules.is_context lookup.now }
-    requires inside { at < length items.now }
-    ensures { result ≡ Work.lookup_charged lookup.now items.now at left }
+    requires inside { at < length buffer.now.items }
+    ensures { result ≡ Work.lookup_charged lookup.now buffer.now.items at left }
 {
+    let infos = buffer.infos();
     if !lookup.positioning || has_rules {
-        return lookup_charged(lookup, items, at, left);
+        return lookup_charged(lookup, &ItemList::of_slice(infos), at, left);
     }
-    if is_transparent(lookup, false, items.at(at)) {
-        plain_charged(lookup, items, at, left)
+    if is_transparent(lookup, false, &infos[at]) {
+        plain_charged(lookup, &ItemList::of_slice(infos), at, left)
     } else {
         Some(left)
     }
@@ -118,8 +119,7 @@ fn try_at(lookup: &Lookup<'_>, has_rules: bool, buffer: &mut hb_buffer_t, spot: 
 {
     let next = after(buffer.len(), spot.at);
     let seen = spot.carried.seen;
-    let items = ItemList::of_slice(buffer.infos());
-    let Some(left) = charge(lookup, has_rules, &items, spot.at, spot.carried.left) else {
+    let Some(left) = charge(lookup, has_rules, buffer, spot.at, spot.carried.left) else {
         return Spot {
             at: next,
             carried: Carried { seen, left: 0 },
@@ -154,7 +154,7 @@ fn step_on(lookup: &Lookup<'_>, has_rules: bool, buffer: &mut hb_buffer_t, spot:
     if buffer.len() <= spot.at {
         return spot;
     }
-    if !is_on(lookup, &item_at(buffer.infos(), spot.at)) {
+    if !is_on(lookup, &buffer.infos()[spot.at]) {
         return Spot {
             at: spot.at + 1,
             carried: spot.carried,

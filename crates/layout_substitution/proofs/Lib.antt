@@ -1,6 +1,7 @@
 pub mod PreservedLemmas
 pub mod CopyLemmas
 pub mod LigatureLemmas
+pub mod MergingLemmas
 pub mod SecondLemmas
 pub mod AppliedLemmas
 pub mod KindLemmas

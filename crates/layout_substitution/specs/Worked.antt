@@ -1,15 +1,17 @@
--- Ligatures on tables of 16-bit words, what becomes of items, and what deleting costs, computed by hand.
-use Rattle.std.specs.Prelude.{◌≡◌, ℕ, Bool, List, [], ◌∷◌, Option, Some, None, true, false, refl}
+-- Ligatures on tables of 16-bit words and what they cost, what becomes of items, and what deleting costs, computed by hand.
+use Rattle.std.specs.Prelude.{◌≡◌, ℕ, Bool, List, [], ◌∷◌, Option, Some, None, true, false, refl, map}
 use Rattle.std.specs.Option.{option_map}
 use Rattle.shape_font.specs.Worked.Glyphs.{words}
 use Rattle.shape_common.specs.declared.general_category.hb_unicode_general_category_t.TheVariants.{NonspacingMark, OtherLetter}
+use Rattle.shape_common.specs.declared.text_types.BufferClusterLevel.TheVariants.{MonotoneCharacters, Characters}
 use Rattle.shape_items.specs.Buffer.{Buffer, new_buffer}
+use Rattle.shape_items.specs.Clusters.{merge}
 use Rattle.shape_items.specs.Items.{Item, new_item, new_properties}
 use Rattle.layout_matching.specs.declared.glance.Glance.{Glance}
 use Rattle.layout_matching.specs.declared.glance.Glance.TheVariants.{Open, Closed, Only}
 use Rattle.layout_matching.specs.declared.lookup.Lookup.{Lookup}
 use Rattle.layout_substitution.specs.Applied.{deleted}
-use Rattle.layout_substitution.specs.Ligatures.{ligature_matched, second_glance, begins_with_another, following_charged}
+use Rattle.layout_substitution.specs.Ligatures.{ligature_matched, second_glance, begins_with_another, following_charged, merged_beside, merging_charged, ligature_put}
 use Rattle.layout_substitution.specs.Replaced.{replaced, is_multiplied, taken_apart, with_components, as_ligature}
 use Rattle.layout_substitution.specs.Start.{begun_item}
 use Rattle.layout_substitution.specs.Substitutes.{has_components}
@@ -223,4 +225,103 @@ worked_deletions = record {
   nothing_left = λ random whole. refl;
   after_it = λ random whole. refl;
   handed_to_none = λ random whole. refl;
+}
+
+-- ---- what a ligature costs after it is made
+
+abbrev pub in_clusters : List ℕ → Buffer
+in_clusters clusters = record new_buffer { items = map in_cluster clusters }
+
+-- how many items are written beside components that stand from one place to another
+abbrev pub Beside : ℕ → ℕ → List ℕ → ℕ → Type 0
+Beside at last clusters count = merged_beside at last (in_clusters clusters) ≡ count
+
+-- two in a cluster before the components, which goes over into that of the last one
+abbrev pub two_before : List ℕ
+two_before = 3 ∷ 3 ∷ 3 ∷ 2 ∷ 1 ∷ []
+
+-- what is left of so much after the clusters of its components were merged
+abbrev pub LeftMerging : ℕ → ℕ → Type 0
+LeftMerging before left = (random whole : ℕ)
+    → (merging_charged 3 (in_clusters two_before) (record { at = 2; random = random; left = before; whole = whole })).left ≡ left
+
+pub record WorkedMergings : Type 0 where
+  pub none : Beside 1 2 (4 ∷ 3 ∷ 2 ∷ 1 ∷ []) 0
+  pub before : Beside 2 3 two_before 2
+  pub up_to_another : Beside 2 3 (4 ∷ 3 ∷ 3 ∷ 2 ∷ []) 1
+  pub after : Beside 0 1 (0 ∷ 1 ∷ 1 ∷ 1 ∷ 2 ∷ []) 2
+  pub up_to_the_end : Beside 1 2 (0 ∷ 1 ∷ 2 ∷ 2 ∷ []) 1
+  -- the least cluster is that of a component between them
+  pub on_both_sides : Beside 1 3 (2 ∷ 2 ∷ 1 ∷ 3 ∷ 3 ∷ 3 ∷ []) 3
+  -- items in the least cluster aren't written
+  pub least_first : Beside 2 3 (1 ∷ 1 ∷ 1 ∷ 2 ∷ []) 0
+  pub least_last : Beside 0 1 (3 ∷ 2 ∷ 2 ∷ 2 ∷ []) 0
+  pub one_cluster : Beside 1 2 (2 ∷ 2 ∷ 2 ∷ 2 ∷ []) 0
+  pub no_span : Beside 1 0 (1 ∷ 1 ∷ 1 ∷ []) 0
+  pub by_characters : merged_beside 2 3 (record (in_clusters two_before) { cluster_level = MonotoneCharacters }) ≡ 2
+  pub not_merged : merged_beside 2 3 (record (in_clusters two_before) { cluster_level = Characters }) ≡ 0
+  pub charged : LeftMerging 10 8
+  pub just_enough : LeftMerging 2 0
+  pub too_little : LeftMerging 1 0
+
+pub worked_mergings : WorkedMergings
+worked_mergings = record {
+  none = refl;
+  before = refl;
+  up_to_another = refl;
+  after = refl;
+  up_to_the_end = refl;
+  on_both_sides = refl;
+  least_first = refl;
+  least_last = refl;
+  one_cluster = refl;
+  no_span = refl;
+  by_characters = refl;
+  not_merged = refl;
+  charged = λ random whole. refl;
+  just_enough = λ random whole. refl;
+  too_little = λ random whole. refl;
+}
+
+-- the ligature 50 of 5 and 6
+abbrev pub of_two : Lookup → Lookup
+of_two l = record (seeing_all l) { table = record l.table { now = words (50 ∷ 2 ∷ 6 ∷ []) }; gdef = record l.gdef { now = [] } }
+
+abbrev pub glyph_in : ℕ → ℕ → Item
+glyph_in g c = record (new_item 0 c) { glyph_id = g; mask = 1 }
+
+-- a glyph that was made of a ligature, and a mark on it
+abbrev pub of_ligature : ℕ → Item → Item
+of_ligature component item = record item { properties = record new_properties { ligature_id = 7; ligature_component = component } }
+
+-- what is left of so much after the ligature of the components from one place to another was made
+abbrev pub LeftLigating : List Item → ℕ → ℕ → ℕ → ℕ → Type 0
+LeftLigating items at last before left = (l : Lookup) (random whole : ℕ)
+    → option_map left_in (ligature_put (of_two l) (record { at = at; random = random; left = before; whole = whole })
+    (record new_buffer { items = items }) (record { ligature = 0; last = last; all_marks = false })).next ≡ Some left
+
+abbrev pub six_with_marks : List Item
+six_with_marks = of_ligature 0 (glyph_in 6 2) ∷ of_ligature 1 (glyph_in 8 2) ∷ of_ligature 1 (glyph_in 8 2) ∷ glyph_in 4 1 ∷ []
+
+pub record WorkedLigating : Type 0 where
+  pub free : LeftLigating (glyph_in 5 3 ∷ glyph_in 6 2 ∷ glyph_in 4 1 ∷ []) 0 1 20 20
+  -- both marks follow, and not the glyph behind them
+  pub two_follow : LeftLigating (glyph_in 5 3 ∷ six_with_marks) 0 1 20 12
+  -- nor one that stands between the components
+  pub one_between : LeftLigating (glyph_in 5 3 ∷ glyph_in 9 3 ∷ six_with_marks) 0 2 20 12
+  pub one_beside : LeftLigating (glyph_in 5 3 ∷ glyph_in 5 3 ∷ glyph_in 6 2 ∷ glyph_in 4 1 ∷ []) 1 2 20 19
+  pub both : LeftLigating (glyph_in 5 3 ∷ glyph_in 5 3 ∷ six_with_marks) 1 2 20 11
+  pub just_enough : LeftLigating (glyph_in 5 3 ∷ glyph_in 5 3 ∷ six_with_marks) 1 2 9 0
+  pub too_little : LeftLigating (glyph_in 5 3 ∷ glyph_in 5 3 ∷ six_with_marks) 1 2 8 0
+
+pub worked_ligating : WorkedLigating
+unfolding merge as_ligature
+worked_ligating = record {
+  free = λ l random whole. refl;
+  two_follow = λ l random whole. refl;
+  one_between = λ l random whole. refl;
+  one_beside = λ l random whole. refl;
+  both = λ l random whole. refl;
+  just_enough = λ l random whole. refl;
+  too_little = λ l random whole. refl;
 }

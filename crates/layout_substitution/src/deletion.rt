@@ -1,6 +1,7 @@
 //! A glyph deleted, as by a substitution of several for one whose list is empty. Its cluster is left to its neighbours.
 //!
 //! A cluster may be handed to many glyphs before it, and to these again with the next deletion: so each is charged for.
+//! What is merged at the first place isn't: it stands at the start in one cluster from then on, so no glyph is grown over twice.
 ghost use Rattle.std.specs.Prelude.{◌≡◌, ◌<◌, ◌-◌, length, None, IsTrue};
 ghost use Rattle.layout_matching.specs.Loops.{times};
 ghost use Rattle.layout_substitution.specs.Applied;

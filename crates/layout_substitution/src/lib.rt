@@ -3,7 +3,8 @@
 //!
 //! [`substitutes`] reads what the table puts in place of a glyph, [`replaced`] says what becomes of an item that another glyph
 //! replaces, [`edits`] changes a buffer at a place, [`apply`], [`deletion`], [`alternate`], [`ligature`] with [`second_component`], and
-//! [`ligature_reach`] apply the subtables of a lookup by their kind, and [`kinds`] a whole lookup. [`start`] is what comes before the first lookup. Any bytes are taken.
+//! [`ligature_reach`] apply the subtables of a lookup by their kind, and [`kinds`] a whole lookup. [`merging`] is what a ligature costs that
+//! merges clusters, and [`start`] is what comes before the first lookup. Any bytes are taken.
 #![tactic(auto)]
 #![allow(non_camel_case_types)]
 
@@ -15,6 +16,7 @@ pub mod kinds;
 pub mod ligation;
 pub mod ligature;
 pub mod ligature_reach;
+pub mod merging;
 pub mod replaced;
 pub mod second_component;
 pub mod start;

@@ -8,6 +8,7 @@ ghost use Rattle.layout_substitution.specs.Ligatures;
 use crate::apply::Spot;
 use crate::edits::{item, merge, next_place, put, take_out};
 use crate::ligation::{how_to_ligate, left_after, with_left};
+use crate::merging::charge_merging;
 use crate::replaced::{as_component, as_ligature, components_of};
 use crate::second_component::{begins_with_another, second_glance};
 use crate::substitutes::{components, count, has_components, ligature_at, ligature_glyph};
@@ -356,9 +357,10 @@ fn ligate(
     ensures next { Some result
         ≡ (Ligatures.ligated lookup.now spot made.now found left buffer.old).next }
 {
+    let paid = charge_merging(buffer, spot, found.last);
     let walk = join(lookup, buffer, made, found, spot.at);
     put_over(lookup, buffer, made, found, spot.at, walk);
-    with_left(buffer, spot, left, walk.at)
+    with_left(buffer, paid, left, walk.at)
 }
 
 /// Puts a ligature in place of its components. Returns where the lookup goes on.

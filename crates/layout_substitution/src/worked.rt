@@ -1,5 +1,6 @@
 //! The definitions, computed by hand.
 ghost use Rattle.layout_substitution.specs.Worked.{WorkedLigatures, WorkedPasts, WorkedBeginnings, WorkedCounts, WorkedDeletions};
+ghost use Rattle.layout_substitution.specs.Worked.{WorkedMergings, WorkedLigating};
 
 /// Ligatures: their components, and one that leads past the end of the table.
 pub fn ligatures_meet_worked_cases()
@@ -25,4 +26,10 @@ pub fn counts_meet_worked_cases()
 /// What deleting a glyph costs.
 pub fn deletions_meet_worked_cases()
     ensures { WorkedDeletions }
+{}
+
+/// What a ligature costs after it is made: what merging its components writes beside them, and the marks that follow it.
+pub fn ligating_meets_worked_cases()
+    ensures mergings { WorkedMergings }
+    ensures ligating { WorkedLigating }
 {}

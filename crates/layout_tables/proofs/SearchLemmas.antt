@@ -1,7 +1,8 @@
 -- a search by midpoints, by what is read at the middle place of those left
-use Rattle.std.proofs.Common.{◌≡◌, ℕ, ◌<◌, ◌≤◌, ◌+◌, ◌-◌, ◌/◌, true, false, Option, Some, None, nat_lt, refl, sym, ◌∙◌, arith}
+use Rattle.std.proofs.Common.{◌≡◌, ℕ, List, ◌<◌, ◌≤◌, ◌+◌, ◌-◌, ◌*◌, ◌/◌, length, true, false, Option, Some, None, nat_lt, refl, sym, ◌∙◌, arith}
 use Rattle.std.proofs.lemmas.Bool.Decides.{nat_tests}
 use Rattle.std.specs.declared.cmp.Ordering.TheVariants.{Less, Equal, Greater}
+use Rattle.shape_font.specs.Bytes.{fitting}
 use Rattle.shape_font.specs.Search.{side_of, found_in}
 use Rattle.shape_font.proofs.MidpointLemmas.{found_in-none, step_less, step_equal, step_greater}
 
@@ -44,3 +45,15 @@ pub nowhere : (first last : ℕ → ℕ) (n from end : ℕ) (sought : Option ℕ
     → found_in (λ i. side_of n (first i) (last i)) (end - from) from end ≡ sought → None ≡ sought
 nowhere first last n from end sought none is =
     sym (found_in-none (λ i. side_of n (first i) (last i)) (end - from) from end none) ∙ is
+
+-- ---- counts that the table has room for
+
+pub glyphs_fit : (t : List ℕ) (said start : ℕ) → start + 4 + 2 * said ≤ length t → said ≡ fitting t said (start + 4) 2
+glyphs_fit t said start h =
+    let room : said ≤ (length t - (start + 4)) / 2 = omega (arith, h) in
+    grind (arith, nat_tests, room)
+
+pub ranges_fit : (t : List ℕ) (said start : ℕ) → start + 4 + 6 * said ≤ length t → said ≡ fitting t said (start + 4) 6
+ranges_fit t said start h =
+    let room : said ≤ (length t - (start + 4)) / 6 = omega (arith, h) in
+    grind (arith, nat_tests, room)

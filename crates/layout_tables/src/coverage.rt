@@ -13,6 +13,35 @@ fn listed_glyph(table: &[u8], start: usize, i: u32) -> u32
     u32::from(word(table, start + 4 + 2 * i as usize))
 }
 
+/// How many glyphs the list has. Most tables have room for all that are said, which is told without a
+/// division.
+#[tactic(auto, using(crate::proofs::SearchLemmas::glyphs_fit))]
+#[inline(always)]
+fn glyph_count(table: &[u8], start: usize) -> u32
+    requires { start < 2 ^ 40 }
+    ensures { result ≡ fitting table.now (u16_of table.now (start + 2)) (start + 4) 2 }
+{
+    let said = u32::from(u16_at(table, start + 2));
+    if start + 4 + 2 * said as usize <= table.len() {
+        return said;
+    }
+    records(table, said, start + 4, 2)
+}
+
+/// How many ranges the table has.
+#[tactic(auto, using(crate::proofs::SearchLemmas::ranges_fit))]
+#[inline(always)]
+fn range_count(table: &[u8], start: usize) -> u32
+    requires { start < 2 ^ 40 }
+    ensures { result ≡ fitting table.now (u16_of table.now (start + 2)) (start + 4) 6 }
+{
+    let said = u32::from(u16_at(table, start + 2));
+    if start + 4 + 6 * said as usize <= table.len() {
+        return said;
+    }
+    records(table, said, start + 4, 6)
+}
+
 /// The middle one of the places from one up to another.
 fn middle_of(from: u32, end: u32) -> u32
     requires some { from < end }
@@ -31,7 +60,7 @@ fn in_list(table: &[u8], start: usize, glyph: u32) -> Option<u32>
     requires { start < 2 ^ 40 }
     ensures { result ≡ Coverage.listed table.now start glyph }
 {
-    let count = records(table, u32::from(u16_at(table, start + 2)), start + 4, 2);
+    let count = glyph_count(table, start);
     let (mut from, mut end) = (0, count);
     while from < end {
         let middle = middle_of(from, end);
@@ -69,7 +98,7 @@ pub(crate) fn range(table: &[u8], start: usize, glyph: u32) -> Option<u32>
     requires { start < 2 ^ 40 }
     ensures { result ≡ Coverage.ranged table.now start glyph }
 {
-    let count = records(table, u32::from(u16_at(table, start + 2)), start + 4, 6);
+    let count = range_count(table, start);
     let (mut from, mut end) = (0, count);
     while from < end {
         let middle = middle_of(from, end);

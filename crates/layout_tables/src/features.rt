@@ -3,6 +3,7 @@ ghost use Rattle.std.specs.Prelude.{◌≡◌, ◌<◌, ◌^◌};
 ghost use Rattle.std.specs.Option.{IfSome};
 ghost use Rattle.shape_font.specs.Search.{first_at};
 ghost use Rattle.layout_tables.specs.Features;
+ghost use Rattle.layout_tables.specs.Offsets.{header_offset_of};
 
 use crate::offsets::{header_offset, offset16};
 use shape_font::bytes::{records, u16_at, u32_at};
@@ -16,14 +17,50 @@ fn features(table: &[u8], list: usize) -> u32
     records(table, u32::from(u16_at(table, list)), list + 2, 6)
 }
 
+/// Where the FeatureList of a table stands, and how many features it has. A search reads them once, not for each
+/// feature that it looks at.
+#[derive(Clone, Copy)]
+struct FeatureList {
+    place: Option<usize>,
+    count: u32,
+}
+
+/// The FeatureList of a table.
+fn feature_list(table: &[u8]) -> FeatureList
+    ensures place { result.place ≡ header_offset_of table.now 6 }
+    ensures near { IfSome result.place (λ list. list < 2 ^ 16) }
+    ensures count { result.count ≡ Features.feature_count_of table.now }
+    ensures few { result.count < 2 ^ 16 }
+{
+    let place = header_offset(table, 6);
+    let count = match place {
+        Some(list) => features(table, list),
+        None => 0,
+    };
+    FeatureList { place, count }
+}
+
 /// How many features the table has.
 pub fn feature_count(table: &[u8]) -> u32
     ensures value { result ≡ Features.feature_count_of table.now }
     ensures few { result < 2 ^ 16 }
 {
-    match header_offset(table, 6) {
-        Some(list) => features(table, list),
-        None => 0,
+    feature_list(table).count
+}
+
+/// The tag of the feature with this index in a list, 0 past the last one.
+#[inline]
+fn tag_in(table: &[u8], list: FeatureList, index: u16) -> u32
+    requires place { list.place ≡ header_offset_of table.now 6 }
+    requires near { IfSome list.place (λ place. place < 2 ^ 16) }
+    requires count { list.count ≡ Features.feature_count_of table.now }
+    ensures { result ≡ Features.feature_tag_of table.now index }
+{
+    match list.place {
+        Some(place) if u32::from(index) < list.count => {
+            u32_at(table, place + 2 + 6 * usize::from(index))
+        }
+        _ => 0,
     }
 }
 
@@ -31,12 +68,7 @@ pub fn feature_count(table: &[u8]) -> u32
 pub fn feature_tag(table: &[u8], index: u16) -> u32
     ensures { result ≡ Features.feature_tag_of table.now index }
 {
-    match header_offset(table, 6) {
-        Some(list) if u32::from(index) < features(table, list) => {
-            u32_at(table, list + 2 + 6 * usize::from(index))
-        }
-        _ => 0,
-    }
+    tag_in(table, feature_list(table), index)
 }
 
 /// The index of the feature that is on for the language system at `lang_sys` whatever is asked; none if it has none, or leads
@@ -54,18 +86,31 @@ pub fn required_feature(table: &[u8], lang_sys: usize) -> Option<u16>
 }
 
 /// Whether the feature with this index has the tag. None has the tag 0.
-fn has_tag(table: &[u8], tag: u32, index: u16) -> bool
+#[inline]
+fn has_tag(table: &[u8], list: FeatureList, tag: u32, index: u16) -> bool
+    requires place { list.place ≡ header_offset_of table.now 6 }
+    requires near { IfSome list.place (λ place. place < 2 ^ 16) }
+    requires count { list.count ≡ Features.feature_count_of table.now }
     ensures { result ≡ Features.has_tag table.now tag index }
 {
-    tag != 0 && feature_tag(table, index) == tag
+    tag != 0 && tag_in(table, list, index) == tag
 }
 
 /// Whether feature `i` of those that the language system at `lang_sys` lists has the tag.
-fn has_feature_tag(table: &[u8], lang_sys: usize, tag: u32, i: u32) -> bool
-    requires { lang_sys < 2 ^ 18 }
+#[inline]
+fn has_feature_tag(table: &[u8], list: FeatureList, lang_sys: usize, tag: u32, i: u32) -> bool
+    requires near_system { lang_sys < 2 ^ 18 }
+    requires place { list.place ≡ header_offset_of table.now 6 }
+    requires near { IfSome list.place (λ place. place < 2 ^ 16) }
+    requires count { list.count ≡ Features.feature_count_of table.now }
     ensures { result ≡ Features.has_feature_tag table.now lang_sys tag i }
 {
-    has_tag(table, tag, u16_at(table, lang_sys + 6 + 2 * i as usize))
+    has_tag(
+        table,
+        list,
+        tag,
+        u16_at(table, lang_sys + 6 + 2 * i as usize),
+    )
 }
 
 /// The first of the `count` features of a language system that has the tag.
@@ -74,8 +119,9 @@ fn feature_number(table: &[u8], lang_sys: usize, tag: u32, count: u32) -> Option
     requires { lang_sys < 2 ^ 18 }
     ensures { result ≡ first_at (Features.has_feature_tag table.now lang_sys tag) count 0 }
 {
+    let list = feature_list(table);
     for i in 0..count {
-        if has_feature_tag(table, lang_sys, tag, i) {
+        if has_feature_tag(table, list, lang_sys, tag, i) {
             return Some(i);
         }
     }
@@ -104,8 +150,9 @@ pub fn feature_index(table: &[u8], lang_sys: usize, tag: u32) -> Option<u16>
 pub fn any_feature(table: &[u8], tag: u32) -> Option<u16>
     ensures { result ≡ Features.any_feature_of table.now tag }
 {
-    for i in 0..feature_count(table) as u16 {
-        if has_tag(table, tag, i) {
+    let list = feature_list(table);
+    for i in 0..list.count as u16 {
+        if has_tag(table, list, tag, i) {
             return Some(i);
         }
     }

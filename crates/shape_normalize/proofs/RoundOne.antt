@@ -1,5 +1,6 @@
 -- Round one: sequences, those that hold a variation selector, and what each item becomes.
 pub mod PieceLemmas
+pub mod AloneLemmas
 pub mod SequenceLemmas
 pub mod DrawnLemmas
 pub mod SelectorLemmas

@@ -1,7 +1,7 @@
 -- What lookups are charged for where they pass over glyphs that lists are searched for, computed by hand.
 use Rattle.std.specs.Prelude.{◌≡◌, ℕ, List, [], ◌∷◌, Some, true, false, refl}
 use Rattle.shape_font.specs.Worked.Glyphs.{words}
-use Rattle.shape_items.specs.Items.{Item, new_properties}
+use Rattle.shape_items.specs.Items.{Item}
 use Rattle.layout_matching.specs.Work.{searches, passing_work, passed_after, passed_before, lookup_charged}
 use Rattle.layout_matching.specs.Worked.Work.{shared_ligatures, shared_rules, one_rule, two_subtables, over_marks, of_positions, plain, a_mark, a_zwj, a_zwnj}
 use Rattle.layout_matching.specs.declared.lookup.Lookup.{Lookup}
@@ -17,6 +17,17 @@ by_set l = record (over_marks l) { flags = 16; mark_set = 0 }
 -- glyph 5 is of class 1, glyph 6 of class 2; a rule of class 1 wants class 2 after its glyph, and names no lookup
 abbrev pub by_classes : List ℕ
 by_classes = words (5 ∷ 8 ∷ 1 ∷ 8 ∷ 2 ∷ 12 ∷ 18 ∷ 2 ∷ 0 ∷ 28 ∷ 1 ∷ 1 ∷ 5 ∷ 1 ∷ 5 ∷ 2 ∷ 1 ∷ 2 ∷ 1 ∷ 4 ∷ 2 ∷ 0 ∷ 2 ∷ [])
+
+-- rules of two glyphs that name one lookup, two lookups, and one
+abbrev pub unlike_rules : List ℕ
+unlike_rules = words (5 ∷ 8 ∷ 1 ∷ 8 ∷ 1 ∷ 8 ∷ 1 ∷ 14 ∷ 1 ∷ 1 ∷ 5 ∷ 3 ∷ 8 ∷ 18 ∷ 8 ∷ 2 ∷ 1 ∷ 6 ∷ 0 ∷ 0 ∷ 2 ∷ 2 ∷ 6 ∷ 0 ∷ 0 ∷ 0 ∷ 0 ∷ [])
+
+-- a chained rule of glyph 5 that wants glyph 4 before it, and names no lookup
+abbrev pub after_four : List ℕ
+after_four = words (6 ∷ 8 ∷ 1 ∷ 8 ∷ 1 ∷ 8 ∷ 1 ∷ 14 ∷ 1 ∷ 1 ∷ 5 ∷ 1 ∷ 4 ∷ 1 ∷ 4 ∷ 1 ∷ 0 ∷ 0 ∷ [])
+
+abbrev pub in_syllable : ℕ → Item → Item
+in_syllable n item = record item { properties = record item.properties { syllable = n } }
 
 -- a mark of the set
 abbrev pub a_seven : Item
@@ -45,6 +56,12 @@ pub record WorkedPassing : Type 0 where
   -- rules that the next glyph refuses look no further: the set alone looks over the mark
   pub refused_rules : Leaves shared_rules (plain 5 ∷ a_mark ∷ plain 7 ∷ []) 83
   pub refused_rules_by_set : LeavesBySet shared_rules (plain 5 ∷ a_mark ∷ plain 7 ∷ []) 76
+  -- 79 after rules of 4, 5 and 4 units; the set, each of the three, and the two lookups of the second
+  pub most_lookups : Leaves unlike_rules (plain 5 ∷ a_mark ∷ plain 6 ∷ []) 73
+  -- 89 after a rule of 3 units; the set and the rule, which the glyph before doesn't refuse, though it is of another syllable
+  pub of_any_syllable : (l : Lookup) → l.table.now ≡ after_four
+      → lookup_charged (record (over_marks l) { per_syllable = true }) (in_syllable 2 (plain 4) ∷ a_mark ∷ in_syllable 1 (plain 5) ∷ [])
+      2 100 ≡ Some 87
   -- 89 after a rule of two glyphs; a mark that is skipped is in no class
   pub classes : Leaves by_classes (plain 5 ∷ plain 6 ∷ []) 89
   pub classes_over_a_mark : Leaves by_classes (plain 5 ∷ a_mark ∷ plain 6 ∷ []) 87
@@ -86,6 +103,8 @@ worked_passing = record {
   ligatures_by_set = λ l g t. rw g (rw t refl);
   refused_rules = λ l t. rw t refl;
   refused_rules_by_set = λ l g t. rw g (rw t refl);
+  most_lookups = λ l t. rw t refl;
+  of_any_syllable = λ l t. rw t refl;
   classes = λ l t. rw t refl;
   classes_over_a_mark = λ l t. rw t refl;
   classes_refused = λ l t. rw t refl;

@@ -15,10 +15,13 @@ use Rattle.layout_positions.specs.Lookups.{Applied}
 use Rattle.layout_positions.specs.Worked.Lines.{base, line, advances, offsets, chains, masks}
 use Rattle.layout_positions.specs.Worked.Pairs.{IsLookup}
 
--- glyph 2 is left at 500, 50, and glyph 3 entered at 20, 80
-abbrev pub joins : List ℕ
-joins = 0 ∷ 1 ∷ 0 ∷ 14 ∷ 0 ∷ 2 ∷ 0 ∷ 0 ∷ 0 ∷ 22 ∷ 0 ∷ 28 ∷ 0 ∷ 0 ∷ 0 ∷ 1 ∷ 0 ∷ 2 ∷ 0 ∷ 2 ∷ 0 ∷ 3
+-- glyph 2 is left at 500, 50, and glyph 3 entered at 20, 80; the format is 1, and there is no other
+abbrev pub joins_by : ℕ → List ℕ
+joins_by format = 0 ∷ format ∷ 0 ∷ 14 ∷ 0 ∷ 2 ∷ 0 ∷ 0 ∷ 0 ∷ 22 ∷ 0 ∷ 28 ∷ 0 ∷ 0 ∷ 0 ∷ 1 ∷ 0 ∷ 2 ∷ 0 ∷ 2 ∷ 0 ∷ 3
     ∷ 0 ∷ 1 ∷ 1 ∷ 244 ∷ 0 ∷ 50 ∷ 0 ∷ 1 ∷ 0 ∷ 20 ∷ 0 ∷ 80 ∷ []
+
+abbrev pub joins : List ℕ
+joins = joins_by 1
 
 abbrev joined : Lookup → Direction → Applied
 joined l direction = cursive_applied l 0 1 (line direction (base 2 0 ∷ base 3 1 ∷ []))

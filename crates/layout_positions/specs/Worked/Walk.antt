@@ -14,7 +14,7 @@ use Rattle.layout_positions.specs.Subtables.{Placing}
 use Rattle.layout_positions.specs.Uncovered.{subtable_lists}
 use Rattle.layout_positions.specs.Walk.{Budgeted, none_seen, budgeted, settled_up, positioned}
 use Rattle.layout_positions.specs.Worked.Lines.{base, mark, component_of, line, advances, offsets, chains, masks}
-use Rattle.layout_positions.specs.Worked.Cursive.{joins, followed}
+use Rattle.layout_positions.specs.Worked.Cursive.{joins, joins_by, followed}
 use Rattle.layout_positions.specs.Worked.Marks.{on_bases}
 use Rattle.layout_positions.specs.Worked.Pairs.{single_one, single_two, pairs_one, IsLookup}
 
@@ -29,10 +29,20 @@ two_subtables = 0 ∷ 1 ∷ 0 ∷ 0 ∷ 0 ∷ 2 ∷ 0 ∷ 10 ∷ 0 ∷ 28 ∷ (s
 abbrev far : List ℕ
 far = one_subtable 9 (0 ∷ 1 ∷ 0 ∷ 1 ∷ 0 ∷ 0 ∷ 0 ∷ 8 ∷ single_one)
 
--- a table with two lookups: by the first one, at 16, lookup 1 is applied to the second of two glyphs 2 or 3
+-- a table with two lookups: by the rule of the first one, at 16, lookup 1 is applied to a glyph of some glyphs 2 or 3
+abbrev two_lookups : ℕ → List ℕ → List ℕ
+two_lookups second rule = 0 ∷ 1 ∷ 0 ∷ 0 ∷ 0 ∷ 0 ∷ 0 ∷ 0 ∷ 0 ∷ 10 ∷ 0 ∷ 2 ∷ 0 ∷ 6 ∷ 0 ∷ second
+    ∷ one_subtable 7 (rule ++ 0 ∷ 1 ∷ 0 ∷ 2 ∷ 0 ∷ 2 ∷ 0 ∷ 3 ∷ one_subtable 1 single_one)
+
+-- to the second of two of them, to the first, and to the third of three
 abbrev in_context : List ℕ
-in_context = 0 ∷ 1 ∷ 0 ∷ 0 ∷ 0 ∷ 0 ∷ 0 ∷ 0 ∷ 0 ∷ 10 ∷ 0 ∷ 2 ∷ 0 ∷ 6 ∷ 0 ∷ 36 ∷ one_subtable 7 (
-    0 ∷ 3 ∷ 0 ∷ 2 ∷ 0 ∷ 1 ∷ 0 ∷ 14 ∷ 0 ∷ 14 ∷ 0 ∷ 1 ∷ 0 ∷ 1 ∷ 0 ∷ 1 ∷ 0 ∷ 2 ∷ 0 ∷ 2 ∷ 0 ∷ 3 ∷ one_subtable 1 single_one)
+in_context = two_lookups 36 (0 ∷ 3 ∷ 0 ∷ 2 ∷ 0 ∷ 1 ∷ 0 ∷ 14 ∷ 0 ∷ 14 ∷ 0 ∷ 1 ∷ 0 ∷ 1 ∷ [])
+
+abbrev first_in_context : List ℕ
+first_in_context = two_lookups 36 (0 ∷ 3 ∷ 0 ∷ 2 ∷ 0 ∷ 1 ∷ 0 ∷ 14 ∷ 0 ∷ 14 ∷ 0 ∷ 0 ∷ 0 ∷ 1 ∷ [])
+
+abbrev third_in_context : List ℕ
+third_in_context = two_lookups 38 (0 ∷ 3 ∷ 0 ∷ 3 ∷ 0 ∷ 1 ∷ 0 ∷ 16 ∷ 0 ∷ 16 ∷ 0 ∷ 16 ∷ 0 ∷ 2 ∷ 0 ∷ 1 ∷ [])
 
 abbrev pub over : Lookup → List Item → Buffer
 over l items = positioned (l ∷ []) (line LeftToRight items)
@@ -48,9 +58,12 @@ off glyph cluster = record (base glyph cluster) { mask = 8 }
 abbrev pub still : ℤ × ℤ
 still = (pos 0, pos 0)
 
--- two glyphs that the rule matches, at the first of them, with so much left
+-- glyphs that the rule matches, at the first of them, with so much left
+abbrev named_in : List Item → Lookup → ℕ → Placing
+named_in items l left = nested_placed LEVELS l 0 left none_seen (line LeftToRight items)
+
 abbrev named : Lookup → ℕ → Placing
-named l left = nested_placed LEVELS l 0 left none_seen (line LeftToRight (base 2 0 ∷ base 3 1 ∷ []))
+named = named_in (base 2 0 ∷ base 3 1 ∷ [])
 
 -- a mark, or another glyph, on a base, with so much left
 abbrev sought : Lookup → Item → ℕ → Placing
@@ -115,6 +128,7 @@ pub record WorkedWalk : Type 0 where
   pub not_joined : Over (one_subtable 3 joins) 0 0 (λ l. (turned_with l 0).next ≡ None)
   -- by the flag RIGHT_TO_LEFT the first one follows the second one, and no link is turned
   pub no_turned_link : Over (one_subtable 3 joins) 1 0 (λ l. (turned_with l 5).left ≡ 5)
+  pub no_link_of_another_format : Over (one_subtable 3 (joins_by 2)) 0 0 (λ l. (turned_with l 5).left ≡ 5)
   pub mark_on_the_first_component : Over (one_subtable 4 on_bases) 0 0
       (λ l. chains (over l (component_of 0 (base 2 0) ∷ component_of 1 (base 3 0) ∷ mark 8 0 ∷ [])) ≡ pos 0 ∷ pos 0 ∷ negsuc 1 ∷ [])
   pub mark_on_the_listed_component : Over (one_subtable 4 on_bases) 0 0
@@ -128,14 +142,17 @@ pub record WorkedWalk : Type 0 where
       (λ l. masks (over l (base 2 0 ∷ base 7 1 ∷ base 7 2 ∷ base 3 3 ∷ [])) ≡ 16 ∷ 16 ∷ 16 ∷ 16 ∷ [])
   pub out_of_context : Over in_context 0 16
       (λ l. offsets (over l (base 2 0 ∷ base 7 1 ∷ base 3 2 ∷ [])) ≡ still ∷ still ∷ still ∷ [])
-  pub one_is_named : Over in_context 0 16 (λ l. (named l 60).left ≡ 4)
-  pub none_may_be_named : Over in_context 0 16 (λ l. offsets (named l 0).buffer ≡ still ∷ still ∷ [])
   -- 32 for a lookup that is named, 16 for its one subtable, since it is plain, and 8 since that begins with the glyph
-  pub too_little_is_left : Over in_context 0 16 (λ l. offsets (named l 55).buffer ≡ still ∷ still ∷ [])
-  pub nothing_is_left_then : Over in_context 0 16 (λ l. (named l 55).left ≡ 0)
-  pub just_enough_is_left : Over in_context 0 16 (λ l. offsets (named l 56).buffer ≡ still ∷ (pos 10, pos 0) ∷ [])
-  pub goes_on_after_the_rule : Over in_context 0 16 (λ l. (named l 60).next ≡ Some 2)
-  pub unsafe_in_the_rule : Over in_context 0 16 (λ l. masks (named l 60).buffer ≡ 16 ∷ 19 ∷ [])
+  pub first_is_named : Over first_in_context 0 16 (λ l. (named l 60).left ≡ 4)
+  -- and 8 for each glyph before the one that is named
+  pub one_is_named : Over in_context 0 16 (λ l. (named l 68).left ≡ 4)
+  pub third_is_named : Over third_in_context 0 16 (λ l. (named_in (base 2 0 ∷ base 3 1 ∷ base 2 2 ∷ []) l 76).left ≡ 4)
+  pub none_may_be_named : Over in_context 0 16 (λ l. offsets (named l 0).buffer ≡ still ∷ still ∷ [])
+  pub too_little_is_left : Over in_context 0 16 (λ l. offsets (named l 63).buffer ≡ still ∷ still ∷ [])
+  pub nothing_is_left_then : Over in_context 0 16 (λ l. (named l 63).left ≡ 0)
+  pub just_enough_is_left : Over in_context 0 16 (λ l. offsets (named l 64).buffer ≡ still ∷ (pos 10, pos 0) ∷ [])
+  pub goes_on_after_the_rule : Over in_context 0 16 (λ l. (named l 68).next ≡ Some 2)
+  pub unsafe_in_the_rule : Over in_context 0 16 (λ l. masks (named l 68).buffer ≡ 16 ∷ 19 ∷ [])
   -- a subtable has a list of its glyphs, a rule of format 3 one of its first glyph
   pub listed : (l : Lookup) → IsLookup l (one_subtable 1 single_one) 0 → subtable_lists l (record { kind = 1; start = 8 }) 2 ≡ true
   pub not_listed : (l : Lookup) → IsLookup l (one_subtable 1 single_one) 0 → subtable_lists l (record { kind = 1; start = 8 }) 7 ≡ false
@@ -161,13 +178,16 @@ worked_walk = record {
   no_more_links = λ l. refl;
   not_joined = λ l. refl;
   no_turned_link = λ l. refl;
+  no_link_of_another_format = λ l. refl;
   mark_on_the_first_component = λ l. refl;
   mark_on_the_listed_component = λ l. refl;
   named_glyph_alone = λ l. refl;
   in_vain = λ l. refl;
   in_vain_unasked = λ l. refl;
   out_of_context = λ l. refl;
+  first_is_named = λ l. refl;
   one_is_named = λ l. refl;
+  third_is_named = λ l. refl;
   none_may_be_named = λ l. refl;
   too_little_is_left = λ l. refl;
   nothing_is_left_then = λ l. refl;

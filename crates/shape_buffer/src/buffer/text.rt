@@ -31,10 +31,8 @@ pub(crate) fn append_text(infos: &mut Vec<hb_glyph_info_t>, text: &str) -> Resul
         × All (λ item. item.cluster < length text.now) (text_items text.now) }
     ensures first { All (IsFirstByte text.now) (text_items text.now) }
 {
-    let mut offset: u32 = 0;
-    for c in text.chars() {
-        push_char(infos, c, offset)?;
-        offset += c.len_utf8() as u32;
+    for (offset, c) in text.char_indices() {
+        push_char(infos, c, offset as u32)?;
     }
     Ok(())
 }

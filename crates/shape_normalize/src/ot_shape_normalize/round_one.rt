@@ -21,7 +21,7 @@ mod variation_sequences;
 use crate::ot_shape_normalize::mode::goes_short;
 use crate::ot_shape_normalize::one_character::Emitted;
 use crate::ot_shape_normalize::round_one::sequences::{
-    first_sequence, is_selector_sequence, is_with_marks,
+    count_alone, first_sequence, is_selector_sequence, is_with_marks,
 };
 use crate::ot_shape_normalize::round_one::variation_sequences::merge_variation_sequences;
 pub(crate) use sequences::holds_selector;
@@ -62,6 +62,43 @@ impl Emitted {
             self.put_item::<T>(plan, face, info, shortest, invisible)?;
         }
         Ok(())
+    }
+
+    /// Emits what the sequences of one item at the beginning of a list become, in one loop over them, and gives what
+    /// stands after them. Refuses with `Length` if that passes the limit.
+    fn put_alone<'a, T: ShapingTypes>(
+        &mut self,
+        plan: &PlanOf<'_, T>,
+        face: &T::Face,
+        buffer: &hb_buffer_t,
+        infos: &'a [hb_glyph_info_t],
+    ) -> Result<&'a [hb_glyph_info_t], ShapeError>
+        requires { vec_len self.old.infos ≤ self.old.limit }
+        ensures infos { let rules = ⟦<T as Meaning>⟧.rules plan.now face.now in
+            let invisible = buffer.now.invisible_glyph in
+            let not_found = buffer.now.not_found_variation_selector_glyph in
+            IfOk result (λ rest. self.new.infos.items ++ expanded rules invisible not_found rest.now
+            ≡ self.old.infos.items ++ expanded rules invisible not_found infos.now) }
+        ensures flags { let rules = ⟦<T as Meaning>⟧.rules plan.now face.now in
+            let seen = seen_sequence rules buffer.now.invisible_glyph in
+            IfOk result (λ rest. fold seen self.new.scratch_flags (sequences rest.now)
+            ≡ fold seen self.old.scratch_flags (sequences infos.now)) }
+        ensures within { OnOk result (vec_len self.new.infos ≤ self.new.limit) }
+        ensures limit { OnOk result (self.new.limit ≡ self.old.limit) }
+        ensures fewer { IfOk result (λ rest. length rest.now ≤ length infos.now) }
+        ensures length { result ≡ Err ShapeError.Length
+            → self.old.limit < length (self.old.infos.items ++ expanded
+            (⟦<T as Meaning>⟧.rules plan.now face.now) buffer.now.invisible_glyph
+            buffer.now.not_found_variation_selector_glyph infos.now) }
+    {
+        let count = count_alone(infos);
+        if count == 0 {
+            return Ok(infos);
+        }
+        let (alone, rest) = infos.split_at(count);
+        let shortest = goes_short::<T>(plan, false);
+        self.put_items::<T>(plan, face, buffer, alone, shortest)?;
+        Ok(rest)
     }
 
     /// Emits what a sequence becomes. Refuses with `Length` if that passes the limit.
@@ -117,7 +154,7 @@ fn expand_all<T: ShapingTypes>(
     let mut rest = buffer.infos();
     'sequences: while let Some((sequence, after)) = first_sequence(rest) {
         out.put_sequence::<T>(plan, face, buffer, sequence)?;
-        rest = after;
+        rest = out.put_alone::<T>(plan, face, buffer, after)?;
     }
     Ok(out)
 }

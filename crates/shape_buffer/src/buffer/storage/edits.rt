@@ -191,7 +191,7 @@ impl hb_buffer_t {
         ensures first { All (IsFirstByte text.now) (text_items text.now) }
     {
         let before = self.infos.len();
-        self.reserve(text.chars().count())?;
+        self.reserve(count_chars(text))?;
         let mut outcome = append_text(&mut self.infos, text);
         if outcome.is_ok() {
             outcome = make_room(&mut self.run_starts, self.infos.len());
@@ -224,6 +224,16 @@ impl hb_buffer_t {
     {
         number_clusters(self.infos.as_mut_slice());
     }
+}
+
+/// How many characters a text has: as many as bytes that begin one. Each byte is looked at by itself, so that a machine
+/// counts many at once. No clause says so, since only the room that is asked for hangs on it.
+fn count_chars(text: &str) -> usize {
+    let mut count: usize = 0;
+    for byte in text.as_bytes() {
+        count = count.wrapping_add(usize::from(*byte & 0xC0 != 0x80));
+    }
+    count
 }
 
 /// Makes room for so many items, and as many positions: a list of zeros alone stays one.

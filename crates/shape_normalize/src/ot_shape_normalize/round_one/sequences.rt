@@ -1,9 +1,10 @@
 //! Combining sequences: an item with the marks directly after it (The Unicode Standard, D56).
-ghost use Rattle.std.specs.Prelude.{◌≡◌, ◌≤◌, [], length, MatchOption};
+ghost use Rattle.std.specs.Prelude.{◌≡◌, ◌≤◌, ◌∷◌, ◌++◌, [], length, map, not, take, drop, MatchOption};
 ghost use Rattle.std.specs.List.{list_any, prefix_len};
 ghost use Rattle.canonical_form.specs.Divided.{IsFirstPart};
 ghost use Rattle.shape_items.specs.Items.{is_mark_item};
 ghost use Rattle.shape_normalize.specs.RoundOne;
+ghost use Rattle.shape_normalize.specs.RoundOne.{sequences};
 
 use shape_buffer::buffer::hb_glyph_info_t;
 use shape_buffer::interfaces::hb_unicode_funcs_t;
@@ -17,6 +18,30 @@ fn count_marks(infos: &[hb_glyph_info_t]) -> usize
         .iter()
         .take_while(|info| info._hb_glyph_info_is_unicode_mark())
         .count()
+}
+
+/// How many items that are no marks stand at the beginning.
+fn count_unmarked(infos: &[hb_glyph_info_t]) -> usize
+    ensures value { result ≡ prefix_len (λ item. not (is_mark_item item)) infos.now }
+    ensures within { result ≤ length infos.now }
+{
+    infos
+        .iter()
+        .take_while(|info| !info._hb_glyph_info_is_unicode_mark())
+        .count()
+}
+
+/// How many sequences of one item stand at the beginning, each followed by an item that is no mark; so the last item of
+/// a list isn't counted.
+pub(super) fn count_alone(infos: &[hb_glyph_info_t]) -> usize
+    ensures alone { sequences infos.now
+        ≡ map (λ item. item ∷ []) (take result infos.now) ++ sequences (drop result infos.now) }
+    ensures within { result ≤ length infos.now }
+{
+    match infos.split_first() {
+        Some((_, after)) => count_unmarked(after),
+        None => 0,
+    }
 }
 
 /// How many variation selectors stand at the beginning.

@@ -8,7 +8,7 @@ ghost use Rattle.shape_items.specs.Spans.{all_merged};
 ghost use Rattle.shape_normalize.specs.RoundOne;
 
 use crate::ot_shape_normalize::round_one::sequences::{
-    first_sequence, first_variant, is_selector_sequence,
+    count_alone, first_sequence, first_variant, is_selector_sequence,
 };
 use shape_buffer::buffer::{GlyphId, hb_buffer_t, hb_glyph_info_t};
 use shape_buffer::interfaces::{hb_font_t, hb_unicode_funcs_t};
@@ -67,8 +67,9 @@ fn variation_sequences<U: hb_unicode_funcs_t, F: hb_font_t>(
         if is_selector_sequence::<U>(sequence) {
             push_variation_sequences::<U, F>(face, place, sequence, &mut spans)?;
         }
-        place += sequence.len();
-        rest = after;
+        let (alone, behind) = after.split_at(count_alone(after));
+        place += sequence.len() + alone.len();
+        rest = behind;
     }
     Ok(spans)
 }

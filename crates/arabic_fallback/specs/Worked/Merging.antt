@@ -1,0 +1,104 @@
+-- What a ligature is charged for the items beside its components, and for those that follow it: lam 1 and alef 2 make 9, and each search
+-- for that costs 6 for each glyph that is looked at.
+use Rattle.std.specs.Prelude.{◌≡◌, ℕ, List, [], ◌∷◌, map, refl}
+use Rattle.shape_common.specs.Positions.{zero_position}
+use Rattle.shape_common.specs.declared.text_types.BufferClusterLevel.{BufferClusterLevel}
+use Rattle.shape_common.specs.declared.text_types.BufferClusterLevel.TheVariants.{MonotoneCharacters, Characters}
+use Rattle.shape_items.specs.Buffer.{Buffer, new_buffer}
+use Rattle.shape_items.specs.Clusters.{merge}
+use Rattle.shape_items.specs.Items.{Item, new_properties}
+use Rattle.arabic_fallback.specs.Ligating.{ligated}
+use Rattle.arabic_fallback.specs.Merging.{merged_beside}
+use Rattle.arabic_fallback.specs.Replaced.{as_ligature}
+use Rattle.arabic_fallback.specs.Worked.Charges.{Leaves, made}
+use Rattle.arabic_fallback.specs.Worked.Forms.{rule}
+use Rattle.arabic_fallback.specs.Worked.Ligatures.{glyph, lam_alef, mark, on_component}
+
+abbrev pub at_level : BufferClusterLevel → List ℕ → Buffer
+at_level level clusters = record new_buffer { items = map (glyph 1) clusters; cluster_level = level }
+
+-- how many items are written beside components that stand from one place to another
+abbrev pub Beside : ℕ → ℕ → List ℕ → ℕ → Type 0
+Beside at last clusters count = merged_beside at last (record new_buffer { items = map (glyph 1) clusters }) ≡ count
+
+-- a lam in the cluster of two glyphs before it, which goes over into that of the alef
+abbrev pub behind_two : List Item → List Item
+behind_two items = glyph 3 5 ∷ glyph 3 5 ∷ glyph 1 5 ∷ glyph 2 4 ∷ items
+
+-- an alef that was a ligature
+abbrev pub ligated_alef : ℕ → Item
+ligated_alef cluster = record (glyph 2 cluster) { properties = record new_properties { ligature_id = 3 } }
+
+-- marks on it, and a letter
+abbrev pub two_marks : List Item
+two_marks = on_component 5 1 ∷ on_component 6 1 ∷ glyph 4 9 ∷ []
+
+pub record WorkedMergings : Type 0 where
+  pub none : Beside 1 2 (4 ∷ 3 ∷ 2 ∷ 1 ∷ []) 0
+  pub before : Beside 2 3 (3 ∷ 3 ∷ 3 ∷ 2 ∷ 1 ∷ []) 2
+  pub up_to_another : Beside 2 3 (4 ∷ 3 ∷ 3 ∷ 2 ∷ []) 1
+  pub after : Beside 0 1 (0 ∷ 1 ∷ 1 ∷ 1 ∷ 2 ∷ []) 2
+  pub up_to_the_end : Beside 1 2 (0 ∷ 1 ∷ 2 ∷ 2 ∷ []) 1
+  -- the least cluster is that of a component between them
+  pub on_both_sides : Beside 1 3 (2 ∷ 2 ∷ 1 ∷ 3 ∷ 3 ∷ 3 ∷ []) 3
+  -- items in the least cluster aren't written
+  pub least_first : Beside 2 3 (1 ∷ 1 ∷ 1 ∷ 2 ∷ []) 0
+  pub least_last : Beside 0 1 (3 ∷ 2 ∷ 2 ∷ 2 ∷ []) 0
+  pub one_cluster : Beside 1 2 (2 ∷ 2 ∷ 2 ∷ 2 ∷ []) 0
+  pub by_characters : merged_beside 2 3 (at_level MonotoneCharacters (3 ∷ 3 ∷ 3 ∷ 2 ∷ [])) ≡ 2
+  pub not_merged : merged_beside 2 3 (at_level Characters (3 ∷ 3 ∷ 3 ∷ 2 ∷ [])) ≡ 0
+  -- one for each is taken from what lookups may ask for
+  pub charged : Leaves (made 30 (behind_two [])) (3 ∷ 3 ∷ 9 ∷ []) 16
+  pub behind_it : Leaves (made 30 (glyph 1 1 ∷ glyph 2 2 ∷ glyph 3 2 ∷ glyph 3 2 ∷ glyph 3 2 ∷ [])) (9 ∷ 3 ∷ 3 ∷ 3 ∷ []) 15
+  pub in_the_least : Leaves (made 30 (glyph 3 5 ∷ glyph 3 5 ∷ glyph 1 5 ∷ glyph 2 6 ∷ [])) (3 ∷ 3 ∷ 9 ∷ []) 18
+  pub free : Leaves (ligated rule lam_alef (record new_buffer {
+    items = behind_two [];
+    positions = map (λ i. zero_position) (behind_two []);
+    max_ops = 30;
+    cluster_level = Characters;
+  })) (3 ∷ 3 ∷ 9 ∷ []) 18
+  -- the ligature is made whatever is left, and none after it once nothing is
+  pub just_enough : Leaves (made 14 (behind_two [])) (3 ∷ 3 ∷ 9 ∷ []) 0
+  pub too_little : Leaves (made 13 (behind_two [])) (3 ∷ 3 ∷ 9 ∷ []) 0
+  pub both_made : Leaves (made 26 (behind_two (glyph 1 3 ∷ glyph 2 2 ∷ []))) (3 ∷ 3 ∷ 9 ∷ 9 ∷ []) 0
+  pub first_made : Leaves (made 25 (behind_two (glyph 1 3 ∷ glyph 2 2 ∷ []))) (3 ∷ 3 ∷ 9 ∷ 1 ∷ 2 ∷ []) 0
+  -- clusters that fall: all before the second one are merged again, the components that are to go among them
+  pub again : Leaves (made 30 (glyph 3 5 ∷ glyph 1 5 ∷ glyph 2 4 ∷ glyph 1 4 ∷ glyph 2 3 ∷ [])) (3 ∷ 9 ∷ 9 ∷ []) 2
+  -- four for each mark that follows
+  pub two_follow : Leaves (made 40 (glyph 1 0 ∷ ligated_alef 0 ∷ two_marks)) (9 ∷ 5 ∷ 6 ∷ 4 ∷ []) 8
+  pub just_enough_for_them : Leaves (made 32 (glyph 1 0 ∷ ligated_alef 0 ∷ two_marks)) (9 ∷ 5 ∷ 6 ∷ 4 ∷ []) 0
+  pub too_little_for_them : Leaves (made 31 (glyph 1 0 ∷ ligated_alef 0 ∷ two_marks)) (9 ∷ 5 ∷ 6 ∷ 4 ∷ []) 0
+  pub of_another : Leaves (made 40 (glyph 1 0 ∷ ligated_alef 0 ∷ mark 5 0 ∷ glyph 4 9 ∷ [])) (9 ∷ 5 ∷ 4 ∷ []) 22
+  pub on_no_ligature : Leaves (made 40 (glyph 1 0 ∷ glyph 2 0 ∷ two_marks)) (9 ∷ 5 ∷ 6 ∷ 4 ∷ []) 16
+  pub both_charged : Leaves (made 40 (glyph 3 5 ∷ glyph 1 5 ∷ ligated_alef 4 ∷ two_marks)) (3 ∷ 9 ∷ 5 ∷ 6 ∷ 4 ∷ []) 7
+
+pub worked_mergings : WorkedMergings
+unfolding merge as_ligature
+worked_mergings = record {
+  none = refl;
+  before = refl;
+  up_to_another = refl;
+  after = refl;
+  up_to_the_end = refl;
+  on_both_sides = refl;
+  least_first = refl;
+  least_last = refl;
+  one_cluster = refl;
+  by_characters = refl;
+  not_merged = refl;
+  charged = (refl, refl);
+  behind_it = (refl, refl);
+  in_the_least = (refl, refl);
+  free = (refl, refl);
+  just_enough = (refl, refl);
+  too_little = (refl, refl);
+  both_made = (refl, refl);
+  first_made = (refl, refl);
+  again = (refl, refl);
+  two_follow = (refl, refl);
+  just_enough_for_them = (refl, refl);
+  too_little_for_them = (refl, refl);
+  of_another = (refl, refl);
+  on_no_ligature = (refl, refl);
+  both_charged = (refl, refl);
+}
