@@ -1,7 +1,8 @@
 //! All lines as one picture: their outlines, a bar for each cluster, and a mark where a line may be cut.
 //!
 //! A line stands below the one before it, and the frame holds the boxes of all that is drawn. The picture of a line has
-//! at most [`MOST_BYTES`] bytes and is made of at most [`MOST_POINTS`] points: what would pass either is left out.
+//! at most [`MOST_BYTES`] bytes and is made of at most [`MOST_POINTS`] points, that of all lines of [`FULL_LINES`] times as
+//! much: what would pass either is left out.
 use crate::drawing::{Bounds, Drawing, Place, rounded};
 use glyph_outlines::Outlines;
 use shape_pipeline::{Direction, GlyphBuffer, GlyphCluster, ShapeError};
@@ -12,6 +13,10 @@ const MOST_BYTES: usize = 1_000_000;
 
 /// The most points, contours and components that are read for a line, except for those of its last glyph.
 const MOST_POINTS: u32 = 200_000;
+
+/// How many lines of so many bytes or points a picture holds: else a font of 60 KB makes one of gigabytes of a short
+/// text, by a line for each letter.
+const FULL_LINES: u8 = 16;
 
 /// Where bars of clusters stand, seen from the pen, and how long the marks across them are.
 #[derive(Clone, Copy)]
@@ -75,14 +80,15 @@ fn place_at(places: &[Place], at: usize) -> Place {
     }
 }
 
-/// Draws the outlines of the glyphs.
+/// Draws the outlines of the glyphs, until so many points are read. Returns how many were.
 fn draw_glyphs(
     alloc: Global,
     drawing: &mut Drawing,
     outlines: &Outlines,
     glyphs: &GlyphBuffer,
     places: &[Place],
-) -> Result<(), AllocError> {
+    most: u32,
+) -> Result<u32, AllocError> {
     let mut points: u32 = 0;
     let mut at: usize = 0;
     for (info, position) in glyphs.iter() {
@@ -93,14 +99,14 @@ fn draw_glyphs(
         let Ok(glyph) = u16::try_from(info.glyph_id) else {
             continue;
         };
-        if MOST_POINTS < points || !drawing.has_room() {
+        if most <= points || !drawing.has_room() {
             continue;
         }
         let outline = outlines.outline(alloc, glyph, MOST_BYTES)?;
         points = points.saturating_add(outline.points());
         drawing.glyph(outline.segments(), pen)?;
     }
-    Ok(())
+    Ok(points)
 }
 
 /// Draws the bar of a cluster, and a mark where a line may be cut before its text.
@@ -155,6 +161,7 @@ fn draw_clusters(
 #[derive(Drop)]
 pub struct Picture {
     body: String,
+    points: u32,
     em: f64,
     left: f64,
     right: f64,
@@ -166,11 +173,24 @@ impl Picture {
     pub fn new(alloc: Global, units_per_em: u16) -> Picture {
         Picture {
             body: String::new(alloc),
+            points: 0,
             em: f64::from(units_per_em),
             left: 0.0,
             right: 0.0,
             low: 0.0,
         }
+    }
+
+    /// How many bytes of a line there is room for.
+    fn room(&self) -> usize {
+        let all = MOST_BYTES.saturating_mul(usize::from(FULL_LINES));
+        all.saturating_sub(self.body.len()).min(MOST_BYTES)
+    }
+
+    /// How many points may be read for a line.
+    fn readable(&self) -> u32 {
+        let all = MOST_POINTS.saturating_mul(u32::from(FULL_LINES));
+        all.saturating_sub(self.points).min(MOST_POINTS)
     }
 
     /// Adds a line below all others. Refuses if a growth was refused.
@@ -182,10 +202,12 @@ impl Picture {
     ) -> Result<(), ShapeError> {
         let places = places(alloc, glyphs)?;
         let places = places.as_slice();
-        let mut drawing = Drawing::new(alloc, MOST_BYTES);
+        let mut drawing = Drawing::new(alloc, self.room());
         drawing.sees(place_at(places, 0));
         drawing.sees(place_at(places, glyphs.len()));
-        draw_glyphs(alloc, &mut drawing, outlines, glyphs, places)?;
+        let most = self.readable();
+        let read = draw_glyphs(alloc, &mut drawing, outlines, glyphs, places, most)?;
+        self.points = self.points.saturating_add(read);
         let bars = Bars::of(glyphs.direction(), self.em, drawing.bounds());
         drawing.begin_lines(self.em * 0.03125)?;
         draw_clusters(alloc, &mut drawing, glyphs, places, bars)?;
