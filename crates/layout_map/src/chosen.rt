@@ -2,7 +2,9 @@
 ghost use Rattle.std.specs.Prelude.{◌≡◌, ◌<◌, ◌^◌};
 ghost use Rattle.std.specs.Option.{IfSome};
 
-use layout_tables::features::{any_feature, feature_index, feature_tag, required_feature};
+use layout_tables::features::{
+    FeatureList, any_feature, feature_list, feature_tag, listed_feature, required_feature,
+};
 use layout_tables::lookups::lookup_count;
 use layout_tables::scripts::chosen_lang_sys;
 use layout_tables::variations::{substitution, varied_feature};
@@ -13,14 +15,17 @@ use std::marker::Model;
 #[derive(Drop)]
 pub struct ChosenTable<'a> {
     bytes: &'a [u8],
+    list: FeatureList,
     lang_sys: Option<usize>,
     substitution: Option<usize>,
 }
 
 impl<'a> Model for ChosenTable<'a> {
-    ghost use Rattle.std.specs.Prelude.{◌<◌, ◌^◌};
-    ghost use Rattle.std.specs.Option.{ForSome};
+    ghost use Rattle.std.specs.Prelude.{◌≡◌, ◌<◌, ◌^◌};
+    ghost use Rattle.std.specs.Option.{ForSome, IfSome};
     ghost use Rattle.layout_map.specs.Chosen.{Chosen};
+    ghost use Rattle.layout_tables.specs.Features.{feature_count_of};
+    ghost use Rattle.layout_tables.specs.Offsets.{header_offset_of};
 
     ghost Value = { Chosen };
 
@@ -31,7 +36,10 @@ impl<'a> Model for ChosenTable<'a> {
     } };
 
     ghost invariant = { λ t. (ForSome t.lang_sys (λ l. l < 2 ^ 18))
-        × (ForSome t.substitution (λ s. s < 2 ^ 34)) };
+        × ((ForSome t.substitution (λ s. s < 2 ^ 34))
+        × ((t.list.place ≡ header_offset_of t.bytes.now 6)
+        × ((IfSome t.list.place (λ place. place < 2 ^ 16))
+        × (t.list.count ≡ feature_count_of t.bytes.now)))) };
 }
 
 impl<'a> ChosenTable<'a> {
@@ -56,6 +64,7 @@ impl<'a> ChosenTable<'a> {
         };
         ChosenTable {
             bytes,
+            list: feature_list(bytes),
             lang_sys,
             substitution: substitution(bytes),
         }
@@ -80,7 +89,7 @@ impl<'a> ChosenTable<'a> {
     pub fn index(&self, tag: u32) -> Option<u16>
         ensures { result ≡ index_of self.now tag }
     {
-        feature_index(self.bytes, self.lang_sys?, tag)
+        listed_feature(self.bytes, self.list, self.lang_sys?, tag)
     }
 
     /// The index of the first feature with this tag, whatever the language system.

@@ -17,16 +17,16 @@ fn features(table: &[u8], list: usize) -> u32
     records(table, u32::from(u16_at(table, list)), list + 2, 6)
 }
 
-/// Where the FeatureList of a table stands, and how many features it has. A search reads them once, not for each
-/// feature that it looks at.
+/// Where the FeatureList of a table stands, none if it has none, and how many features it has. Searches share them, and
+/// don't read them for each feature that they look at.
 #[derive(Clone, Copy)]
-struct FeatureList {
-    place: Option<usize>,
-    count: u32,
+pub struct FeatureList {
+    pub place: Option<usize>,
+    pub count: u32,
 }
 
 /// The FeatureList of a table.
-fn feature_list(table: &[u8]) -> FeatureList
+pub fn feature_list(table: &[u8]) -> FeatureList
     ensures place { result.place ≡ header_offset_of table.now 6 }
     ensures near { IfSome result.place (λ list. list < 2 ^ 16) }
     ensures count { result.count ≡ Features.feature_count_of table.now }
@@ -115,11 +115,19 @@ fn has_feature_tag(table: &[u8], list: FeatureList, lang_sys: usize, tag: u32, i
 
 /// The first of the `count` features of a language system that has the tag.
 #[tactic(auto, using(shape_font::proofs::SearchLemmas::first_at_next, shape_font::proofs::SearchLemmas::first_at_found, shape_font::proofs::SearchLemmas::first_at_end))]
-fn feature_number(table: &[u8], lang_sys: usize, tag: u32, count: u32) -> Option<u32>
-    requires { lang_sys < 2 ^ 18 }
+fn feature_number(
+    table: &[u8],
+    list: FeatureList,
+    lang_sys: usize,
+    tag: u32,
+    count: u32,
+) -> Option<u32>
+    requires near_system { lang_sys < 2 ^ 18 }
+    requires place { list.place ≡ header_offset_of table.now 6 }
+    requires near { IfSome list.place (λ place. place < 2 ^ 16) }
+    requires count { list.count ≡ Features.feature_count_of table.now }
     ensures { result ≡ first_at (Features.has_feature_tag table.now lang_sys tag) count 0 }
 {
-    let list = feature_list(table);
     for i in 0..count {
         if has_feature_tag(table, list, lang_sys, tag, i) {
             return Some(i);
@@ -128,19 +136,18 @@ fn feature_number(table: &[u8], lang_sys: usize, tag: u32, count: u32) -> Option
     None
 }
 
-/// The index of the feature with this tag that the language system at `lang_sys` lists: the first one, if it lists
-/// several; none if it lists none, or the tag is 0.
-pub fn feature_index(table: &[u8], lang_sys: usize, tag: u32) -> Option<u16>
-    requires { lang_sys < 2 ^ 18 }
+/// The index of the feature with this tag that the language system at `lang_sys` lists, by the table's FeatureList: the
+/// first one, if it lists several; none if it lists none, or the tag is 0.
+pub fn listed_feature(table: &[u8], list: FeatureList, lang_sys: usize, tag: u32) -> Option<u16>
+    requires near_system { lang_sys < 2 ^ 18 }
+    requires place { list.place ≡ header_offset_of table.now 6 }
+    requires near { IfSome list.place (λ place. place < 2 ^ 16) }
+    requires count { list.count ≡ Features.feature_count_of table.now }
     ensures { result ≡ Features.feature_index_of table.now lang_sys tag }
 {
     let stated = u32::from(u16_at(table, lang_sys + 4));
-    let i = feature_number(
-        table,
-        lang_sys,
-        tag,
-        records(table, stated, lang_sys + 6, 2),
-    )?;
+    let count = records(table, stated, lang_sys + 6, 2);
+    let i = feature_number(table, list, lang_sys, tag, count)?;
     Some(u16_at(table, lang_sys + 6 + 2 * i as usize))
 }
 
