@@ -74,12 +74,12 @@ hb_run(hb_shape_plan_t *plan, hb_font_t *font, hb_buffer_t *b)
   hb_shape_plan_execute(plan, font, b, NULL, 0);
 }
 
+/* A plan for what a buffer is filled with. */
 static hb_shape_plan_t *
 hb_planned(hb_font_t *font, hb_buffer_t *b)
 {
   static const char *const only_ot[] = {"ot", NULL};
   hb_segment_properties_t p;
-  hb_fill(b);
   hb_buffer_guess_segment_properties(b);
   hb_buffer_get_segment_properties(b, &p);
   return hb_shape_plan_create(hb_font_get_face(font), &p, NULL, 0, only_ot);
@@ -91,10 +91,10 @@ hb_runs(int fresh, int times)
 {
   hb_font_t *font = hb_opened();
   hb_buffer_t *b = hb_buffer_create();
-  hb_shape_plan_t *plan = hb_planned(font, b);
+  hb_shape_plan_t *plan = NULL;
   for (int k = 0; k < times; k++) {
-    if (fresh) { hb_shape_plan_destroy(plan); plan = hb_planned(font, b); }
     hb_fill(b);
+    if (fresh || !plan) { hb_shape_plan_destroy(plan); plan = hb_planned(font, b); }
     hb_run(plan, font, b);
   }
   unsigned n = hb_buffer_get_length(b);

@@ -12,9 +12,8 @@ fn rustybuzz_run(face: &Face, plan: &ShapePlan, buffer: UnicodeBuffer) -> GlyphB
     shape_with_plan(face, plan, buffer)
 }
 
-fn plan_for(face: &Face, text: &str) -> ShapePlan {
-    let mut buffer = UnicodeBuffer::new();
-    rustybuzz_fill(&mut buffer, text);
+/// A plan for what a buffer is filled with.
+fn plan_for(face: &Face, buffer: &mut UnicodeBuffer) -> ShapePlan {
     buffer.guess_segment_properties();
     ShapePlan::new(face, buffer.direction(), Some(buffer.script()), buffer.language().as_ref(), &[])
 }
@@ -38,15 +37,15 @@ pub unsafe extern "C" fn rustybuzz_runs(
     let (Some(face), Ok(text)) = (Face::from_slice(font, 0), text) else {
         return 0;
     };
-    let mut plan = plan_for(&face, text);
+    let mut plan = None;
     let mut buffer = UnicodeBuffer::new();
     let mut glyphs = 0;
     for _ in 0..times {
-        if fresh != 0 {
-            plan = plan_for(&face, text);
-        }
         rustybuzz_fill(&mut buffer, text);
-        let shaped = rustybuzz_run(&face, &plan, buffer);
+        if fresh != 0 || plan.is_none() {
+            plan = Some(plan_for(&face, &mut buffer));
+        }
+        let shaped = rustybuzz_run(&face, plan.as_ref().unwrap(), buffer);
         glyphs = shaped.len();
         buffer = shaped.clear();
     }

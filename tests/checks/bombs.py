@@ -1,6 +1,6 @@
 """Fonts made by hand that are small and ask for much work, and the worst of earlier searches.
 
-Each runs with a text of 10,000 characters: no run ends by a signal, takes more than six seconds of
+Each runs with a text of 10,000 characters, one with three quarters as many: no run ends by a signal, takes more than six seconds of
 processor time (the gate's machine may be slow), or more than 200 MB. The bombs are lookups that
 apply themselves, substitutions that grow, parts of tables that are shared, kerning of 65,535
 parts, origins and names that are searched for. Those that use up what a run may ask for take
@@ -10,11 +10,11 @@ of it.
 The worst fonts of earlier searches are named in tests/hostile/worst.txt (`search`).
 """
 from checks.bomb_tables import (EVERY, LOOP, ROW, all_null, alternates, among_none, apart, becomes,
-                                 class_behind, context, cursive, deletes, features, gdef,
-                                 gdef_of_set, grows, joins, kern, kern_heads, layout,
-                                 ligature_of_two, ligatures, list_behind, lookup, marks_on, names,
-                                 nulls, only_a, origins, pairs, row_before, row_behind, rules,
-                                 rules_past, swallows, vain, variations, words)
+                                class_behind, context, cursive, deletes, features, gdef,
+                                gdef_of_set, grows, joins, kern, kern_heads, layout,
+                                ligature_of_two, ligatures, list_behind, lookup, marks_on, names,
+                                nulls, only_a, origins, pairs, row_before, row_behind, rules,
+                                rules_past, swallows, vain, variations, words)
 from checks.fonts import add_table, bytes_of, new_font
 from checks.hostile_runs import LENGTH, SECONDS, Runs, add_run_options, need_all
 from checks.mutated import load_bases, mutated_font

@@ -1,8 +1,8 @@
 //! All lines as one picture: their outlines, a bar for each cluster, and a mark where a line may be cut.
 //!
 //! A line stands below the one before it, and the frame holds the boxes of all that is drawn. The picture of a line has
-//! at most [`MOST_BYTES`] bytes and is made of at most [`MOST_POINTS`] points, that of all lines of [`FULL_LINES`] times as
-//! much: what would pass either is left out.
+//! at most [`MOST_BYTES`] bytes and is made of at most [`MOST_POINTS`] points, contours and components, that of all lines
+//! of [`FULL_LINES`] times as much: what would pass either is left out.
 use crate::drawing::{Bounds, Drawing, Place, rounded};
 use glyph_outlines::Outlines;
 use shape_pipeline::{Direction, GlyphBuffer, GlyphCluster, ShapeError};

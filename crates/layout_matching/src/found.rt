@@ -140,8 +140,8 @@ fn is_vain(
         || is_refused_there(lookup, items, origin, set, place, known)
 }
 
-/// Where rule `r` of the set stands, unless it matches nothing. It is read in the loop alone, since each call copies what it
-/// found.
+/// Where rule `r` of the set stands, unless it matches nothing. The loop reads the rule itself: a call that returned what
+/// matches would copy it.
 #[inline(always)]
 fn unrefused(
     lookup: &Lookup<'_>,
@@ -215,7 +215,7 @@ pub fn number_in(table: &[u8], start: usize, glyph: u32) -> Option<u32>
     coverage_index(table, list, glyph)
 }
 
-/// The first rule of the set for the glyph that matches. In one body with what finds the set, since each call copies what it
+/// The first rule of the glyph's set that matches. The set is found in this body, too: another call would copy what it
 /// returns.
 fn found_in_sets(
     lookup: &Lookup<'_>,

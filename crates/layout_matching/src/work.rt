@@ -307,7 +307,7 @@ pub fn walk_work(lookup: &Lookup<'_>, count: usize) -> usize
     requires { lookup.now.place < 2 ^ 17 }
     ensures { result ≡ Work.walk_work lookup.now count }
 {
-    // A list that substitution has emptied: its subtables aren't looked at, however many there are.
+    // Substitution may have emptied the list. Then the lookup's subtables aren't read, however many it has.
     if count == 0 {
         return 0;
     }

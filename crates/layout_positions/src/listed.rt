@@ -172,7 +172,7 @@ fn listed_mark(lookup: &Lookup<'_>, start: usize, buffer: &hb_buffer_t, i: usize
 }
 
 /// Applies a subtable of type 4, 5 or 6 to the glyph at place `i`. Its marks are searched once. If it doesn't list the glyph,
-/// as most, what is carried on isn't touched.
+/// as most don't, what is carried on isn't touched.
 #[tactic(auto, using(crate::proofs::SubtableLemmas::unlisted_unplaced))]
 #[inline(always)]
 pub(crate) fn try_mark(

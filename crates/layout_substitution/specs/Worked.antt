@@ -311,6 +311,8 @@ pub record WorkedLigating : Type 0 where
   pub one_between : LeftLigating (glyph_in 5 3 ∷ glyph_in 9 3 ∷ six_with_marks) 0 2 20 12
   pub one_beside : LeftLigating (glyph_in 5 3 ∷ glyph_in 5 3 ∷ glyph_in 6 2 ∷ glyph_in 4 1 ∷ []) 1 2 20 19
   pub both : LeftLigating (glyph_in 5 3 ∷ glyph_in 5 3 ∷ six_with_marks) 1 2 20 11
+  -- the last component's cluster is the least, and not that of the glyph between them
+  pub over_one_between : LeftLigating (glyph_in 5 3 ∷ glyph_in 5 3 ∷ glyph_in 9 3 ∷ six_with_marks) 1 3 20 11
   pub just_enough : LeftLigating (glyph_in 5 3 ∷ glyph_in 5 3 ∷ six_with_marks) 1 2 9 0
   pub too_little : LeftLigating (glyph_in 5 3 ∷ glyph_in 5 3 ∷ six_with_marks) 1 2 8 0
 
@@ -322,6 +324,7 @@ worked_ligating = record {
   one_between = λ l random whole. refl;
   one_beside = λ l random whole. refl;
   both = λ l random whole. refl;
+  over_one_between = λ l random whole. refl;
   just_enough = λ l random whole. refl;
   too_little = λ l random whole. refl;
 }

@@ -1,7 +1,7 @@
 //! What the merging of a ligature's components writes beside them.
 //!
 //! A cluster may be as long as the text, and may be merged again with each ligature: so each item beside the components is
-//! charged for. The walks look at no more items than are charged, and at the one that ends each.
+//! charged for. Beside the components the walks look at no more items than are charged, and at the one that ends each.
 ghost use Rattle.std.specs.Prelude.{◌≡◌, ◌<◌, ◌≤◌, ◌+◌, ◌-◌, drop, length, slice_range, take};
 ghost use Rattle.std.specs.List.{prefix_len, suffix_len};
 ghost use Rattle.layout_substitution.specs.Ligatures;

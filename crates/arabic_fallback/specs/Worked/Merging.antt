@@ -12,7 +12,7 @@ use Rattle.arabic_fallback.specs.Merging.{merged_beside}
 use Rattle.arabic_fallback.specs.Replaced.{as_ligature}
 use Rattle.arabic_fallback.specs.Worked.Charges.{Leaves, made}
 use Rattle.arabic_fallback.specs.Worked.Forms.{rule}
-use Rattle.arabic_fallback.specs.Worked.Ligatures.{glyph, lam_alef, mark, on_component}
+use Rattle.arabic_fallback.specs.Worked.Ligatures.{glyph, lam_alef, lellah, mark, on_component}
 
 abbrev pub at_level : BufferClusterLevel → List ℕ → Buffer
 at_level level clusters = record new_buffer { items = map (glyph 1) clusters; cluster_level = level }
@@ -24,6 +24,10 @@ Beside at last clusters count = merged_beside at last (record new_buffer { items
 -- a lam in the cluster of two glyphs before it, which goes over into that of the alef
 abbrev pub behind_two : List Item → List Item
 behind_two items = glyph 3 5 ∷ glyph 3 5 ∷ glyph 1 5 ∷ glyph 2 4 ∷ items
+
+-- three letters that make one ligature, of which two stand in the cluster of the glyph before them
+abbrev pub behind_one : List Item
+behind_one = glyph 2 5 ∷ glyph 1 5 ∷ glyph 3 5 ∷ glyph 4 4 ∷ []
 
 -- an alef that was a ligature
 abbrev pub ligated_alef : ℕ → Item
@@ -57,6 +61,12 @@ pub record WorkedMergings : Type 0 where
     max_ops = 30;
     cluster_level = Characters;
   })) (3 ∷ 3 ∷ 9 ∷ []) 18
+  -- of three components the last one's cluster is the least
+  pub of_three : Leaves (ligated rule lellah (record new_buffer {
+    items = behind_one;
+    positions = map (λ i. zero_position) behind_one;
+    max_ops = 30;
+  })) (2 ∷ 10 ∷ []) 17
   -- the ligature is made whatever is left, and none after it once nothing is
   pub just_enough : Leaves (made 14 (behind_two [])) (3 ∷ 3 ∷ 9 ∷ []) 0
   pub too_little : Leaves (made 13 (behind_two [])) (3 ∷ 3 ∷ 9 ∷ []) 0
@@ -90,6 +100,7 @@ worked_mergings = record {
   behind_it = (refl, refl);
   in_the_least = (refl, refl);
   free = (refl, refl);
+  of_three = (refl, refl);
   just_enough = (refl, refl);
   too_little = (refl, refl);
   both_made = (refl, refl);

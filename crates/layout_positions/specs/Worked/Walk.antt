@@ -44,6 +44,13 @@ first_in_context = two_lookups 36 (0 ∷ 3 ∷ 0 ∷ 2 ∷ 0 ∷ 1 ∷ 0 ∷ 14 
 abbrev third_in_context : List ℕ
 third_in_context = two_lookups 38 (0 ∷ 3 ∷ 0 ∷ 3 ∷ 0 ∷ 1 ∷ 0 ∷ 16 ∷ 0 ∷ 16 ∷ 0 ∷ 16 ∷ 0 ∷ 2 ∷ 0 ∷ 1 ∷ [])
 
+-- to both of two, and to a third that the rule doesn't have
+abbrev each_in_context : List ℕ
+each_in_context = two_lookups 40 (0 ∷ 3 ∷ 0 ∷ 2 ∷ 0 ∷ 2 ∷ 0 ∷ 18 ∷ 0 ∷ 18 ∷ 0 ∷ 0 ∷ 0 ∷ 1 ∷ 0 ∷ 1 ∷ 0 ∷ 1 ∷ [])
+
+abbrev past_context : List ℕ
+past_context = two_lookups 36 (0 ∷ 3 ∷ 0 ∷ 2 ∷ 0 ∷ 1 ∷ 0 ∷ 14 ∷ 0 ∷ 14 ∷ 0 ∷ 2 ∷ 0 ∷ 1 ∷ [])
+
 abbrev pub over : Lookup → List Item → Buffer
 over l items = positioned (l ∷ []) (line LeftToRight items)
 
@@ -147,6 +154,9 @@ pub record WorkedWalk : Type 0 where
   -- and 8 for each glyph before the one that is named
   pub one_is_named : Over in_context 0 16 (λ l. (named l 68).left ≡ 4)
   pub third_is_named : Over third_in_context 0 16 (λ l. (named_in (base 2 0 ∷ base 3 1 ∷ base 2 2 ∷ []) l 76).left ≡ 4)
+  -- 56 for the first record, and 64 for the second
+  pub each_is_named : Over each_in_context 0 16 (λ l. (named l 124).left ≡ 4)
+  pub none_there_is_named : Over past_context 0 16 (λ l. (named l 10).left ≡ 10)
   pub none_may_be_named : Over in_context 0 16 (λ l. offsets (named l 0).buffer ≡ still ∷ still ∷ [])
   pub too_little_is_left : Over in_context 0 16 (λ l. offsets (named l 63).buffer ≡ still ∷ still ∷ [])
   pub nothing_is_left_then : Over in_context 0 16 (λ l. (named l 63).left ≡ 0)
@@ -188,6 +198,8 @@ worked_walk = record {
   first_is_named = λ l. refl;
   one_is_named = λ l. refl;
   third_is_named = λ l. refl;
+  each_is_named = λ l. refl;
+  none_there_is_named = λ l. refl;
   none_may_be_named = λ l. refl;
   too_little_is_left = λ l. refl;
   nothing_is_left_then = λ l. refl;
