@@ -1,11 +1,12 @@
 //! What lookups of OpenType layout match, in substitution (`GSUB`) and in positioning (`GPOS`).
 //!
-//! [`skipping`] says which glyphs a lookup sees, [`seeking`] finds the next glyph that is looked for, [`input`] what a rule or
-//! a ligature matches, [`spans`] what stands around that, [`rules`] and [`formats`] read the rules of context, [`glance`]
-//! refuses most of them at once ([`around`] looks as far as a rule asks), [`found`] has the first rule that matches, and
-//! [`nesting`] the lookups that it names. [`tried`] and [`reaching`] say how far searches in vain looked. [`work`] says what a lookup is charged for, by [`sets`] of rules, [`tally`]
-//! of each rule and [`passing`] of glyphs beside a place; [`beside`] charges subtables of positioning, which share those glyphs.
-//! All are functions of the bytes of the font and of the list of items: nothing is changed. Any bytes are taken.
+//! [`skipping`] says which glyphs a lookup sees, [`seeking`] finds the next glyph that is looked for, [`input`] what
+//! a rule or a ligature matches, [`spans`] what stands around that, [`rules`] and [`formats`] read the rules of
+//! context, [`glance`] refuses most of them at once ([`around`] looks as far as a rule asks), [`found`] has the first
+//! rule that matches, and [`nesting`] the lookups that it names. [`tried`] and [`reaching`] say how far searches in
+//! vain looked. [`work`] says what a lookup is charged for, by [`sets`] of rules, [`tally`] of each rule and
+//! [`passing`] of glyphs beside a place; [`beside`] charges subtables of positioning, which share those glyphs. All
+//! are functions of the bytes of the font and of the list of items: nothing is changed. Any bytes are taken.
 #![tactic(auto)]
 #![allow(non_camel_case_types)]
 
