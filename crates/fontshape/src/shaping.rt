@@ -34,8 +34,8 @@ const SHAPERS: ScriptShapers = ScriptShapers {
 };
 
 /// The face for the font's tables of lookups, with the plan of the last line. A line of the same script and direction
-/// needs no other one, since language and features are those of the options: making a plan takes as long as shaping
-/// a line of some hundred letters, and longer in a font of many features.
+/// needs no other one, since language and features are those of the options. Making a plan takes as long as shaping a
+/// few words, and far longer in a font of many features.
 #[derive(Drop)]
 pub struct Planned<'a> {
     face: &'a OpenedOpenTypeFace<'a>,
