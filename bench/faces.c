@@ -5,7 +5,8 @@
  *
  * ENGINE: hblook, look, opened (glyph and advance of each character of a text, by HarfBuzz, by the face, by the face that is
  * opened once), hbrun, rbrun, run, runopened, kern, kernopened, layout, layoutopened (whole runs without lookups, with kern alone
- * or with all tables of lookups, one plan; built with -DRUNS, rbrun by rustybuzz with -DRUSTYBUZZ), hbplan, rbplan, plan,
+ * or with all tables of lookups, one plan; built with -DRUNS, rbrun by rustybuzz with -DRUSTYBUZZ), scripted (the last over the
+ * face that is opened once, by the shaper of the text's script, as HarfBuzz and rustybuzz choose one), hbplan, rbplan, plan,
  * planopened (the same with all tables, and a plan for each run), hbfirst, rbfirst, first, firstopened (the face opened for each
  * run, too), hbopen, open, openonce (the face alone made anew each time). TEXT is a file in UTF-8. Prints a sum, or the number of
  * glyphs, which must be equal for all.
@@ -178,8 +179,9 @@ main(int argc, char **argv)
     for (uint32_t k = 0; k < calls; k++)
       sum = bench_font(bytes, font_size, (uint8_t *) text, text_size, how, engine[0] == 'f' ? 1 : (uint32_t) times);
   }
-  else if (!strncmp(engine, "run", 3) || !strncmp(engine, "kern", 4) || !strncmp(engine, "layout", 6)) {
+  else if (!strncmp(engine, "run", 3) || !strncmp(engine, "kern", 4) || !strncmp(engine, "layout", 6) || !strcmp(engine, "scripted")) {
     uint32_t how = 1 | (engine[0] == 'k') << 1 | (strstr(engine, "opened") != NULL) << 2 | (engine[0] == 'l') << 3;
+    if (engine[0] == 's') how = 1 | 4 | 8 | 16;
     sum = bench_font(bytes, font_size, (uint8_t *) text, text_size, how, (uint32_t) times);
   }
 #endif

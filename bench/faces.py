@@ -4,7 +4,7 @@
 FOLDER has `faces`; over PLAIN, which is FONT without tables of lookups, and KERN, which has `kern` beside it, runs are measured.
 Where `faces` was built without runs, or without rustybuzz, their columns are empty."""
 import re, subprocess, sys, tempfile
-from texts import KINDS
+from texts import KINDS, SCRIPTED
 
 FOLDER, FONT, PLAIN, KERN = sys.argv[1:5]
 SIZES = 5, 80, 2000
@@ -12,7 +12,8 @@ SIZES = 5, 80, 2000
 OURS = "*run_kept*"
 # HarfBuzz and rustybuzz have a shaper for Hebrew, and compose other marks in runs of more than 32.
 OTHERWISE = "hebrew", "marks33"
-RUNS = {"hbrun": "hb_run", "rbrun": "*::rustybuzz_run*", "run": OURS, "runopened": OURS, "kern": OURS, "kernopened": OURS, "layout": OURS, "layoutopened": OURS}
+RUNS = {"hbrun": "hb_run", "rbrun": "*::rustybuzz_run*", "run": OURS, "runopened": OURS, "kern": OURS, "kernopened": OURS, "layout": OURS, "layoutopened": OURS,
+        "scripted": "*run_scripted*"}
 
 
 def counted(engine, font, text, times, inside=None):
@@ -31,7 +32,7 @@ def cost(engine, font, text, low=2, high=6, inside=None):
 
 def written(folder, kind, size):
     """A file with so many characters of a kind; words have no spaces."""
-    text = KINDS[kind]
+    text = KINDS.get(kind) or SCRIPTED[kind]
     if size <= 20: text = "".join(text.split())
     path = f"{folder}/{kind}-{size}.txt"
     open(path, "w", newline="").write((text * (size // len(text) + 1))[:size])
@@ -58,6 +59,11 @@ with tempfile.TemporaryDirectory() as folder:
             print("| text | HarfBuzz | rustybuzz | `FontFace` | `OpenedFace` |\n|---|---|---|---|---|")
             for kind in KINDS:
                 print(f"| {kind} | " + " | ".join(row(folder, kind, size, engines, font)) + " |", flush=True)
+    for size in 5, 40, 80, 2000:
+        print(f"\nRuns by the shaper of the script with all tables of lookups, plan kept, {size:,} characters, instructions a character\n")
+        print("| text | HarfBuzz | rustybuzz | `OpenedOpenTypeFace` |\n|---|---|---|---|")
+        for kind in SCRIPTED:
+            print(f"| {kind} | " + " | ".join(row(folder, kind, size, ("hbrun", "rbrun", "scripted"), FONT)) + " |", flush=True)
     print("\nA word of five with all tables of lookups, instructions: a run with its plan, less one whose plan is kept; the face opened, too\n")
     print("| text | what | HarfBuzz | rustybuzz | `OpenTypeFace` | `OpenedOpenTypeFace` |\n|---|---|---|---|---|---|")
     for kind in "latin", "cyrillic":

@@ -1,5 +1,5 @@
 #!/usr/bin/env python3
-"""Texts of ten kinds that runs over font files are measured with."""
+"""Texts of ten kinds that runs over font files are measured with, and of some that a shaper of their script shapes."""
 import random, unicodedata
 
 D = lambda s: unicodedata.normalize("NFD", s)
@@ -13,5 +13,11 @@ DIGITS = "3.14159 26535 89793 23846 26433 83279 50288 41971 69399 37510 58209 74
 EMOJI = "Hello 😀 wörld 😎\u200d😃 I ❤\uFE0F you \u2611\uFE0F done 😂😂 café 😍\u200d❤\uFE0F\u200d😘 ok ☺\uFE0F nice 😉 to meet 👍🏽 you 👩\u200d👩\u200d👧 all 😊 and 1\uFE0F\u20E3 more 🙈. "
 r = random.Random(33)
 MARKS = "".join(c + "".join(r.choice("\u0301\u0302\u0308\u030A\u0323\u0316\u0327\u0300\u0303") for _ in range(r.randrange(33, 60))) for c in "zalgohecomes" * 2)
+ARABIC = "يولد جميع الناس أحرارا متساوين في الكرامة والحقوق، وقد وهبوا عقلا وضميرا وعليهم أن يعامل بعضهم بعضا بروح الإخاء. لكل إنسان حق التمتع بكافة الحقوق والحريات الواردة في هذا الإعلان، دون أي تمييز. لكل فرد الحق في الحياة والحرية وسلامة شخصه. "
+POINTED = "بِسْمِ اللَّهِ الرَّحْمَٰنِ الرَّحِيمِ الْحَمْدُ لِلَّهِ رَبِّ الْعَالَمِينَ الرَّحْمَٰنِ الرَّحِيمِ مَالِكِ يَوْمِ الدِّينِ إِيَّاكَ نَعْبُدُ وَإِيَّاكَ نَسْتَعِينُ اهْدِنَا الصِّرَاطَ الْمُسْتَقِيمَ "
+r = random.Random(1)
+LETTERS = "".join(r.choice("ابتثجحخدذرزسشصضطظعغفقكلمنهوي     ") for _ in range(2000))
+# What the shaper of the script shapes.
+SCRIPTED = {"arabic": ARABIC, "arabic-pointed": POINTED, "arabic-random": LETTERS, "hebrew": D(HEBREW)}
 KINDS = {"latin": LATIN, "viet-nfd": D(VIET), "viet-nfc": C(VIET), "greek-nfc": C(GREEK), "greek-nfd": D(GREEK), "cyrillic": CYRILLIC,
          "hebrew": D(HEBREW), "digits": DIGITS, "emoji": EMOJI, "marks33": MARKS}

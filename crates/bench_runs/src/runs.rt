@@ -43,7 +43,8 @@ pub fn fill(buffer: &mut UnicodeBuffer, text: Text) -> Result<(), ShapeError> {
     }
 }
 
-fn unfaulted(outcome: Result<GlyphBuffer, ShapeFault>) -> Result<GlyphBuffer, ShapeError> {
+/// What a run gave, without the buffer of a refused one.
+pub fn unfaulted(outcome: Result<GlyphBuffer, ShapeFault>) -> Result<GlyphBuffer, ShapeError> {
     match outcome {
         Ok(glyphs) => Ok(glyphs),
         Err(fault) => Err(fault.cause),
