@@ -103,6 +103,21 @@ seen_middle c middle =
           ]
     ]
 
+-- Arabic, and most scripts of South and South East Asia: the database has the fillers of Hangul alone, which are shown
+pub seen_next : (c : ℕ) → (nat_lt 0x61C c && nat_lt c 0x17B4) ≡ true → is_ignorable c ≡ false
+unfolding tables none_between default_ignorable_code_point_ranges
+seen_next c next =
+    elim (cases_Bool (nat_lt c 0x115F)) [
+      | inl before ↦ seen_from 0x61D 0x115E c refl (grind (arith, nat_tests, next)) (grind (arith, nat_tests, before))
+      | inr past ↦
+          elim (cases_Bool (nat_lt 0x1160 c)) [
+            | inl beyond ↦ seen_from 0x1161 0x17B3 c refl (grind (arith, nat_tests, beyond)) (grind (arith, nat_tests, next))
+            | inr filler ↦
+                let shown : is_seen_though_ignorable c ≡ true = grind (arith, nat_tests, past, filler) in
+                and_right (is_default_ignorable_code_point c) (not (is_seen_though_ignorable c)) (ap not shown)
+          ]
+    ]
+
 -- the variation selectors of the basic plane are unseen
 pub unseen_selectors : (c : ℕ) → (nat_le 0xFE00 c && nat_le c 0xFE0F) ≡ true → is_ignorable c ≡ true
 unfolding tables has_all is_default_ignorable_code_point default_ignorable_code_point_ranges
@@ -133,6 +148,12 @@ unfolding tables none_between is_bidi_mirrored bidi_mirrored_ranges
 not_mirrored c between =
     in_ranges-none 0xBC 0xF39 0 0 bidi_mirrored_ranges c refl (grind (arith, nat_tests, between)) (grind (arith, nat_tests, between))
     (grind (arith, nat_tests, between)) (grind (arith, nat_tests, between))
+
+pub not_mirrored_before : (c : ℕ) → nat_lt c 0x28 ≡ true → is_bidi_mirrored c ≡ false
+unfolding tables none_between is_bidi_mirrored bidi_mirrored_ranges
+not_mirrored_before c before =
+    in_ranges-none 0 0x27 0x28 0x28 bidi_mirrored_ranges c refl (grind arith) (grind (arith, nat_tests, before))
+    (grind (arith, nat_tests, before)) (grind (arith, nat_tests, before))
 
 -- before U+FE00 the variation selectors are Mongolian's
 pub early_selectors : (c : ℕ) → c < 0xFE00 → (is_variation_selector c && not (is_mongolian c)) ≡ false

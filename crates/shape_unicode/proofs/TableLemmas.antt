@@ -1,9 +1,8 @@
 -- The small tables agree with the database: tests computed over the tables, and over the database's rows.
-use Rattle.std.proofs.Common.{◌≡◌, ◌≢◌, ℕ, ◌<◌, Bool, true, false, not, ◌&&◌, ◌||◌, ◌==◌, List, [], ◌∷◌, Option, Some, None, slice_index_or, unwrap_or, option_map, refl, sym, ap, ap₂, subst, ◌∙◌, inl, inr, eqb-true, eq-eqb}
+use Rattle.std.proofs.Common.{◌≡◌, ◌≢◌, ℕ, zero, suc, ◌+◌, ◌<◌, Bool, true, false, not, ◌&&◌, ◌||◌, ◌==◌, List, [], ◌∷◌, Option, Some, None, length, slice_index_or, unwrap_or, option_map, refl, sym, ap, ap₂, subst, ◌∙◌, inl, inr, eqb-true, eq-eqb, arith}
 use Rattle.std.proofs.lemmas.Bool.{and_parts, or_cases, cond-true}
 use Rattle.std.specs.List.{find, list_all, list_any}
 use Rattle.std.specs.Option.{option_map_or}
-use Rattle.ucd_table.proofs.Facts.{Stepped-below}
 use Rattle.ucd_table.proofs.RangedFacts.{Stepped-at_points}
 use Rattle.ucd_table.proofs.Computing.{tables}
 use Rattle.ucd_bidi.specs.Binary.{is_bidi_mirrored}
@@ -16,6 +15,7 @@ use Rattle.ucd_normal.specs.DecompositionRows.Tag.{vertical}
 use Rattle.ucd_normal.proofs.DecompositionLemmas.{decomposition_stepped}
 use Rattle.shape_common.specs.Category.{is_space_category}
 use Rattle.shape_common.specs.CategoryNumber.{category_number, category_of as numbered}
+use Rattle.shape_common.specs.declared.general_category.hb_unicode_general_category_t.{hb_unicode_general_category_t}
 use Rattle.shape_common.specs.declared.general_category.hb_unicode_general_category_t.TheVariants.{UppercaseLetter}
 use Rattle.shape_common.proofs.CategoryLemmas.{category_of-number}
 use Rattle.shape_unicode.specs.Category.{category_from, category_of}
@@ -26,7 +26,7 @@ use Rattle.shape_unicode.specs.Tables.{Tables, by_rows, by_trees, same_tables}
 use Rattle.shape_unicode.specs.SplitLaws.{true_is_false}
 use Rattle.shape_unicode.specs.FormLaws.{look_up, found_pair, mirrored_cases}
 use Rattle.shape_unicode.specs.OfDatabase.{MirrorsAreMutual, VerticalsAreMapped, VerticalsAreAll, SpacesAreSeparators}
-use Rattle.shape_unicode.specs.declared.category.TheConstants.{ASCII_CATEGORIES}
+use Rattle.shape_unicode.specs.declared.early_categories.TheConstants.{EARLY_CATEGORIES}
 use Rattle.shape_unicode.specs.declared.mirror_pairs.TheConstants.{MIRROR_PAIRS}
 use Rattle.shape_unicode.specs.declared.vertical.TheConstants.{VERTICAL_FORMS}
 use Rattle.shape_unicode.specs.declared.space.TheConstants.{SPACES}
@@ -143,20 +143,35 @@ verticals_are_all d x mapping =
     (forms_ok d (ap (λ e. not (is_vertical e.0 && is_single e.1)) mapping)) in
     (form.0.0, answers-true _ _ form.1)
 
--- ---- categories of ASCII
+-- ---- categories from Basic Latin to Arabic
 
--- the numbers tell two categories apart, and the database's are those of the table
-ascii_numbers : (c : ℕ) → c < 128
-    → (category_number (category_from (general_category c)) == category_number (slice_index_or ASCII_CATEGORIES c UppercaseLetter)) ≡ true
-unfolding by_trees
-ascii_numbers =
-    Stepped-below general_category general_category_stepped
-    (λ c v. category_number (category_from v) == category_number (slice_index_or ASCII_CATEGORIES c UppercaseLetter)) 128 refl
+-- the numbers tell two categories apart; each entry is the category of its character, the first one that of c
+unfoldable categories_agree : Tables → ℕ → List hb_unicode_general_category_t → Bool
+categories_agree t c [] = true
+categories_agree t c (k ∷ ks) = (category_number k == category_number (category_from (t.category c))) && categories_agree t (suc c) ks
 
-pub ascii_category : (c : ℕ) → c < 128 → slice_index_or ASCII_CATEGORIES c UppercaseLetter ≡ category_of c
-ascii_category c ascii =
-    sym (category_of-number (slice_index_or ASCII_CATEGORIES c UppercaseLetter))
-    ∙ ap numbered (sym (eqb-true _ _ (ascii_numbers c ascii))) ∙ category_of-number (category_of c)
+agreed_at : (t : Tables) (c : ℕ) (ks : List hb_unicode_general_category_t) (i : ℕ) → categories_agree t c ks ≡ true → i < length ks
+    → slice_index_or ks i UppercaseLetter ≡ category_from (t.category (c + i))
+unfolding categories_agree
+agreed_at t c [] i agreed within = absurd (omega (arith, within))
+agreed_at t c (k ∷ ks) zero agreed within =
+    let both = and_parts (category_number k == category_number (category_from (t.category c))) (categories_agree t (suc c) ks) agreed in
+    let here : c ≡ c + zero = omega arith in
+    sym (category_of-number k) ∙ ap numbered (eqb-true _ _ both.0) ∙ category_of-number (category_from (t.category c))
+    ∙ ap (λ d. category_from (t.category d)) here
+agreed_at t c (k ∷ ks) (suc i) agreed within =
+    let both = and_parts (category_number k == category_number (category_from (t.category c))) (categories_agree t (suc c) ks) agreed in
+    let next : suc c + i ≡ c + suc i = omega arith in
+    agreed_at t (suc c) ks i both.1 (omega (arith, within)) ∙ ap (λ d. category_from (t.category d)) next
+
+categories_ok : categories_agree by_rows 0 EARLY_CATEGORIES ≡ true
+unfolding by_trees categories_agree
+categories_ok = ap (λ t. categories_agree t 0 EARLY_CATEGORIES) same_tables
+
+pub early_category : (c : ℕ) → c < 1792 → slice_index_or EARLY_CATEGORIES c UppercaseLetter ≡ category_of c
+early_category c early =
+    let same : 0 + c ≡ c = omega arith in
+    agreed_at by_rows 0 EARLY_CATEGORIES c categories_ok early ∙ ap category_of same
 
 -- ---- spaces
 

@@ -2,52 +2,16 @@
 ghost use Rattle.std.specs.Prelude.{◌≡◌};
 ghost use Rattle.shape_unicode.specs.Category.{category_from, category_of};
 
+use crate::early_categories::EARLY_CATEGORIES;
 use shape_buffer::interfaces::hb_unicode_general_category_t;
 use ucd_category::GeneralCategory;
 
-const LU: hb_unicode_general_category_t = hb_unicode_general_category_t::UppercaseLetter;
-
-const LL: hb_unicode_general_category_t = hb_unicode_general_category_t::LowercaseLetter;
-
-const ND: hb_unicode_general_category_t = hb_unicode_general_category_t::DecimalNumber;
-
-const PC: hb_unicode_general_category_t = hb_unicode_general_category_t::ConnectorPunctuation;
-
-const PD: hb_unicode_general_category_t = hb_unicode_general_category_t::DashPunctuation;
-
-const PS: hb_unicode_general_category_t = hb_unicode_general_category_t::OpenPunctuation;
-
-const PE: hb_unicode_general_category_t = hb_unicode_general_category_t::ClosePunctuation;
-
-const PO: hb_unicode_general_category_t = hb_unicode_general_category_t::OtherPunctuation;
-
-const SM: hb_unicode_general_category_t = hb_unicode_general_category_t::MathSymbol;
-
-const SC: hb_unicode_general_category_t = hb_unicode_general_category_t::CurrencySymbol;
-
-const SK: hb_unicode_general_category_t = hb_unicode_general_category_t::ModifierSymbol;
-
-const ZS: hb_unicode_general_category_t = hb_unicode_general_category_t::SpaceSeparator;
-
-const CC: hb_unicode_general_category_t = hb_unicode_general_category_t::Control;
-
-/// The categories of ASCII by their short names, from U+0000 on. Most text is of these characters, and one read decides
-/// each.
-static ASCII_CATEGORIES: [hb_unicode_general_category_t; 128] = [
-    CC, CC, CC, CC, CC, CC, CC, CC, CC, CC, CC, CC, CC, CC, CC, CC, CC, CC, CC, CC, CC, CC, CC, CC,
-    CC, CC, CC, CC, CC, CC, CC, CC, ZS, PO, PO, PO, SC, PO, PO, PO, PS, PE, PO, SM, PO, PD, PO, PO,
-    ND, ND, ND, ND, ND, ND, ND, ND, ND, ND, PO, PO, SM, SM, SM, PO, PO, LU, LU, LU, LU, LU, LU, LU,
-    LU, LU, LU, LU, LU, LU, LU, LU, LU, LU, LU, LU, LU, LU, LU, LU, LU, LU, LU, PS, PO, PE, SK, PC,
-    SK, LL, LL, LL, LL, LL, LL, LL, LL, LL, LL, LL, LL, LL, LL, LL, LL, LL, LL, LL, LL, LL, LL, LL,
-    LL, LL, LL, PS, SM, PE, SM, CC,
-];
-
-/// General_Category of a character.
+/// General_Category of a character: most text is of those that one read decides.
 pub(crate) fn category_at(c: char) -> hb_unicode_general_category_t
     ensures { result ≡ category_of c }
 {
-    if c < '\u{80}' {
-        return ASCII_CATEGORIES[c as usize];
+    if c < '\u{700}' {
+        return EARLY_CATEGORIES[c as usize];
     }
     category_from(GeneralCategory::for_char(c))
 }

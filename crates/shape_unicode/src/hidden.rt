@@ -22,6 +22,14 @@ fn is_seen_early(c: char) -> bool
     c < '\u{61C}' && c != '\u{AD}' && c != '\u{34F}'
 }
 
+/// Whether `c` stands between U+061C and U+17B4, where the fillers of Hangul alone are ignorable, which are shown. So
+/// the letters of Arabic, of India and of South East Asia are decided without the table.
+fn is_seen_next(c: char) -> bool
+    ensures { result ≡ (nat_lt 0x61C c && nat_lt c 0x17B4) }
+{
+    '\u{61C}' < c && c < '\u{17B4}'
+}
+
 /// Whether `c` stands between U+180F and U+200B, where no character is ignorable: letters of Asia, Latin letters with
 /// accents, and Greek ones.
 fn is_seen_between(c: char) -> bool
@@ -79,6 +87,9 @@ pub(crate) fn is_ignorable(c: char) -> bool
     ensures { result ≡ is_ignorable c }
 {
     if is_seen_early(c) {
+        return false;
+    }
+    if is_seen_next(c) {
         return false;
     }
     if is_seen_between(c) {

@@ -17,6 +17,7 @@
 
 mod category;
 mod ccc;
+mod early_categories;
 mod hangul;
 mod hidden;
 pub mod laws;

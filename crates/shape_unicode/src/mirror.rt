@@ -2,7 +2,7 @@
 //!
 //! A pair stands once in the table and is searched from both sides, and only for characters that
 //! are Bidi_Mirrored. The pairs are those of version 15.
-ghost use Rattle.std.specs.Prelude.{◌≡◌};
+ghost use Rattle.std.specs.Prelude.{◌≡◌, nat_lt};
 ghost use Rattle.shape_unicode.specs.Mirror.{other_one, other_of_pair, is_between_brackets, mirrored_of};
 ghost use Rattle.shape_unicode.specs.Mirror.{is_before_angles};
 
@@ -40,6 +40,13 @@ fn is_before_angles(c: char) -> bool
     '\u{1FFF}' < c && c < '\u{2039}'
 }
 
+/// Whether `c` stands before the first bracket: nothing there is mirrored, and the space least of all.
+fn is_before_brackets(c: char) -> bool
+    ensures { result ≡ nat_lt c 0x28 }
+{
+    c < '\u{28}'
+}
+
 /// The mirror image of `c`, if one is encoded. Few characters have the property Bidi_Mirrored, and the
 /// pairs are walked through for these alone.
 pub(crate) fn mirrored_of(c: char) -> Option<char>
@@ -49,6 +56,9 @@ pub(crate) fn mirrored_of(c: char) -> Option<char>
         return None;
     }
     if is_before_angles(c) {
+        return None;
+    }
+    if is_before_brackets(c) {
         return None;
     }
     if ucd_bidi::is_bidi_mirrored(c) {

@@ -1,5 +1,5 @@
-//! Rounds one and two: in one walk, or one after the other if a sequence holds a variation selector or a
-//! shaper reorders marks.
+//! Rounds one and two: in one walk, or one after the other if marks stand past the first item and a sequence holds a
+//! variation selector or a shaper reorders marks.
 //!
 //! A variation sequence is merged before it becomes one item, and a shaper that reorders may merge what a
 //! later run takes in: both concern the whole list, so round one is over before round two begins.
@@ -73,8 +73,9 @@ fn expand_then_follow<T: ShapingTypes>(
     runs.follow_from(follows, buffer.infos(), 0)
 }
 
-/// Expands the items by one of the two ways. If marks stand past the first item, as `has_marks` says, and no
-/// shaper reorders, the runs of the expanded list are followed.
+/// Expands the items by one of the two ways: without a mark past the first item, as `has_marks` says, in one walk,
+/// since no hook is called and each sequence is one item. If marks stand there and no shaper reorders, the runs of the
+/// expanded list are followed.
 fn expand_by_way<T: ShapingTypes>(
     alloc: Global,
     plan: &PlanOf<'_, T>,
@@ -95,13 +96,13 @@ fn expand_by_way<T: ShapingTypes>(
         → (⟦<T as Meaning>⟧.rules plan.now face.now).reorder ≡ None
         → FollowsRuns (map ccc_of_item buffer.new.items) runs.new) }
 {
+    if !has_marks {
+        return expand_in_one_walk::<T>(alloc, plan, buffer, face, false, runs);
+    }
     if takes_two_rounds::<T>(plan, buffer.infos(), has_marks) {
         return expand_then_follow::<T>(alloc, plan, buffer, face, runs);
     }
-    if has_marks {
-        return expand_in_one_walk::<T>(alloc, plan, buffer, face, true, runs);
-    }
-    expand_in_one_walk::<T>(alloc, plan, buffer, face, false, runs)
+    expand_in_one_walk::<T>(alloc, plan, buffer, face, true, runs)
 }
 
 /// Expands the items and puts the marks in order, if some stand past the first item, as `has_marks` says.

@@ -1,5 +1,6 @@
 //! Rounds one and two in one walk, for a list whose sequences are all expanded, by a plan without the hook that
-//! reorders: in place, up to the first item that expands, and from there on into a list of its own.
+//! reorders, or without a mark past the first item: in place, up to the first item that expands, and from there on
+//! into a list of its own.
 //!
 //! Most texts become no longer. So each item takes its glyph where it stands, and no memory is taken, as
 //! long as nothing expands. If marks stand past the first item, the walk follows the runs of what it emits.

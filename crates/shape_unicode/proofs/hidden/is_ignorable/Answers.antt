@@ -1,11 +1,14 @@
 use Rattle.std.proofs.Common.{sym, ap, ◌∙◌, ◌&&◌, not}
 use Rattle.shape_unicode.specs.Hidden.{is_seen_though_ignorable}
-use Rattle.shape_unicode.proofs.RangeLemmas.{seen_early, seen_between, seen_middle, seen_late, unseen_early, unseen_selectors}
+use Rattle.shape_unicode.proofs.RangeLemmas.{seen_early, seen_next, seen_between, seen_middle, seen_late, unseen_early, unseen_selectors}
 use Rattle.shape_unicode.proofs.hidden.is_ignorable.Goals as goal
 
 pub returns-then-is_seen_early : goal.returns-then-is_seen_early
 returns-then-is_seen_early c =
     sym (ap (λ ignorable. ignorable && not (is_seen_though_ignorable c.args.c)) (seen_early c.args.c (sym c.if-is_seen_early.ensures)))
+
+pub returns-then-is_seen_next : goal.returns-then-is_seen_next
+returns-then-is_seen_next c = sym (seen_next c.args.c (sym c.if-is_seen_next.ensures))
 
 pub returns-then-is_seen_between : goal.returns-then-is_seen_between
 returns-then-is_seen_between c =
