@@ -5,3 +5,4 @@ pub mod ApartLemmas
 pub mod LawfulLemmas
 pub mod StageLemmas
 mod NeutralLemmas
+mod IdleLemmas
