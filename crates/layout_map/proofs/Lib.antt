@@ -4,3 +4,5 @@ pub mod OnceLemmas
 pub mod ApartLemmas
 pub mod LawfulLemmas
 pub mod StageLemmas
+mod NeutralLemmas
+mod IdleLemmas

@@ -1,9 +1,12 @@
 //! A table of lookups (`GSUB`, `GPOS`), and what is chosen in it for a text.
-ghost use Rattle.std.specs.Prelude.{◌≡◌, ◌<◌, ◌^◌};
-ghost use Rattle.std.specs.Option.{IfSome};
+ghost use Rattle.std.specs.Prelude.{◌≡◌, ◌<◌, ◌^◌, false, None};
+ghost use Rattle.std.specs.Option.{ForSome, IfSome, option_and_then, option_map_or};
+ghost use Rattle.layout_tables.specs.Features.{HoldsListed, feature_count_of, feature_tag_of, required_feature_of};
+ghost use Rattle.layout_tables.specs.Offsets.{header_offset_of};
 
 use layout_tables::features::{
-    FeatureList, any_feature, feature_list, feature_tag, listed_feature, required_feature,
+    FeatureList, any_feature, feature_list, feature_tag, listed_feature, listed_tags, may_hold,
+    required_feature,
 };
 use layout_tables::lookups::lookup_count;
 use layout_tables::scripts::chosen_lang_sys;
@@ -18,13 +21,45 @@ pub struct ChosenTable<'a> {
     list: FeatureList,
     lang_sys: Option<usize>,
     substitution: Option<usize>,
+    tags: u64,
+    required_tag: u32,
+}
+
+/// A digest of the tags of the features that a language system lists.
+fn tags_of(bytes: &[u8], list: FeatureList, lang_sys: Option<usize>) -> u64
+    requires near_system { ForSome lang_sys (λ l. l < 2 ^ 18) }
+    requires place { list.place ≡ header_offset_of bytes.now 6 }
+    requires near { IfSome list.place (λ place. place < 2 ^ 16) }
+    requires count { list.count ≡ feature_count_of bytes.now }
+    ensures { IfSome lang_sys (λ l. HoldsListed bytes.now l result) }
+{
+    match lang_sys {
+        Some(lang_sys) => listed_tags(bytes, list, lang_sys),
+        None => 0,
+    }
+}
+
+/// The tag of the feature that a language system has on whatever is asked, 0 if it has none.
+fn required_tag_in(bytes: &[u8], lang_sys: Option<usize>) -> u32
+    requires { ForSome lang_sys (λ l. l < 2 ^ 18) }
+    ensures { result ≡ option_map_or (feature_tag_of bytes.now)
+        (option_and_then (required_feature_of bytes.now) lang_sys) 0 }
+{
+    let required = match lang_sys {
+        Some(lang_sys) => required_feature(bytes, lang_sys),
+        None => None,
+    };
+    match required {
+        Some(index) => feature_tag(bytes, index),
+        None => 0,
+    }
 }
 
 impl<'a> Model for ChosenTable<'a> {
     ghost use Rattle.std.specs.Prelude.{◌≡◌, ◌<◌, ◌^◌};
-    ghost use Rattle.std.specs.Option.{ForSome, IfSome};
+    ghost use Rattle.std.specs.Option.{ForSome, IfSome, option_and_then, option_map_or};
     ghost use Rattle.layout_map.specs.Chosen.{Chosen};
-    ghost use Rattle.layout_tables.specs.Features.{feature_count_of};
+    ghost use Rattle.layout_tables.specs.Features.{HoldsListed, feature_count_of, feature_tag_of, required_feature_of};
     ghost use Rattle.layout_tables.specs.Offsets.{header_offset_of};
 
     ghost Value = { Chosen };
@@ -39,7 +74,10 @@ impl<'a> Model for ChosenTable<'a> {
         × ((ForSome t.substitution (λ s. s < 2 ^ 34))
         × ((t.list.place ≡ header_offset_of t.bytes.now 6)
         × ((IfSome t.list.place (λ place. place < 2 ^ 16))
-        × (t.list.count ≡ feature_count_of t.bytes.now)))) };
+        × ((t.list.count ≡ feature_count_of t.bytes.now)
+        × ((IfSome t.lang_sys (λ l. HoldsListed t.bytes.now l t.tags))
+        × (t.required_tag ≡ option_map_or (feature_tag_of t.bytes.now)
+        (option_and_then (required_feature_of t.bytes.now) t.lang_sys) 0)))))) };
 }
 
 impl<'a> ChosenTable<'a> {
@@ -62,11 +100,14 @@ impl<'a> ChosenTable<'a> {
             Some(tag) => chosen_lang_sys(bytes, tag, languages),
             None => None,
         };
+        let list = feature_list(bytes);
         ChosenTable {
             bytes,
-            list: feature_list(bytes),
+            list,
             lang_sys,
             substitution: substitution(bytes),
+            tags: tags_of(bytes, list, lang_sys),
+            required_tag: required_tag_in(bytes, lang_sys),
         }
     }
 
@@ -85,11 +126,31 @@ impl<'a> ChosenTable<'a> {
         lookup_count(self.bytes)
     }
 
-    /// The index of the feature with this tag that the language system lists.
-    pub fn index(&self, tag: u32) -> Option<u16>
+    /// Whether the language system may list a feature with this tag.
+    #[inline(always)]
+    pub(crate) fn may_list(&self, tag: u32) -> bool
+        ensures { result ≡ false → index_of self.now tag ≡ None }
+    {
+        may_hold(self.tags, tag)
+    }
+
+    /// The index of the feature with this tag that the language system lists, searched among all that it lists.
+    fn sought(&self, tag: u32) -> Option<u16>
         ensures { result ≡ index_of self.now tag }
     {
         listed_feature(self.bytes, self.list, self.lang_sys?, tag)
+    }
+
+    /// The index of the feature with this tag that the language system lists.
+    #[inline]
+    pub fn index(&self, tag: u32) -> Option<u16>
+        ensures { result ≡ index_of self.now tag }
+    {
+        if self.may_list(tag) {
+            self.sought(tag)
+        } else {
+            None
+        }
     }
 
     /// The index of the first feature with this tag, whatever the language system.
@@ -107,13 +168,11 @@ impl<'a> ChosenTable<'a> {
     }
 
     /// The tag of the feature that is on whatever is asked, 0 if there is none.
+    #[inline]
     pub fn required_tag(&self) -> u32
         ensures { result ≡ required_tag_of self.now }
     {
-        match self.required() {
-            Some(index) => feature_tag(self.bytes, index),
-            None => 0,
-        }
+        self.required_tag
     }
 
     /// Where the Feature table of a feature stands; none if there is no such feature.

@@ -126,6 +126,7 @@ pub fn is_listed(gsub: &ChosenTable<'_>, gpos: &ChosenTable<'_>, tag: u32) -> bo
 }
 
 /// The indexes of a feature in the tables, searched in all of them if its request says so.
+#[inline(never)]
 fn looked_up(gsub: &ChosenTable<'_>, gpos: &ChosenTable<'_>, setting: Setting) -> Indexes
     ensures { result ≡ Features.indexes_of gsub.now gpos.now setting }
 {
@@ -239,6 +240,7 @@ fn give(
 }
 
 /// Gives a feature its bits if a table has it or it has a fallback.
+#[inline(never)]
 fn give_found(
     features: &mut Vec<FeatureMap>,
     room: Room,
@@ -285,7 +287,22 @@ fn with_stage(gsub: &ChosenTable<'_>, room: Room, setting: Setting) -> Room
     }
 }
 
-/// Looks a setting up, and gives it its bits.
+/// Whether a setting may change anything: it may be the required one, or in a table, or do without.
+#[tactic(auto, using(crate::proofs::NeutralLemmas::neutral))]
+#[inline]
+fn may_matter(gsub: &ChosenTable<'_>, gpos: &ChosenTable<'_>, setting: Setting) -> bool
+    ensures { result ≡ false → (a : Features.Allotment)
+        → Features.with_setting gsub.now gpos.now a setting ≡ a }
+{
+    gsub.may_list(setting.tag)
+        || gpos.may_list(setting.tag)
+        || setting.has_fallback
+        || has_flag(setting.flags, F_GLOBAL_SEARCH)
+        || gsub.required_tag() == setting.tag
+}
+
+/// Looks a setting up, and gives it its bits. One that can't matter, as most of those that every text asks for, is passed
+/// over at once.
 fn add(
     gsub: &ChosenTable<'_>,
     gpos: &ChosenTable<'_>,
@@ -308,6 +325,9 @@ fn add(
     ensures near { IfOk result (λ r. r.place < 27) }
     ensures memory { IsOkUnless result ShapeError.Memory }
 {
+    if !may_matter(gsub, gpos, setting) {
+        return Ok(room);
+    }
     if !has_room(room, setting) {
         return Ok(room);
     }

@@ -2,7 +2,8 @@
 //!
 //! Each lookup of the table has a slot, in which the features that ask for it are joined; so a feature costs as
 //! many steps as it lists lookups, whatever their order.
-ghost use Rattle.std.specs.Prelude.{◌≡◌, ◌<◌, ◌^◌, ◌++◌, length, fold, replicate, IfOk, OnOk, IsOkUnless};
+ghost use Rattle.std.specs.Prelude.{◌≡◌, ◌<◌, ◌^◌, ◌++◌, length, fold, replicate, is_some, IfOk, OnOk, IsOkUnless};
+ghost use Rattle.std.specs.List.{list_any};
 ghost use Rattle.layout_map.specs.Lookups;
 
 use crate::chosen::ChosenTable;
@@ -144,10 +145,7 @@ fn empty_slots(alloc: Global, count: u32) -> Result<Vec<LookupUse>, ShapeError>
     ensures memory { IsOkUnless result ShapeError.Memory }
 {
     let mut uses = Vec::new(alloc);
-    uses.reserve(count as usize)?;
-    for _i in 0..count {
-        uses.push(unused())?;
-    }
+    uses.resize(count as usize, unused())?;
     Ok(uses)
 }
 
@@ -217,7 +215,20 @@ fn append_used(lookups: &mut Vec<LookupMap>, uses: &[LookupUse]) -> Result<(), S
     Ok(())
 }
 
+/// Whether a feature of the stage may ask for lookups of `GSUB`.
+fn some_asks(features: &[FeatureMap], stage: usize) -> bool
+    ensures { result ≡ list_any (λ f. is_some (Lookups.gsub_index stage f)) features.now }
+{
+    for feature in features {
+        if gsub_index(stage, feature).is_some() {
+            return true;
+        }
+    }
+    false
+}
+
 /// Appends the lookups of a stage of `GSUB`. Refuses with `Memory` if a growth was refused.
+#[tactic(auto, using(crate::proofs::IdleLemmas::idle))]
 pub fn append_gsub(
     alloc: Global,
     table: &ChosenTable<'_>,
@@ -230,6 +241,10 @@ pub fn append_gsub(
         ++ Lookups.gsub_lookups table.now features.now required_stage stage) }
     ensures memory { IsOkUnless result ShapeError.Memory }
 {
+    // The first stage is for variations, which few fonts have.
+    if required_stage != stage && !some_asks(features, stage) {
+        return Ok(());
+    }
     let mut uses = slots(alloc, table, required_stage == stage)?;
     ask_gsub(table, uses.as_mut_slice(), features, stage);
     append_used(lookups, uses.as_slice())

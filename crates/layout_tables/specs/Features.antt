@@ -1,5 +1,6 @@
 -- Features (OpenType, "OpenType Layout Common Table Formats", Language System Table, Feature List and Feature Table).
-use Rattle.std.specs.Prelude.{ℕ, List, Option, Some, None, Bool, ◌+◌, ◌*◌, ◌||◌, ◌&&◌, length, nat_eq, nat_lt, if◌then◌else◌}
+use Rattle.std.specs.Prelude.{◌≡◌, ℕ, List, Option, Some, None, Bool, true, false, ◌+◌, ◌*◌, ◌/◌, ◌%◌, ◌^◌, ◌||◌, ◌&&◌, length, nat_eq, nat_lt, if◌then◌else◌}
+use Rattle.std.specs.Int.{bit_at}
 use Rattle.std.specs.Option.{option_map, option_and_then, option_map_or}
 use Rattle.shape_font.specs.Bytes.{u16_of, u32_of, fitting}
 use Rattle.shape_font.specs.Search.{first_at}
@@ -33,9 +34,29 @@ has_tag t tag index = nat_lt 0 tag && nat_eq (feature_tag_of t index) tag
 abbrev pub has_feature_tag : List ℕ → ℕ → ℕ → ℕ → Bool
 has_feature_tag t lang_sys tag i = has_tag t tag (u16_of t (lang_sys + 6 + 2 * i))
 
+abbrev pub listed_tag_of : List ℕ → ℕ → ℕ → ℕ
+listed_tag_of t lang_sys i = feature_tag_of t (u16_of t (lang_sys + 6 + 2 * i))
+
 abbrev pub feature_index_of : List ℕ → ℕ → ℕ → Option ℕ
 feature_index_of t lang_sys tag = option_map (λ i. u16_of t (lang_sys + 6 + 2 * i))
     (first_at (has_feature_tag t lang_sys tag) (fitting t (u16_of t (lang_sys + 4)) (lang_sys + 6) 2) 0)
+
+-- digests of tags: words with a bit for each tag that was put in, which others may share
+abbrev pub tag_place : ℕ → ℕ
+tag_place tag = tag * 0x9E3779B1 % 2 ^ 32 / 2 ^ 26
+
+unfoldable pub may_hold : ℕ → ℕ → Bool
+may_hold digest tag = nat_eq (bit_at digest (tag_place tag)) 1
+
+abbrev pub KeepsTags : ℕ → ℕ → Type 0
+KeepsTags digest after = (tag : ℕ) → may_hold digest tag ≡ true → may_hold after tag ≡ true
+
+-- none of the first `n` features that a language system lists has a tag that the digest lacks; so of all that it lists
+abbrev pub HoldsFirst : List ℕ → ℕ → ℕ → ℕ → Type 0
+HoldsFirst t lang_sys n digest = (tag : ℕ) → may_hold digest tag ≡ false → first_at (has_feature_tag t lang_sys tag) n 0 ≡ None
+
+abbrev pub HoldsListed : List ℕ → ℕ → ℕ → Type 0
+HoldsListed t lang_sys digest = (tag : ℕ) → may_hold digest tag ≡ false → feature_index_of t lang_sys tag ≡ None
 
 -- the first feature of the table with the tag, whatever the language system
 abbrev pub any_feature_of : List ℕ → ℕ → Option ℕ

@@ -1,5 +1,5 @@
 //! Features of a table of lookups (`GSUB`, `GPOS`), and the lookups of each.
-ghost use Rattle.std.specs.Prelude.{◌≡◌, ◌<◌, ◌^◌};
+ghost use Rattle.std.specs.Prelude.{◌≡◌, ◌<◌, ◌^◌, true};
 ghost use Rattle.std.specs.Option.{IfSome};
 ghost use Rattle.shape_font.specs.Search.{first_at};
 ghost use Rattle.layout_tables.specs.Features;
@@ -149,6 +149,75 @@ pub fn listed_feature(table: &[u8], list: FeatureList, lang_sys: usize, tag: u32
     let count = records(table, stated, lang_sys + 6, 2);
     let i = feature_number(table, list, lang_sys, tag, count)?;
     Some(u16_at(table, lang_sys + 6 + 2 * i as usize))
+}
+
+/// The place of a tag's bit in a digest of tags. A product spreads them, so that few of a font's share one.
+fn tag_place(tag: u32) -> u32
+    ensures value { result ≡ Features.tag_place tag }
+    ensures inside { result < 64 }
+{
+    tag.wrapping_mul(0x9E37_79B1) >> 26
+}
+
+/// Whether a digest of tags may hold this one. If not, it was not put in.
+#[tactic(auto, using(crate::proofs::DigestLemmas::tested))]
+#[inline(always)]
+pub fn may_hold(digest: u64, tag: u32) -> bool
+    ensures { result ≡ Features.may_hold digest tag }
+{
+    digest >> tag_place(tag) & 1 == 1
+}
+
+/// A digest with one tag more.
+#[tactic(auto, using(crate::proofs::DigestLemmas::bit_set, crate::proofs::DigestLemmas::set_before))]
+#[inline]
+fn with_tag(digest: u64, tag: u32) -> u64
+    ensures set { Features.may_hold result tag ≡ true }
+    ensures kept { Features.KeepsTags digest result }
+{
+    digest | 1 << tag_place(tag)
+}
+
+/// The tag of feature `i` of those that the language system at `lang_sys` lists.
+#[inline]
+fn listed_tag(table: &[u8], list: FeatureList, lang_sys: usize, i: u32) -> u32
+    requires near_system { lang_sys < 2 ^ 18 }
+    requires place { list.place ≡ header_offset_of table.now 6 }
+    requires near { IfSome list.place (λ place. place < 2 ^ 16) }
+    requires count { list.count ≡ Features.feature_count_of table.now }
+    ensures { result ≡ Features.listed_tag_of table.now lang_sys i }
+{
+    tag_in(table, list, u16_at(table, lang_sys + 6 + 2 * i as usize))
+}
+
+/// A digest of the tags of the first `count` features of a language system.
+fn first_tags(table: &[u8], list: FeatureList, lang_sys: usize, count: u32) -> u64
+    requires near_system { lang_sys < 2 ^ 18 }
+    requires place { list.place ≡ header_offset_of table.now 6 }
+    requires near { IfSome list.place (λ place. place < 2 ^ 16) }
+    requires count { list.count ≡ Features.feature_count_of table.now }
+    ensures { Features.HoldsFirst table.now lang_sys count result }
+{
+    let mut digest = 0;
+    for i in 0..count {
+        digest = with_tag(digest, listed_tag(table, list, lang_sys, i));
+    }
+    digest
+}
+
+/// A digest of the tags of the features that the language system at `lang_sys` lists, by the table's FeatureList: a tag that
+/// it doesn't hold need not be searched.
+#[tactic(auto, using(crate::proofs::DigestLemmas::first_are_listed))]
+pub fn listed_tags(table: &[u8], list: FeatureList, lang_sys: usize) -> u64
+    requires near_system { lang_sys < 2 ^ 18 }
+    requires place { list.place ≡ header_offset_of table.now 6 }
+    requires near { IfSome list.place (λ place. place < 2 ^ 16) }
+    requires count { list.count ≡ Features.feature_count_of table.now }
+    ensures { Features.HoldsListed table.now lang_sys result }
+{
+    let stated = u32::from(u16_at(table, lang_sys + 4));
+    let count = records(table, stated, lang_sys + 6, 2);
+    first_tags(table, list, lang_sys, count)
 }
 
 /// The index of the first feature of the table with this tag, whatever the language system; none if it has none, or the tag is

@@ -143,7 +143,7 @@ where
 }
 
 /// Shapes the text of a buffer.
-fn shape_whole<T: ShapingTypes>(
+pub(crate) fn shape_whole<T: ShapingTypes>(
     alloc: Global,
     plan: &PlanOf<'_, T>,
     face: &T::Face,

@@ -3,7 +3,7 @@
 //! `form` is a law of every buffer that is normalised, so it has "prepared" among its premises; a
 //! run prepares each text by itself, so `canonical` has not. Clusters at MONOTONE_GRAPHEMES are
 //! those of graphemes found before a dotted circle was inserted, which has its mark's.
-ghost use Rattle.std.specs.Prelude.{◌≡◌, ◌≢◌, [], List, IsOk, IfOk, IfErr};
+ghost use Rattle.std.specs.Prelude.{◌≡◌, ◌≢◌, [], List, Err, IsOk, IfOk, IfErr, OnOk, OnErr};
 ghost use Rattle.shape_items.specs.Buffer.{Buffer, cleared};
 ghost use Rattle.shape_buffer.specs.Guess.{guessed};
 ghost use Rattle.shape_common.specs.declared.text_types.Feature.{Feature as AnyFeature};
@@ -13,7 +13,7 @@ ghost use Rattle.shape_pipeline.specs.Shaped.{ShapingPasses};
 ghost use Rattle.shape_plan.specs.Plan.{Fits};
 ghost use Rattle.shape_plan.specs.Run.{Run};
 
-use crate::ot_shape::{hb_ot_shape_context_t, shape_internal};
+use crate::ot_shape::shape_whole;
 use shape_buffer::buffer::{
     Direction, Feature, GlyphBuffer, ShapeError, ShapeFault, UnicodeBuffer, hb_buffer_t,
 };
@@ -21,6 +21,7 @@ use shape_buffer::interfaces::{hb_font_t, hb_ot_layout_t, hb_unicode_funcs_t};
 use shape_plan::ot_shape_plan::hb_ot_shape_plan_t;
 use shape_plan::ot_shaper::{Runs, hb_ot_shaper_t};
 use shape_plan::planner::Plans;
+use shape_plan::shaping_types::TypesOf;
 use std::alloc::Global;
 
 /// The run that [`shape`] makes of a text by a shaper. Every shaper has it, and none writes it.
@@ -52,7 +53,7 @@ pub fn shape_with_plan<U, F, M, S>(
     alloc: Global,
     face: &F,
     plan: &hb_ot_shape_plan_t<'_, S, M::Map, S::Data>,
-    mut buffer: UnicodeBuffer,
+    buffer: UnicodeBuffer,
 ) -> Result<GlyphBuffer, ShapeFault>
 where
     U: hb_unicode_funcs_t,
@@ -67,47 +68,55 @@ where
     ensures cleared { IfErr result (λ fault. fault.buffer ≡ cleared buffer) }
     ensures empty { buffer.items ≡ [] → IsOk result }
 {
-    buffer.guess_segment_properties::<U>();
-    shape_guessed::<U, F, M, S>(alloc, face, plan, buffer.into_inner())
+    let mut text = buffer.into_inner();
+    text.guess_segment_properties::<U>();
+    match shape_guessed::<U, F, M, S>(alloc, face, plan, &mut text) {
+        Ok(()) => Ok(text.into_glyphs()),
+        Err(cause) => Err(refused(cause, text)),
+    }
 }
 
-/// The glyphs of a text whose script and direction are set as guessing sets them, so that who has guessed
-/// for a plan doesn't go over the characters again. `text` is what guessing made of `original`.
+/// The fault of a run that is refused, with its buffer, cleared.
+#[inline(never)]
+fn refused(cause: ShapeError, text: hb_buffer_t) -> ShapeFault
+    ensures cause { result.cause ≡ cause }
+    ensures cleared { result.buffer ≡ cleared text }
+{
+    ShapeFault {
+        cause,
+        buffer: text.clear(),
+    }
+}
+
+/// Makes glyphs of a text whose script and direction are set as guessing sets them, so that who has guessed
+/// for a plan doesn't go over the characters again. `text` is what guessing made of `original`. It is shaped where
+/// it stands: a buffer is large, and its callers move it but once.
+#[inline(never)]
 fn shape_guessed<U, F, M, S>(
     alloc: Global,
     face: &F,
     plan: &hb_ot_shape_plan_t<'_, S, M::Map, S::Data>,
-    mut text: hb_buffer_t,
-) -> Result<GlyphBuffer, ShapeFault>
+    text: &mut hb_buffer_t,
+) -> Result<(), ShapeError>
 where
     U: hb_unicode_funcs_t,
     F: hb_font_t,
     M: hb_ot_layout_t<F>,
     S: hb_ot_shaper_t<U, F, M>,
-    requires { text.direction ≢ Direction.Invalid }
+    requires { text.old.direction ≢ Direction.Invalid }
     ensures ok { let run = ⟦<S as Runs<U, F, M>>⟧.run plan.now face.now in
-        (original : Buffer) → text ≡ guessed U.unicode original
-        → IfOk result (AreGlyphsOf run original) }
+        (original : Buffer) → text.old ≡ guessed U.unicode original
+        → OnOk result (AreGlyphsOf run original text.new) }
     ensures length { let run = ⟦<S as Runs<U, F, M>>⟧.run plan.now face.now in
-        IfErr result (λ fault. fault.cause ≡ ShapeError.Length
-        → ShapingPasses run text.direction text) }
-    ensures cleared { IfErr result (λ fault. fault.buffer ≡ cleared text) }
-    ensures empty { text.items ≡ [] → IsOk result }
+        result ≡ Err ShapeError.Length → ShapingPasses run text.old.direction text.old }
+    ensures cleared { OnErr result (text.new ≡ cleared text.old) }
+    ensures empty { text.old.items ≡ [] → IsOk result }
 {
     plan.masks_are_features();
-    let target_direction = text.direction();
-    let mut ctx = hb_ot_shape_context_t {
-        plan,
-        face,
-        buffer: &mut text,
-        target_direction,
-    };
-    match shape_internal::<U, F, M, S>(alloc, &mut ctx) {
-        Ok(()) => Ok(text.into_glyphs()),
-        Err(cause) => Err(ShapeFault {
-            cause,
-            buffer: text.clear(),
-        }),
+    let direction = text.direction();
+    match shape_whole::<TypesOf<U, F, M, S>>(alloc, plan, face, text, direction) {
+        Ok(()) => Ok(()),
+        Err(cause) => Err(cause),
     }
 }
 
@@ -123,7 +132,7 @@ pub fn shape<U, F, M, S>(
     face: &F,
     shaper: &S,
     features: &[Feature],
-    mut buffer: UnicodeBuffer,
+    buffer: UnicodeBuffer,
 ) -> Result<GlyphBuffer, ShapeFault>
 where
     U: hb_unicode_funcs_t,
@@ -142,8 +151,8 @@ where
         IfErr result (λ fault. fault.cause ≡ ShapeError.Length → TextPasses run buffer) }
     ensures cleared { IfErr result (λ fault. fault.buffer ≡ cleared buffer) }
 {
-    buffer.guess_segment_properties::<U>();
-    let text = buffer.into_inner();
+    let mut text = buffer.into_inner();
+    text.guess_segment_properties::<U>();
     let planned = hb_ot_shape_plan_t::new::<U, F, M>(
         alloc,
         face,
@@ -154,10 +163,10 @@ where
         features,
     );
     match planned {
-        Ok(plan) => shape_guessed::<U, F, M, S>(alloc, face, &plan, text),
-        Err(cause) => Err(ShapeFault {
-            cause,
-            buffer: text.clear(),
-        }),
+        Ok(plan) => match shape_guessed::<U, F, M, S>(alloc, face, &plan, &mut text) {
+            Ok(()) => Ok(text.into_glyphs()),
+            Err(cause) => Err(refused(cause, text)),
+        },
+        Err(cause) => Err(refused(cause, text)),
     }
 }

@@ -1,4 +1,4 @@
-use Rattle.std.proofs.Common.{◌≡◌, ◌∙◌, ap, sym, subst, refl, rules, Err}
+use Rattle.std.proofs.Common.{◌≡◌, ◌∙◌, ap, sym, subst, refl}
 use Rattle.shape_items.specs.Buffer.{Buffer}
 use Rattle.shape_buffer.specs.Guess.{guessed, guessed_direction}
 use Rattle.shape_common.specs.declared.text_types.Direction.{Direction}
@@ -24,11 +24,11 @@ returns-in-Ok-clause-ok g c = λ original is.
     let masks = g.met.M.hb_ot_layout_t.lawful_masks c.args.plan.now.ot_map in
     let target = guessed_direction unicode original in
     let text = guessed unicode original in
-    let glyphs = c.into_glyphs.result in
-    let ran : Shapes run c.direction-target_direction.result c.args.text glyphs = search rules in
-    let direction : c.direction-target_direction.result ≡ target = c.direction-target_direction.ensures ∙ ap (λ (b : Buffer). b.direction) is in
+    let glyphs = c.shape_whole.new.buffer in
+    let ran : Shapes run c.direction-direction.result c.args.text.now glyphs = c.in-Ok.ensures.ok in
+    let direction : c.direction-direction.result ≡ target = c.direction-direction.ensures ∙ ap (λ (b : Buffer). b.direction) is in
     let counted : Shapes run target text glyphs = subst (λ (b : Buffer). Shapes run target b glyphs) is
-    (subst (λ (d : Direction). Shapes run d c.args.text glyphs) direction ran) in
+    (subst (λ (d : Direction). Shapes run d c.args.text.now glyphs) direction ran) in
     let made : glyphs ≡ shaped run original = counted.made in
     record {
       glyphs = made;
@@ -48,5 +48,4 @@ returns-in-Ok-clause-ok g c = λ original is.
 pub returns-in-Err-clause-length : goal.returns-in-Err-clause-length
 returns-in-Err-clause-length g c = λ is.
     let run = run_of g.U.hb_unicode_funcs_t.unicode g.M.hb_ot_layout_t.masks g.M.hb_ot_layout_t.lookups g.S.hb_ot_shaper_t.constants g.S.hb_ot_shaper_t.hooks g.F.hb_font_t.face c.args.plan.now c.args.face.now in
-    subst (λ (d : Direction). ShapingPasses run d c.args.text) c.direction-target_direction.ensures
-    (c.in-Err.ensures.length (ap Err is))
+    subst (λ (d : Direction). ShapingPasses run d c.args.text.now) c.direction-direction.ensures (c.in-Err.ensures.length is)
