@@ -19,6 +19,7 @@ pub mod ligature_reach;
 pub mod merging;
 pub mod replaced;
 pub mod second_component;
+mod singles;
 pub mod start;
 pub mod substitutes;
 pub mod worked;
