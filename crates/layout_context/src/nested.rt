@@ -298,6 +298,36 @@ fn mark_tried(lookup: &Lookup<'_>, buffer: &mut GapBuffer, spot: Spot)
     concat_span(buffer, reach);
 }
 
+/// Applies the rule of a lookup of context that matches at a place. A call of its own, so that the path of the other lookups
+/// stays small.
+#[cycle(nesting)]
+#[inline(never)]
+fn apply_context(
+    alloc: Global,
+    level: u32,
+    lookup: &Lookup<'_>,
+    buffer: &mut GapBuffer,
+    spot: Spot,
+) -> Result<Option<Spot>, ShapeError>
+    requires near { lookup.now.place < 2 ^ 17 }
+    requires inside { spot.at < length buffer.old.items }
+    ensures made { OnOk result (buffer.new
+        ≡ (Nested.first_rule_applied (Nested.nested_applied level) lookup.now spot
+        (Nested.tried_marked lookup.now spot buffer.old)).buffer) }
+    ensures next { IfOk result (λ next. next
+        ≡ (Nested.first_rule_applied (Nested.nested_applied level) lookup.now spot
+        (Nested.tried_marked lookup.now spot buffer.old)).next) }
+    ensures length { IsErrOf result Length
+        → is_past (Nested.first_rule_applied (Nested.nested_applied level) lookup.now spot
+        (Nested.tried_marked lookup.now spot buffer.old)).buffer ≡ true }
+{
+    mark_tried(lookup, buffer, spot);
+    match find(lookup, &buffer.items(), origin(spot, buffer)) {
+        Some(found) => apply_rule(alloc, level, lookup, buffer, spot, found),
+        None => Ok(None),
+    }
+}
+
 /// Applies a lookup at a place, with so many levels of others that it may name. Returns where it goes on, if it was applied.
 /// Refuses with `Length` if the list passes the limit of the run.
 #[cycle(nesting)]
@@ -343,12 +373,8 @@ fn apply_level(
         → is_past (Nested.level_applied
         (Nested.nested_applied level) lookup.now spot buffer.old).buffer ≡ true }
 {
-    if !is_context(lookup) {
-        return apply_lookup(lookup, buffer, spot);
+    if is_context(lookup) {
+        return apply_context(alloc, level, lookup, buffer, spot);
     }
-    mark_tried(lookup, buffer, spot);
-    match find(lookup, &buffer.items(), origin(spot, buffer)) {
-        Some(found) => apply_rule(alloc, level, lookup, buffer, spot, found),
-        None => Ok(None),
-    }
+    apply_lookup(lookup, buffer, spot)
 }

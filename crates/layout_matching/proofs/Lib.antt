@@ -8,3 +8,4 @@ pub mod RefusalLemmas
 pub mod PassingLemmas
 pub mod BesideLemmas
 pub mod PastLemmas
+pub mod KindLemmas

@@ -14,9 +14,12 @@ use crate::rules::{Rule, begins_inside, is_inside, rule_at};
 use crate::spans::{Origin, Span, span_at};
 use layout_buffer::ItemList;
 use layout_tables::coverage::coverage_index;
-use layout_tables::lookups::{LookupSubtable, subtable, subtable_count};
+use layout_tables::lookups::{LookupSubtable, lookup_type, subtable, subtable_count};
 use layout_tables::offsets::offset16;
 use shape_font::bytes::{records, u16_at};
+
+/// The least type of a lookup of context, or of one whose subtables stand far away.
+const LEAST_CONTEXT: u16 = 5;
 
 /// A rule, and where it stands.
 #[derive(Clone, Copy, PartialEq, Eq, Debug)]
@@ -305,8 +308,9 @@ pub fn first_subtable(lookup: &Lookup<'_>) -> Option<LookupSubtable>
     None
 }
 
-/// Whether the lookup is one of context, by its type.
-pub fn is_context(lookup: &Lookup<'_>) -> bool
+/// The same, by what its first subtable is.
+#[inline(never)]
+fn begins_with_context(lookup: &Lookup<'_>) -> bool
     requires { lookup.now.place < 2 ^ 17 }
     ensures { result ≡ found_rules.is_context lookup.now }
 {
@@ -314,4 +318,17 @@ pub fn is_context(lookup: &Lookup<'_>) -> bool
         Some(subtable) => is_context_subtable(lookup, subtable),
         None => false,
     }
+}
+
+/// Whether the lookup is one of context, by its type. The first types say that alone: no subtable of theirs is read.
+#[tactic(auto, using(crate::proofs::KindLemmas::plain_kind))]
+#[inline(always)]
+pub fn is_context(lookup: &Lookup<'_>) -> bool
+    requires { lookup.now.place < 2 ^ 17 }
+    ensures { result ≡ found_rules.is_context lookup.now }
+{
+    if lookup_type(lookup.table, lookup.place) < LEAST_CONTEXT {
+        return false;
+    }
+    begins_with_context(lookup)
 }

@@ -22,6 +22,7 @@ use shape_font::bytes::{records, u16_at};
 const MARKS_PART: usize = 4;
 
 /// What a rule or a set passes over beside a place, by glyphs that are `listed` or aren't.
+#[inline(never)]
 pub(crate) fn passed(
     lookup: &Lookup<'_>,
     listed: bool,
@@ -130,6 +131,7 @@ fn part_counted(
 
 /// All rules, or ligatures, at `set`.
 #[tactic(auto, using(crate::proofs::LoopLemmas::steps_next, crate::proofs::LoopLemmas::steps_none, crate::proofs::LoopLemmas::steps_end))]
+#[inline(always)]
 fn set_counted(
     lookup: &Lookup<'_>,
     subtable: LookupSubtable,
@@ -227,6 +229,7 @@ fn glances_at(
 
 /// How often the rules, or ligatures, at `set` look beside the place.
 #[tactic(auto, using(crate::proofs::PassingLemmas::along_next, crate::proofs::PassingLemmas::along_end))]
+#[inline(never)]
 fn set_tries(
     lookup: &Lookup<'_>,
     items: &ItemList<'_>,
@@ -256,6 +259,7 @@ fn set_tries(
 }
 
 /// Whether the rules of the subtable name glyphs by their classes.
+#[inline(always)]
 fn has_classes(lookup: &Lookup<'_>, subtable: LookupSubtable) -> bool
     requires { subtable.start < 2 ^ 35 }
     ensures { result ≡ Work.has_classes lookup.now subtable }
@@ -266,6 +270,7 @@ fn has_classes(lookup: &Lookup<'_>, subtable: LookupSubtable) -> bool
 /// What is left after what the rules, or ligatures, at `set` pass over. Nearly always that is nothing, so that none of them is
 /// asked how often it looks there.
 #[tactic(auto, using(crate::proofs::PassingLemmas::passed_free))]
+#[inline(always)]
 fn set_passed(
     lookup: &Lookup<'_>,
     items: &ItemList<'_>,
@@ -288,6 +293,7 @@ fn set_passed(
 }
 
 /// What is left after all rules, or ligatures, at `set`.
+#[inline(always)]
 pub(crate) fn set_charged(
     lookup: &Lookup<'_>,
     items: &ItemList<'_>,

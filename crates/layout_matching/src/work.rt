@@ -32,6 +32,7 @@ const PLAIN_WORK: usize = 16;
 /// What a lookup costs that a rule names.
 const NESTED_WORK: usize = 32;
 
+#[inline(always)]
 fn is_ligature(lookup: &Lookup<'_>, subtable: LookupSubtable) -> bool
     ensures { result ≡ Work.is_ligature lookup.now subtable }
 {
@@ -39,6 +40,7 @@ fn is_ligature(lookup: &Lookup<'_>, subtable: LookupSubtable) -> bool
 }
 
 /// Where the rules, or the ligatures, for a glyph with this number stand.
+#[inline(always)]
 fn parts_for(
     lookup: &Lookup<'_>,
     subtable: LookupSubtable,
@@ -60,6 +62,7 @@ fn parts_for(
 }
 
 /// An alternate at random marks the whole list.
+#[inline(always)]
 fn whole_list(lookup: &Lookup<'_>, items: &ItemList<'_>, subtable: LookupSubtable) -> usize
     ensures { result ≡ Work.whole_list lookup.now items.now subtable }
 {
@@ -71,6 +74,7 @@ fn whole_list(lookup: &Lookup<'_>, items: &ItemList<'_>, subtable: LookupSubtabl
 }
 
 /// What is left after a subtable without its rules or ligatures.
+#[inline(always)]
 fn begun_charged(
     lookup: &Lookup<'_>,
     items: &ItemList<'_>,
@@ -85,6 +89,7 @@ fn begun_charged(
     }
 }
 
+#[inline(always)]
 fn is_backward(lookup: &Lookup<'_>, subtable: LookupSubtable) -> bool
     ensures { result ≡ Work.is_backward lookup.now subtable }
 {
@@ -92,6 +97,7 @@ fn is_backward(lookup: &Lookup<'_>, subtable: LookupSubtable) -> bool
 }
 
 /// What is left after the rules, or the ligatures, for the glyph at a place, or after the glyphs beside it.
+#[inline(always)]
 fn parts_charged(
     lookup: &Lookup<'_>,
     items: &ItemList<'_>,
@@ -115,6 +121,7 @@ fn parts_charged(
     }
 }
 
+#[inline(always)]
 fn numbered_charged(
     lookup: &Lookup<'_>,
     items: &ItemList<'_>,
@@ -157,6 +164,7 @@ fn whole_charged(
 }
 
 /// Whether the subtable has one rule, by its format.
+#[inline(always)]
 fn is_whole(lookup: &Lookup<'_>, subtable: LookupSubtable) -> bool
     requires { subtable.start < 2 ^ 35 }
     ensures { result ≡ Work.is_whole lookup.now subtable }
@@ -165,6 +173,7 @@ fn is_whole(lookup: &Lookup<'_>, subtable: LookupSubtable) -> bool
 }
 
 /// What is left after a subtable; one that doesn't begin with the glyph at the place is free.
+#[inline(always)]
 fn subtable_charged(
     lookup: &Lookup<'_>,
     items: &ItemList<'_>,
@@ -186,6 +195,41 @@ fn subtable_charged(
     }
 }
 
+/// The same of a subtable of ligatures. Here the kind is a constant, so that nothing is asked that is said of other kinds.
+#[inline(never)]
+fn ligatures_charged(
+    lookup: &Lookup<'_>,
+    items: &ItemList<'_>,
+    at: usize,
+    left: usize,
+    start: usize,
+) -> Option<usize>
+    requires near { start < 2 ^ 35 }
+    requires inside { at < length items.now }
+    ensures { result ≡ Work.subtable_charged lookup.now items.now at left
+        (record { kind = 4; start = start }) }
+{
+    subtable_charged(lookup, items, at, left, LookupSubtable { kind: 4, start })
+}
+
+/// What is left after a subtable, by its kind.
+fn kind_charged(
+    lookup: &Lookup<'_>,
+    items: &ItemList<'_>,
+    at: usize,
+    left: usize,
+    subtable: LookupSubtable,
+) -> Option<usize>
+    requires near { subtable.start < 2 ^ 35 }
+    requires inside { at < length items.now }
+    ensures { result ≡ Work.subtable_charged lookup.now items.now at left subtable }
+{
+    if subtable.kind == 4 {
+        return ligatures_charged(lookup, items, at, left, subtable.start);
+    }
+    subtable_charged(lookup, items, at, left, subtable)
+}
+
 /// What is left after subtable `i`.
 pub(crate) fn charged_at_subtable(
     lookup: &Lookup<'_>,
@@ -200,13 +244,14 @@ pub(crate) fn charged_at_subtable(
     ensures { result ≡ Work.charged_at_subtable lookup.now items.now at i left }
 {
     match subtable_at(lookup, i) {
-        Some(subtable) => subtable_charged(lookup, items, at, left, subtable),
+        Some(subtable) => kind_charged(lookup, items, at, left, subtable),
         None => Some(left),
     }
 }
 
 /// Whether no subtable of the lookup has rules or ligatures, nor marks a whole list, by the lookup's type: in `GPOS` all but
 /// context, in `GSUB` kinds 1 and 2, and 3 if it isn't at random.
+#[inline(always)]
 fn is_plain(lookup: &Lookup<'_>) -> bool
     requires { lookup.now.place < 2 ^ 17 }
     ensures { result ≡ Work.is_plain lookup.now }
@@ -223,6 +268,7 @@ fn is_plain(lookup: &Lookup<'_>) -> bool
 
 /// What is left after all subtables that begin with the glyph at a place.
 #[tactic(auto, using(crate::proofs::LoopLemmas::steps_next, crate::proofs::LoopLemmas::steps_none, crate::proofs::LoopLemmas::steps_end))]
+#[inline(never)]
 fn subtables_charged(
     lookup: &Lookup<'_>,
     items: &ItemList<'_>,
@@ -244,6 +290,7 @@ fn subtables_charged(
 }
 
 /// Whether the walk over the list has paid for the lookup at a glyph, or the rule that names it.
+#[inline(always)]
 fn is_paid(lookup: &Lookup<'_>, item: &hb_glyph_info_t) -> bool
     requires { lookup.now.place < 2 ^ 17 }
     ensures { result ≡ Work.is_paid lookup.now item.now }
@@ -253,6 +300,7 @@ fn is_paid(lookup: &Lookup<'_>, item: &hb_glyph_info_t) -> bool
 
 /// What is left after the lookup was charged for the subtables that begin with the glyph at a place; none if it doesn't suffice.
 /// One without rules and ligatures is paid by the walk over the list, or where a rule names it.
+#[inline(always)]
 pub fn lookup_charged(
     lookup: &Lookup<'_>,
     items: &ItemList<'_>,

@@ -8,3 +8,4 @@ pub mod KindLemmas
 pub mod EditLemmas
 pub mod OffLemmas
 pub mod OffKinds
+pub mod SingleLemmas

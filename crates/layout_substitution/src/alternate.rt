@@ -83,6 +83,7 @@ fn apply_random(
 }
 
 /// An alternate, by the value of the mask, or at random.
+#[inline(never)]
 pub(crate) fn apply_alternate(
     lookup: &Lookup<'_>,
     start: usize,

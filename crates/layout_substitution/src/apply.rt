@@ -31,6 +31,7 @@ pub struct Spot {
 }
 
 /// Puts another glyph at a place.
+#[inline(always)]
 pub fn put_glyph(lookup: &Lookup<'_>, buffer: &mut GapBuffer, at: usize, glyph: u32)
     ensures { buffer.new ≡ put_at at (Replaced.replaced lookup.now 0 glyph
         (item_at buffer.old at)) buffer.old }
@@ -59,6 +60,7 @@ pub(crate) fn replace(
 }
 
 /// One glyph for one.
+#[inline(never)]
 pub(crate) fn apply_single(
     lookup: &Lookup<'_>,
     start: usize,
@@ -222,6 +224,7 @@ fn put_sequence(
 }
 
 /// Several glyphs for one.
+#[inline(never)]
 pub(crate) fn apply_multiple(
     lookup: &Lookup<'_>,
     start: usize,
@@ -296,6 +299,7 @@ fn apply_set(lookup: &Lookup<'_>, buffer: &mut GapBuffer, spot: Spot, set: usize
 }
 
 /// One glyph for several.
+#[inline(never)]
 pub(crate) fn apply_ligature(
     lookup: &Lookup<'_>,
     start: usize,

@@ -8,9 +8,10 @@ ghost use Rattle.layout_substitution.specs.Kinds.{kind_applied, subtable_applied
 
 use crate::alternate::apply_alternate;
 use crate::apply::{Spot, apply_ligature, apply_multiple, apply_single};
+use crate::singles::apply_singles;
 use layout_buffer::GapBuffer;
 use layout_matching::lookup::Lookup;
-use layout_tables::lookups::{LookupSubtable, subtable, subtable_count};
+use layout_tables::lookups::{LookupSubtable, lookup_type, subtable, subtable_count};
 use shape_buffer::ShapeError;
 
 /// A subtable of the lookup, by its kind.
@@ -62,9 +63,10 @@ fn apply_subtable(
     }
 }
 
-/// The first subtable that applies.
+/// The first subtable that applies, whatever the type of the lookup.
 #[tactic(auto, using(crate::proofs::KindLemmas::subtables_past, crate::proofs::KindLemmas::subtables_end))]
-pub fn apply_lookup(
+#[inline(never)]
+fn first_applied(
     lookup: &Lookup<'_>,
     buffer: &mut GapBuffer,
     spot: Spot,
@@ -85,4 +87,26 @@ pub fn apply_lookup(
         }
     }
     Ok(None)
+}
+
+/// The first subtable that applies. A lookup of type 1 goes a shorter way.
+#[tactic(auto, using(crate::proofs::SingleLemmas::singles_alone))]
+#[inline(always)]
+pub fn apply_lookup(
+    lookup: &Lookup<'_>,
+    buffer: &mut GapBuffer,
+    spot: Spot,
+) -> Result<Option<Spot>, ShapeError>
+    requires near { lookup.now.place < 2 ^ 17 }
+    requires inside { spot.at < length buffer.old.items }
+    requires within { IsWithinLimit buffer.old }
+    ensures made { OnOk result (buffer.new ≡ (lookup_applied lookup.now spot buffer.old).buffer) }
+    ensures next { IfOk result (λ next. next ≡ (lookup_applied lookup.now spot buffer.old).next) }
+    ensures length { IsErrOf result Length
+        → is_past (lookup_applied lookup.now spot buffer.old).buffer ≡ true }
+{
+    if lookup_type(lookup.table, lookup.place) == 1 {
+        return Ok(apply_singles(lookup, buffer, spot));
+    }
+    first_applied(lookup, buffer, spot)
 }

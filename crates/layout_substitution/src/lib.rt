@@ -3,8 +3,9 @@
 //!
 //! [`substitutes`] reads what the table puts in place of a glyph, [`replaced`] says what becomes of an item that another glyph
 //! replaces, [`edits`] changes a buffer at a place, [`apply`], [`deletion`], [`alternate`], [`ligature`] with [`second_component`], and
-//! [`ligature_reach`] apply the subtables of a lookup by their kind, and [`kinds`] a whole lookup. [`merging`] is what a ligature costs that
-//! merges clusters, and [`start`] is what comes before the first lookup. Any bytes are taken.
+//! [`ligature_reach`] apply the subtables of a lookup by their kind, and [`kinds`] a whole lookup, one of type 1 by `singles`.
+//! [`merging`] is what a ligature costs that merges clusters, and [`start`] is what comes before the first lookup. Any bytes are
+//! taken.
 #![tactic(auto)]
 #![allow(non_camel_case_types)]
 
@@ -19,6 +20,7 @@ pub mod ligature_reach;
 pub mod merging;
 pub mod replaced;
 pub mod second_component;
+mod singles;
 pub mod start;
 pub mod substitutes;
 pub mod worked;

@@ -9,6 +9,7 @@ use shape_common::{GlyphPropsFlags, hb_unicode_general_category_t};
 
 /// An item with the class of its glyph, and with the mark attachment class in the upper byte of `props`. A glyph that is no
 /// ligature any more counts as one component.
+#[inline(always)]
 pub(crate) fn with_class(props: u16, item: hb_glyph_info_t) -> hb_glyph_info_t
     ensures { result ≡ Replaced.with_class props item }
 {
@@ -21,6 +22,7 @@ pub(crate) fn with_class(props: u16, item: hb_glyph_info_t) -> hb_glyph_info_t
 }
 
 /// Another glyph, of the class that the font says, or else of the one that is guessed, if it isn't 0.
+#[inline(always)]
 pub(crate) fn replaced(
     lookup: &Lookup<'_>,
     guess: u16,

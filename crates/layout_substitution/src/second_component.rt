@@ -7,7 +7,7 @@ use layout_buffer::GapBuffer;
 use layout_matching::glance::{Glance, glance_after, refuses};
 use layout_matching::input::seek_input;
 use layout_matching::lookup::Lookup;
-use layout_matching::rules::{FAR, Row, Test};
+use layout_matching::rules::{Row, Test};
 
 /// What the glyph after the one at `at` says of the second component of all ligatures.
 pub(crate) fn second_glance(lookup: &Lookup<'_>, buffer: &GapBuffer, at: usize) -> Glance
@@ -31,5 +31,5 @@ pub(crate) fn begins_with_another(table: &[u8], second: Glance, ligature: usize)
     requires { ligature < 2 ^ 37 }
     ensures { result ≡ Ligatures.begins_with_another table.now second ligature }
 {
-    1 < components(table, ligature) && refuses(table, (ligature + 4).min(FAR), second)
+    1 < components(table, ligature) && refuses(table, ligature + 4, second)
 }

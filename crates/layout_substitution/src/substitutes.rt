@@ -9,6 +9,7 @@ use layout_tables::offsets::offset16;
 use shape_font::bytes::{records, u16_at};
 
 /// The glyph in place of the one with this number.
+#[inline(always)]
 fn single_at(table: &[u8], start: usize, glyph: u32, i: u32) -> Option<u32>
     requires { start < 2 ^ 35 }
     ensures { result ≡ Substitutes.single_by table.now start glyph i }
@@ -27,6 +28,7 @@ fn single_at(table: &[u8], start: usize, glyph: u32, i: u32) -> Option<u32>
 }
 
 /// The one glyph in place of this one.
+#[inline(always)]
 pub(crate) fn single(table: &[u8], start: usize, glyph: u32) -> Option<u32>
     requires { start < 2 ^ 35 }
     ensures { result ≡ Substitutes.single_of table.now start glyph }

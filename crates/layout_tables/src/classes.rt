@@ -19,6 +19,7 @@ fn in_list(table: &[u8], start: usize, glyph: u32) -> u16
 }
 
 /// The class of a glyph by ranges.
+#[inline(always)]
 fn in_ranges(table: &[u8], start: usize, glyph: u32) -> u16
     requires { start < 2 ^ 40 }
     ensures { result ≡ ranged_class table.now start glyph }
@@ -30,6 +31,7 @@ fn in_ranges(table: &[u8], start: usize, glyph: u32) -> u16
 }
 
 /// The class of a glyph by the ClassDef table at `start`; 0 if it names none, or its format is neither 1 nor 2.
+#[inline(never)]
 pub fn class(table: &[u8], start: usize, glyph: u32) -> u16
     requires { start < 2 ^ 40 }
     ensures { result ≡ class_of table.now start glyph }

@@ -1,16 +1,19 @@
 //! Coverage tables: which glyphs a subtable is for, and the index of each.
-ghost use Rattle.std.specs.Prelude.{◌≡◌, ◌<◌, ◌+◌, ◌-◌, ◌*◌, ◌/◌, ◌^◌, is_some};
+ghost use Rattle.std.specs.Prelude.{◌≡◌, ◌<◌, ◌≤◌, ◌+◌, ◌-◌, ◌*◌, ◌/◌, ◌^◌, is_some};
 ghost use Rattle.shape_font.specs.Bytes.{u16_of, fitting};
 ghost use Rattle.layout_tables.specs.Coverage;
 
 use shape_font::bytes::{records, u16_at, word};
 
-/// Glyph `i` of the list. It is read behind no test.
-fn listed_glyph(table: &[u8], start: usize, i: u32) -> u32
-    requires { i < fitting table.now (u16_of table.now (start + 2)) (start + 4) 2 }
-    ensures { result ≡ u16_of table.now (start + 4 + 2 * i) }
+/// Glyph `i` of the list, counted from 1. It is read behind no test.
+#[tactic(auto, using(crate::proofs::SearchLemmas::glyph_from_one))]
+#[inline(always)]
+fn nth_listed(table: &[u8], start: usize, i: u32) -> u32
+    requires one { 0 < i }
+    requires inside { i ≤ fitting table.now (u16_of table.now (start + 2)) (start + 4) 2 }
+    ensures { result ≡ u16_of table.now (start + 4 + 2 * (i - 1)) }
 {
-    u32::from(word(table, start + 4 + 2 * i as usize))
+    u32::from(word(table, start + 2 + 2 * i as usize))
 }
 
 /// How many glyphs the list has. Most tables have room for all that are said, which is told without a
@@ -42,13 +45,15 @@ fn range_count(table: &[u8], start: usize) -> u32
     records(table, said, start + 4, 6)
 }
 
-/// The middle one of the places from one up to another.
-fn middle_of(from: u32, end: u32) -> u32
-    requires some { from < end }
+/// The middle one of the places from one to another. Searches count them from 1, so that no step takes 1 off before it
+/// halves.
+#[inline(always)]
+fn halfway(from: u32, end: u32) -> u32
+    requires some { from ≤ end }
     requires few { end < 2 ^ 16 }
-    ensures { result ≡ from + (end - from - 1) / 2 }
+    ensures { result ≡ from + (end - from) / 2 }
 {
-    (from + end - 1) / 2
+    (from + end) / 2
 }
 
 /// The index of a glyph in a list of glyphs.
@@ -61,35 +66,41 @@ fn in_list(table: &[u8], start: usize, glyph: u32) -> Option<u32>
     ensures { result ≡ Coverage.listed table.now start glyph }
 {
     let count = glyph_count(table, start);
-    let (mut from, mut end) = (0, count);
-    while from < end {
-        let middle = middle_of(from, end);
-        let there = listed_glyph(table, start, middle);
+    let (mut from, mut end) = (1, count);
+    while from <= end {
+        let middle = halfway(from, end);
+        let there = nth_listed(table, start, middle);
         if glyph < there {
-            end = middle;
+            end = middle - 1;
         } else if there < glyph {
             from = middle + 1;
         } else {
-            return Some(middle);
+            return Some(middle - 1);
         }
     }
     None
 }
 
-/// The first glyph of range `i`. It is read behind no test.
-fn range_first(table: &[u8], start: usize, i: u32) -> u32
-    requires { i < fitting table.now (u16_of table.now (start + 2)) (start + 4) 6 }
-    ensures { result ≡ u16_of table.now (start + 4 + 6 * i) }
+/// The first glyph of range `i`, counted from 1. It is read behind no test.
+#[tactic(auto, using(crate::proofs::SearchLemmas::first_from_one))]
+#[inline(always)]
+fn nth_first(table: &[u8], start: usize, i: u32) -> u32
+    requires one { 0 < i }
+    requires inside { i ≤ fitting table.now (u16_of table.now (start + 2)) (start + 4) 6 }
+    ensures { result ≡ u16_of table.now (start + 4 + 6 * (i - 1)) }
 {
-    u32::from(word(table, start + 4 + 6 * i as usize))
+    u32::from(word(table, start + 6 * i as usize - 2))
 }
 
-/// The last glyph of range `i`. It is read behind no test.
-fn range_last(table: &[u8], start: usize, i: u32) -> u32
-    requires { i < fitting table.now (u16_of table.now (start + 2)) (start + 4) 6 }
-    ensures { result ≡ u16_of table.now (start + 4 + 6 * i + 2) }
+/// The last glyph of range `i`, counted from 1. It is read behind no test.
+#[tactic(auto, using(crate::proofs::SearchLemmas::last_from_one))]
+#[inline(always)]
+fn nth_last(table: &[u8], start: usize, i: u32) -> u32
+    requires one { 0 < i }
+    requires inside { i ≤ fitting table.now (u16_of table.now (start + 2)) (start + 4) 6 }
+    ensures { result ≡ u16_of table.now (start + 4 + 6 * (i - 1) + 2) }
 {
-    u32::from(word(table, start + 4 + 6 * i as usize + 2))
+    u32::from(word(table, start + 6 * i as usize))
 }
 
 /// The range that holds a glyph: coverage and classes of format 2 have ranges of the same layout.
@@ -99,15 +110,15 @@ pub(crate) fn range(table: &[u8], start: usize, glyph: u32) -> Option<u32>
     ensures { result ≡ Coverage.ranged table.now start glyph }
 {
     let count = range_count(table, start);
-    let (mut from, mut end) = (0, count);
-    while from < end {
-        let middle = middle_of(from, end);
-        if glyph < range_first(table, start, middle) {
-            end = middle;
-        } else if range_last(table, start, middle) < glyph {
+    let (mut from, mut end) = (1, count);
+    while from <= end {
+        let middle = halfway(from, end);
+        if glyph < nth_first(table, start, middle) {
+            end = middle - 1;
+        } else if nth_last(table, start, middle) < glyph {
             from = middle + 1;
         } else {
-            return Some(middle);
+            return Some(middle - 1);
         }
     }
     None

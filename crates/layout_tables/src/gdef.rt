@@ -16,6 +16,7 @@ pub fn has_glyph_classes(gdef: &[u8]) -> bool
 }
 
 /// The class of a glyph: 1 a base, 2 a ligature, 3 a mark, 4 a component; 0 if the table names none.
+#[inline(always)]
 pub fn glyph_class(gdef: &[u8], glyph: u32) -> u16
     ensures { result ≡ Gdef.glyph_class gdef.now glyph }
 {
@@ -26,6 +27,7 @@ pub fn glyph_class(gdef: &[u8], glyph: u32) -> u16
 }
 
 /// The class of a mark by which lookups choose marks; 0 if the table names none.
+#[inline(never)]
 pub fn mark_attachment_class(gdef: &[u8], glyph: u32) -> u16
     ensures { result ≡ Gdef.mark_attachment_class gdef.now glyph }
 {
@@ -36,6 +38,7 @@ pub fn mark_attachment_class(gdef: &[u8], glyph: u32) -> u16
 }
 
 /// The properties of an item: 2 of a base, 4 of a ligature, 8 of a mark with its attachment class in the upper byte.
+#[inline(always)]
 pub fn glyph_props(gdef: &[u8], glyph: u32) -> u16
     ensures { result ≡ Gdef.glyph_props gdef.now glyph }
 {

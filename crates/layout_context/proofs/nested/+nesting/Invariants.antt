@@ -5,22 +5,25 @@ use Rattle.layout_context.proofs.nested.+nesting.Given as goal
 
 -- from a lookup to its rule, its records, each of them and its lookup, and from there to a level below
 abbrev pub decreases-apply_nested : goal.decreases-apply_nested
-decreases-apply_nested l = 6 * l.level
+decreases-apply_nested l = 7 * l.level
 
 abbrev pub decreases-apply_level : goal.decreases-apply_level
-decreases-apply_level l = 6 * l.level + 5
+decreases-apply_level l = 7 * l.level + 6
+
+abbrev pub decreases-apply_context : goal.decreases-apply_context
+decreases-apply_context l = 7 * l.level + 5
 
 abbrev pub decreases-apply_rule : goal.decreases-apply_rule
-decreases-apply_rule l = 6 * l.level + 4
+decreases-apply_rule l = 7 * l.level + 4
 
 abbrev pub decreases-apply_records : goal.decreases-apply_records
-decreases-apply_records l = 6 * l.level + 3
+decreases-apply_records l = 7 * l.level + 3
 
 abbrev pub decreases-apply_record : goal.decreases-apply_record
-decreases-apply_record l = 6 * l.level + 2
+decreases-apply_record l = 7 * l.level + 2
 
 abbrev pub decreases-apply_target : goal.decreases-apply_target
-decreases-apply_target l = 6 * l.level + 1
+decreases-apply_target l = 7 * l.level + 1
 
 abbrev pub invariant-apply_records-loop-i : goal.invariant-apply_records-loop-i
 invariant-apply_records-loop-i l =

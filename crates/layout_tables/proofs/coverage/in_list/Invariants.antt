@@ -1,4 +1,4 @@
-use Rattle.std.proofs.Common.{◌≡◌, ◌≤◌, ◌-◌}
+use Rattle.std.proofs.Common.{◌≡◌, ◌<◌, ◌≤◌, ◌+◌, ◌-◌}
 use Rattle.shape_font.specs.Search.{found_in}
 use Rattle.layout_tables.specs.Coverage.{side_of_listed, listed}
 use Rattle.layout_tables.proofs.coverage.in_list.Given as goal
@@ -6,9 +6,10 @@ use Rattle.layout_tables.proofs.coverage.in_list.Given as goal
 -- what is found from here on is what is found in the whole list
 abbrev pub invariant-loop-from : goal.invariant-loop-from
 invariant-loop-from l = record {
+  one : 0 < l.from;
   within : l.end ≤ l.count;
-  same : found_in (side_of_listed l.table l.start l.glyph) (l.end - l.from) l.from l.end ≡ listed l.table l.start l.glyph;
+  same : found_in (side_of_listed l.table l.start l.glyph) (l.end - (l.from - 1)) (l.from - 1) l.end ≡ listed l.table l.start l.glyph;
 }
 
 abbrev pub decreases-loop-from : goal.decreases-loop-from
-decreases-loop-from l = l.end - l.from
+decreases-loop-from l = l.end + 1 - l.from

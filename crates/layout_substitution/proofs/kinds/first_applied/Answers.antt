@@ -6,7 +6,7 @@ use Rattle.layout_substitution.specs.Applied.{Applied}
 use Rattle.layout_substitution.specs.Edits.{is_past}
 use Rattle.layout_substitution.specs.Kinds.{subtable_applied, subtables_applied, lookup_applied}
 use Rattle.layout_substitution.proofs.KindLemmas.{subtables_found, subtables_next, past_is_false}
-use Rattle.layout_substitution.proofs.kinds.apply_lookup.Goals as goal
+use Rattle.layout_substitution.proofs.kinds.first_applied.Goals as goal
 
 pub returns-in-Ok-Some-clause-made : goal.returns-in-Ok-Some-clause-made
 returns-in-Ok-Some-clause-made c =

@@ -2,7 +2,7 @@ use Rattle.std.proofs.Common.{◌≡◌, ◌-◌, ◌<◌, length}
 use Rattle.shape_buffer.specs.Outcome.{IsWithinLimit}
 use Rattle.layout_tables.specs.Lookups.{subtable_count_of}
 use Rattle.layout_substitution.specs.Kinds.{subtables_applied}
-use Rattle.layout_substitution.proofs.kinds.apply_lookup.Given as goal
+use Rattle.layout_substitution.proofs.kinds.first_applied.Given as goal
 
 -- subtables that don't apply leave marks alone
 abbrev pub invariant-loop-i : goal.invariant-loop-i
