@@ -12,5 +12,7 @@ pub mod UncoveredLemmas
 pub mod DigestLemmas
 pub mod KeyLemmas
 pub mod GlyphLemmas
+pub mod KnownLemmas
+pub mod TollLemmas
 pub mod StopLemmas
 pub mod MadeLemmas

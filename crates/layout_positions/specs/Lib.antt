@@ -9,6 +9,7 @@ pub mod Pairs
 pub mod Cursive
 pub mod Marks
 pub mod Subtables
+pub mod Known
 pub mod Nested
 pub mod Walk
 pub mod Preserves

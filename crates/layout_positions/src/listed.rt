@@ -129,7 +129,7 @@ fn place_on_mark(
 /// Applies a subtable of type 4, 5 or 6 to its mark number `number`, at place `i`. A call of its own, since most subtables
 /// don't list a mark.
 #[inline(never)]
-fn place_listed(
+pub(crate) fn place_listed(
     lookup: &Lookup<'_>,
     subtable: LookupSubtable,
     buffer: &mut hb_buffer_t,
@@ -159,7 +159,12 @@ fn place_listed(
 }
 
 /// The number of the mark at place `i` in a subtable of format 1; none in one of another format.
-fn listed_mark(lookup: &Lookup<'_>, start: usize, buffer: &hb_buffer_t, i: usize) -> Option<u32>
+pub(crate) fn listed_mark(
+    lookup: &Lookup<'_>,
+    start: usize,
+    buffer: &hb_buffer_t,
+    i: usize,
+) -> Option<u32>
     requires near { start < 2 ^ 34 }
     requires inside { i < length buffer.now.items }
     ensures { result ≡ (if nat_eq (u16_of lookup.now.table.now start) 1

@@ -135,7 +135,8 @@ fn apply_kind(
 }
 
 /// Applies a subtable to the glyph at place `i`.
-fn apply_subtable(
+#[inline(always)]
+pub(crate) fn apply_subtable(
     lookup: &Lookup<'_>,
     subtable: LookupSubtable,
     buffer: &mut hb_buffer_t,

@@ -4,22 +4,24 @@ ghost use Rattle.shape_buffer.specs.Outcome.{Made};
 ghost use Rattle.layout_matching.specs.Found as found_rules;
 ghost use Rattle.layout_matching.specs.Loops.{times};
 ghost use Rattle.layout_matching.specs.Work;
+ghost use Rattle.layout_positions.specs.Known as known_marks;
 ghost use Rattle.layout_positions.specs.Nested;
 ghost use Rattle.layout_positions.specs.Walk;
 ghost use Rattle.layout_positions.specs.Digested.{IsDigested, HoldsGlyphs, AreUnheld, lookups_in};
 ghost use Rattle.layout_positions.specs.declared.bases.BaseSeen.{BaseSeen};
 
 use crate::bases::BaseSeen;
+use crate::known::{Known, LONG, ROOM, apply_known, attaches_marks};
 use crate::nested::apply_nested;
 use crate::places::after;
 use crate::subtables::{Carried, Outcome, apply_lookup};
+use crate::tolls::{has_rules, walk_toll};
 use layout_buffer::ItemList;
 use layout_digests::{Digest, Digested};
 use layout_matching::beside::plain_charged;
-use layout_matching::found::is_context;
 use layout_matching::lookup::Lookup;
 use layout_matching::skipping::{is_on, is_transparent};
-use layout_matching::work::{lookup_charged, walk_work};
+use layout_matching::work::lookup_charged;
 use shape_buffer::position_walks::update_positions;
 use shape_buffer::{GlyphPosition, hb_buffer_t, hb_glyph_info_t};
 
@@ -83,29 +85,42 @@ fn apply_at(
     buffer: &mut hb_buffer_t,
     at: usize,
     carried: Carried,
+    known: &mut [Known],
 ) -> Outcome
     requires near { lookup.now.place < 2 ^ 17 }
     requires kind { has_rules ≡ found_rules.is_context lookup.now }
     requires inside { at < length buffer.old.items }
-    ensures { record {
+    requires known { All (known_marks.IsKnown lookup.now) known.old }
+    ensures made { record {
       buffer = buffer.new;
       next = result.next;
       seen = result.carried.seen;
       left = result.carried.left;
     } ≡ Nested.nested_placed Nested.LEVELS lookup.now at carried.left carried.seen buffer.old }
+    ensures known { All (known_marks.IsKnown lookup.now) known.new }
 {
     if has_rules {
         return apply_nested(LEVELS, lookup, buffer, at, carried);
     }
-    apply_lookup(lookup, buffer, at, carried)
+    if known.is_empty() {
+        return apply_lookup(lookup, buffer, at, carried);
+    }
+    apply_known(lookup, buffer, at, carried, known)
 }
 
 /// Applies a lookup at a place of the walk, if what is left suffices for what it may try there. Else nothing is left.
-fn try_at(lookup: &Lookup<'_>, has_rules: bool, buffer: &mut hb_buffer_t, spot: Spot) -> Spot
+fn try_at(
+    lookup: &Lookup<'_>,
+    has_rules: bool,
+    buffer: &mut hb_buffer_t,
+    spot: Spot,
+    known: &mut [Known],
+) -> Spot
     requires near { lookup.now.place < 2 ^ 17 }
     requires kind { has_rules ≡ found_rules.is_context lookup.now }
     requires inside { spot.at < length buffer.old.items }
-    ensures { record {
+    requires known { All (known_marks.IsKnown lookup.now) known.old }
+    ensures made { record {
       buffer = buffer.new;
       at = result.at;
       seen = result.carried.seen;
@@ -116,6 +131,7 @@ fn try_at(lookup: &Lookup<'_>, has_rules: bool, buffer: &mut hb_buffer_t, spot: 
       seen = spot.carried.seen;
       left = spot.carried.left;
     }) }
+    ensures known { All (known_marks.IsKnown lookup.now) known.new }
 {
     let next = after(buffer.len(), spot.at);
     let seen = spot.carried.seen;
@@ -125,7 +141,8 @@ fn try_at(lookup: &Lookup<'_>, has_rules: bool, buffer: &mut hb_buffer_t, spot: 
             carried: Carried { seen, left: 0 },
         };
     };
-    let outcome = apply_at(lookup, has_rules, buffer, spot.at, Carried { seen, left });
+    let carried = Carried { seen, left };
+    let outcome = apply_at(lookup, has_rules, buffer, spot.at, carried, known);
     Spot {
         at: match outcome.next {
             Some(there) => there,
@@ -136,10 +153,17 @@ fn try_at(lookup: &Lookup<'_>, has_rules: bool, buffer: &mut hb_buffer_t, spot: 
 }
 
 /// Applies a lookup at a place of the walk, or goes on to the next glyph.
-fn step_on(lookup: &Lookup<'_>, has_rules: bool, buffer: &mut hb_buffer_t, spot: Spot) -> Spot
+fn step_on(
+    lookup: &Lookup<'_>,
+    has_rules: bool,
+    buffer: &mut hb_buffer_t,
+    spot: Spot,
+    known: &mut [Known],
+) -> Spot
     requires near { lookup.now.place < 2 ^ 17 }
     requires kind { has_rules ≡ found_rules.is_context lookup.now }
-    ensures { record {
+    requires known { All (known_marks.IsKnown lookup.now) known.old }
+    ensures made { record {
       buffer = buffer.new;
       at = result.at;
       seen = result.carried.seen;
@@ -150,6 +174,7 @@ fn step_on(lookup: &Lookup<'_>, has_rules: bool, buffer: &mut hb_buffer_t, spot:
       seen = spot.carried.seen;
       left = spot.carried.left;
     }) }
+    ensures known { All (known_marks.IsKnown lookup.now) known.new }
 {
     if buffer.len() <= spot.at {
         return spot;
@@ -160,7 +185,7 @@ fn step_on(lookup: &Lookup<'_>, has_rules: bool, buffer: &mut hb_buffer_t, spot:
             carried: spot.carried,
         };
     }
-    try_at(lookup, has_rules, buffer, spot)
+    try_at(lookup, has_rules, buffer, spot, known)
 }
 
 /// How many glyphs from a place on, of so many, a digest doesn't hold.
@@ -202,9 +227,16 @@ fn steps_over(named: &Digested<'_>, buffer: &hb_buffer_t, at: usize, most: usize
     )
 }
 
-/// Goes over a buffer with a lookup, from its first glyph on. Returns what is left.
-fn go_over(named: &Digested<'_>, buffer: &mut hb_buffer_t, left: usize) -> usize
-    requires { IsDigested named.now }
+/// Goes over a buffer with a lookup, from its first glyph on, with what is known of glyphs. Returns what is left.
+#[inline(never)]
+fn go_along(
+    named: &Digested<'_>,
+    buffer: &mut hb_buffer_t,
+    left: usize,
+    known: &mut [Known],
+) -> usize
+    requires said { IsDigested named.now }
+    requires known { All (known_marks.IsKnown named.now.lookup) known.old }
     ensures { record { buffer = buffer.new; left = result }
         ≡ Walk.gone_over (record { buffer = buffer.old; left = left }) named.now.lookup }
 {
@@ -212,7 +244,7 @@ fn go_over(named: &Digested<'_>, buffer: &mut hb_buffer_t, left: usize) -> usize
         until: 0,
         place: None,
     };
-    let has_rules = is_context(&named.lookup);
+    let has_rules = has_rules(&named.lookup);
     let mut spot = Spot {
         at: 0,
         carried: Carried { seen, left },
@@ -224,11 +256,35 @@ fn go_over(named: &Digested<'_>, buffer: &mut hb_buffer_t, left: usize) -> usize
         spot.at += steps;
         done += steps;
         if done < count {
-            spot = step_on(&named.lookup, has_rules, buffer, spot);
+            spot = step_on(&named.lookup, has_rules, buffer, spot, known);
             done += 1;
         }
     }
     spot.carried.left
+}
+
+/// Goes over a long list with a lookup that attaches marks, and keeps in mind which subtables don't list a glyph. A call of its
+/// own, so that what is kept stands in no other frame.
+#[inline(never)]
+fn go_over_marks(named: &Digested<'_>, buffer: &mut hb_buffer_t, left: usize) -> usize
+    requires { IsDigested named.now }
+    ensures { record { buffer = buffer.new; left = result }
+        ≡ Walk.gone_over (record { buffer = buffer.old; left = left }) named.now.lookup }
+{
+    let mut known = [Known { glyph: 0, out: 0 }; ROOM];
+    go_along(named, buffer, left, &mut known)
+}
+
+/// Goes over a buffer with a lookup, from its first glyph on. Returns what is left.
+fn go_over(named: &Digested<'_>, buffer: &mut hb_buffer_t, left: usize) -> usize
+    requires { IsDigested named.now }
+    ensures { record { buffer = buffer.new; left = result }
+        ≡ Walk.gone_over (record { buffer = buffer.old; left = left }) named.now.lookup }
+{
+    if LONG <= buffer.len() && attaches_marks(&named.lookup) {
+        return go_over_marks(named, buffer, left);
+    }
+    go_along(named, buffer, left, &mut [])
 }
 
 /// What is left after a walk over so many items was charged for.
@@ -236,7 +292,7 @@ fn charge_walk(lookup: &Lookup<'_>, count: usize, left: usize) -> usize
     requires { lookup.now.place < 2 ^ 17 }
     ensures { result ≡ left - Work.walk_work lookup.now count }
 {
-    left.saturating_sub(walk_work(lookup, count))
+    left.saturating_sub(walk_toll(lookup, count))
 }
 
 /// Goes over a buffer with a lookup, if what is left suffices for a walk. Else nothing is left. Returns what is left.
@@ -245,11 +301,11 @@ pub fn apply_over(named: &Digested<'_>, buffer: &mut hb_buffer_t, left: usize) -
     ensures { record { buffer = buffer.new; left = result }
         ≡ Walk.lookup_applied (record { buffer = buffer.old; left = left }) named.now.lookup }
 {
-    let after = charge_walk(&named.lookup, buffer.len(), left);
-    if left < walk_work(&named.lookup, buffer.len()) {
-        return after;
+    let work = walk_toll(&named.lookup, buffer.len());
+    if left < work {
+        return 0;
     }
-    go_over(named, buffer, after)
+    go_over(named, buffer, left - work)
 }
 
 /// Whether nothing is left for lookups: each costs something, unless the list is empty. That is told at once, however many

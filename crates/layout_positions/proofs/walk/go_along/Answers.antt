@@ -3,7 +3,7 @@ use Rattle.layout_matching.specs.Loops.{times}
 use Rattle.layout_matching.proofs.LoopLemmas.{times_step}
 use Rattle.layout_positions.specs.Walk.{Walk, Budgeted, lookup_step, first_walk}
 use Rattle.layout_positions.proofs.DigestLemmas.{gone_further}
-use Rattle.layout_positions.proofs.walk.go_over.Goals as goal
+use Rattle.layout_positions.proofs.walk.go_along.Goals as goal
 
 pub loop-done-preserved-then-done-count : goal.loop-done-preserved-then-done-count
 loop-done-preserved-then-done-count c =
@@ -25,7 +25,8 @@ loop-done-preserved-then-done-count c =
     (c.steps_over-steps.ensures.passed seen left) in
     record {
       within = omega (arith, c.if-done-count.true);
-      made = times_step step (c.loop-done.done + c.steps_over-steps.result) first there next on c.step_on-spot.ensures;
+      made = times_step step (c.loop-done.done + c.steps_over-steps.result) first there next on c.step_on-spot.ensures.made;
+      known = c.step_on-spot.ensures.known;
     }
 
 pub loop-done-preserved : goal.loop-done-preserved
@@ -41,6 +42,7 @@ loop-done-preserved c =
       within = omega (arith, c.steps_over-steps.ensures.few, c.loop-done-test.true);
       made = gone_further step c.steps_over-steps.result c.loop-done.done first here there c.loop-done.invariant.made
           (c.steps_over-steps.ensures.passed seen left);
+      known = c.loop-done.invariant.known;
     }
 
 pub returns : goal.returns
