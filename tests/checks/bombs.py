@@ -3,7 +3,7 @@
 Each runs with a text of 10,000 characters, one with three quarters as many: no run ends by a signal, takes more than six seconds of
 processor time (the gate's machine may be slow), or more than 200 MB. The bombs are lookups that
 apply themselves, substitutions that grow, parts of tables that are shared, kerning of 65,535
-parts, origins and names that are searched for. Those that use up what a run may ask for take
+parts, origins and names that are searched for, long names. Those that use up what a run may ask for take
 longer, in step with the text (docs/SAFE_AND_TOTAL.md): they stand in SPENT, and run over a fifth
 of it.
 
@@ -88,6 +88,8 @@ ON_ONE_LIGATURE = [lookup(4, [ligature_of_two(2, first=2)], 2), *[lookup(2, [onl
 TURNED = [lookup(3, [joins([1], [1])], 13), lookup(3, [joins([2], [2])], 10),
           lookup(3, [joins([2], [1])], 1), lookup(3, [joins([1, 2], [3])], 1),
           lookup(3, [joins([3], [4])])]
+# a name of bytes of which JSON writes each as six
+LONG_NAME = bytes(65277) + b"\xff" + b"\1" * 255
 # stages of Arabic that apply to each letter
 STAGES = b"calt", b"ccmp", b"liga", b"rlig"
 
@@ -204,6 +206,10 @@ BOMBS = {
         {"GSUB": layout([lookup(2, [grows(60)])]), "post": names(44, b"\1a" * 65278)}, "a"),
     "grows, then names behind 65,277 empty ones": (
         {"GSUB": layout([lookup(2, [grows(60)])]), "post": names(44, bytes(65278))}, "a"),
+    "grows, then names of 255 bytes": (
+        {"GSUB": layout([lookup(2, [grows(60)])]), "post": names(44, LONG_NAME)}, "a"),
+    "grows, then names of 255 bytes, as JSON": (
+        {"GSUB": layout([lookup(2, [grows(60)])]), "post": names(44, LONG_NAME)}, "json"),
     "classes of 10,000 ranges": (
         {"GDEF": gdef(10000), "GPOS": layout(TO_BASES, b"mark")}, "am"),
     "joiners with the glyph of letters that begin ligatures": ({}, "j"),
@@ -258,11 +264,12 @@ def bomb_font(tables, kind):
 def bomb_text(kind, length):
     """Letters, in eight lines too, marks, or one half of each, letters first; marks between two
     letters, and one mark more or none; ZWNJ, after one letter; letters that join; letters by the
-    stages of Arabic, or downwards; letters right to left, of which the last is another one, or
-    three quarters as many; or ZWJ in Arabic, after one letter or each, of which the last is a
-    letter a; or Arabic after a letter a between two b."""
+    stages of Arabic, downwards, or written as JSON; letters right to left, of which the last is
+    another one, or three quarters as many; or ZWJ in Arabic, after one letter or each, of which
+    the last is a letter a; or Arabic after a letter a between two b."""
     half = length // 2
-    texts = {"a": "a" * length, "m": "\u0301" * length, "z": "a" + chr(ZWNJ) * (length - 1),
+    texts = {"a": "a" * length, "json": "a" * length,
+             "m": "\u0301" * length, "z": "a" + chr(ZWNJ) * (length - 1),
              "ama": "a" + "\u0301" * (length - 67) + "\u0302" * 64 + "a\u0303",
              "t": "dcadcb" * (length // 6) + "ab",
              "amb": "a" + "\u0301" * (length - 2) + "b", "s": "a" * length,
@@ -280,6 +287,8 @@ def take_bomb(runs, name, length):
     direction = {"v": "ttb", "ba": "rtl", "bc": "rtl"}.get(kind, "ltr")
     script = "Arab" if kind == "s" or kind in ARABIC else "Latn"
     options = ["--direction=" + direction, "--script=" + script]
+    if kind == "json":
+        options.append("--output-format=json")
     runs.take(name, bomb_font(tables, kind), bomb_text(kind, length), options)
 
 

@@ -1,6 +1,6 @@
--- What a ligature is charged for the items beside its components whose cluster it merges: one for each, since it is written anew.
+-- What a ligature is charged for the items beside its components whose cluster it merges.
 -- A cluster may be as long as the text, and each ligature may take it into another one.
-use Rattle.std.specs.Prelude.{ℕ, ◌+◌, ◌-◌, List, slice_range}
+use Rattle.std.specs.Prelude.{ℕ, ◌+◌, ◌-◌, ◌*◌, List, slice_range}
 use Rattle.shape_common.specs.declared.text_types.BufferClusterLevel.TheVariants.{MonotoneGraphemes, MonotoneCharacters, Characters}
 use Rattle.shape_items.specs.Buffer.{Buffer}
 use Rattle.shape_items.specs.Clusters.{least_cluster, growth_left, growth_right}
@@ -19,6 +19,10 @@ merged_beside at last b = elim b.cluster_level [
   | Characters ↦ 0
 ]
 
--- if what is left doesn't suffice, nothing is left
+-- what an item costs that is merged so, since it is written anew
+abbrev pub MERGED : ℕ
+MERGED = 4
+
+-- so much for each of those; if what is left doesn't suffice, nothing is left
 abbrev pub merging_charged : ℕ → ℕ → Buffer → Buffer
-merging_charged at last b = record b { max_ops = b.max_ops - merged_beside at last b }
+merging_charged at last b = record b { max_ops = b.max_ops - merged_beside at last b * MERGED }

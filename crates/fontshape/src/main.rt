@@ -1,7 +1,7 @@
 //! Shapes texts with a font file, and writes the glyphs as `hb-shape` does.
 //!
 //! [`command`] says which arguments there are, [`options`] and [`values`] what they ask for; [`line`] reads a line,
-//! [`shaping`] shapes it, [`written`] writes it in a [`size`], and [`picture`] draws it.
+//! [`shaping`] shapes it, [`written`] writes it to an [`output`] in a [`size`], and [`picture`] draws it.
 #![tactic(auto)]
 #![allow(non_camel_case_types)]
 
@@ -10,6 +10,7 @@ mod drawing;
 mod failure;
 mod line;
 mod options;
+mod output;
 mod picture;
 mod shaping;
 mod size;
@@ -21,16 +22,17 @@ use crate::command::command;
 use crate::failure::Failure;
 use crate::line::Line;
 use crate::options::{Format, Options, Source};
+use crate::output::Output;
 use crate::picture::Picture;
 use crate::shaping::{Planned, opened, shaped};
-use crate::written::{Font, Given, written};
+use crate::written::{Font, Given, write_line};
 use glyph_outlines::Outlines;
 use shape_font::FontFace;
 use shape_pipeline::hb_font_t;
 use shape_text_forms::SerializeFlags;
 use std::alloc::Global;
 use std::fs::File;
-use std::io::{BufRead, BufReader, BufWriter, Read, Write};
+use std::io::{BufRead, BufReader, Read, Write};
 use std::process::ExitCode;
 use std::{env, fs, io};
 
@@ -47,18 +49,10 @@ struct Work<'a, W: Write + Drop> {
     planned: Option<Planned<'a>>,
     outlines: Option<Outlines<'a>>,
     picture: Picture,
-    writer: BufWriter<W>,
+    output: Output<'a, W>,
 }
 
 impl<'a, W: Write + Drop> Work<'a, W> {
-    /// Writes some bytes.
-    fn write(&mut self, alloc: Global, bytes: &[u8]) -> Result<(), Failure> {
-        match self.writer.write_all(bytes) {
-            Ok(()) => Ok(()),
-            Err(error) => Err(Failure::io(alloc, self.options.output().unwrap_or(OUTPUT), error)),
-        }
-    }
-
     /// Shapes a line, and draws it or writes it.
     fn take_line(&mut self, alloc: Global, text: &[u8], number: usize) -> Result<(), Failure> {
         let line = Line::new(alloc, text, self.options.utf8_clusters())?;
@@ -78,9 +72,19 @@ impl<'a, W: Write + Drop> Work<'a, W> {
                 Err(error) => Err(Failure::line(alloc, number, error)),
             },
             None => {
-                let given = Given { text, number };
-                let output = written(alloc, self.options, &self.font, given, &line, &glyphs)?;
-                self.write(alloc, output.bytes())
+                let given = Given {
+                    text,
+                    number,
+                    line: &line,
+                };
+                write_line(
+                    alloc,
+                    &mut self.output,
+                    self.options,
+                    &self.font,
+                    given,
+                    &glyphs,
+                )
             }
         }
     }
@@ -128,7 +132,7 @@ impl<'a, W: Write + Drop> Work<'a, W> {
         self.take_source(rt)?;
         if self.outlines.is_some() {
             let svg = self.picture.svg(alloc)?;
-            self.write(alloc, svg.as_bytes())?;
+            self.output.write(alloc, svg.as_bytes())?;
         }
         Ok(())
     }
@@ -136,12 +140,9 @@ impl<'a, W: Write + Drop> Work<'a, W> {
     /// Takes all lines, and hands on what is written, also what stands before a failure.
     fn run(&mut self, rt: &HostRuntime) -> Result<(), Failure> {
         let done = self.take_all(rt);
-        match self.writer.flush() {
+        match self.output.flush(rt.alloc()) {
             Ok(()) => done,
-            Err(error) => {
-                let name = self.options.output().unwrap_or(OUTPUT);
-                Err(Failure::io(rt.alloc(), name, error))
-            }
+            Err(failure) => Err(failure),
         }
     }
 }
@@ -200,9 +201,7 @@ fn run_to<W: Write + Drop>(
     };
     let outlines = drawn(alloc, options, bytes)?;
     warn_of_boxes(rt, options, bytes)?;
-    let Ok(writer) = BufWriter::new(alloc, writer) else {
-        return Err(Failure::Memory);
-    };
+    let output = Output::new(alloc, options.output().unwrap_or(OUTPUT), writer)?;
     let Ok(opened) = opened(alloc, options, face) else {
         return Err(Failure::Memory);
     };
@@ -212,7 +211,7 @@ fn run_to<W: Write + Drop>(
         planned: opened.as_ref().map(Planned::new),
         outlines,
         picture: Picture::new(alloc, face.units_per_em()),
-        writer,
+        output,
     };
     work.run(rt)
 }

@@ -1,13 +1,19 @@
 //! What is written of a line.
+use crate::failure::Failure;
 use crate::line::Line;
 use crate::options::{Format, Options};
+use crate::output::Output;
 use crate::size::Scale;
 use shape_font::FontFace;
-use shape_pipeline::{GlyphBuffer, GlyphPosition, hb_font_t};
+use shape_pipeline::{GlyphBuffer, GlyphPosition, hb_font_t, hb_glyph_info_t};
 use shape_text_forms::{
-    NoNames, OpenedNames, SerializeFlags, glyph_names, serialize_placed, serialize_placed_json,
+    Content, ListForm, NoNames, OpenedNames, SerializeFlags, Spot, append_part, glyph_names,
 };
 use std::alloc::{AllocError, Global};
+use std::io::Write;
+
+/// How many glyphs are written at once: with the names of a hostile font each may take a thousand bytes.
+const PART: usize = 256;
 
 /// The font of what is written: its face, and the names of its glyphs if they are written.
 #[derive(Drop)]
@@ -48,148 +54,151 @@ fn unicode_text(alloc: Global, line: &Line) -> Result<String, AllocError> {
     Ok(out)
 }
 
-/// The glyphs at these positions, with these names and the boxes of this face.
-fn glyph_text<F: hb_font_t, N: glyph_names>(
+/// Writes a part of a list of glyphs. Returns where the next part begins.
+fn write_part<W: Write + Drop, F: hb_font_t, N: glyph_names>(
     alloc: Global,
-    options: &Options,
-    names: &N,
-    boxes: &F,
-    glyphs: &GlyphBuffer,
+    output: &mut Output<W>,
+    content: &Content<'_, F, N>,
+    spot: Spot,
+    infos: &[hb_glyph_info_t],
     positions: &[GlyphPosition],
-) -> Result<String, AllocError> {
-    let infos = glyphs.glyph_infos();
+) -> Result<Spot, Failure> {
     if positions.len() != infos.len() {
-        return Ok(String::new(alloc));
+        return Ok(spot);
     }
-    match options.format() {
-        Format::Json => serialize_placed_json(
-            alloc,
-            infos,
-            positions,
-            boxes,
-            names,
-            options.form(),
-        ),
-        _ => serialize_placed(alloc, infos, positions, boxes, names, options.form()),
-    }
+    let mut part = String::new(alloc);
+    let spot = append_part(alloc, &mut part, content, spot, infos, positions)?;
+    output.write(alloc, part.as_bytes())?;
+    Ok(spot)
 }
 
-/// The glyphs of a line with these names, in the size that is asked for.
-fn named_glyphs_text<N: glyph_names>(
+/// Writes a list of glyphs part by part; nothing for no glyphs.
+fn write_list<W: Write + Drop, F: hb_font_t, N: glyph_names>(
     alloc: Global,
+    output: &mut Output<W>,
+    content: &Content<'_, F, N>,
+    infos: &[hb_glyph_info_t],
+    positions: &[GlyphPosition],
+) -> Result<(), Failure> {
+    if infos.is_empty() || positions.len() != infos.len() {
+        return Ok(());
+    }
+    let mut spot = Spot::START;
+    for (infos, positions) in infos.chunks(PART).zip(positions.chunks(PART)) {
+        spot = write_part(alloc, output, content, spot, infos, positions)?;
+    }
+    output.write(alloc, b"]")
+}
+
+/// Writes the glyphs of a line with these names, in the size that is asked for.
+fn write_named<W: Write + Drop, N: glyph_names>(
+    alloc: Global,
+    output: &mut Output<W>,
     options: &Options,
     face: &FontFace,
     names: &N,
     glyphs: &GlyphBuffer,
-) -> Result<String, AllocError> {
+) -> Result<(), Failure> {
+    let form = match options.format() {
+        Format::Json => ListForm::Json,
+        _ => ListForm::Text,
+    };
+    let flags = options.form();
+    let infos = glyphs.glyph_infos();
     match options.size() {
         Some(size) => {
             let scale = Scale::new(size, face.units_per_em());
             let positions = scale.positions(alloc, face, glyphs)?;
-            let boxes = scale.boxes(alloc, face, glyphs)?;
-            glyph_text(alloc, options, names, &boxes, glyphs, positions.as_slice())
+            let face = &scale.boxes(alloc, face, glyphs)?;
+            let content = Content {
+                form,
+                flags,
+                face,
+                names,
+            };
+            write_list(alloc, output, &content, infos, positions.as_slice())
         }
         None => {
-            let boxes = *face;
-            glyph_text(
-                alloc,
-                options,
+            let content = Content {
+                form,
+                flags,
+                face,
                 names,
-                &boxes,
-                glyphs,
-                glyphs.glyph_positions(),
-            )
+            };
+            write_list(alloc, output, &content, infos, glyphs.glyph_positions())
         }
     }
 }
 
-/// The glyphs of a line, in the size that is asked for, by name if names are written.
-fn glyphs_text(
+/// Writes the glyphs of a line, in the size that is asked for, by name if names are written.
+fn write_glyphs<W: Write + Drop>(
     alloc: Global,
+    output: &mut Output<W>,
     options: &Options,
     font: &Font,
     glyphs: &GlyphBuffer,
-) -> Result<String, AllocError> {
+) -> Result<(), Failure> {
     match &font.names {
-        Some(names) => named_glyphs_text(alloc, options, &font.face, names, glyphs),
-        None => named_glyphs_text(alloc, options, &font.face, &NoNames, glyphs),
+        Some(names) => write_named(alloc, output, options, &font.face, names, glyphs),
+        None => write_named(alloc, output, options, &font.face, &NoNames, glyphs),
     }
 }
 
-/// What is written of one line, byte by byte.
-#[derive(Drop)]
-pub struct Output {
-    bytes: Vec<u8>,
-    number: Option<usize>,
+/// Writes the number of a line, if numbers are asked for.
+fn write_number<W: Write + Drop>(
+    alloc: Global,
+    output: &mut Output<W>,
+    options: &Options,
+    number: usize,
+) -> Result<(), Failure> {
+    if !options.shown().line_num {
+        return Ok(());
+    }
+    let number = format!(in alloc; "{number}: ")?;
+    output.write(alloc, number.as_bytes())
 }
 
-impl Output {
-    /// Nothing yet; parts begin with this number if there is one.
-    fn new(alloc: Global, number: Option<usize>) -> Output {
-        Output {
-            bytes: Vec::new(alloc),
-            number,
-        }
-    }
-
-    /// What is to be written.
-    pub fn bytes(&self) -> &[u8] {
-        self.bytes.as_slice()
-    }
-
-    /// Appends the number of the line and a part, between these two, and the end of a line.
-    fn append(
-        &mut self,
-        alloc: Global,
-        open: &str,
-        part: &[u8],
-        close: &str,
-    ) -> Result<(), AllocError> {
-        if let Some(number) = self.number {
-            let number = format!(in alloc; "{number}: ")?;
-            self.bytes.extend_from_slice(number.as_bytes())?;
-        }
-        self.bytes.extend_from_slice(open.as_bytes())?;
-        self.bytes.extend_from_slice(part)?;
-        self.bytes.extend_from_slice(close.as_bytes())?;
-        self.bytes.push(b'\n')?;
-        Ok(())
-    }
-}
-
-/// A line as it came: its bytes, and its number, counted from 1.
+/// A line as it came: its bytes, its number, counted from 1, and its characters.
 #[derive(Clone, Copy)]
 pub struct Given<'a> {
     pub text: &'a [u8],
     pub number: usize,
+    pub line: &'a Line,
 }
 
-/// What is written of a line: its text and its characters, if they are asked for, and its glyphs.
-pub fn written(
+/// Writes what is asked for of a line before its glyphs: its text, and its characters.
+fn write_given<W: Write + Drop>(
     alloc: Global,
+    output: &mut Output<W>,
+    options: &Options,
+    given: Given,
+) -> Result<(), Failure> {
+    if options.shown().text {
+        write_number(alloc, output, options, given.number)?;
+        output.write(alloc, b"(")?;
+        output.write(alloc, given.text)?;
+        output.write(alloc, b")\n")?;
+    }
+    if options.shown().unicode {
+        write_number(alloc, output, options, given.number)?;
+        let characters = unicode_text(alloc, given.line)?;
+        output.write(alloc, characters.as_bytes())?;
+        output.write(alloc, b"\n")?;
+    }
+    Ok(())
+}
+
+/// Writes a line: its text and its characters, if they are asked for, and its glyphs.
+pub fn write_line<W: Write + Drop>(
+    alloc: Global,
+    output: &mut Output<W>,
     options: &Options,
     font: &Font,
     given: Given,
-    line: &Line,
     glyphs: &GlyphBuffer,
-) -> Result<Output, AllocError> {
-    let shown = options.shown();
-    let mut output = Output::new(
-        alloc,
-        if shown.line_num {
-            Some(given.number)
-        } else {
-            None
-        },
-    );
-    if shown.text {
-        output.append(alloc, "(", given.text, ")")?;
-    }
-    if shown.unicode {
-        let characters = unicode_text(alloc, line)?;
-        output.append(alloc, "", characters.as_bytes(), "")?;
-    }
-    let glyphs = glyphs_text(alloc, options, font, glyphs)?;
-    output.append(alloc, "", glyphs.as_bytes(), "")?;
-    Ok(output)
+) -> Result<(), Failure> {
+    write_given(alloc, output, options, given)?;
+    write_number(alloc, output, options, given.number)?;
+    write_glyphs(alloc, output, options, font, glyphs)?;
+    output.write(alloc, b"\n")
 }

@@ -57,7 +57,7 @@ pub(crate) fn count_at_end(infos: &[hb_glyph_info_t], cluster: u32) -> usize
 }
 
 /// How many items directly before a span of that least cluster the merge takes in.
-fn growth_left(infos: &[hb_glyph_info_t], start: usize, least: u32) -> usize
+pub fn growth_left(infos: &[hb_glyph_info_t], start: usize, least: u32) -> usize
     requires { start < length infos.now }
     ensures value { result ≡ Clusters.growth_left infos.now start least }
     ensures within { result ≤ start }
@@ -70,7 +70,7 @@ fn growth_left(infos: &[hb_glyph_info_t], start: usize, least: u32) -> usize
 }
 
 /// How many items directly after a span of that least cluster, which ends with `last`, the merge takes in.
-pub(super) fn growth_right(infos: &[hb_glyph_info_t], last: usize, least: u32) -> usize
+pub fn growth_right(infos: &[hb_glyph_info_t], last: usize, least: u32) -> usize
     requires { last < length infos.now }
     ensures value { result ≡ Clusters.growth_right infos.now last least }
     ensures within { last + result < length infos.now }

@@ -1,3 +1,4 @@
 pub mod AppendLemmas
+pub mod PartLemmas
 mod TextLemmas
 mod StartLemmas

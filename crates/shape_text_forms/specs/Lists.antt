@@ -1,5 +1,5 @@
 -- glyphs one after the other, in one of two forms
-use Rattle.std.specs.Prelude.{ℕ, pos, List, [], ◌∷◌, ◌++◌, Bool, true, false}
+use Rattle.std.specs.Prelude.{◌≡◌, ℕ, pos, List, [], ◌∷◌, ◌++◌, Bool, true, false, length}
 use Rattle.shape_items.specs.Items.{Item}
 use Rattle.shape_common.specs.declared.positions.GlyphPosition.{GlyphPosition}
 use Rattle.shape_text_forms.specs.Serialize.{Form, entry_text, pen_after}
@@ -7,6 +7,7 @@ use Rattle.shape_text_forms.specs.Json.{json_entry}
 use Rattle.shape_text_forms.specs.declared.content.ListForm.{ListForm}
 use Rattle.shape_text_forms.specs.declared.content.ListForm.TheVariants.{Text, Json}
 use Rattle.shape_text_forms.specs.declared.content.Pen.{Pen}
+use Rattle.shape_text_forms.specs.declared.content.Spot.{Spot}
 
 -- all of a glyph, with what stands before it
 abbrev pub entry_in : ListForm → Form → Bool → Pen → Item → GlyphPosition → List ℕ
@@ -30,3 +31,29 @@ serialized form items ps = listed Text form items ps
 
 abbrev pub json_text : Form → List Item → List GlyphPosition → List ℕ
 json_text form items ps = listed Json form items ps
+
+-- where the next glyph stands
+abbrev pub next_spot : ℕ → Spot → GlyphPosition → Spot
+next_spot flags spot p = record { first = false; pen = pen_after flags spot.pen p }
+
+abbrev pub spot_after : ℕ → Spot → List GlyphPosition → Spot
+spot_after flags spot [] = spot
+spot_after flags spot (p ∷ ps) = spot_after flags (next_spot flags spot p) ps
+
+-- a part of a list: glyphs from some spot on, and no end
+abbrev pub part_text : ListForm → Form → Spot → List Item → List GlyphPosition → List ℕ
+part_text list form spot [] ps = []
+part_text list form spot (x ∷ xs) [] = []
+part_text list form spot (x ∷ xs) (p ∷ ps) =
+    entry_in list form spot.first spot.pen x p ++ part_text list form (next_spot form.flags spot p) xs ps
+
+-- where a list begins
+abbrev pub start : Spot
+start = record { first = true; pen = record { x = pos 0; y = pos 0 } }
+
+-- a list is its parts, one after the other, and `]`
+pub record PartsMakeLists : Type 0 where
+  pub joined : (list : ListForm) (form : Form) (spot : Spot) (xs ys : List Item) (ps qs : List GlyphPosition) → length ps ≡ length xs
+      → part_text list form spot (xs ++ ys) (ps ++ qs) ≡ part_text list form spot xs ps ++ part_text list form (spot_after form.flags spot ps) ys qs
+  pub ended : (list : ListForm) (form : Form) (x : Item) (xs : List Item) (ps : List GlyphPosition) → length ps ≡ length (x ∷ xs)
+      → listed list form (x ∷ xs) ps ≡ part_text list form start (x ∷ xs) ps ++ 93 ∷ []

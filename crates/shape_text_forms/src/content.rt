@@ -94,6 +94,14 @@ pub struct Spot {
     pub pen: Pen,
 }
 
+impl Spot {
+    /// Where a list begins.
+    pub const START: Spot = Spot {
+        first: true,
+        pen: Pen { x: 0, y: 0 },
+    };
+}
+
 /// Where the pen stands after a glyph.
 pub(crate) fn pen_after(flags: SerializeFlags, pen: Pen, position: &GlyphPosition) -> Pen
     ensures { result ≡ pen_after flags.0 pen position.now }

@@ -2,7 +2,7 @@
 ghost use Rattle.std.specs.Prelude.{◌≡◌};
 ghost use Rattle.std.specs.Option.{option_map};
 ghost use Rattle.shape_font.specs.declared.names.TheConstants.{STANDARD};
-ghost use Rattle.shape_text_forms.specs.FontNames.{text_of, written_name};
+ghost use Rattle.shape_text_forms.specs.FontNames.{text_of, cut_name, written_name};
 
 use crate::content::glyph_names;
 use shape_buffer::GlyphId;
@@ -19,18 +19,29 @@ pub(crate) fn text(bytes: &[u8]) -> Option<&str>
     }
 }
 
-/// The name of a glyph by `post`; none if it has none, or one that is no text.
+/// The first bytes of a name, as many as `hb-shape` writes.
+pub(crate) fn cut(name: &[u8]) -> &[u8]
+    ensures { result.now ≡ cut_name name.now }
+{
+    if name.len() <= 127 {
+        name
+    } else {
+        &name[..127]
+    }
+}
+
+/// The name of a glyph by `post`; none if it has none, or one whose first 127 bytes are no text.
 fn name<'a>(face: &FontFace<'a>, glyph: GlyphId) -> Option<&'a str>
     ensures { option_map (λ s. s.now) result
         ≡ written_name STANDARD.now face.now.post.now glyph.0 }
 {
     match face.glyph_name(glyph) {
-        Some(name) => text(name),
+        Some(name) => text(cut(name)),
         None => None,
     }
 }
 
-/// The names in a font's table `post`, those that are UTF-8.
+/// The names in a font's table `post`: the first 127 bytes of each, if these are UTF-8.
 impl<'a> glyph_names for FontFace<'a> {
     ghost use Rattle.shape_font.specs.declared.names.TheConstants.{STANDARD};
     ghost use Rattle.shape_text_forms.specs.FontNames.{written_name};

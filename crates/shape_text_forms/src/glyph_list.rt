@@ -1,9 +1,10 @@
 //! Glyphs one after the other, as text or as a list of JSON.
-ghost use Rattle.std.specs.Prelude.{◌≡◌, ◌++◌, true, pos, [], length, string_bytes, IfOk, IsOk};
+ghost use Rattle.std.specs.Prelude.{◌≡◌, ◌++◌, ◌∷◌, [], true, pos, length, string_bytes, IfOk, IsOk};
 ghost use Rattle.shape_text_forms.specs.Serialize.{form_of};
 ghost use Rattle.shape_text_forms.specs.Lists.{entry_in, glyphs_from, listed, serialized, json_text};
+ghost use Rattle.shape_text_forms.specs.Lists.{part_text, spot_after, PartsMakeLists};
 
-use crate::content::{Content, ListForm, Pen, SerializeFlags, Spot, glyph_names, pen_after};
+use crate::content::{Content, ListForm, SerializeFlags, Spot, glyph_names, pen_after};
 use crate::{glyph_json, glyph_text};
 use shape_buffer::{GlyphBuffer, GlyphPosition, hb_font_t, hb_glyph_info_t};
 use std::alloc::{AllocError, Global};
@@ -28,6 +29,42 @@ fn append_entry<F: hb_font_t, N: glyph_names>(
     }
 }
 
+/// Appends a part of a list: glyphs from this spot on, and no end. Returns the spot of the glyph behind them, from which
+/// the next part goes on. Refuses only if a growth of memory was refused.
+pub fn append_part<F: hb_font_t, N: glyph_names>(
+    alloc: Global,
+    out: &mut String,
+    content: &Content<'_, F, N>,
+    spot: Spot,
+    infos: &[hb_glyph_info_t],
+    positions: &[GlyphPosition],
+) -> Result<Spot, AllocError>
+    requires { length positions.now ≡ length infos.now }
+    ensures text { IfOk result (λ _. string_bytes out.new
+        ≡ string_bytes out.old ++ part_text content.now.form (form_of content.now.flags.0
+        (N.name content.now.names.now) (F.face content.now.face.now))
+        spot infos.now positions.now) }
+    ensures spot { IfOk result (λ next. next
+        ≡ spot_after content.now.flags.0 spot positions.now) }
+{
+    let mut spot = spot;
+    for i in 0..infos.len() {
+        append_entry(alloc, out, content, spot, &infos[i], &positions[i])?;
+        spot = Spot {
+            first: false,
+            pen: pen_after(content.flags, spot.pen, &positions[i]),
+        };
+    }
+    Ok(spot)
+}
+
+/// Appends the end of a list.
+fn append_end(out: &mut String) -> Result<(), AllocError>
+    ensures { IfOk result (λ _. string_bytes out.new ≡ string_bytes out.old ++ 93 ∷ []) }
+{
+    out.push_str("]")
+}
+
 /// Appends glyphs, and the end of the list.
 fn append_glyphs<F: hb_font_t, N: glyph_names>(
     alloc: Global,
@@ -42,18 +79,8 @@ fn append_glyphs<F: hb_font_t, N: glyph_names>(
         (N.name content.now.names.now) (F.face content.now.face.now))
         true (record { x = pos 0; y = pos 0 }) infos.now positions.now) }
 {
-    let mut spot = Spot {
-        first: true,
-        pen: Pen { x: 0, y: 0 },
-    };
-    for i in 0..infos.len() {
-        append_entry(alloc, out, content, spot, &infos[i], &positions[i])?;
-        spot = Spot {
-            first: false,
-            pen: pen_after(content.flags, spot.pen, &positions[i]),
-        };
-    }
-    out.push(']')?;
+    append_part(alloc, out, content, Spot::START, infos, positions)?;
+    append_end(out)?;
     Ok(())
 }
 
@@ -161,3 +188,8 @@ pub fn serialize_json<F: hb_font_t, N: glyph_names>(
     let infos = glyphs.glyph_infos();
     serialize_placed_json(alloc, infos, glyphs.glyph_positions(), face, names, flags)
 }
+
+/// Parts that are written one after the other, and `]`, make the list.
+pub fn parts_make_lists()
+    ensures { PartsMakeLists }
+{}

@@ -22,8 +22,10 @@ pub mod opened_names;
 pub mod scan;
 pub mod worked;
 
-pub use content::{NoNames, SerializeFlags, glyph_names};
+pub use content::{Content, ListForm, NoNames, Pen, SerializeFlags, Spot, glyph_names};
 pub use feature::feature_from_string;
-pub use glyph_list::{serialize, serialize_json, serialize_placed, serialize_placed_json};
+pub use glyph_list::{
+    append_part, serialize, serialize_json, serialize_placed, serialize_placed_json,
+};
 pub use names::{direction_from_string, language_from_string, script_from_string, tag_from_string};
 pub use opened_names::OpenedNames;

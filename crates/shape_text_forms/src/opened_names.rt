@@ -10,7 +10,7 @@ ghost use Rattle.shape_text_forms.specs.FontNames.{written_name};
 ghost use Rattle.shape_text_forms.specs.OpenedNames.{AreStarts};
 
 use crate::content::glyph_names;
-use crate::font_names::text;
+use crate::font_names::{cut, text};
 use shape_buffer::GlyphId;
 use shape_font::FontFace;
 use shape_font::names::{STANDARD_COUNT, name, name_index, string_at, strings_at};
@@ -107,13 +107,13 @@ impl<'a> OpenedNames<'a> {
         }
     }
 
-    /// The glyph's name, if it is text.
+    /// The first bytes of the glyph's name, if they are text.
     fn written(&self, glyph: GlyphId) -> Option<&'a str>
         ensures { option_map (λ s. s.now) result
             ≡ written_name STANDARD.now self.now.post.now glyph.0 }
     {
         match self.glyph_name(glyph) {
-            Some(name) => text(name),
+            Some(name) => text(cut(name)),
             None => None,
         }
     }

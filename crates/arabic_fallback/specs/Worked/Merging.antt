@@ -51,9 +51,9 @@ pub record WorkedMergings : Type 0 where
   pub one_cluster : Beside 1 2 (2 ∷ 2 ∷ 2 ∷ 2 ∷ []) 0
   pub by_characters : merged_beside 2 3 (at_level MonotoneCharacters (3 ∷ 3 ∷ 3 ∷ 2 ∷ [])) ≡ 2
   pub not_merged : merged_beside 2 3 (at_level Characters (3 ∷ 3 ∷ 3 ∷ 2 ∷ [])) ≡ 0
-  -- one for each is taken from what lookups may ask for
-  pub charged : Leaves (made 30 (behind_two [])) (3 ∷ 3 ∷ 9 ∷ []) 16
-  pub behind_it : Leaves (made 30 (glyph 1 1 ∷ glyph 2 2 ∷ glyph 3 2 ∷ glyph 3 2 ∷ glyph 3 2 ∷ [])) (9 ∷ 3 ∷ 3 ∷ 3 ∷ []) 15
+  -- four for each are taken from what lookups may ask for
+  pub charged : Leaves (made 30 (behind_two [])) (3 ∷ 3 ∷ 9 ∷ []) 10
+  pub behind_it : Leaves (made 30 (glyph 1 1 ∷ glyph 2 2 ∷ glyph 3 2 ∷ glyph 3 2 ∷ glyph 3 2 ∷ [])) (9 ∷ 3 ∷ 3 ∷ 3 ∷ []) 6
   pub in_the_least : Leaves (made 30 (glyph 3 5 ∷ glyph 3 5 ∷ glyph 1 5 ∷ glyph 2 6 ∷ [])) (3 ∷ 3 ∷ 9 ∷ []) 18
   pub free : Leaves (ligated rule lam_alef (record new_buffer {
     items = behind_two [];
@@ -66,21 +66,21 @@ pub record WorkedMergings : Type 0 where
     items = behind_one;
     positions = map (λ i. zero_position) behind_one;
     max_ops = 30;
-  })) (2 ∷ 10 ∷ []) 17
+  })) (2 ∷ 10 ∷ []) 14
   -- the ligature is made whatever is left, and none after it once nothing is
-  pub just_enough : Leaves (made 14 (behind_two [])) (3 ∷ 3 ∷ 9 ∷ []) 0
-  pub too_little : Leaves (made 13 (behind_two [])) (3 ∷ 3 ∷ 9 ∷ []) 0
-  pub both_made : Leaves (made 26 (behind_two (glyph 1 3 ∷ glyph 2 2 ∷ []))) (3 ∷ 3 ∷ 9 ∷ 9 ∷ []) 0
-  pub first_made : Leaves (made 25 (behind_two (glyph 1 3 ∷ glyph 2 2 ∷ []))) (3 ∷ 3 ∷ 9 ∷ 1 ∷ 2 ∷ []) 0
+  pub just_enough : Leaves (made 20 (behind_two [])) (3 ∷ 3 ∷ 9 ∷ []) 0
+  pub too_little : Leaves (made 19 (behind_two [])) (3 ∷ 3 ∷ 9 ∷ []) 0
+  pub both_made : Leaves (made 32 (behind_two (glyph 1 3 ∷ glyph 2 2 ∷ []))) (3 ∷ 3 ∷ 9 ∷ 9 ∷ []) 0
+  pub first_made : Leaves (made 31 (behind_two (glyph 1 3 ∷ glyph 2 2 ∷ []))) (3 ∷ 3 ∷ 9 ∷ 1 ∷ 2 ∷ []) 0
   -- clusters that fall: all before the second one are merged again, the components that are to go among them
-  pub again : Leaves (made 30 (glyph 3 5 ∷ glyph 1 5 ∷ glyph 2 4 ∷ glyph 1 4 ∷ glyph 2 3 ∷ [])) (3 ∷ 9 ∷ 9 ∷ []) 2
+  pub again : Leaves (made 42 (glyph 3 5 ∷ glyph 1 5 ∷ glyph 2 4 ∷ glyph 1 4 ∷ glyph 2 3 ∷ [])) (3 ∷ 9 ∷ 9 ∷ []) 2
   -- four for each mark that follows
   pub two_follow : Leaves (made 40 (glyph 1 0 ∷ ligated_alef 0 ∷ two_marks)) (9 ∷ 5 ∷ 6 ∷ 4 ∷ []) 8
   pub just_enough_for_them : Leaves (made 32 (glyph 1 0 ∷ ligated_alef 0 ∷ two_marks)) (9 ∷ 5 ∷ 6 ∷ 4 ∷ []) 0
   pub too_little_for_them : Leaves (made 31 (glyph 1 0 ∷ ligated_alef 0 ∷ two_marks)) (9 ∷ 5 ∷ 6 ∷ 4 ∷ []) 0
   pub of_another : Leaves (made 40 (glyph 1 0 ∷ ligated_alef 0 ∷ mark 5 0 ∷ glyph 4 9 ∷ [])) (9 ∷ 5 ∷ 4 ∷ []) 22
   pub on_no_ligature : Leaves (made 40 (glyph 1 0 ∷ glyph 2 0 ∷ two_marks)) (9 ∷ 5 ∷ 6 ∷ 4 ∷ []) 16
-  pub both_charged : Leaves (made 40 (glyph 3 5 ∷ glyph 1 5 ∷ ligated_alef 4 ∷ two_marks)) (3 ∷ 9 ∷ 5 ∷ 6 ∷ 4 ∷ []) 7
+  pub both_charged : Leaves (made 40 (glyph 3 5 ∷ glyph 1 5 ∷ ligated_alef 4 ∷ two_marks)) (3 ∷ 9 ∷ 5 ∷ 6 ∷ 4 ∷ []) 4
 
 pub worked_mergings : WorkedMergings
 unfolding merge as_ligature

@@ -1,11 +1,12 @@
 -- Glyphs as lists of JSON, read by hand.
-use Rattle.std.specs.Prelude.{◌≡◌, ◌==◌, if◌then◌else◌, ℕ, pos, negsuc, List, [], ◌∷◌, Some, None, codes, refl}
+use Rattle.std.specs.Prelude.{◌≡◌, ◌==◌, if◌then◌else◌, ℕ, pos, negsuc, false, List, [], ◌∷◌, Some, None, codes, refl}
 use Rattle.std.specs.Fmt.{digits}
 use Rattle.std.specs.Int.{int_wrap}
 use Rattle.json.specs.Print.{escape_byte}
 use Rattle.shape_common.specs.Wrapping.{◌+ʷ◌}
 use Rattle.shape_text_forms.specs.Serialize.{Form}
-use Rattle.shape_text_forms.specs.Lists.{json_text}
+use Rattle.shape_text_forms.specs.Lists.{json_text, part_text}
+use Rattle.shape_text_forms.specs.declared.content.ListForm.TheVariants.{Json}
 use Rattle.shape_text_forms.specs.Worked.Texts.{form, glyph, place}
 
 -- glyph 2 of cluster 0, 600 wide; glyph 30 of cluster 1, moved to (-50, 7), unsafe to break (1) with a bit of a feature
@@ -36,6 +37,9 @@ pub record WorkedLists : Type 0 where
   pub pen_down : json_text (form 33) (glyph 2 0 0 ∷ glyph 2 1 0 ∷ [])
       (place (pos 0) (negsuc 999) (pos 0) (pos 0) ∷ place (pos 0) (pos 0) (pos 0) (pos 7) ∷ [])
       ≡ codes "[{\"g\":\"A\",\"dx\":0,\"dy\":0},{\"g\":\"A\",\"dx\":0,\"dy\":-993}]"
+  -- a part that doesn't begin the list
+  pub second_part : part_text Json (form 33) (record { first = false; pen = record { x = pos 0; y = negsuc 999 } })
+      (glyph 2 1 0 ∷ []) (place (pos 0) (pos 0) (pos 0) (pos 7) ∷ []) ≡ codes ",{\"g\":\"A\",\"dx\":0,\"dy\":-993}"
   pub escaped : json_text odd_names (glyph 2 0 0 ∷ []) (place (pos 0) (pos 0) (pos 0) (pos 0) ∷ [])
       ≡ codes "[{\"g\":\"\\\"\\\\\\u0001\"}]"
 
@@ -53,5 +57,6 @@ worked_lists = record {
   flags_and_boxes = refl;
   tatweel = refl;
   pen_down = refl;
+  second_part = refl;
   escaped = refl;
 }

@@ -1,5 +1,5 @@
 -- What one word names, and glyphs as text, read by hand.
-use Rattle.std.specs.Prelude.{◌≡◌, ◌==◌, if◌then◌else◌, ℕ, ℤ, pos, negsuc, List, [], ◌∷◌, Option, Some, None, codes, map, refl}
+use Rattle.std.specs.Prelude.{◌≡◌, ◌==◌, if◌then◌else◌, ℕ, ℤ, pos, negsuc, false, List, [], ◌∷◌, ◌++◌, replicate, Option, Some, None, codes, map, refl}
 use Rattle.std.specs.Fmt.{digits}
 use Rattle.std.specs.Int.{int_wrap}
 use Rattle.std.specs.Str.{is_utf8, chars}
@@ -13,7 +13,8 @@ use Rattle.shape_font.specs.Worked.Names.{left_out, four_names}
 use Rattle.shape_text_forms.specs.FontNames.{written_name}
 use Rattle.shape_text_forms.specs.Names.{direction_of_text, language_of_text, tag_of_text, script_of_text}
 use Rattle.shape_text_forms.specs.Serialize.{Form}
-use Rattle.shape_text_forms.specs.Lists.{serialized}
+use Rattle.shape_text_forms.specs.Lists.{serialized, part_text, spot_after, start}
+use Rattle.shape_text_forms.specs.declared.content.ListForm.TheVariants.{Text}
 
 abbrev pub script : ℕ → Option Script
 script tag = Some (record { 0 = record { 0 = tag } })
@@ -124,6 +125,16 @@ pub record WorkedTexts : Type 0 where
   pub pen_down : serialized (form 32) (glyph 2 0 0 ∷ glyph 2 1 0 ∷ [])
       (place (pos 0) (negsuc 999) (pos 0) (pos 0) ∷ place (pos 0) (pos 0) (pos 0) (pos 7) ∷ [])
       ≡ codes "[A=0|A=1@0,-993]"
+  -- the same in two parts
+  pub first_part : part_text Text (form 32) start (glyph 2 0 0 ∷ []) (place (pos 0) (negsuc 999) (pos 0) (pos 0) ∷ []) ≡ codes "[A=0"
+  pub behind_the_first : spot_after 32 start (place (pos 0) (negsuc 999) (pos 0) (pos 0) ∷ [])
+      ≡ record { first = false; pen = record { x = pos 0; y = negsuc 999 } }
+  pub second_part : part_text Text (form 32) (record { first = false; pen = record { x = pos 0; y = negsuc 999 } })
+      (glyph 2 1 0 ∷ []) (place (pos 0) (pos 0) (pos 0) (pos 7) ∷ []) ≡ codes "|A=1@0,-993"
+  -- the pen stands still if advances are written
+  pub behind_two : spot_after 0 start (place (pos 600) (pos 0) (pos 0) (pos 0) ∷ place (pos 0) (negsuc 999) (negsuc 49) (pos 7) ∷ [])
+      ≡ record { first = false; pen = record { x = pos 0; y = pos 0 } }
+  pub no_part : part_text Text (form 0) start [] [] ≡ []
 
 pub worked_texts : WorkedTexts
 unfolding digits ◌+ʷ◌ int_wrap
@@ -141,6 +152,11 @@ worked_texts = record {
   moved_across = refl;
   tatweel = refl;
   pen_down = refl;
+  first_part = refl;
+  behind_the_first = refl;
+  second_part = refl;
+  behind_two = refl;
+  no_part = refl;
 }
 
 pub record WorkedFontNames : Type 0 where
@@ -149,7 +165,22 @@ pub record WorkedFontNames : Type 0 where
   -- U+00E9 in two bytes, and the first of them alone
   pub past_ascii : written_name (2 ∷ 0xC3 ∷ 0xA9 ∷ []) (0 ∷ 1 ∷ 0 ∷ 0 ∷ []) 0 ≡ Some (0xC3 ∷ 0xA9 ∷ [])
   pub no_text : written_name (1 ∷ 0xC3 ∷ []) (0 ∷ 1 ∷ 0 ∷ 0 ∷ []) 0 ≡ None
+  -- 127 times a, and once more
+  pub as_long_as_any : written_name (127 ∷ replicate 127 97) (0 ∷ 1 ∷ 0 ∷ 0 ∷ []) 0 ≡ Some (replicate 127 97)
+  pub cut_off : written_name (128 ∷ replicate 128 97) (0 ∷ 1 ∷ 0 ∷ 0 ∷ []) 0 ≡ Some (replicate 127 97)
+  -- U+00E9 behind 126 letters is cut in two; a lone byte that is cut off is not looked at
+  pub cut_in_two : written_name (128 ∷ replicate 126 97 ++ 0xC3 ∷ 0xA9 ∷ []) (0 ∷ 1 ∷ 0 ∷ 0 ∷ []) 0 ≡ None
+  pub no_text_behind : written_name (128 ∷ replicate 127 97 ++ 0xC3 ∷ []) (0 ∷ 1 ∷ 0 ∷ 0 ∷ []) 0 ≡ Some (replicate 127 97)
 
 pub worked_font_names : WorkedFontNames
 unfolding is_utf8 chars encode
-worked_font_names = record { letters = refl; no_name = refl; past_ascii = refl; no_text = refl }
+worked_font_names = record {
+  letters = refl;
+  no_name = refl;
+  past_ascii = refl;
+  no_text = refl;
+  as_long_as_any = refl;
+  cut_off = refl;
+  cut_in_two = refl;
+  no_text_behind = refl;
+}
