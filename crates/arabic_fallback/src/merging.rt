@@ -3,27 +3,25 @@
 //! Beside the components the walks look at no more items than are charged, and at the one that ends each.
 ghost use Rattle.std.specs.Prelude.{◌≡◌, ◌<◌, ◌≤◌, ◌+◌, length};
 ghost use Rattle.shape_items.specs.Buffer.{limit_of};
+ghost use Rattle.shape_items.specs.Merging.{merged_beside};
 ghost use Rattle.arabic_fallback.specs.Merging;
 
 use shape_buffer::BufferClusterLevel;
 use shape_buffer::buffer::hb_buffer_t;
-use shape_items::clusters::{growth_left, growth_right, least_cluster};
+use shape_items::clusters::grown_over;
 
 /// What an item costs that is merged beside the components, since it is written anew.
 const MERGED: usize = 4;
 
 /// How many items beside the components from `at` to `last` their merging grows over.
 fn merged_beside(buffer: &hb_buffer_t, at: usize, last: usize) -> usize
-    requires ordered { at ≤ last }
-    requires within { last < length buffer.now.items }
-    ensures { result ≡ Merging.merged_beside at last buffer.now }
+    requires { last < length buffer.now.items }
+    ensures { result ≡ merged_beside at last buffer.now }
 {
     if buffer.cluster_level() == BufferClusterLevel::Characters {
         return 0;
     }
-    let infos = buffer.infos();
-    let least = least_cluster(&infos[at..last + 1]);
-    growth_left(infos, at, least) + growth_right(infos, last, least)
+    grown_over(buffer.infos(), at, last)
 }
 
 /// Charges for the merging of the components from `at` to `last`, which is still to come.

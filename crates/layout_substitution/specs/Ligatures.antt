@@ -1,11 +1,10 @@
 -- What a ligature makes of a buffer at a place (kind 4).
-use Rattle.std.specs.Prelude.{ℕ, List, Bool, true, Option, Some, None, ◌+◌, ◌-◌, ◌*◌, ◌%◌, ◌&&◌, ◌||◌, not, length, min, nat_eq, nat_lt, if◌then◌else◌, slice_range}
+use Rattle.std.specs.Prelude.{ℕ, List, Bool, true, Option, Some, None, ◌+◌, ◌-◌, ◌*◌, ◌%◌, ◌&&◌, ◌||◌, not, length, min, nat_eq, nat_lt, if◌then◌else◌}
 use Rattle.std.specs.Option.{option_and_then, option_map, option_map_or}
 use Rattle.shape_font.specs.Bytes.{u16_of}
 use Rattle.shape_items.specs.Buffer.{Buffer, next_ligature_id}
-use Rattle.shape_items.specs.Clusters.{least_cluster, growth_left, growth_right}
 use Rattle.shape_items.specs.Items.{Item}
-use Rattle.shape_common.specs.declared.text_types.BufferClusterLevel.TheVariants.{MonotoneGraphemes, MonotoneCharacters, Characters}
+use Rattle.shape_items.specs.Merging.{merged_beside}
 use Rattle.layout_tables.specs.Offsets.{offset16_of}
 use Rattle.layout_matching.specs.Glance.{glance_after, refuses}
 use Rattle.layout_matching.specs.Input.{input_matched, is_mark_glyph, seek_input}
@@ -201,19 +200,7 @@ FOLLOWED = 4
 abbrev pub following_charged : ℕ → Spot → Spot
 following_charged end spot = record spot { left = spot.left - (end - spot.at) * FOLLOWED }
 
--- how many items beside the components their merging writes: those that it grows over. None at level CHARACTERS
-abbrev pub grown_over : ℕ → ℕ → List Item → ℕ
-grown_over at last items = let least = least_cluster (slice_range items at (last + 1)) in
-    (if nat_lt at last then growth_left items at least + growth_right items last least else 0)
-
-abbrev pub merged_beside : ℕ → ℕ → Buffer → ℕ
-merged_beside at last b = elim b.cluster_level [
-  | MonotoneGraphemes ↦ grown_over at last b.items
-  | MonotoneCharacters ↦ grown_over at last b.items
-  | Characters ↦ 0
-]
-
--- one for each of these, since it is written anew; if what is left doesn't suffice, nothing is left
+-- one for each item beside the components that their merging writes; if what is left doesn't suffice, nothing is left
 abbrev pub merging_charged : ℕ → Buffer → Spot → Spot
 merging_charged last b spot = record spot { left = spot.left - merged_beside spot.at last b }
 

@@ -3,7 +3,6 @@ use Rattle.std.specs.Prelude.{◌≡◌, ℕ, Bool, List, [], ◌∷◌, Option,
 use Rattle.std.specs.Option.{option_map}
 use Rattle.shape_font.specs.Worked.Glyphs.{words}
 use Rattle.shape_common.specs.declared.general_category.hb_unicode_general_category_t.TheVariants.{NonspacingMark, OtherLetter}
-use Rattle.shape_common.specs.declared.text_types.BufferClusterLevel.TheVariants.{MonotoneCharacters, Characters}
 use Rattle.shape_items.specs.Buffer.{Buffer, new_buffer}
 use Rattle.shape_items.specs.Clusters.{merge}
 use Rattle.shape_items.specs.Items.{Item, new_item, new_properties}
@@ -11,7 +10,7 @@ use Rattle.layout_matching.specs.declared.glance.Glance.{Glance}
 use Rattle.layout_matching.specs.declared.glance.Glance.TheVariants.{Open, Closed, Only}
 use Rattle.layout_matching.specs.declared.lookup.Lookup.{Lookup}
 use Rattle.layout_substitution.specs.Applied.{deleted}
-use Rattle.layout_substitution.specs.Ligatures.{ligature_matched, second_glance, begins_with_another, following_charged, merged_beside, merging_charged, ligature_put}
+use Rattle.layout_substitution.specs.Ligatures.{ligature_matched, second_glance, begins_with_another, following_charged, merging_charged, ligature_put}
 use Rattle.layout_substitution.specs.Replaced.{replaced, is_multiplied, taken_apart, with_components, as_ligature}
 use Rattle.layout_substitution.specs.Start.{begun_item}
 use Rattle.layout_substitution.specs.Substitutes.{has_components}
@@ -232,10 +231,6 @@ worked_deletions = record {
 abbrev pub in_clusters : List ℕ → Buffer
 in_clusters clusters = record new_buffer { items = map in_cluster clusters }
 
--- how many items are written beside components that stand from one place to another
-abbrev pub Beside : ℕ → ℕ → List ℕ → ℕ → Type 0
-Beside at last clusters count = merged_beside at last (in_clusters clusters) ≡ count
-
 -- two in a cluster before the components, which goes over into that of the last one
 abbrev pub two_before : List ℕ
 two_before = 3 ∷ 3 ∷ 3 ∷ 2 ∷ 1 ∷ []
@@ -246,38 +241,12 @@ LeftMerging before left = (random whole : ℕ)
     → (merging_charged 3 (in_clusters two_before) (record { at = 2; random = random; left = before; whole = whole })).left ≡ left
 
 pub record WorkedMergings : Type 0 where
-  pub none : Beside 1 2 (4 ∷ 3 ∷ 2 ∷ 1 ∷ []) 0
-  pub before : Beside 2 3 two_before 2
-  pub up_to_another : Beside 2 3 (4 ∷ 3 ∷ 3 ∷ 2 ∷ []) 1
-  pub after : Beside 0 1 (0 ∷ 1 ∷ 1 ∷ 1 ∷ 2 ∷ []) 2
-  pub up_to_the_end : Beside 1 2 (0 ∷ 1 ∷ 2 ∷ 2 ∷ []) 1
-  -- the least cluster is that of a component between them
-  pub on_both_sides : Beside 1 3 (2 ∷ 2 ∷ 1 ∷ 3 ∷ 3 ∷ 3 ∷ []) 3
-  -- items in the least cluster aren't written
-  pub least_first : Beside 2 3 (1 ∷ 1 ∷ 1 ∷ 2 ∷ []) 0
-  pub least_last : Beside 0 1 (3 ∷ 2 ∷ 2 ∷ 2 ∷ []) 0
-  pub one_cluster : Beside 1 2 (2 ∷ 2 ∷ 2 ∷ 2 ∷ []) 0
-  pub no_span : Beside 1 0 (1 ∷ 1 ∷ 1 ∷ []) 0
-  pub by_characters : merged_beside 2 3 (record (in_clusters two_before) { cluster_level = MonotoneCharacters }) ≡ 2
-  pub not_merged : merged_beside 2 3 (record (in_clusters two_before) { cluster_level = Characters }) ≡ 0
   pub charged : LeftMerging 10 8
   pub just_enough : LeftMerging 2 0
   pub too_little : LeftMerging 1 0
 
 pub worked_mergings : WorkedMergings
 worked_mergings = record {
-  none = refl;
-  before = refl;
-  up_to_another = refl;
-  after = refl;
-  up_to_the_end = refl;
-  on_both_sides = refl;
-  least_first = refl;
-  least_last = refl;
-  one_cluster = refl;
-  no_span = refl;
-  by_characters = refl;
-  not_merged = refl;
   charged = λ random whole. refl;
   just_enough = λ random whole. refl;
   too_little = λ random whole. refl;

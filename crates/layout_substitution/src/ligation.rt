@@ -53,7 +53,7 @@ pub(crate) fn how_to_ligate(
 }
 
 /// How many items are after the one at `last`.
-pub(crate) fn left_after(buffer: &GapBuffer, last: usize) -> usize
+pub(crate) fn count_behind(buffer: &GapBuffer, last: usize) -> usize
     requires { last < length buffer.now.items }
     ensures { result ≡ length buffer.now.items - (last + 1) }
 {

@@ -7,7 +7,7 @@ ghost use Rattle.layout_substitution.specs.Ligatures;
 
 use crate::apply::Spot;
 use crate::edits::{item, merge, next_place, put, take_out};
-use crate::ligation::{how_to_ligate, left_after, with_left};
+use crate::ligation::{count_behind, how_to_ligate, with_left};
 use crate::merging::charge_merging;
 use crate::replaced::{as_component, as_ligature, components_of};
 use crate::second_component::{begins_with_another, second_glance};
@@ -376,7 +376,7 @@ pub(crate) fn put_ligature(
     ensures made { buffer.new ≡ (Ligatures.ligature_put lookup.now spot buffer.old found).buffer }
     ensures next { Some result ≡ (Ligatures.ligature_put lookup.now spot buffer.old found).next }
 {
-    let left = left_after(buffer, found.last);
+    let left = count_behind(buffer, found.last);
     let made = how_to_ligate(lookup, buffer, spot.at, found);
     ligate(lookup, buffer, spot, &made, found, left)
 }

@@ -6,6 +6,7 @@ ghost use Rattle.std.specs.Prelude.{◌≡◌, ◌<◌, ◌≤◌, ◌+◌, ◌-
 ghost use Rattle.std.specs.List.{prefix_len, suffix_len};
 ghost use Rattle.layout_substitution.specs.Ligatures;
 ghost use Rattle.shape_items.specs.Clusters;
+ghost use Rattle.shape_items.specs.Merging;
 ghost use Rattle.shape_items.specs.Items.{has_cluster};
 
 use crate::apply::Spot;
@@ -79,9 +80,9 @@ fn growth_right(items: &ItemList<'_>, last: usize, least: u32) -> usize
 }
 
 /// What is left of so much after the components from `at` to `last` were merged.
-fn left_after(buffer: &GapBuffer, at: usize, last: usize, left: usize) -> usize
+fn left_when_merged(buffer: &GapBuffer, at: usize, last: usize, left: usize) -> usize
     requires { last < length buffer.now.items }
-    ensures { result ≡ left - Ligatures.merged_beside at last buffer.now }
+    ensures { result ≡ left - Merging.merged_beside at last buffer.now }
 {
     if last <= at || buffer.cluster_level() == BufferClusterLevel::Characters {
         return left;
@@ -99,6 +100,6 @@ pub(crate) fn charge_merging(buffer: &GapBuffer, spot: Spot, last: usize) -> Spo
     ensures { result ≡ Ligatures.merging_charged last buffer.now spot }
 {
     let mut paid = spot;
-    paid.left = left_after(buffer, spot.at, last, spot.left);
+    paid.left = left_when_merged(buffer, spot.at, last, spot.left);
     paid
 }

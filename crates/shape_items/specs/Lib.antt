@@ -3,6 +3,7 @@ pub mod Words
 pub mod WordLaws
 pub mod Items
 pub mod Clusters
+pub mod Merging
 pub mod ClusterOrder
 pub mod Buffer
 pub mod BufferClusters

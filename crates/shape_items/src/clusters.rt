@@ -12,6 +12,7 @@ ghost use Rattle.std.specs.List.{prefix_len, suffix_len};
 ghost use Rattle.shape_items.specs.ClusterOrder.{PreservesClusters};
 ghost use Rattle.shape_items.specs.Items.{has_cluster, put_in};
 ghost use Rattle.shape_items.specs.Clusters;
+ghost use Rattle.shape_items.specs.Merging;
 
 mod delete;
 mod each_span;
@@ -57,7 +58,7 @@ pub(crate) fn count_at_end(infos: &[hb_glyph_info_t], cluster: u32) -> usize
 }
 
 /// How many items directly before a span of that least cluster the merge takes in.
-pub fn growth_left(infos: &[hb_glyph_info_t], start: usize, least: u32) -> usize
+fn growth_left(infos: &[hb_glyph_info_t], start: usize, least: u32) -> usize
     requires { start < length infos.now }
     ensures value { result ≡ Clusters.growth_left infos.now start least }
     ensures within { result ≤ start }
@@ -70,7 +71,7 @@ pub fn growth_left(infos: &[hb_glyph_info_t], start: usize, least: u32) -> usize
 }
 
 /// How many items directly after a span of that least cluster, which ends with `last`, the merge takes in.
-pub fn growth_right(infos: &[hb_glyph_info_t], last: usize, least: u32) -> usize
+pub(super) fn growth_right(infos: &[hb_glyph_info_t], last: usize, least: u32) -> usize
     requires { last < length infos.now }
     ensures value { result ≡ Clusters.growth_right infos.now last least }
     ensures within { last + result < length infos.now }
@@ -80,6 +81,18 @@ pub fn growth_right(infos: &[hb_glyph_info_t], last: usize, least: u32) -> usize
         return 0;
     }
     count_at_start(&infos[last + 1..], cluster)
+}
+
+/// How many items beside a span, the one at `last` among them, its merging writes.
+pub fn grown_over(infos: &[hb_glyph_info_t], at: usize, last: usize) -> usize
+    requires { last < length infos.now }
+    ensures { result ≡ Merging.grown_over at last infos.now }
+{
+    if last <= at {
+        return 0;
+    }
+    let least = least_cluster(&infos[at..last + 1]);
+    growth_left(infos, at, least) + growth_right(infos, last, least)
 }
 
 /// Puts every item into one cluster.

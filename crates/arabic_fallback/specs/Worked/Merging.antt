@@ -1,25 +1,16 @@
 -- What a ligature is charged for the items beside its components, and for those that follow it: lam 1 and alef 2 make 9, and each search
 -- for that costs 6 for each glyph that is looked at.
-use Rattle.std.specs.Prelude.{◌≡◌, ℕ, List, [], ◌∷◌, map, refl}
+use Rattle.std.specs.Prelude.{ℕ, List, [], ◌∷◌, map, refl}
 use Rattle.shape_common.specs.Positions.{zero_position}
-use Rattle.shape_common.specs.declared.text_types.BufferClusterLevel.{BufferClusterLevel}
-use Rattle.shape_common.specs.declared.text_types.BufferClusterLevel.TheVariants.{MonotoneCharacters, Characters}
-use Rattle.shape_items.specs.Buffer.{Buffer, new_buffer}
+use Rattle.shape_common.specs.declared.text_types.BufferClusterLevel.TheVariants.{Characters}
+use Rattle.shape_items.specs.Buffer.{new_buffer}
 use Rattle.shape_items.specs.Clusters.{merge}
 use Rattle.shape_items.specs.Items.{Item, new_properties}
 use Rattle.arabic_fallback.specs.Ligating.{ligated}
-use Rattle.arabic_fallback.specs.Merging.{merged_beside}
 use Rattle.arabic_fallback.specs.Replaced.{as_ligature}
 use Rattle.arabic_fallback.specs.Worked.Charges.{Leaves, made}
 use Rattle.arabic_fallback.specs.Worked.Forms.{rule}
 use Rattle.arabic_fallback.specs.Worked.Ligatures.{glyph, lam_alef, lellah, mark, on_component}
-
-abbrev pub at_level : BufferClusterLevel → List ℕ → Buffer
-at_level level clusters = record new_buffer { items = map (glyph 1) clusters; cluster_level = level }
-
--- how many items are written beside components that stand from one place to another
-abbrev pub Beside : ℕ → ℕ → List ℕ → ℕ → Type 0
-Beside at last clusters count = merged_beside at last (record new_buffer { items = map (glyph 1) clusters }) ≡ count
 
 -- a lam in the cluster of two glyphs before it, which goes over into that of the alef
 abbrev pub behind_two : List Item → List Item
@@ -38,19 +29,6 @@ abbrev pub two_marks : List Item
 two_marks = on_component 5 1 ∷ on_component 6 1 ∷ glyph 4 9 ∷ []
 
 pub record WorkedMergings : Type 0 where
-  pub none : Beside 1 2 (4 ∷ 3 ∷ 2 ∷ 1 ∷ []) 0
-  pub before : Beside 2 3 (3 ∷ 3 ∷ 3 ∷ 2 ∷ 1 ∷ []) 2
-  pub up_to_another : Beside 2 3 (4 ∷ 3 ∷ 3 ∷ 2 ∷ []) 1
-  pub after : Beside 0 1 (0 ∷ 1 ∷ 1 ∷ 1 ∷ 2 ∷ []) 2
-  pub up_to_the_end : Beside 1 2 (0 ∷ 1 ∷ 2 ∷ 2 ∷ []) 1
-  -- the least cluster is that of a component between them
-  pub on_both_sides : Beside 1 3 (2 ∷ 2 ∷ 1 ∷ 3 ∷ 3 ∷ 3 ∷ []) 3
-  -- items in the least cluster aren't written
-  pub least_first : Beside 2 3 (1 ∷ 1 ∷ 1 ∷ 2 ∷ []) 0
-  pub least_last : Beside 0 1 (3 ∷ 2 ∷ 2 ∷ 2 ∷ []) 0
-  pub one_cluster : Beside 1 2 (2 ∷ 2 ∷ 2 ∷ 2 ∷ []) 0
-  pub by_characters : merged_beside 2 3 (at_level MonotoneCharacters (3 ∷ 3 ∷ 3 ∷ 2 ∷ [])) ≡ 2
-  pub not_merged : merged_beside 2 3 (at_level Characters (3 ∷ 3 ∷ 3 ∷ 2 ∷ [])) ≡ 0
   -- four for each are taken from what lookups may ask for
   pub charged : Leaves (made 30 (behind_two [])) (3 ∷ 3 ∷ 9 ∷ []) 10
   pub behind_it : Leaves (made 30 (glyph 1 1 ∷ glyph 2 2 ∷ glyph 3 2 ∷ glyph 3 2 ∷ glyph 3 2 ∷ [])) (9 ∷ 3 ∷ 3 ∷ 3 ∷ []) 6
@@ -85,17 +63,6 @@ pub record WorkedMergings : Type 0 where
 pub worked_mergings : WorkedMergings
 unfolding merge as_ligature
 worked_mergings = record {
-  none = refl;
-  before = refl;
-  up_to_another = refl;
-  after = refl;
-  up_to_the_end = refl;
-  on_both_sides = refl;
-  least_first = refl;
-  least_last = refl;
-  one_cluster = refl;
-  by_characters = refl;
-  not_merged = refl;
   charged = (refl, refl);
   behind_it = (refl, refl);
   in_the_least = (refl, refl);

@@ -12,8 +12,8 @@ returns-clause-made c =
     let b = c.args.buffer.now in
     let made = c.how_to_ligate-made.result in
     c.ligate.ensures.made
-    ∙ ap (λ (d : Buffer). (ligated l spot made m c.left_after-left.result d).buffer) c.how_to_ligate-made.ensures.given
-    ∙ ap (λ n. (ligated l spot made m n (id_given made.own b)).buffer) c.left_after-left.ensures
+    ∙ ap (λ (d : Buffer). (ligated l spot made m c.count_behind-left.result d).buffer) c.how_to_ligate-made.ensures.given
+    ∙ ap (λ n. (ligated l spot made m n (id_given made.own b)).buffer) c.count_behind-left.ensures
     ∙ ap (λ (h : Ligation). (ligated l spot h m (length b.items - (m.last + 1)) (id_given h.own b)).buffer) c.how_to_ligate-made.ensures.how
 
 pub returns-clause-next : goal.returns-clause-next
@@ -24,6 +24,6 @@ returns-clause-next c =
     let b = c.args.buffer.now in
     let made = c.how_to_ligate-made.result in
     c.ligate.ensures.next
-    ∙ ap (λ (d : Buffer). (ligated l spot made m c.left_after-left.result d).next) c.how_to_ligate-made.ensures.given
-    ∙ ap (λ n. (ligated l spot made m n (id_given made.own b)).next) c.left_after-left.ensures
+    ∙ ap (λ (d : Buffer). (ligated l spot made m c.count_behind-left.result d).next) c.how_to_ligate-made.ensures.given
+    ∙ ap (λ n. (ligated l spot made m n (id_given made.own b)).next) c.count_behind-left.ensures
     ∙ ap (λ (h : Ligation). (ligated l spot h m (length b.items - (m.last + 1)) (id_given h.own b)).next) c.how_to_ligate-made.ensures.how
