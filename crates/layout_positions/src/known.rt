@@ -1,14 +1,15 @@
 //! What a walk over a long list knows of its glyphs: which subtables of marks don't list them. A text has few marks, which come
 //! again and again, and a lookup many subtables, of which most don't list a mark: each is searched once for a glyph.
-ghost use Rattle.std.specs.Prelude.{◌≡◌, ◌<◌, ◌+◌, ◌&&◌, ◌^◌, ◌||◌, All, true, length, nat_eq, nat_lt, Some, None};
+ghost use Rattle.std.specs.Prelude.{◌≡◌, ◌<◌, ◌+◌, ◌&&◌, ◌^◌, ◌||◌, All, true, false, length, nat_eq, nat_lt, Some, None};
 ghost use Rattle.std.specs.Int.{bit_at};
 ghost use Rattle.layout_tables.specs.Lookups.{subtable_of};
 ghost use Rattle.layout_matching.specs.Skipping.{nth};
 ghost use Rattle.layout_positions.specs.Known as known_marks;
 ghost use Rattle.layout_positions.specs.Subtables;
 
+use crate::adjustment::{apply_pair, apply_single};
 use crate::listed::{listed_mark, place_listed};
-use crate::subtables::{Carried, Outcome, apply_subtable};
+use crate::subtables::{Carried, Outcome, place_cursive};
 use layout_matching::found::first_subtable;
 use layout_matching::lookup::Lookup;
 use layout_tables::lookups::{LookupSubtable, lookup_type, subtable, subtable_count};
@@ -145,28 +146,62 @@ fn try_marks(
     }
 }
 
-/// Applies a subtable to the glyph at place `i`. A call of its own: in a lookup of marks only one that stands far away may be of
-/// another type.
+/// Applies a subtable of type 1 or 2 to the glyph at place `i`, and none of another type. It isn't shared with the walks that
+/// keep nothing in mind: there it would no longer be inlined.
+fn place_values(
+    lookup: &Lookup<'_>,
+    subtable: LookupSubtable,
+    buffer: &mut hb_buffer_t,
+    i: usize,
+    carried: Carried,
+) -> Outcome
+    requires near { subtable.start < 2 ^ 34 }
+    requires inside { i < length buffer.old.items }
+    requires lone { nat_eq subtable.kind 3 ≡ false }
+    requires baseless { nat_eq subtable.kind 4 || nat_eq subtable.kind 5 ≡ false }
+    requires markless { nat_eq subtable.kind 6 ≡ false }
+    ensures { record {
+      buffer = buffer.new;
+      next = result.next;
+      seen = result.carried.seen;
+      left = result.carried.left;
+    } ≡ Subtables.kind_placed lookup.now subtable i buffer.old carried.seen carried.left }
+{
+    let next = match subtable.kind {
+        1 => apply_single(lookup, subtable.start, buffer, i),
+        2 => apply_pair(lookup, subtable.start, buffer, i, &mut None),
+        _ => None,
+    };
+    Outcome { next, carried }
+}
+
+/// Applies a subtable that doesn't attach marks to the glyph at place `i`. A call of its own: in a lookup of marks only one that
+/// stands far away may be of another type.
 #[inline(never)]
 fn try_other(
     lookup: &Lookup<'_>,
     subtable: LookupSubtable,
     buffer: &mut hb_buffer_t,
     i: usize,
-    placed: Outcome,
+    carried: Carried,
 ) -> Outcome
     requires near { subtable.start < 2 ^ 34 }
     requires inside { i < length buffer.old.items }
-    requires unplaced { placed.next ≡ None }
+    requires baseless { nat_eq subtable.kind 4 || nat_eq subtable.kind 5 ≡ false }
+    requires markless { nat_eq subtable.kind 6 ≡ false }
     ensures { record {
       buffer = buffer.new;
       next = result.next;
       seen = result.carried.seen;
       left = result.carried.left;
     } ≡ Subtables.subtable_placed lookup.now subtable i buffer.old
-        (Subtables.sought lookup.now subtable i buffer.old placed.carried.seen placed.carried.left) }
+        (Subtables.sought lookup.now subtable i buffer.old carried.seen carried.left) }
 {
-    apply_subtable(lookup, subtable, buffer, i, placed, &mut None)
+    if subtable.kind == 3 {
+        place_cursive(lookup, subtable, buffer, i, carried)
+    } else {
+        place_values(lookup, subtable, buffer, i, carried)
+    }
 }
 
 /// Applies subtable number `k` to the glyph at place `i`.
@@ -197,7 +232,7 @@ fn try_new(
     match subtable.kind {
         4 | 5 | 6 => try_marks(lookup, subtable, buffer, i, k, tried),
         _ => Tried {
-            placed: try_other(lookup, subtable, buffer, i, tried.placed),
+            placed: try_other(lookup, subtable, buffer, i, tried.placed.carried),
             out: tried.out,
         },
     }

@@ -67,7 +67,7 @@ fn charge_links(links: usize, left: usize) -> usize
 /// Applies a subtable of type 3 to the glyph at place `i`, unless nothing is left for the links that
 /// it may turn round.
 #[tactic(auto, using(crate::proofs::SubtableLemmas::links_placed, crate::proofs::SubtableLemmas::links_unpaid))]
-fn place_cursive(
+pub(crate) fn place_cursive(
     lookup: &Lookup<'_>,
     subtable: LookupSubtable,
     buffer: &mut hb_buffer_t,
@@ -135,8 +135,7 @@ fn apply_kind(
 }
 
 /// Applies a subtable to the glyph at place `i`.
-#[inline(always)]
-pub(crate) fn apply_subtable(
+fn apply_subtable(
     lookup: &Lookup<'_>,
     subtable: LookupSubtable,
     buffer: &mut hb_buffer_t,
