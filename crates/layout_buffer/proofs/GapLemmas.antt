@@ -1,5 +1,5 @@
 -- What stands round a gap, as the gap moves, grows and shrinks.
-use Rattle.std.proofs.Common.{◌≡◌, ℕ, suc, ◌+◌, ◌-◌, ◌≤◌, ◌<◌, List, [], ◌∷◌, ◌++◌, take, drop, length, replicate, insert, remove, slice_set, refl, sym, ap, ◌∙◌, arith, rules}
+use Rattle.std.proofs.Common.{◌≡◌, ℕ, suc, ◌+◌, ◌-◌, ◌≤◌, ◌<◌, List, [], ◌∷◌, ◌++◌, take, drop, length, replicate, insert, remove, slice_set, slice_index_or, refl, sym, ap, ◌∙◌, arith, rules}
 use Rattle.std.specs.List.{copy_within}
 use Rattle.std.proofs.lemmas.List.{places, same_lists, take-append-drop, append_assoc, take_at, drop_at, drop-drop, take_more_set, drop-set-lt, length-take-le, get_or-set_same}
 use Rattle.std.proofs.lemmas.Bool.{cases_eq}
@@ -71,3 +71,12 @@ around_end at room xs ends = same_lists _ _ (search (rules, places)) (λ k d h. 
 pub gap_removes : {T : Type 0} (at room : ℕ) (xs ys : List T) → at + room < length xs → around at room xs ≡ ys
     → around at (room + 1) xs ≡ remove ys at
 gap_removes at room xs ys fits same = gap_takes at room xs fits ∙ ap (λ zs. remove zs at) same
+
+-- the items from a place on, where it is before the gap and where it is after it
+pub in_front : {T : Type 0} (xs ys : List T) (i j : ℕ) (d : T) → j < length (drop i xs)
+    → slice_index_or (drop i xs) j d ≡ slice_index_or (xs ++ ys) (i + j) d
+in_front xs ys i j d inside = grind (arith, places)
+
+pub in_back : {T : Type 0} (xs ys : List T) (i j : ℕ) (d : T) → length xs ≤ i → j < length (drop (i - length xs) ys)
+    → slice_index_or (drop (i - length xs) ys) j d ≡ slice_index_or (xs ++ ys) (i + j) d
+in_back xs ys i j d after inside = grind (arith, places)

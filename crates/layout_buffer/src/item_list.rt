@@ -1,5 +1,5 @@
 //! What matching reads of a buffer.
-ghost use Rattle.std.specs.Prelude.{◌≡◌, ◌<◌, ◌+◌, length, slice_index_or};
+ghost use Rattle.std.specs.Prelude.{◌≡◌, ◌<◌, ◌≤◌, ◌+◌, ℕ, length, slice_index_or};
 ghost use Rattle.shape_items.specs.Items.{new_item};
 
 use shape_buffer::hb_glyph_info_t;
@@ -58,6 +58,24 @@ impl<'a> ItemList<'a> {
     {
         let count = self.len();
         (i + 1).min(count)
+    }
+
+    /// The items from a place on that are stored in one piece with it: up to the gap, or to the end.
+    #[tactic(auto, using(crate::proofs::GapLemmas::in_front, crate::proofs::GapLemmas::in_back))]
+    pub fn piece(&self, i: usize) -> &[hb_glyph_info_t]
+        requires { i ≤ length self.now }
+        ensures few { i + length result.now ≤ length self.now }
+        ensures some { i < length self.now → 0 < length result.now }
+        ensures items { (j : ℕ) → j < length result.now
+            → slice_index_or result.now j (new_item 0 0)
+            ≡ slice_index_or self.now (i + j) (new_item 0 0) }
+    {
+        let count = self.before.len();
+        if i < count {
+            &self.before[i..]
+        } else {
+            &self.after[i - count..]
+        }
     }
 
     /// The item at a place, from 0.

@@ -1,12 +1,12 @@
 -- a lookup whose digest holds no glyph of the list may be passed over, and a place whose glyph it doesn't hold
 use Prim.Native.Nat.{zero}
-use Rattle.std.proofs.Common.{◌≡◌, ℕ, suc, ◌+◌, ◌-◌, ◌<◌, ◌≤◌, Bool, true, false, List, [], ◌∷◌, All, length, nat_eq, nat_lt, refl, sym, ap, ◌∙◌, subst, arith, if◌then◌else◌, drop, slice_index_or}
+use Rattle.std.proofs.Common.{◌≡◌, ℕ, suc, ◌+◌, ◌-◌, ◌<◌, ◌≤◌, ◌&&◌, Bool, true, false, List, [], ◌∷◌, All, length, nat_eq, nat_lt, not, refl, sym, ap, ◌∙◌, subst, arith, if◌then◌else◌, drop, slice_index_or}
 use Rattle.std.proofs.lemmas.Bool.Decides.{nat_tests}
 use Rattle.std.proofs.lemmas.List.{drop_more}
 use Rattle.shape_items.specs.Buffer.{Buffer}
 use Rattle.shape_items.specs.Items.{Item}
 use Rattle.layout_matching.specs.Loops.{times}
-use Rattle.layout_matching.specs.Skipping.{nth, is_on}
+use Rattle.layout_matching.specs.Skipping.{nth, shares, is_skipped, is_on}
 use Rattle.layout_matching.specs.Work.{walk_work, walks_charged}
 use Rattle.layout_matching.specs.declared.lookup.Lookup.{Lookup}
 use Rattle.layout_digests.specs.Digests.{has, IsWithin}
@@ -15,13 +15,13 @@ use Rattle.layout_digests.specs.declared.digested.Digested.{Digested}
 use Rattle.layout_substitution.specs.Edits.{item_at, is_inside, is_past}
 use Rattle.layout_substitution.specs.declared.apply.Spot.{Spot}
 use Rattle.layout_context.specs.Covered.{IsUncovered, CoversNone}
-use Rattle.layout_context.specs.Digested.{IsOut, IsDigested, IsApart, HoldsFirst, HoldsGlyphs, AreUnheld, lookups_in}
+use Rattle.layout_context.specs.Digested.{IsOut, IsDigested, IsApart, HoldsFirst, HoldsGlyphs, meets, MeetsNone, lookups_in}
 use Rattle.layout_context.specs.Nested.{nested_applied}
 use Rattle.layout_context.specs.Reverse.{Backwards, is_reverse, reversed, reverse_step}
 use Rattle.layout_context.specs.Stages.{Walk, passed, tried, lookup_step, first_walk, walked, gone_back, gone_over, walk_charged, looked_up, all_looked_up, stage_begun, stage_ended, stage_made}
-use Rattle.layout_matching.proofs.LoopLemmas.{times_after}
+use Rattle.layout_matching.proofs.LoopLemmas.{times_after, times_still}
 use Rattle.layout_context.proofs.CoveredLemmas.{tried-uncovered-at, reversed-uncovered}
-use Rattle.layout_context.proofs.StageLemmas.{past_all}
+use Rattle.layout_context.proofs.StageLemmas.{past_all, past_still}
 
 same-if : {X : Type 0} (t : Bool) (x y z : X) → x ≡ z → y ≡ z → (if t then x else y) ≡ z
 same-if true x y z a b = a
@@ -29,36 +29,93 @@ same-if false x y z a b = b
 
 -- ---- at a place
 
+held_not : (a b c : Bool) → (a && b && c) ≡ false → (a && c) ≡ true → b ≡ false
+held_not true true true e f = e
+held_not true true false e f = sym f
+held_not true false c e f = refl
+held_not false true c e f = sym f
+held_not false false c e f = refl
+
+on_too : (a b c : Bool) → (a && b && c) ≡ true → (a && c) ≡ true
+on_too true true c e = e
+on_too true false true e = refl
+on_too true false false e = e
+on_too false b c e = e
+
+pub met_on : (d : Digested) (item : Item) → meets d item ≡ true → is_on d.lookup item ≡ true
+met_on d item e = on_too (shares item.mask d.lookup.mask) (has d.digest item.glyph_id) (not (is_skipped d.lookup item)) e
+
+-- at an item that it doesn't meet the lookup does nothing
 step-inside : (levels : ℕ) (l : Lookup) (s : Walk) → l.positioning ≡ false → IsUncovered l (item_at s.buffer s.spot.at).glyph_id
     → (if is_on l (item_at s.buffer s.spot.at) then tried (nested_applied levels l) l s else passed s) ≡ passed s
 step-inside levels l s gsub out =
     same-if (is_on l (item_at s.buffer s.spot.at)) (tried (nested_applied levels l) l s) (passed s) (passed s)
     (tried-uncovered-at levels l s gsub out) refl
 
-pub step_out : (levels : ℕ) (l : Lookup) (s : Walk) → IsOut l (item_at s.buffer s.spot.at).glyph_id → is_past s.buffer ≡ false
-    → is_inside s.spot.at s.buffer ≡ true → lookup_step (nested_applied levels l) l s ≡ passed s
-step_out levels l s out within inside =
+unmet-inside : (levels : ℕ) (d : Digested) (s : Walk) → IsDigested d → meets d (item_at s.buffer s.spot.at) ≡ false
+    → (if is_on d.lookup (item_at s.buffer s.spot.at) then tried (nested_applied levels d.lookup) d.lookup s else passed s) ≡ passed s
+unmet-inside levels d s said unmet = by_on (is_on d.lookup item) refl
+  where
+    item : Item
+    item = item_at s.buffer s.spot.at
+
+    by_on : (t : Bool) → is_on d.lookup item ≡ t
+        → (if t then tried (nested_applied levels d.lookup) d.lookup s else passed s) ≡ passed s
+    by_on false e = refl
+    by_on true e =
+        let out : IsOut d.lookup item.glyph_id = said.out item.glyph_id
+        (held_not (shares item.mask d.lookup.mask) (has d.digest item.glyph_id) (not (is_skipped d.lookup item)) unmet e) in
+        tried-uncovered-at levels d.lookup s out.substitutes out.uncovered
+
+step-here : (levels : ℕ) (l : Lookup) (s : Walk) → is_past s.buffer ≡ false → is_inside s.spot.at s.buffer ≡ true
+    → lookup_step (nested_applied levels l) l s
+    ≡ (if is_on l (item_at s.buffer s.spot.at) then tried (nested_applied levels l) l s else passed s)
+step-here levels l s within inside =
     ap (λ t. if t then s else (if is_inside s.spot.at s.buffer then
     (if is_on l (item_at s.buffer s.spot.at) then tried (nested_applied levels l) l s else passed s) else s)) within
     ∙ ap (λ t. if t then (if is_on l (item_at s.buffer s.spot.at) then tried (nested_applied levels l) l s else passed s)
     else s) inside
-    ∙ step-inside levels l s out.substitutes out.uncovered
 
--- ---- the next glyphs, which the set doesn't hold
+step_unmet : (levels : ℕ) (d : Digested) (s : Walk) → IsDigested d → meets d (item_at s.buffer s.spot.at) ≡ false
+    → is_past s.buffer ≡ false → is_inside s.spot.at s.buffer ≡ true → lookup_step (nested_applied levels d.lookup) d.lookup s ≡ passed s
+step_unmet levels d s said unmet within inside =
+    step-here levels d.lookup s within inside ∙ unmet-inside levels d s said unmet
 
-pub one_unheld : (d : Digest) (items : List Item) (from i : ℕ) → AreUnheld d items from i → has d (nth items (from + i)).glyph_id ≡ false
-    → AreUnheld d items from (i + 1)
-one_unheld d items from i before new j below = by_last (nat_eq j i) refl
+-- at one that it is on for it is tried
+pub step_on : (levels : ℕ) (l : Lookup) (s : Walk) → is_on l (item_at s.buffer s.spot.at) ≡ true
+    → is_past s.buffer ≡ false → is_inside s.spot.at s.buffer ≡ true
+    → lookup_step (nested_applied levels l) l s ≡ tried (nested_applied levels l) l s
+step_on levels l s on within inside =
+    step-here levels l s within inside
+    ∙ ap (λ t. if t then tried (nested_applied levels l) l s else passed s) on
+
+-- past the limit and past the end no step does anything
+pub steps_over : (levels : ℕ) (l : Lookup) (s : Walk) (n : ℕ) → is_past s.buffer ≡ true
+    → s ≡ times (lookup_step (nested_applied levels l) l) n s
+steps_over levels l s n past = sym (times_still (lookup_step (nested_applied levels l) l) n s (past_still (nested_applied levels l) l s past))
+
+pub steps_outside : (levels : ℕ) (l : Lookup) (s : Walk) (n : ℕ) → is_inside s.spot.at s.buffer ≡ false
+    → s ≡ times (lookup_step (nested_applied levels l) l) n s
+steps_outside levels l s n outside = sym (times_still (lookup_step (nested_applied levels l) l) n s
+    (ap (λ t. if is_past s.buffer then s else
+    (if t then (if is_on l (item_at s.buffer s.spot.at) then tried (nested_applied levels l) l s else passed s) else s)) outside
+    ∙ same-if (is_past s.buffer) s s s refl refl))
+
+-- ---- the next items, which the lookup doesn't meet
+
+pub one_unmet : (d : Digested) (items : List Item) (i : ℕ) → MeetsNone d items i → meets d (nth items i) ≡ false
+    → MeetsNone d items (i + 1)
+one_unmet d items i before new j below = by_last (nat_eq j i) refl
   where
-    by_last : (t : Bool) → nat_eq j i ≡ t → has d (nth items (from + j)).glyph_id ≡ false
-    by_last true is = let same : i ≡ j = grind (arith, nat_tests, is) in subst (λ k. has d (nth items (from + k)).glyph_id ≡ false) same new
+    by_last : (t : Bool) → nat_eq j i ≡ t → meets d (nth items j) ≡ false
+    by_last true is = let same : i ≡ j = grind (arith, nat_tests, is) in subst (λ k. meets d (nth items k) ≡ false) same new
     by_last false is = before j (grind (arith, nat_tests, is, below))
 
 abbrev pub standing : Buffer → Spot → ℕ → Walk
 standing b spot at = record { buffer = b; spot = record spot { at = at } }
 
 pub steps_passed : (d : Digested) (b : Buffer) (spot : Spot) (n levels : ℕ) → IsDigested d → is_past b ≡ false
-    → spot.at + n ≤ length b.items → AreUnheld d.digest b.items spot.at n
+    → spot.at + n ≤ length b.items → ((j : ℕ) → j < n → meets d (nth b.items (spot.at + j)) ≡ false)
     → standing b spot (spot.at + n) ≡ times (lookup_step (nested_applied levels d.lookup) d.lookup) n (standing b spot spot.at)
 steps_passed d b spot zero levels said within inside free = ap (standing b spot) (omega arith)
 steps_passed d b spot (suc n) levels said within inside free =
@@ -67,7 +124,7 @@ steps_passed d b spot (suc n) levels said within inside free =
     let at : is_inside (spot.at + n) b ≡ true = grind (arith, nat_tests, inside) in
     let same : spot.at + suc n ≡ spot.at + n + 1 = omega arith in
     ap (standing b spot) same
-    ∙ sym (step_out levels d.lookup here (said.out (nth b.items (spot.at + n)).glyph_id (free n (omega arith))) within at)
+    ∙ sym (step_unmet levels d here said (free n (omega arith)) within at)
     ∙ ap (lookup_step (nested_applied levels d.lookup) d.lookup) before
 
 pub gone_further : {S : Type 0} (f : S → S) (n i : ℕ) (first here there : S) → here ≡ times f i first → there ≡ times f n here
@@ -185,6 +242,14 @@ digest-over levels d here run said held apart = by_length (nat_eq (length here.b
         over-still levels d.lookup here (said.out glyph (apart glyph (held 0 some))).substitutes
         (none-covered d run here.buffer.items said held apart)
 
+-- a walk that can be paid is made
+pub looked_paid : (levels : ℕ) (l : Lookup) (s : Walk) (work : ℕ) → work ≡ walk_work l (length s.buffer.items) → work ≤ s.spot.left
+    → looked_up levels l s ≡ gone_over levels l (record { buffer = s.buffer; spot = record s.spot { left = s.spot.left - work } })
+looked_paid levels l s work is paid =
+    let enough : nat_lt s.spot.left (walk_work l (length s.buffer.items)) ≡ false = grind (arith, nat_tests, is, paid) in
+    ap (λ t. if t then walk_charged l s else gone_over levels l (walk_charged l s)) enough
+    ∙ ap (λ n. gone_over levels l (record { buffer = s.buffer; spot = record s.spot { left = s.spot.left - n } })) (sym is)
+
 -- its walk is charged for all the same; one that can't be paid changes nothing, whatever glyphs there are
 digest-still : (levels : ℕ) (d : Digested) (here : Walk) (run : Digest) → IsDigested d → HoldsGlyphs run here.buffer.items
     → (walk_work d.lookup (length here.buffer.items) ≤ here.spot.left → IsApart run d)
@@ -199,24 +264,24 @@ digest-still levels d here run said held apart = by_charge (nat_lt here.spot.lef
     by_charge true e = refl
     by_charge false e = digest-over levels d t run said held (apart (grind (arith, nat_tests, e)))
 
-pub charged_next : (ds : List Digested) (k : ℕ) (x : Digested) (b : Buffer) (spot next : Spot) (count : ℕ)
-    → next ≡ record spot { left = spot.left - walk_work (slice_index_or ds k x).lookup count } → count ≡ length b.items
+pub charged_next : (ds : List Digested) (k : ℕ) (x : Digested) (b : Buffer) (spot next : Spot) (work count : ℕ)
+    → next ≡ record spot { left = spot.left - work } → work ≡ walk_work (slice_index_or ds k x).lookup count → count ≡ length b.items
     → record { buffer = b; spot = next } ≡ walk_charged (slice_index_or ds k x).lookup (record { buffer = b; spot = spot })
-charged_next ds k x b spot next count is same =
+charged_next ds k x b spot next work count is cost same =
     let l = (slice_index_or ds k x).lookup in
-    ap (λ (s : Spot). record { buffer = b; spot = s }) (is ∙ ap (λ n. record spot { left = spot.left - walk_work l n }) same)
+    ap (λ (s : Spot). record { buffer = b; spot = s }) (is ∙ ap (λ n. record spot { left = spot.left - n }) (cost ∙ ap (walk_work l) same))
 
-pub passed_over : (levels : ℕ) (ds : List Digested) (k : ℕ) (x : Digested) (here next : Walk) (run : Digest) (b : Buffer) (count : ℕ)
-    → k < length ds → count ≡ length here.buffer.items
+pub passed_over : (levels : ℕ) (ds : List Digested) (k : ℕ) (x : Digested) (here next : Walk) (run : Digest) (b : Buffer) (work count : ℕ)
+    → k < length ds → count ≡ length here.buffer.items → work ≡ walk_work (slice_index_or ds k x).lookup count
     → IsDigested (slice_index_or ds k x) → HoldsGlyphs run here.buffer.items
-    → (walk_work (slice_index_or ds k x).lookup count ≤ here.spot.left → IsApart run (slice_index_or ds k x))
+    → (work ≤ here.spot.left → IsApart run (slice_index_or ds k x))
     → next ≡ walk_charged (slice_index_or ds k x).lookup here
     → stage_ended (all_looked_up levels (lookups_in (drop k ds)) here) ≡ b
     → stage_ended (all_looked_up levels (lookups_in (drop (k + 1) ds)) next) ≡ b
-passed_over levels ds k x here next run b count more same said held apart is before =
+passed_over levels ds k x here next run b work count more same cost said held apart is before =
     let d = slice_index_or ds k x in
     let still : settled (looked_up levels d.lookup here) ≡ settled next =
-    digest-still levels d here run said held (subst (λ n. walk_work d.lookup n ≤ here.spot.left → IsApart run d) same apart)
+    digest-still levels d here run said held (subst (λ n. n ≤ here.spot.left → IsApart run d) (cost ∙ ap (walk_work d.lookup) same) apart)
     ∙ sym (ap settled is) in
     sym (all-settled levels (lookups_in (drop (k + 1) ds)) (looked_up levels d.lookup here) next still)
     ∙ sym (ap (λ (rest : List Digested). stage_ended (all_looked_up levels (lookups_in rest) here)) (drop_more ds k x more)) ∙ before
@@ -245,6 +310,48 @@ pub stage_idle : (levels : ℕ) (ds : List Digested) (run : Digest) (b : Buffer)
     → HoldsGlyphs run b.items
     → record b { max_ops = walks_charged (lookups_in ds) (length b.items) b.max_ops } ≡ stage_made levels (lookups_in ds) b
 stage_idle levels ds run b said apart held = sym (all-idle levels ds run (stage_begun b) said apart held)
+
+-- one lookup, which goes forwards and meets no item
+over-unmet : (levels : ℕ) (d : Digested) (s : Walk) → IsDigested d → is_reverse d.lookup ≡ false
+    → MeetsNone d s.buffer.items (length s.buffer.items) → settled (gone_over levels d.lookup s) ≡ settled s
+over-unmet levels d s said forwards none =
+    ap (λ t. settled (if t then gone_back s (reversed d.lookup s.spot.left s.buffer) else walked (nested_applied levels d.lookup) d.lookup s))
+    forwards ∙ by_past (is_past s.buffer) refl
+  where
+    count : ℕ
+    count = length s.buffer.items
+
+    free : (j : ℕ) → j < count → meets d (nth s.buffer.items (0 + j)) ≡ false
+    free j below = let same : j ≡ 0 + j = omega arith in subst (λ k. meets d (nth s.buffer.items k) ≡ false) same (none j below)
+
+    by_past : (t : Bool) → is_past s.buffer ≡ t
+        → settled (times (lookup_step (nested_applied levels d.lookup) d.lookup) count (first_walk s)) ≡ settled s
+    by_past true e = ap settled (sym (steps_over levels d.lookup (first_walk s) count e))
+    by_past false e = ap settled (sym (steps_passed d s.buffer (first_walk s).spot count levels said e (omega arith) free))
+
+looked-unmet : (levels : ℕ) (d : Digested) (s : Walk) → IsDigested d → is_reverse d.lookup ≡ false
+    → MeetsNone d s.buffer.items (length s.buffer.items) → settled (looked_up levels d.lookup s) ≡ settled (walk_charged d.lookup s)
+looked-unmet levels d s said forwards none = by_charge (nat_lt s.spot.left (walk_work d.lookup (length s.buffer.items)))
+  where
+    by_charge : (u : Bool) → settled (if u then walk_charged d.lookup s else gone_over levels d.lookup (walk_charged d.lookup s))
+        ≡ settled (walk_charged d.lookup s)
+    by_charge true = refl
+    by_charge false = over-unmet levels d (walk_charged d.lookup s) said forwards none
+
+only-unmet : (levels : ℕ) (ds : List Digested) (x : Digested) (b : Buffer) → length ds ≡ 1 → All IsDigested ds
+    → is_reverse (slice_index_or ds 0 x).lookup ≡ false → MeetsNone (slice_index_or ds 0 x) b.items (length b.items)
+    → stage_ended (all_looked_up levels (lookups_in ds) (stage_begun b))
+    ≡ record b { max_ops = walks_charged (lookups_in ds) (length b.items) b.max_ops }
+only-unmet levels [] x b one said forwards none = grind (arith, one)
+only-unmet levels (d ∷ []) x b one said forwards none =
+    ap stage_ended (looked-unmet levels d (stage_begun b) (said 0 d (omega arith)) forwards none)
+only-unmet levels (d ∷ e ∷ ds) x b one said forwards none = grind (arith, one)
+
+pub stage_unmet : (levels : ℕ) (ds : List Digested) (x : Digested) (b : Buffer) (xs : List Item) → xs ≡ b.items → length ds ≡ 1
+    → All IsDigested ds → is_reverse (slice_index_or ds 0 x).lookup ≡ false → MeetsNone (slice_index_or ds 0 x) xs (length xs)
+    → record b { max_ops = walks_charged (lookups_in ds) (length b.items) b.max_ops } ≡ stage_made levels (lookups_in ds) b
+stage_unmet levels ds x b xs same one said forwards none = sym (only-unmet levels ds x b one said forwards
+    (subst (λ (ys : List Item). MeetsNone (slice_index_or ds 0 x) ys (length ys)) same none))
 
 pub charged_on : (ds : List Digested) (k : ℕ) (x : Digested) (here next count made : ℕ) → k < length ds
     → walks_charged (lookups_in (drop k ds)) count here ≡ made → next ≡ here - walk_work (slice_index_or ds k x).lookup count

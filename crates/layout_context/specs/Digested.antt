@@ -1,7 +1,7 @@
 -- lookups with sets that hold the glyphs that they may begin at
-use Rattle.std.specs.Prelude.{◌≡◌, ℕ, true, false, List, ◌+◌, ◌<◌, ◌^◌, length, map}
+use Rattle.std.specs.Prelude.{◌≡◌, ℕ, Bool, true, false, List, ◌<◌, ◌^◌, ◌&&◌, not, length, map}
 use Rattle.shape_items.specs.Items.{Item}
-use Rattle.layout_matching.specs.Skipping.{nth}
+use Rattle.layout_matching.specs.Skipping.{nth, shares, is_skipped}
 use Rattle.layout_matching.specs.declared.lookup.Lookup.{Lookup}
 use Rattle.layout_digests.specs.Digests.{has}
 use Rattle.layout_digests.specs.declared.digest.Digest.{Digest}
@@ -25,9 +25,13 @@ HoldsFirst d items count = (at : ℕ) → at < count → has d (nth items at).gl
 abbrev pub HoldsGlyphs : Digest → List Item → Type 0
 HoldsGlyphs d items = HoldsFirst d items (length items)
 
--- the set holds none of so many glyphs of a list from a place on
-abbrev pub AreUnheld : Digest → List Item → ℕ → ℕ → Type 0
-AreUnheld d items from count = (j : ℕ) → j < count → has d (nth items (from + j)).glyph_id ≡ false
+-- the lookup is on for an item, and its set holds the item's glyph
+abbrev pub meets : Digested → Item → Bool
+meets d item = shares item.mask d.lookup.mask && has d.digest item.glyph_id && not (is_skipped d.lookup item)
+
+-- the lookup meets none of the first so many items of a list
+abbrev pub MeetsNone : Digested → List Item → ℕ → Type 0
+MeetsNone d items count = (j : ℕ) → j < count → meets d (nth items j) ≡ false
 
 -- the lookup's set holds no glyph of a set
 abbrev pub IsApart : Digest → Digested → Type 0

@@ -8,6 +8,7 @@
 #![allow(non_camel_case_types)]
 
 pub mod laws;
+mod meeting;
 pub mod nested;
 pub mod places;
 pub mod reversal_reach;

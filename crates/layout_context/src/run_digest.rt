@@ -1,13 +1,15 @@
 //! The digest of a list, which tells at once which lookups find no glyph there. Lookups change the list, so it is made anew.
-ghost use Rattle.std.specs.Prelude.{◌≡◌, ◌<◌, ◌≤◌, ◌^◌, false, All};
-ghost use Rattle.layout_matching.specs.Work;
+ghost use Rattle.std.specs.Prelude.{◌≡◌, ◌≤◌, true, false, All};
 ghost use Rattle.layout_context.specs.Digested.{IsApart, HoldsGlyphs};
 
 use layout_buffer::ItemList;
 use layout_digests::{Digest, Digested};
-use layout_matching::work::walk_work;
 
-/// A digest that holds the glyphs of a list.
+/// For how many lookups at least a digest of the list is made anew. For fewer it takes longer than the walks that it may save.
+const WORTH_RENEWING: usize = 4;
+
+/// A digest that holds the glyphs of a list. A call of its own, so that its words stay in registers.
+#[inline(never)]
 #[tactic(auto, using(crate::proofs::DigestLemmas::one_held))]
 pub(crate) fn digest_of(items: &ItemList<'_>) -> Digest
     ensures { HoldsGlyphs result items.now }
@@ -19,12 +21,29 @@ pub(crate) fn digest_of(items: &ItemList<'_>) -> Digest
     all
 }
 
-/// The digest of a list, made anew if a lookup has gone over the list since.
-pub(crate) fn renewed(run: Digest, is_stale: bool, items: &ItemList<'_>) -> Digest
+/// The digest of a list that so many lookups begin with. For one alone none is made.
+pub(crate) fn first_digest(count: usize, items: &ItemList<'_>) -> Digest
+    ensures { HoldsGlyphs result items.now }
+{
+    if count < 2 {
+        Digest::every()
+    } else {
+        digest_of(items)
+    }
+}
+
+/// A digest of the list for so many lookups that are left, if a lookup has gone over the list since it was made.
+pub(crate) fn renewed(run: Digest, is_stale: bool, rest: usize, items: &ItemList<'_>) -> Digest
     requires { is_stale ≡ false → HoldsGlyphs run items.now }
     ensures { HoldsGlyphs result items.now }
 {
-    if is_stale { digest_of(items) } else { run }
+    if !is_stale {
+        run
+    } else if rest < WORTH_RENEWING {
+        Digest::every()
+    } else {
+        digest_of(items)
+    }
 }
 
 /// Whether the digest of a lookup shares a glyph with that of the list.
@@ -34,11 +53,10 @@ pub(crate) fn any_shares(run: &Digest, lookups: &[Digested<'_>]) -> bool
     lookups.iter().any(|named| run.may_share(&named.digest))
 }
 
-/// Whether a lookup goes over a list of so many items: enough is left, and its digest shares a glyph with that of the list.
-pub(crate) fn is_made(named: &Digested<'_>, run: &Digest, count: usize, left: usize) -> bool
-    requires { named.now.lookup.place < 2 ^ 17 }
-    ensures { result ≡ false → Work.walk_work named.now.lookup count ≤ left
-        → IsApart run.now named.now }
+/// Whether a lookup whose walk costs so much goes over a list: enough is left, and its digest shares a glyph with that of the list.
+pub(crate) fn is_made(named: &Digested<'_>, run: &Digest, work: usize, left: usize) -> bool
+    ensures apart { result ≡ false → work ≤ left → IsApart run.now named.now }
+    ensures paid { result ≡ true → work ≤ left }
 {
-    run.may_share(&named.digest) && walk_work(&named.lookup, count) <= left
+    run.may_share(&named.digest) && work <= left
 }

@@ -4,18 +4,19 @@ ghost use Rattle.shape_buffer.specs.Outcome.{IsWithinLimit, Outcome, step};
 ghost use Rattle.shape_buffer.specs.declared.buffer.error.ShapeError.TheVariants.{Length};
 ghost use Rattle.layout_matching.specs.Loops.{times};
 ghost use Rattle.layout_matching.specs.Work;
-ghost use Rattle.layout_substitution.specs.Edits.{is_past};
+ghost use Rattle.layout_matching.specs.Skipping.{is_on};
+ghost use Rattle.layout_substitution.specs.Edits.{is_inside, is_past, item_at};
 ghost use Rattle.layout_context.specs.Nested.{nested_applied};
 ghost use Rattle.layout_context.specs.Stages;
-ghost use Rattle.layout_context.specs.Digested.{IsDigested, HoldsGlyphs, AreUnheld, lookups_in};
+ghost use Rattle.layout_context.specs.Digested.{IsDigested, HoldsGlyphs, lookups_in};
 
+use crate::meeting::{is_unmet, unmet};
 use crate::nested::apply_nested;
 use crate::reverse::{is_reverse, reverse};
-use crate::run_digest::{any_shares, digest_of, is_made, renewed};
+use crate::run_digest::{any_shares, first_digest, is_made, renewed};
 use layout_buffer::{GapBuffer, ItemList};
 use layout_digests::{Digest, Digested};
 use layout_matching::lookup::Lookup;
-use layout_matching::skipping::is_on;
 use layout_matching::work::{lookup_charged, walk_work};
 use layout_substitution::apply::Spot;
 use shape_buffer::{ShapeError, hb_buffer_t};
@@ -66,8 +67,9 @@ fn try_at(
     }
 }
 
-/// Applies the lookup at one place, or goes on to the next item.
-fn step_on(
+/// Applies the lookup at an item that it is on for, in a list that isn't past its limit.
+#[tactic(auto, using(crate::proofs::DigestLemmas::step_on))]
+fn step_met(
     alloc: Global,
     levels: u32,
     lookup: &Lookup<'_>,
@@ -75,6 +77,9 @@ fn step_on(
     spot: Spot,
 ) -> Result<Spot, ShapeError>
     requires near { lookup.now.place < 2 ^ 17 }
+    requires within { is_past buffer.old ≡ false }
+    requires inside { is_inside spot.at buffer.old ≡ true }
+    requires on { is_on lookup.now (item_at buffer.old spot.at) ≡ true }
     ensures ok { IfOk result (λ next. record { buffer = buffer.new; spot = next }
         ≡ Stages.lookup_step (nested_applied levels lookup.now) lookup.now
         (record { buffer = buffer.old; spot = spot })) }
@@ -82,65 +87,54 @@ fn step_on(
         → is_past (Stages.lookup_step (nested_applied levels lookup.now) lookup.now
         (record { buffer = buffer.old; spot = spot })).buffer ≡ true }
 {
-    if buffer.length_limit() < buffer.len() || buffer.len() <= spot.at {
-        return Ok(spot);
-    }
-    if !is_on(lookup, buffer.items().at(spot.at)) {
-        return Ok(next_spot(spot, buffer.len()));
-    }
     try_at(alloc, levels, lookup, buffer, spot)
 }
 
-/// Where a walk stands after some steps.
+/// Where a walk stands after some steps, and whether the lookup meets the item there.
 #[derive(Clone, Copy)]
 struct Passed {
     spot: Spot,
     steps: usize,
+    is_met: bool,
 }
 
-/// How many glyphs from a place on, of so many, a digest doesn't hold.
-#[tactic(auto, using(crate::proofs::DigestLemmas::one_unheld))]
-fn unheld(digest: &Digest, items: &ItemList<'_>, from: usize, most: usize) -> usize
-    requires { from + most ≤ length items.now }
-    ensures few { result ≤ most }
-    ensures free { AreUnheld digest.now items.now from result }
-{
-    // The list can be counted, so a place of its own can.
-    let _count = items.len();
-    for k in 0..most {
-        if digest.has(items.at(from + k).glyph_id) {
-            return k;
-        }
-    }
-    most
-}
-
-/// Goes on to the next glyph that the digest of the lookup holds, in at most so many steps. Where the list is past its limit, no
-/// step is made.
-#[tactic(auto, using(crate::proofs::DigestLemmas::steps_passed))]
+/// Goes on over items that the lookup doesn't meet, in at most so many steps, as far as they are stored in one piece. Where the
+/// list is past its limit, or ends, no step does anything.
 fn pass_over(named: &Digested<'_>, buffer: &GapBuffer, spot: Spot, most: usize) -> Passed
     requires said { IsDigested named.now }
     ensures few { result.steps ≤ most }
     ensures passed { (levels : ℕ) → record { buffer = buffer.now; spot = result.spot }
         ≡ times (Stages.lookup_step (nested_applied levels named.now.lookup) named.now.lookup)
         result.steps (record { buffer = buffer.now; spot = spot }) }
+    ensures more { result.is_met ≡ true → result.steps < most }
+    ensures within { result.is_met ≡ true → is_past buffer.now ≡ false }
+    ensures inside { result.is_met ≡ true → is_inside result.spot.at buffer.now ≡ true }
+    ensures on { result.is_met ≡ true
+        → is_on named.now.lookup (item_at buffer.now result.spot.at) ≡ true }
+    ensures further { result.is_met ≡ false → 0 < most → 0 < result.steps }
 {
     let items = buffer.items();
     if buffer.length_limit() < items.len() || items.len() <= spot.at {
-        return Passed { spot, steps: 0 };
+        return Passed {
+            spot,
+            steps: most,
+            is_met: false,
+        };
     }
-    let steps = unheld(
-        &named.digest,
-        &items,
-        spot.at,
-        most.min(items.len() - spot.at),
-    );
+    let piece = items.piece(spot.at);
+    let count = most.min(piece.len());
+    let steps = unmet(named, piece, count);
     let mut next = spot;
     next.at += steps;
-    Passed { spot: next, steps }
+    Passed {
+        spot: next,
+        steps,
+        is_met: steps < count,
+    }
 }
 
-/// Goes over a buffer from its first item on.
+/// Goes over a buffer from its first item on. A call of its own, so that what its loop reads stays in registers.
+#[inline(never)]
 fn walk(
     alloc: Global,
     levels: u32,
@@ -168,8 +162,8 @@ fn walk(
         let passed = pass_over(named, buffer, spot, count - done);
         spot = passed.spot;
         done += passed.steps;
-        if done < count {
-            match step_on(alloc, levels, &named.lookup, buffer, spot) {
+        if passed.is_met {
+            match step_met(alloc, levels, &named.lookup, buffer, spot) {
                 Err(error) => return Err(error),
                 Ok(next) => spot = next,
             }
@@ -201,34 +195,33 @@ fn go_over(
     walk(alloc, levels, named, buffer, spot)
 }
 
-/// What is left after a walk over so many items was charged for.
-fn charge_walk(lookup: &Lookup<'_>, count: usize, spot: Spot) -> Spot
-    requires { lookup.now.place < 2 ^ 17 }
-    ensures { result ≡ record spot { left = spot.left - Work.walk_work lookup.now count } }
+/// What is left after a walk that costs so much was charged for.
+fn charge_walk(work: usize, spot: Spot) -> Spot
+    ensures { result ≡ record spot { left = spot.left - work } }
 {
-    with_left(spot, spot.left.saturating_sub(walk_work(lookup, count)))
+    with_left(spot, spot.left.saturating_sub(work))
 }
 
-/// Goes over a buffer, if what is left suffices for a walk. Else nothing is left.
+/// Goes over a buffer in a walk that costs so much, for which what is left suffices.
+#[tactic(auto, using(crate::proofs::DigestLemmas::looked_paid))]
 fn look_up(
     alloc: Global,
     levels: u32,
     named: &Digested<'_>,
     buffer: &mut GapBuffer,
     spot: Spot,
+    work: usize,
 ) -> Result<Spot, ShapeError>
     requires said { IsDigested named.now }
+    requires work { work ≡ Work.walk_work named.now.lookup (length buffer.old.items) }
+    requires paid { work ≤ spot.left }
     ensures ok { IfOk result (λ next. record { buffer = buffer.new; spot = next }
         ≡ Stages.looked_up levels named.now.lookup (record { buffer = buffer.old; spot = spot })) }
     ensures length { IsErrOf result Length
         → is_past (Stages.looked_up levels named.now.lookup
         (record { buffer = buffer.old; spot = spot })).buffer ≡ true }
 {
-    let after = charge_walk(&named.lookup, buffer.len(), spot);
-    if spot.left < walk_work(&named.lookup, buffer.len()) {
-        return Ok(after);
-    }
-    go_over(alloc, levels, named, buffer, after)
+    go_over(alloc, levels, named, buffer, charge_walk(work, spot))
 }
 
 /// Lookups one after the other, from a digest of the list on. One that isn't made changes nothing, so that no digest is made anew.
@@ -255,15 +248,17 @@ fn look_all_up(
     };
     let mut run = run;
     let mut is_stale = false;
+    let mut rest = lookups.len();
     for named in lookups {
-        run = renewed(run, is_stale, &buffer.items());
-        let count = buffer.len();
-        is_stale = is_made(named, &run, count, spot.left);
+        run = renewed(run, is_stale, rest, &buffer.items());
+        rest = rest.saturating_sub(1);
+        let work = walk_work(&named.lookup, buffer.len());
+        is_stale = is_made(named, &run, work, spot.left);
         if !is_stale {
-            spot = charge_walk(&named.lookup, count, spot);
+            spot = charge_walk(work, spot);
             continue;
         }
-        match look_up(alloc, levels, named, buffer, spot) {
+        match look_up(alloc, levels, named, buffer, spot, work) {
             Err(error) => return Err(error),
             Ok(next) => spot = next,
         }
@@ -306,7 +301,33 @@ fn put_back(walk: GapBuffer, buffer: &mut hb_buffer_t) -> Result<(), ShapeError>
     outcome
 }
 
-/// Lookups one after the other, over a buffer that edits in linear time; if none of them can apply, all are charged for.
+/// Lookups one after the other, from a digest of the list on, over a buffer that edits in linear time.
+#[inline(never)]
+fn edit_opened(
+    alloc: Global,
+    levels: u32,
+    lookups: &[Digested<'_>],
+    run: Digest,
+    buffer: &mut hb_buffer_t,
+) -> Result<(), ShapeError>
+    requires said { All IsDigested lookups.now }
+    requires run { HoldsGlyphs run buffer.old.items }
+    ensures ok { OnOk result (buffer.new
+        ≡ Stages.stage_made levels (lookups_in lookups.now) buffer.old) }
+    ensures length { IsErrOf result Length
+        → is_past (Stages.stage_made levels (lookups_in lookups.now) buffer.old) ≡ true }
+{
+    let mut walk = GapBuffer::open(alloc, buffer);
+    match look_all_up(alloc, levels, lookups, run, &mut walk) {
+        Err(error) => {
+            *buffer = walk.abandon();
+            Err(error)
+        }
+        Ok(()) => put_back(walk, buffer),
+    }
+}
+
+/// Lookups one after the other; if none of them can apply, all are charged for.
 fn edit_all(
     alloc: Global,
     levels: u32,
@@ -319,22 +340,16 @@ fn edit_all(
     ensures length { IsErrOf result Length
         → is_past (Stages.stage_made levels (lookups_in lookups.now) buffer.old) ≡ true }
 {
-    if lookups.is_empty() {
+    if lookups.len() == 1 && is_unmet(&lookups[0], buffer.infos()) {
+        buffer.set_max_ops(charge_walks(lookups, buffer.len(), buffer.max_ops()));
         return Ok(());
     }
-    let run = digest_of(&ItemList::of_slice(buffer.infos()));
+    let run = first_digest(lookups.len(), &ItemList::of_slice(buffer.infos()));
     if !any_shares(&run, lookups) {
         buffer.set_max_ops(charge_walks(lookups, buffer.len(), buffer.max_ops()));
         return Ok(());
     }
-    let mut walk = GapBuffer::open(alloc, buffer);
-    match look_all_up(alloc, levels, lookups, run, &mut walk) {
-        Err(error) => {
-            *buffer = walk.abandon();
-            Err(error)
-        }
-        Ok(()) => put_back(walk, buffer),
-    }
+    edit_opened(alloc, levels, lookups, run, buffer)
 }
 
 /// A stage of substitution with so many levels of lookups.

@@ -17,22 +17,22 @@ returns-in-Err-clause-length c =
     let on : there ≡ times (lookup_step (nested_applied c.args.levels l) l) (c.loop-done.done + c.pass_over-passed.result.steps) first =
     gone_further (lookup_step (nested_applied c.args.levels l) l) c.pass_over-passed.result.steps c.loop-done.done first here there
     c.loop-done.invariant.made (c.pass_over-passed.ensures.passed c.args.levels) in
-    let more : c.loop-done.done + c.pass_over-passed.result.steps < n = omega (arith, c.if-done-count.true, c.len-count.ensures.items) in
+    let more : c.loop-done.done + c.pass_over-passed.result.steps < n = omega (arith, c.pass_over-passed.ensures.more c.if-passed.true, c.len-count.ensures.items) in
     λ is. past_times (nested_applied c.args.levels l) l n (c.loop-done.done + c.pass_over-passed.result.steps) first there more on
     (c.in-Err.ensures.length is)
 
-pub loop-done-preserved-then-done-count : goal.loop-done-preserved-then-done-count
-loop-done-preserved-then-done-count c =
+pub loop-done-preserved-then-passed : goal.loop-done-preserved-then-passed
+loop-done-preserved-then-passed c =
     let l = c.args.named.now.lookup in
     let first : Walk = first_walk (record { buffer = c.args.buffer.now; spot = c.args.spot }) in
     let here : Walk = record { buffer = c.loop-done.buffer; spot = c.loop-done.spot } in
     let there : Walk = record { buffer = c.loop-done.buffer; spot = c.pass_over-passed.result.spot } in
-    let next : Walk = record { buffer = c.step_on.new.buffer; spot = c.in-Ok.next } in
+    let next : Walk = record { buffer = c.step_met.new.buffer; spot = c.in-Ok.next } in
     let on : there ≡ times (lookup_step (nested_applied c.args.levels l) l) (c.loop-done.done + c.pass_over-passed.result.steps) first =
     gone_further (lookup_step (nested_applied c.args.levels l) l) c.pass_over-passed.result.steps c.loop-done.done first here there
     c.loop-done.invariant.made (c.pass_over-passed.ensures.passed c.args.levels) in
     record {
-      within = omega (arith, c.if-done-count.true);
+      within = omega (arith, c.pass_over-passed.ensures.more c.if-passed.true, c.loop-done-test.true);
       made = times_step (lookup_step (nested_applied c.args.levels l) l) (c.loop-done.done + c.pass_over-passed.result.steps) first there next on
           c.in-Ok.ensures.ok;
     }

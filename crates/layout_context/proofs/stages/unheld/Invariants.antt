@@ -1,5 +1,0 @@
-use Rattle.layout_context.specs.Digested.{AreUnheld}
-use Rattle.layout_context.proofs.stages.unheld.Given as goal
-
-abbrev pub invariant-loop-k : goal.invariant-loop-k
-invariant-loop-k l = AreUnheld l.digest l.items l.from l.k
