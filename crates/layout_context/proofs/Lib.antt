@@ -5,3 +5,4 @@ pub mod StageLemmas
 pub mod CoveredLemmas
 mod OffWalks
 pub mod DigestLemmas
+pub mod KindLemmas

@@ -16,7 +16,7 @@ use layout_matching::work::lookup_charged;
 use layout_substitution::apply::put_glyph;
 use layout_substitution::edits::{break_span, item};
 use layout_substitution::substitutes::{count, listed};
-use layout_tables::lookups::{LookupSubtable, subtable, subtable_count};
+use layout_tables::lookups::{LookupSubtable, lookup_type, subtable, subtable_count};
 use shape_font::bytes::u16_at;
 
 /// The glyph that replaces one, and the span that was looked at, from `start` up to `end`.
@@ -218,8 +218,12 @@ fn reverse_one(lookup: &Lookup<'_>, buffer: &mut GapBuffer, back: Backward) -> B
     }
 }
 
-/// Whether the lookup goes backwards, by its type.
-pub fn is_reverse(lookup: &Lookup<'_>) -> bool
+/// The least type of a lookup that may go backwards, by itself or by what its subtables stand for.
+const LEAST_BACKWARD: u16 = 7;
+
+/// Whether the first subtable of the lookup goes backwards.
+#[inline(never)]
+fn begins_backwards(lookup: &Lookup<'_>) -> bool
     requires { lookup.now.place < 2 ^ 17 }
     ensures { result ≡ Reverse.is_reverse lookup.now }
 {
@@ -227,4 +231,16 @@ pub fn is_reverse(lookup: &Lookup<'_>) -> bool
         Some(subtable) => subtable.kind == 8,
         None => false,
     }
+}
+
+/// Whether the lookup goes backwards, by its type. The first types say that alone: no subtable of theirs is read.
+#[tactic(auto, using(crate::proofs::KindLemmas::forward_kind))]
+pub fn is_reverse(lookup: &Lookup<'_>) -> bool
+    requires { lookup.now.place < 2 ^ 17 }
+    ensures { result ≡ Reverse.is_reverse lookup.now }
+{
+    if lookup_type(lookup.table, lookup.place) < LEAST_BACKWARD {
+        return false;
+    }
+    begins_backwards(lookup)
 }

@@ -1,3 +1,4 @@
 pub mod NumberLemmas
 pub mod PreservationLemmas
 pub mod DigestLemmas
+pub mod StageLemmas

@@ -1,10 +1,12 @@
 -- the lookups of a plan, ready to be applied
-use Rattle.std.specs.Prelude.{ℕ, List, [], ◌∷◌, ◌++◌, Option, ◌^◌, nat_eq, fold, if◌then◌else◌}
+use Rattle.std.specs.Prelude.{◌≡◌, ℕ, List, [], ◌∷◌, ◌++◌, Option, ◌^◌, nat_eq, fold, if◌then◌else◌}
 use Rattle.std.specs.Option.{option_map, option_map_or}
 use Rattle.std.specs.Int.{w32, trailing_zeros}
 use Rattle.layout_tables.specs.Lookups as tables
+use Rattle.layout_tables.specs.Offsets.{header_offset_of}
 use Rattle.layout_map.specs.declared.lookups.LookupMap.{LookupMap}
 use Rattle.layout_matching.specs.declared.lookup.Lookup.{Lookup}
+use Rattle.opentype_layout.specs.declared.lookups.LookupList.{LookupList}
 use Rattle.opentype_layout.specs.declared.lookups.LookupTables.{LookupTables}
 
 abbrev pub least_bit : ℕ → ℕ
@@ -26,6 +28,11 @@ lookup_at t m place = record {
   random = m.random;
   positioning = t.positioning;
 }
+
+-- the table's list of lookups
+pub record IsListOf (table : List ℕ) (l : LookupList) : Type 0 where
+  pub place : l.place ≡ header_offset_of table 8
+  pub count : l.count ≡ tables.lookup_count_of table
 
 -- none if the table has no lookup with this index
 abbrev pub lookup_of : LookupTables → LookupMap → Option Lookup

@@ -63,9 +63,11 @@ pub(crate) fn gpos_tables<'a>(face: &OpenTypeFace<'a>) -> LookupTables<'a>
     }
 }
 
-/// Applies the lookups of a stage of substitution, with the digests of the table, by their indexes.
+/// Applies the lookups of a stage of substitution, with the digests of the table, by their indexes. A call of its own, so that
+/// a stage without lookups makes no room for what a walk needs.
+#[inline(never)]
 #[tactic(auto, using(crate::proofs::DigestLemmas::substitutes))]
-pub(crate) fn substitute_by(
+fn substitute_some(
     alloc: Global,
     tables: LookupTables<'_>,
     digests: &[Digest],
@@ -82,6 +84,26 @@ pub(crate) fn substitute_by(
         Ok(lookups) => substitute(alloc, lookups.as_slice(), buffer),
         Err(_) => Err(ShapeError::Memory),
     }
+}
+
+/// The same. Many stages have no lookups.
+pub(crate) fn substitute_by(
+    alloc: Global,
+    tables: LookupTables<'_>,
+    digests: &[Digest],
+    maps: &[LookupMap],
+    buffer: &mut hb_buffer_t,
+) -> Result<(), ShapeError>
+    requires within { IsWithinLimit buffer.old }
+    requires kind { tables.positioning ≡ false }
+    requires stored { AreDigests tables.table.now false digests.now }
+    ensures { Outcome (step (substituted (lookups_of tables.entry maps.now)))
+        buffer.old buffer.new result }
+{
+    if maps.is_empty() {
+        return Ok(());
+    }
+    substitute_some(alloc, tables, digests, maps, buffer)
 }
 
 /// Applies the lookups of positioning, with the digests of the table, by their indexes.

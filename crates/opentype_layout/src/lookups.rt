@@ -4,12 +4,14 @@ ghost use Rattle.std.specs.Option.{IfSome, option_map};
 ghost use Rattle.layout_digests.specs.Lookups.{AreDigests, IsDigestAt};
 ghost use Rattle.layout_digests.specs.declared.digested.Digested.{Digested as DigestedLookup};
 ghost use Rattle.opentype_layout.specs.Digested.{IsSaid, lookups_in};
+ghost use Rattle.layout_tables.specs.Lookups.{lookup_of};
 ghost use Rattle.opentype_layout.specs.Lookups;
 
 use layout_digests::{Digest, Digested};
 use layout_map::lookups::LookupMap;
 use layout_matching::lookup::Lookup;
-use layout_tables::lookups::{lookup, lookup_flag, mark_filtering_set};
+use layout_tables::lookups::{lookup_count, lookup_flag, mark_filtering_set};
+use layout_tables::offsets::{header_offset, offset16};
 use shape_buffer::ShapeError;
 use std::alloc::Global;
 
@@ -19,6 +21,37 @@ pub struct LookupTables<'a> {
     pub table: &'a [u8],
     pub gdef: &'a [u8],
     pub positioning: bool,
+}
+
+/// The list of lookups of a table, read once for all lookups of a stage: where it stands, and how many it has.
+#[derive(Clone, Copy)]
+struct LookupList {
+    place: Option<usize>,
+    count: u32,
+}
+
+fn list_of(table: &[u8]) -> LookupList
+    ensures list { Lookups.IsListOf table.now result }
+    ensures near { IfSome result.place (λ list. list < 2 ^ 16) }
+{
+    LookupList {
+        place: header_offset(table, 8),
+        count: lookup_count(table),
+    }
+}
+
+/// Where the lookup with this index stands; none if the table has no such lookup.
+fn place_in(table: &[u8], list: LookupList, index: u16) -> Option<usize>
+    requires list { Lookups.IsListOf table.now list }
+    requires near { IfSome list.place (λ list. list < 2 ^ 16) }
+    ensures value { result ≡ lookup_of table.now index }
+    ensures near { IfSome result (λ place. place < 2 ^ 17) }
+{
+    if list.count <= u32::from(index) {
+        return None;
+    }
+    let start = list.place?;
+    offset16(table, start, start + 2 + 2 * usize::from(index))
 }
 
 /// The least bit of a mask; 0 of an empty one.
@@ -69,15 +102,18 @@ fn digest_at(tables: LookupTables<'_>, digests: &[Digest], index: u16) -> Digest
 /// A lookup with the use that a plan makes of it, and its digest; none if the table has no such lookup.
 fn digested<'a>(
     tables: LookupTables<'a>,
+    list: LookupList,
     digests: &[Digest],
     map: &LookupMap,
 ) -> Option<Digested<'a>>
-    requires { AreDigests tables.table.now tables.positioning digests.now }
+    requires list { Lookups.IsListOf tables.table.now list }
+    requires near { IfSome list.place (λ list. list < 2 ^ 16) }
+    requires stored { AreDigests tables.table.now tables.positioning digests.now }
     ensures value { option_map (λ (d : DigestedLookup). d.lookup) result
         ≡ Lookups.lookup_of tables.entry map.now }
     ensures said { IfSome result (IsSaid tables.entry.positioning) }
 {
-    let place = lookup(tables.table, map.index)?;
+    let place = place_in(tables.table, list, map.index)?;
     Some(Digested {
         lookup: made_ready(tables, map, place),
         digest: digest_at(tables, digests, map.index),
@@ -89,9 +125,12 @@ fn digested<'a>(
 fn append<'a>(
     lookups: &mut Vec<Digested<'a>>,
     tables: LookupTables<'a>,
+    list: LookupList,
     digests: &[Digest],
     map: &LookupMap,
 ) -> Result<(), ShapeError>
+    requires list { Lookups.IsListOf tables.table.now list }
+    requires near { IfSome list.place (λ list. list < 2 ^ 16) }
     requires stored { AreDigests tables.table.now tables.positioning digests.now }
     requires said { All (IsSaid tables.positioning) lookups.old.items }
     ensures ok { OnOk result (lookups_in lookups.new.items
@@ -99,7 +138,7 @@ fn append<'a>(
     ensures said { OnOk result (All (IsSaid tables.entry.positioning) lookups.new.items) }
     ensures memory { IsOkUnless result ShapeError.Memory }
 {
-    if let Some(lookup) = digested(tables, digests, map) {
+    if let Some(lookup) = digested(tables, list, digests, map) {
         lookups.push(lookup)?;
     }
     Ok(())
@@ -120,8 +159,9 @@ pub fn lookups<'a>(
     ensures memory { IsOkUnless result ShapeError.Memory }
 {
     let mut lookups = Vec::with_capacity(alloc, maps.len())?;
+    let list = list_of(tables.table);
     for map in maps {
-        append(&mut lookups, tables, digests, map)?;
+        append(&mut lookups, tables, list, digests, map)?;
     }
     Ok(lookups)
 }

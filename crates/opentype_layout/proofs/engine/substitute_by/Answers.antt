@@ -1,16 +1,7 @@
-use Rattle.std.proofs.Common.{Bool, sym, subst}
-use Rattle.std.specs.Prelude.{All}
-use Rattle.shape_buffer.specs.Outcome.{for_memory}
-use Rattle.layout_context.specs.Digested.{IsDigested}
-use Rattle.opentype_layout.specs.Digested.{IsSaid}
-use Rattle.opentype_layout.proofs.DigestLemmas.{substitutes}
+use Rattle.std.proofs.Common.{sym, ◌∙◌}
+use Rattle.opentype_layout.proofs.StageLemmas.{nothing_substituted}
 use Rattle.opentype_layout.proofs.engine.substitute_by.Goals as goal
 
-pub substitute-requires-clause-said : goal.substitute-requires-clause-said
-substitute-requires-clause-said c =
-    let lookups = c.in-Ok.lookups.items in
-    let said = subst (λ (t : Bool). All (IsSaid t) lookups) c.requires.kind c.in-Ok.ensures.said in
-    subst (All IsDigested) (sym c.as_slice.ensures.value) (substitutes lookups said)
-
-pub returns-in-Err : goal.returns-in-Err
-returns-in-Err c = for_memory
+pub returns-then-is_empty : goal.returns-then-is_empty
+returns-then-is_empty c =
+    nothing_substituted c.args.tables c.args.maps.now c.args.buffer.now (sym c.is_empty.ensures ∙ c.if-is_empty.true) c.requires.within
