@@ -1,9 +1,9 @@
 //! The engine.
-ghost use Rattle.std.specs.Prelude.{◌≡◌, true, false, MatchResult};
+ghost use Rattle.std.specs.Prelude.{◌≡◌, true, false, [], MatchResult};
 ghost use Rattle.shape_buffer.specs.Outcome.{IsWithinLimit, Made, Outcome, step};
 ghost use Rattle.layout_context.specs.Stages.{substituted};
 ghost use Rattle.layout_digests.specs.Lookups.{AreDigests};
-ghost use Rattle.opentype_layout.specs.Lookups.{lookups_of};
+ghost use Rattle.opentype_layout.specs.Lookups.{lookups_of, with_lookup};
 ghost use Rattle.layout_map.specs.Map.{OtMap, map_meaning};
 ghost use Rattle.opentype_layout.specs.declared.face.OpenTypeFace.{OpenTypeFace as Face};
 ghost use Rattle.opentype_layout.specs.Engine;
@@ -13,7 +13,7 @@ ghost use Rattle.layout_map.proofs.LawfulLemmas.{map_meaning-lawful};
 use crate::chosen::{chosen_for, script_in};
 use crate::classes::{GlyphClasses, begin_glyphs};
 use crate::face::OpenTypeFace;
-use crate::lookups::{LookupTables, lookups};
+use crate::lookups::{LookupTables, lookup_with_digest, lookups};
 use kern_table::tables::{kern_table, subtable_count};
 use layout_context::stages::substitute;
 use layout_digests::Digest;
@@ -86,7 +86,28 @@ fn substitute_some(
     }
 }
 
-/// The same. Many stages have no lookups.
+/// Applies the one lookup of a stage, for which no list is made.
+#[inline(never)]
+fn substitute_one(
+    alloc: Global,
+    tables: LookupTables<'_>,
+    digests: &[Digest],
+    map: &LookupMap,
+    buffer: &mut hb_buffer_t,
+) -> Result<(), ShapeError>
+    requires within { IsWithinLimit buffer.old }
+    requires kind { tables.positioning ≡ false }
+    requires stored { AreDigests tables.table.now false digests.now }
+    ensures { Outcome (step (substituted (with_lookup tables.entry [] map.now)))
+        buffer.old buffer.new result }
+{
+    match lookup_with_digest(tables, digests, map) {
+        Some(lookup) => substitute(alloc, &[lookup], buffer),
+        None => Ok(()),
+    }
+}
+
+/// The same for a stage of any number of lookups. Many have none, and forms of Arabic one.
 pub(crate) fn substitute_by(
     alloc: Global,
     tables: LookupTables<'_>,
@@ -102,6 +123,9 @@ pub(crate) fn substitute_by(
 {
     if maps.is_empty() {
         return Ok(());
+    }
+    if maps.len() == 1 {
+        return substitute_one(alloc, tables, digests, &maps[0], buffer);
     }
     substitute_some(alloc, tables, digests, maps, buffer)
 }

@@ -120,6 +120,20 @@ fn digested<'a>(
     })
 }
 
+/// The same for a lookup by itself.
+pub(crate) fn lookup_with_digest<'a>(
+    tables: LookupTables<'a>,
+    digests: &[Digest],
+    map: &LookupMap,
+) -> Option<Digested<'a>>
+    requires { AreDigests tables.table.now tables.positioning digests.now }
+    ensures value { option_map (λ (d : DigestedLookup). d.lookup) result
+        ≡ Lookups.lookup_of tables.entry map.now }
+    ensures said { IfSome result (IsSaid tables.entry.positioning) }
+{
+    digested(tables, list_of(tables.table), digests, map)
+}
+
 /// Appends a lookup with the use that a plan makes of it, if the table has it. Refuses with `Memory` if a growth was
 /// refused.
 fn append<'a>(
