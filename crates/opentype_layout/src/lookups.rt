@@ -99,7 +99,9 @@ fn digest_at(tables: LookupTables<'_>, digests: &[Digest], index: u16) -> Digest
     }
 }
 
-/// A lookup with the use that a plan makes of it, and its digest; none if the table has no such lookup.
+/// A lookup with the use that a plan makes of it, and its digest; none if the table has no such lookup. Inlined, since what it
+/// returns would be copied twice.
+#[inline(always)]
 fn digested<'a>(
     tables: LookupTables<'a>,
     list: LookupList,
