@@ -21,6 +21,7 @@ fn meets(named: &Digested<'_>, item: &hb_glyph_info_t) -> bool
 }
 
 /// How many of so many items at the start of a slice come before the first one that the lookup meets; all, if it meets none.
+#[inline(always)]
 pub(crate) fn unmet(named: &Digested<'_>, infos: &[hb_glyph_info_t], most: usize) -> usize
     requires { most ≤ length infos.now }
     ensures few { result ≤ most }

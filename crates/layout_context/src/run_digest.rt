@@ -8,8 +8,8 @@ use layout_digests::{Digest, Digested};
 /// For how many lookups at least a digest of the list is made anew. For fewer it takes longer than the walks that it may save.
 const WORTH_RENEWING: usize = 4;
 
-/// A digest that holds the glyphs of a list. A call of its own, so that its words stay in registers.
-#[inline(never)]
+/// A digest that holds the glyphs of a list. Inlined, so that a list in one piece is gone over as a slice.
+#[inline(always)]
 #[tactic(auto, using(crate::proofs::DigestLemmas::one_held))]
 pub(crate) fn digest_of(items: &ItemList<'_>) -> Digest
     ensures { HoldsGlyphs result items.now }
@@ -22,6 +22,7 @@ pub(crate) fn digest_of(items: &ItemList<'_>) -> Digest
 }
 
 /// The digest of a list that so many lookups begin with. For one alone none is made.
+#[inline(always)]
 pub(crate) fn first_digest(count: usize, items: &ItemList<'_>) -> Digest
     ensures { HoldsGlyphs result items.now }
 {
@@ -33,6 +34,7 @@ pub(crate) fn first_digest(count: usize, items: &ItemList<'_>) -> Digest
 }
 
 /// A digest of the list for so many lookups that are left, if a lookup has gone over the list since it was made.
+#[inline(never)]
 pub(crate) fn renewed(run: Digest, is_stale: bool, rest: usize, items: &ItemList<'_>) -> Digest
     requires { is_stale ≡ false → HoldsGlyphs run items.now }
     ensures { HoldsGlyphs result items.now }
