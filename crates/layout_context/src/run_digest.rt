@@ -1,4 +1,5 @@
-//! The digest of a list, which tells at once which lookups find no glyph there. Lookups change the list, so it is made anew.
+//! The digest of a list, which tells at once which lookups find no glyph there. Lookups change the list, so it is made anew
+//! where enough of them are left.
 ghost use Rattle.std.specs.Prelude.{◌≡◌, ◌≤◌, true, false, All};
 ghost use Rattle.layout_context.specs.Digested.{IsApart, HoldsGlyphs};
 

@@ -224,7 +224,7 @@ fn look_up(
     go_over(alloc, levels, named, buffer, charge_walk(work, spot))
 }
 
-/// Lookups one after the other, from a digest of the list on. One that isn't made changes nothing, so that no digest is made anew.
+/// Lookups one after the other, from a digest of the list on. One that isn't made changes nothing, so that the digest stays.
 #[tactic(auto, using(crate::proofs::DigestLemmas::looked_on))]
 fn look_all_up(
     alloc: Global,

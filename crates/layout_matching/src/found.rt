@@ -308,7 +308,7 @@ pub fn first_subtable(lookup: &Lookup<'_>) -> Option<LookupSubtable>
     None
 }
 
-/// The same, by what its first subtable is.
+/// Whether the lookup is one of context, by what its first subtable is.
 #[inline(never)]
 fn begins_with_context(lookup: &Lookup<'_>) -> bool
     requires { lookup.now.place < 2 ^ 17 }

@@ -195,7 +195,7 @@ fn subtable_charged(
     }
 }
 
-/// The same of a subtable of ligatures. Here the kind is a constant, so that nothing is asked that is said of other kinds.
+/// What is left after a subtable of ligatures. Its kind is a constant here, so that no test for another kind is left.
 #[inline(never)]
 fn ligatures_charged(
     lookup: &Lookup<'_>,

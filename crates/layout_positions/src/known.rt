@@ -1,5 +1,6 @@
 //! What a walk over a long list knows of its glyphs: which subtables of marks don't list them. A text has few marks, which come
-//! again and again, and a lookup many subtables, of which most don't list a mark: each is searched once for a glyph.
+//! again and again, and a lookup many subtables, of which most don't list a mark: those aren't searched again for a glyph as
+//! long as it is kept in mind.
 ghost use Rattle.std.specs.Prelude.{◌≡◌, ◌<◌, ◌+◌, ◌&&◌, ◌^◌, ◌||◌, All, true, false, length, nat_eq, nat_lt, Some, None};
 ghost use Rattle.std.specs.Int.{bit_at};
 ghost use Rattle.layout_tables.specs.Lookups.{subtable_of};

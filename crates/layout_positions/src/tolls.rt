@@ -1,4 +1,4 @@
-//! What a walk of a lookup is charged for each item of a list, as its type tells it.
+//! What a walk of a lookup costs over a list, decided by the lookup's type where that says enough.
 ghost use Rattle.std.specs.Prelude.{◌≡◌, ◌<◌, ◌^◌, true, false};
 ghost use Rattle.layout_matching.specs.Found as found_rules;
 ghost use Rattle.layout_matching.specs.Work;
@@ -22,7 +22,7 @@ fn is_plain_kind(lookup: &Lookup<'_>) -> bool
     lookup.positioning && lookup_type(lookup.table, lookup.place) < 7
 }
 
-/// Whether the lookup is one of context. Most are told by their type.
+/// Whether the lookup is one of context. For most their type decides it.
 pub(crate) fn has_rules(lookup: &Lookup<'_>) -> bool
     requires { lookup.now.place < 2 ^ 17 }
     ensures { result ≡ found_rules.is_context lookup.now }

@@ -51,10 +51,11 @@ may_hold digest tag = nat_eq (bit_at digest (tag_place tag)) 1
 abbrev pub KeepsTags : ℕ → ℕ → Type 0
 KeepsTags digest after = (tag : ℕ) → may_hold digest tag ≡ true → may_hold after tag ≡ true
 
--- none of the first `n` features that a language system lists has a tag that the digest lacks; so of all that it lists
+-- none of the first `n` features that a language system lists has a tag that the digest lacks
 abbrev pub HoldsFirst : List ℕ → ℕ → ℕ → ℕ → Type 0
 HoldsFirst t lang_sys n digest = (tag : ℕ) → may_hold digest tag ≡ false → first_at (has_feature_tag t lang_sys tag) n 0 ≡ None
 
+-- the same of all that it lists
 abbrev pub HoldsListed : List ℕ → ℕ → ℕ → Type 0
 HoldsListed t lang_sys digest = (tag : ℕ) → may_hold digest tag ≡ false → feature_index_of t lang_sys tag ≡ None
 

@@ -83,7 +83,7 @@ pub(super) fn growth_right(infos: &[hb_glyph_info_t], last: usize, least: u32) -
     count_at_start(&infos[last + 1..], cluster)
 }
 
-/// How many items beside a span, the one at `last` among them, its merging writes.
+/// How many items beside the span from `at` to `last`, both in it, its merging writes.
 pub fn grown_over(infos: &[hb_glyph_info_t], at: usize, last: usize) -> usize
     requires { last < length infos.now }
     ensures { result ≡ Merging.grown_over at last infos.now }

@@ -90,7 +90,7 @@ fn refused(cause: ShapeError, text: hb_buffer_t) -> ShapeFault
 
 /// Makes glyphs of a text whose script and direction are set as guessing sets them, so that who has guessed
 /// for a plan doesn't go over the characters again. `text` is what guessing made of `original`. It is shaped where
-/// it stands: a buffer is large, and its callers move it but once.
+/// it stands: a buffer is large, and its callers move it only once.
 #[inline(never)]
 fn shape_guessed<U, F, M, S>(
     alloc: Global,

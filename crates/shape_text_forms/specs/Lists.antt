@@ -51,7 +51,7 @@ part_text list form spot (x ∷ xs) (p ∷ ps) =
 abbrev pub start : Spot
 start = record { first = true; pen = record { x = pos 0; y = pos 0 } }
 
--- a list is its parts, one after the other, and `]`
+-- a list that has a glyph is its parts, one after the other, and `]`
 pub record PartsMakeLists : Type 0 where
   pub joined : (list : ListForm) (form : Form) (spot : Spot) (xs ys : List Item) (ps qs : List GlyphPosition) → length ps ≡ length xs
       → part_text list form spot (xs ++ ys) (ps ++ qs) ≡ part_text list form spot xs ps ++ part_text list form (spot_after form.flags spot ps) ys qs

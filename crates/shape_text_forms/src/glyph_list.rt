@@ -29,7 +29,7 @@ fn append_entry<F: hb_font_t, N: glyph_names>(
     }
 }
 
-/// Appends a part of a list: glyphs from this spot on, and no end. Returns the spot of the glyph behind them, from which
+/// Appends a part of a list: glyphs from this spot on, and no end. Returns the spot of the glyph after them, from which
 /// the next part goes on. Refuses only if a growth of memory was refused.
 pub fn append_part<F: hb_font_t, N: glyph_names>(
     alloc: Global,
@@ -189,7 +189,7 @@ pub fn serialize_json<F: hb_font_t, N: glyph_names>(
     serialize_placed_json(alloc, infos, glyphs.glyph_positions(), face, names, flags)
 }
 
-/// Parts that are written one after the other, and `]`, make the list.
+/// Parts that are written one after the other, and `]`, make the list, if it has a glyph.
 pub fn parts_make_lists()
     ensures { PartsMakeLists }
 {}

@@ -40,7 +40,7 @@ fn is_before_angles(c: char) -> bool
     '\u{1FFF}' < c && c < '\u{2039}'
 }
 
-/// Whether `c` stands before the first bracket: nothing there is mirrored, and the space least of all.
+/// Whether `c` stands before the first bracket: nothing there is mirrored: above all the space, which is in most texts.
 fn is_before_brackets(c: char) -> bool
     ensures { result ≡ nat_lt c 0x28 }
 {
