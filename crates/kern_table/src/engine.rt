@@ -99,6 +99,16 @@ impl<'a> hb_ot_layout_t<FontFace<'a>> for KernTable {
         None
     }
 
+    fn would_substitute(
+        _map: &KernMap,
+        _face: &FontFace<'a>,
+        _tag: hb_tag_t,
+        _glyphs: &[u32],
+        _zero_context: bool,
+    ) -> bool {
+        false
+    }
+
     fn substitute_start(_face: &FontFace<'a>, _buffer: &mut hb_buffer_t) {}
 
     fn stages(map: &KernMap) -> usize

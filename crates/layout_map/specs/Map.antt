@@ -1,6 +1,6 @@
 -- A compiled map, and what it returns to the pipeline.
 use Rattle.std.specs.Prelude.{ℕ, Bool, false, List, Option, length}
-use Rattle.std.specs.Option.{option_map_or, option_and_then}
+use Rattle.std.specs.Option.{option_map, option_map_or, option_and_then}
 use Rattle.shape_buffer.specs.Layout.{MapMeaning}
 use Rattle.shape_buffer.specs.declared.interfaces.map_request.MapRequest.{MapRequest}
 use Rattle.shape_buffer.specs.declared.interfaces.map_request.TableIndex.{TableIndex}
@@ -46,6 +46,10 @@ index_in GPOS f = f.gpos
 
 abbrev pub needs_fallback_of : OtMap → ℕ → Bool
 needs_fallback_of m tag = option_map_or (λ f. f.needs_fallback) (feature_of m tag) false
+
+-- the stage of a feature in GSUB
+abbrev pub stage_of : OtMap → ℕ → Option ℕ
+stage_of m tag = option_map (λ f. f.stage) (feature_of m tag)
 
 -- a feature that the map lacks has an empty mask, and no index
 abbrev pub map_meaning : OtMap → MapMeaning

@@ -54,6 +54,7 @@ impl hb_ot_map_t {
       map_meaning,
       feature_of,
       needs_fallback_of,
+      stage_of,
     };
     ghost use Rattle.layout_map.specs.Stages.{lookups_of};
 
@@ -132,6 +133,16 @@ impl hb_ot_map_t {
         match table {
             TableIndex::GSUB => feature.gsub,
             TableIndex::GPOS => feature.gpos,
+        }
+    }
+
+    /// The stage of a feature in `GSUB`, if the map has the feature.
+    pub fn feature_stage(&self, tag: hb_tag_t) -> Option<usize>
+        ensures { result ≡ stage_of self.now tag.0 }
+    {
+        match self.feature(tag.0) {
+            Some(feature) => Some(feature.stage),
+            None => None,
         }
     }
 

@@ -1,7 +1,7 @@
 -- loops, step by step
 use Prim.Native.Nat.{zero}
 use Rattle.std.proofs.Common.{◌≡◌, ℕ, suc, ◌+◌, ◌-◌, ◌<◌, ◌≤◌, Bool, true, false, not, Option, Some, None, refl, sym, ap, ◌∙◌, arith}
-use Rattle.layout_matching.specs.Loops.{times, steps, first_some, stopped}
+use Rattle.layout_matching.specs.Loops.{times, steps, first_some, stopped, some_passes, each_passes}
 
 pub not_true : (b : Bool) → b ≡ true → not b ≡ false
 not_true b e = rw e refl
@@ -90,4 +90,38 @@ stopped_none f at n k s more is =
 pub stopped_end : {S : Type 0} (f : ℕ → S → Option S) (at : ℕ → S → ℕ) (n k : ℕ) (s : S) → n ≤ k → stopped f at (n - k) k s ≡ 0
 stopped_end f at n k s over =
     let e : n - k ≡ 0 = omega (arith, over) in
+    rw e refl
+
+-- one that passes
+pub some_next : (p : ℕ → Bool) (n i : ℕ) → i < n → p i ≡ false → some_passes p (n - i) i ≡ some_passes p (n - (i + 1)) (i + 1)
+some_next p n i more is =
+    let e : n - i ≡ suc (n - (i + 1)) = omega (arith, more) in
+    let s : suc i ≡ i + 1 = omega arith in
+    rw e (rw is (rw s refl))
+
+pub some_found : (p : ℕ → Bool) (n i : ℕ) → i < n → p i ≡ true → some_passes p (n - i) i ≡ true
+some_found p n i more is =
+    let e : n - i ≡ suc (n - (i + 1)) = omega (arith, more) in
+    rw e (rw is refl)
+
+pub some_end : (p : ℕ → Bool) (n i : ℕ) → n ≤ i → some_passes p (n - i) i ≡ false
+some_end p n i over =
+    let e : n - i ≡ 0 = omega (arith, over) in
+    rw e refl
+
+-- each of them
+pub each_next : (p : ℕ → Bool) (n i : ℕ) → i < n → p i ≡ true → each_passes p (n - i) i ≡ each_passes p (n - (i + 1)) (i + 1)
+each_next p n i more is =
+    let e : n - i ≡ suc (n - (i + 1)) = omega (arith, more) in
+    let s : suc i ≡ i + 1 = omega arith in
+    rw e (rw is (rw s refl))
+
+pub each_fails : (p : ℕ → Bool) (n i : ℕ) → i < n → p i ≡ false → each_passes p (n - i) i ≡ false
+each_fails p n i more is =
+    let e : n - i ≡ suc (n - (i + 1)) = omega (arith, more) in
+    rw e (rw is refl)
+
+pub each_end : (p : ℕ → Bool) (n i : ℕ) → n ≤ i → each_passes p (n - i) i ≡ true
+each_end p n i over =
+    let e : n - i ≡ 0 = omega (arith, over) in
     rw e refl

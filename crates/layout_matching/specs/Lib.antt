@@ -9,4 +9,5 @@ pub mod Glance
 pub mod Nesting
 pub mod Tried
 pub mod Work
+pub mod Would
 pub mod Worked

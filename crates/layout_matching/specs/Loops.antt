@@ -1,6 +1,6 @@
 -- loops: so many times, until something is missing, and the first that gives something
 use Prim.Native.Nat.{zero}
-use Rattle.std.specs.Prelude.{ℕ, suc, Option, Some, None}
+use Rattle.std.specs.Prelude.{ℕ, suc, Bool, true, false, Option, Some, None, ◌&&◌, ◌||◌}
 use Rattle.std.specs.Option.{option_and_then, option_or, option_map_or}
 
 -- a step made so many times
@@ -27,3 +27,12 @@ stopped f at (suc n) k s = option_map_or (stopped f at n (suc k)) (f k s) (at k 
 abbrev pub along : {S : Type 0} → (ℕ → S → S) → ℕ → ℕ → S → S
 along f zero k s = s
 along f (suc n) k s = along f n (suc k) (f k s)
+
+-- whether one of `n` numbers from `i` on passes, and whether each does
+abbrev pub some_passes : (ℕ → Bool) → ℕ → ℕ → Bool
+some_passes p zero i = false
+some_passes p (suc n) i = p i || some_passes p n (suc i)
+
+abbrev pub each_passes : (ℕ → Bool) → ℕ → ℕ → Bool
+each_passes p zero i = true
+each_passes p (suc n) i = p i && each_passes p n (suc i)

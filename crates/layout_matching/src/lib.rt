@@ -5,8 +5,9 @@
 //! context, [`glance`] refuses most of them at once ([`around`] looks as far as a rule asks), [`found`] has the first
 //! rule that matches, and [`nesting`] the lookups that it names. [`tried`] and [`reaching`] say how far searches in
 //! vain looked. [`work`] says what a lookup is charged for, by [`sets`] of rules, [`tally`] of each rule and
-//! [`passing`] of glyphs beside a place; [`beside`] charges subtables of positioning, which share those glyphs. All
-//! are functions of the bytes of the font and of the list of items: nothing is changed. Any bytes are taken.
+//! [`passing`] of glyphs beside a place; [`beside`] charges subtables of positioning, which share those glyphs.
+//! [`would`] says whether context would match glyphs that stand alone. All are functions of the bytes of the font and of
+//! the list of items: nothing is changed. Any bytes are taken.
 #![tactic(auto)]
 #![allow(non_camel_case_types)]
 
@@ -29,3 +30,4 @@ pub mod tally;
 pub mod tried;
 pub mod work;
 pub mod worked;
+pub mod would;

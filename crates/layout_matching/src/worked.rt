@@ -3,6 +3,7 @@ ghost use Rattle.layout_matching.specs.Worked.{WorkedNullClasses, WorkedEnds, Wo
 ghost use Rattle.layout_matching.specs.Worked.Glance.{WorkedGlance};
 ghost use Rattle.layout_matching.specs.Worked.Passing.{WorkedPassing};
 ghost use Rattle.layout_matching.specs.Worked.Work.{WorkedWork};
+ghost use Rattle.layout_matching.specs.Worked.Would.{WorkedWould};
 
 /// Rules of context: a NULL ClassDef has all glyphs in class 0, and a rule that leads past the end of the table matches nothing.
 pub fn rules_meet_worked_cases()
@@ -28,4 +29,9 @@ pub fn passing_meets_worked_cases()
 /// What the glyphs around a place say of rules, and which rules that refuses.
 pub fn glances_meet_worked_cases()
     ensures { WorkedGlance }
+{}
+
+/// Which rules of context match glyphs that stand alone, and at which glyphs subtables of context begin.
+pub fn would_meets_worked_cases()
+    ensures { WorkedWould }
 {}

@@ -6,4 +6,5 @@ pub mod Ligatures
 pub mod Kinds
 pub mod Start
 pub mod Off
+pub mod Would
 pub mod Worked

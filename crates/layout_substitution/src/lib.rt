@@ -4,8 +4,8 @@
 //! [`substitutes`] reads what the table puts in place of a glyph, [`replaced`] says what becomes of an item that another glyph
 //! replaces, [`edits`] changes a buffer at a place, [`apply`], [`deletion`], [`alternate`], [`ligature`] with [`second_component`], and
 //! [`ligature_reach`] apply the subtables of a lookup by their kind, and [`kinds`] a whole lookup, one of type 1 by `singles`.
-//! [`merging`] is what a ligature costs that merges clusters, and [`start`] is what comes before the first lookup. Any bytes are
-//! taken.
+//! [`merging`] is what a ligature costs that merges clusters, and [`start`] is what comes before the first lookup. [`would`] says
+//! whether a lookup of any kind would substitute glyphs that stand alone. Any bytes are taken.
 #![tactic(auto)]
 #![allow(non_camel_case_types)]
 
@@ -24,3 +24,4 @@ mod singles;
 pub mod start;
 pub mod substitutes;
 pub mod worked;
+pub mod would;

@@ -1,6 +1,7 @@
 //! The definitions, computed by hand.
 ghost use Rattle.layout_substitution.specs.Worked.{WorkedLigatures, WorkedPasts, WorkedBeginnings, WorkedCounts, WorkedDeletions};
 ghost use Rattle.layout_substitution.specs.Worked.{WorkedMergings, WorkedLigating};
+ghost use Rattle.layout_substitution.specs.Worked.Would.{WorkedWould};
 
 /// Ligatures: their components, and one that leads past the end of the table.
 pub fn ligatures_meet_worked_cases()
@@ -32,4 +33,9 @@ pub fn deletions_meet_worked_cases()
 pub fn ligating_meets_worked_cases()
     ensures mergings { WorkedMergings }
     ensures ligating { WorkedLigating }
+{}
+
+/// Which glyphs that stand alone lookups of each type would substitute, in any context and in none.
+pub fn would_meets_worked_cases()
+    ensures { WorkedWould }
 {}

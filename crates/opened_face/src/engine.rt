@@ -86,6 +86,16 @@ impl<'a, M: hb_ot_layout_t<FontFace<'a>>, K: KernsOpened<'a, M>> hb_ot_layout_t<
         M::get_feature_index(map, table, tag)
     }
 
+    fn would_substitute(
+        map: &Self::Map,
+        face: &OpenedFace<'a>,
+        tag: hb_tag_t,
+        glyphs: &[u32],
+        zero_context: bool,
+    ) -> bool {
+        M::would_substitute(map, face.face(), tag, glyphs, zero_context)
+    }
+
     fn substitute_start(face: &OpenedFace<'a>, buffer: &mut hb_buffer_t) {
         M::substitute_start(face.face(), buffer)
     }

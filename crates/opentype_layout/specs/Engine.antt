@@ -16,6 +16,7 @@ use Rattle.layout_tables.specs.Gdef.{has_glyph_classes}
 use Rattle.opentype_layout.specs.Chosen.{script_in, chosen_in}
 use Rattle.opentype_layout.specs.Classes.{glyphs_begun}
 use Rattle.opentype_layout.specs.Lookups.{lookups_of}
+use Rattle.opentype_layout.specs.Would.{feature_would}
 use Rattle.opentype_layout.specs.declared.face.OpenTypeFace.{OpenTypeFace}
 use Rattle.opentype_layout.specs.declared.lookups.LookupTables.{LookupTables}
 
@@ -51,6 +52,7 @@ opentype_layout f = record {
 -- nothing is done for `morx` and `kerx`
 abbrev pub opentype_lookups : OtMap → OpenTypeFace → LookupMeaning
 opentype_lookups m f = record {
+  would_substitute = λ tag glyphs zero_context. feature_would f.gsub.now m tag.0 glyphs zero_context;
   substitute_start = glyphs_begun f.gdef.now;
   stage = λ i. substituted (lookups_of (gsub_tables f) (stages.lookups_of m.gsub i));
   aat_substitute = λ _ b. b;

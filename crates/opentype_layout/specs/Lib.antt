@@ -3,6 +3,7 @@ pub mod Chosen
 pub mod Lookups
 pub mod Classes
 pub mod Digested
+pub mod Would
 pub mod Engine
 pub mod EngineLaws
 pub mod Worked

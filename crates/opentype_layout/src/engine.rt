@@ -14,11 +14,13 @@ use crate::chosen::{chosen_for, script_in};
 use crate::classes::{GlyphClasses, begin_glyphs};
 use crate::face::OpenTypeFace;
 use crate::lookups::{LookupTables, lookup_with_digest, lookups};
+use crate::would::feature_would;
 use kern_table::tables::{kern_table, subtable_count};
 use layout_context::stages::substitute;
 use layout_digests::Digest;
 use layout_map::lookups::LookupMap;
 use layout_map::map::hb_ot_map_t;
+use layout_matching::would::Alone;
 use layout_positions::attachment::finish_offsets;
 use layout_positions::walk;
 use layout_tables::gdef;
@@ -235,6 +237,20 @@ impl<'a> hb_ot_layout_t<OpenTypeFace<'a>> for OpenTypeLayout {
         ensures { result ≡ (map_meaning map.now).feature_index table tag }
     {
         map.feature_index(table, tag)
+    }
+
+    fn would_substitute(
+        map: &hb_ot_map_t,
+        face: &OpenTypeFace<'a>,
+        tag: hb_tag_t,
+        glyphs: &[u32],
+        zero_context: bool,
+    ) -> bool {
+        let alone = Alone {
+            glyphs,
+            zero_context,
+        };
+        feature_would(face.gsub(), map, tag, alone)
     }
 
     fn substitute_start(face: &OpenTypeFace<'a>, buffer: &mut hb_buffer_t) {

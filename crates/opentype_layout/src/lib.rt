@@ -2,8 +2,8 @@
 //! [`OpenTypeFace`].
 //!
 //! The crates below it read tables, compile requests and apply lookups. [`chosen`] chooses script and language system
-//! for a text, [`lookups`] makes the lookups of a plan ready, [`classes`] gives glyphs their classes, and [`engine`]
-//! puts them together. Any bytes are taken: [`laws`] has what holds of the engine whatever the font is. [`worked`] has
+//! for a text, [`lookups`] makes the lookups of a plan ready, [`classes`] gives glyphs their classes, `would` asks
+//! lookups for glyphs that stand alone, and [`engine`] puts them together. Any bytes are taken: [`laws`] has what holds of the engine whatever the font is. [`worked`] has
 //! the definitions computed by hand.
 #![tactic(auto)]
 #![allow(non_camel_case_types)]
@@ -17,6 +17,7 @@ pub mod lookups;
 pub mod opened;
 mod opened_engine;
 pub mod worked;
+mod would;
 
 pub use engine::OpenTypeLayout;
 pub use face::OpenTypeFace;

@@ -14,8 +14,10 @@ use crate::engine::{
     OpenTypeLayout, compiled, gpos_tables, gsub_tables, position_by, substitute_by, table_of,
 };
 use crate::opened::OpenedOpenTypeFace;
+use crate::would::feature_would;
 use kern_table::tables::{kern_table_by, subtable_count};
 use layout_map::map::hb_ot_map_t;
+use layout_matching::would::Alone;
 use layout_positions::attachment::finish_offsets;
 use layout_positions::walk;
 use layout_tables::gdef;
@@ -89,6 +91,20 @@ impl<'a> hb_ot_layout_t<OpenedOpenTypeFace<'a>> for OpenTypeLayout {
         ensures { result ≡ (map_meaning map.now).feature_index table tag }
     {
         map.feature_index(table, tag)
+    }
+
+    fn would_substitute(
+        map: &hb_ot_map_t,
+        face: &OpenedOpenTypeFace<'a>,
+        tag: hb_tag_t,
+        glyphs: &[u32],
+        zero_context: bool,
+    ) -> bool {
+        let alone = Alone {
+            glyphs,
+            zero_context,
+        };
+        feature_would(face.face().gsub(), map, tag, alone)
     }
 
     fn substitute_start(face: &OpenedOpenTypeFace<'a>, buffer: &mut hb_buffer_t) {

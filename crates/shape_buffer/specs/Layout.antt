@@ -32,6 +32,8 @@ pub record MapMeaning : Type 0 where
 
 -- what the lookups make of a buffer
 pub record LookupMeaning : Type 0 where
+  -- whether lookups of a feature's stage in GSUB substitute exactly these glyphs; and with no context around them
+  pub would_substitute : hb_tag_t → List ℕ → Bool → Bool
   pub substitute_start : Buffer → Buffer
   pub stage : ℕ → Buffer → Buffer
   pub aat_substitute : List Feature → Buffer → Buffer

@@ -27,6 +27,7 @@ no_masks = record {
 -- every call leaves the buffer as it is
 abbrev pub no_lookups : LookupMeaning
 no_lookups = record {
+  would_substitute = λ _ _ _. false;
   substitute_start = λ b. b;
   stage = λ _ b. b;
   aat_substitute = λ _ b. b;

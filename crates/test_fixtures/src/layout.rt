@@ -190,6 +190,16 @@ impl<'a> hb_ot_layout_t<TestFace<'a>> for TestLayout {
         }
     }
 
+    fn would_substitute(
+        _map: &TestMap,
+        _face: &TestFace<'a>,
+        _tag: hb_tag_t,
+        _glyphs: &[u32],
+        _zero_context: bool,
+    ) -> bool {
+        false
+    }
+
     fn substitute_start(_face: &TestFace<'a>, buffer: &mut hb_buffer_t) {
         update_items(buffer, |info| with_class(info));
     }

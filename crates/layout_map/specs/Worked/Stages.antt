@@ -9,7 +9,7 @@ use Rattle.layout_tables.specs.Worked.Scripts.{two_scripts, LATN, TRK}
 use Rattle.layout_map.specs.Chosen.{Chosen, chosen, required_tag_of, feature_place}
 use Rattle.layout_map.specs.Lookups.{gsub_lookups, gpos_lookups}
 use Rattle.layout_map.specs.Stages.{Staged, staged, lookups_of, pause_of}
-use Rattle.layout_map.specs.Map.{OtMap, compiled, map_meaning, needs_fallback_of}
+use Rattle.layout_map.specs.Map.{OtMap, compiled, map_meaning, needs_fallback_of, stage_of}
 use Rattle.layout_map.specs.declared.features.FeatureMap.{FeatureMap}
 use Rattle.layout_map.specs.declared.lookups.LookupMap.{LookupMap}
 use Rattle.layout_map.specs.Worked.Settings.{asked}
@@ -131,6 +131,10 @@ pub record WorkedMap : Type 0 where
   pub second_stage : lookups_of whole.gsub 1 ≡ on 3 96 ∷ on 5 96 ∷ []
   pub needs_fallback : needs_fallback_of whole 10 ≡ true
   pub needs_none : needs_fallback_of whole LIGA ≡ false
+  pub before_the_pause : stage_of whole KERN ≡ Some 0
+  pub after_the_pause : stage_of whole LIGA ≡ Some 1
+  pub of_a_fallback : stage_of whole 10 ≡ Some 1
+  pub of_none : stage_of whole 20 ≡ None
 
 pub worked_map : WorkedMap
 worked_map = record {
@@ -150,6 +154,10 @@ worked_map = record {
   second_stage = refl;
   needs_fallback = refl;
   needs_none = refl;
+  before_the_pause = refl;
+  after_the_pause = refl;
+  of_a_fallback = refl;
+  of_none = refl;
 }
 
 -- what is chosen in a table for a text, and what it says of features

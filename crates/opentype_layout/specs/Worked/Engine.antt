@@ -6,14 +6,16 @@ use Rattle.shape_buffer.specs.declared.interfaces.map_request.MapRequest.TheVari
 use Rattle.shape_buffer.specs.declared.interfaces.map_request.TableIndex.TheVariants.{GSUB, GPOS}
 use Rattle.shape_common.specs.declared.text_types.hb_tag_t.{hb_tag_t}
 use Rattle.shape_common.specs.declared.text_types.Script.{Script}
+use Rattle.layout_map.specs.Map.{OtMap, compiled}
 use Rattle.layout_map.specs.declared.lookups.LookupMap.{LookupMap}
 use Rattle.layout_matching.specs.declared.lookup.Lookup.{Lookup}
 use Rattle.opentype_layout.specs.Chosen.{script_in, chosen_in}
 use Rattle.opentype_layout.specs.Classes.{begun}
-use Rattle.opentype_layout.specs.Engine.{gsub_tables, gpos_tables, opentype_layout}
+use Rattle.opentype_layout.specs.Engine.{gsub_tables, gpos_tables, opentype_layout, opentype_lookups}
 use Rattle.opentype_layout.specs.Face.{tables_of}
 use Rattle.opentype_layout.specs.Lookups.{least_bit, lookups_of}
-use Rattle.opentype_layout.specs.Worked.Fonts.{words, gsub, gdef, kern}
+use Rattle.opentype_layout.specs.Would.{feature_would}
+use Rattle.opentype_layout.specs.Worked.Fonts.{words, gsub, gsub_of_two, gdef, kern}
 use Rattle.opentype_layout.specs.declared.face.OpenTypeFace.{OpenTypeFace}
 
 abbrev pub tag : ℕ → hb_tag_t
@@ -49,6 +51,12 @@ asked = record {
   gsub_script = Some latn;
   gpos_script = None;
 }
+
+-- whether a feature's lookups would substitute glyphs, if `liga` is what is asked for in a table of two lookups
+abbrev pub Would : ℕ → List ℕ → Bool → Type 0
+Would feature glyphs is =
+    feature_would gsub_of_two (compiled (chosen_in gsub_of_two (Some latn) None) (chosen_in [] None None) asked.requests) feature glyphs true
+    ≡ is
 
 -- glyph `n` of a ligature
 abbrev pub ligated : ℕ → Item
@@ -96,6 +104,13 @@ pub record WorkedEngine : Type 0 where
   pub classes : (f : OpenTypeFace) → f.gdef.now ≡ gdef → (opentype_layout f).has_glyph_classes ≡ true
   pub kerns : (f : OpenTypeFace) → f.font.kern.now ≡ kern → (opentype_layout f).has_kerning ≡ true
   pub no_kern : (f : OpenTypeFace) → f.font.kern.now ≡ [] → (opentype_layout f).has_kerning ≡ false
+  -- by the first lookup, by the second, by none; for a feature that wasn't asked for
+  pub first_would : Would 0x6C696761 (5 ∷ []) true
+  pub second_would : Would 0x6C696761 (5 ∷ 6 ∷ []) true
+  pub none_would : Would 0x6C696761 (5 ∷ 7 ∷ []) false
+  pub not_asked_for : Would 0x68616C66 (5 ∷ []) false
+  pub would_in_gsub : (m : OtMap) (f : OpenTypeFace) → f.gsub.now ≡ gsub → (opentype_lookups m f).would_substitute latn (5 ∷ []) true
+      ≡ feature_would gsub m 0x6C61746E (5 ∷ []) true
   -- a base, a mark, a glyph of no class, of no ligature any more
   pub base : classes_of (begun gdef (ligated 5)) ≡ 2 ∷ 0 ∷ 0 ∷ 0 ∷ 1 ∷ []
   pub mark : classes_of (begun gdef (ligated 6)) ≡ 8 ∷ 2 ∷ 0 ∷ 0 ∷ 1 ∷ []
@@ -124,6 +139,11 @@ worked_engine = record {
   classes = λ f e. rw e refl;
   kerns = λ f e. rw e refl;
   no_kern = λ f e. rw e refl;
+  first_would = refl;
+  second_would = refl;
+  none_would = refl;
+  not_asked_for = refl;
+  would_in_gsub = λ m f e. rw e refl;
   base = refl;
   mark = refl;
   other = refl;

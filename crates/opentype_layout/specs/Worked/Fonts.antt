@@ -13,6 +13,14 @@ gsub = words (1 ∷ 0 ∷ 10 ∷ 30 ∷ 44 ∷ [])
     ++ words (1 ∷ 0x6C69 ∷ 0x6761 ∷ 8 ∷ 0 ∷ 1 ∷ 0 ∷ [])
     ++ words (1 ∷ 4 ∷ 1 ∷ 8 ∷ 0 ∷ 7 ∷ [])
 
+-- the same with two lookups of `liga`: glyph 5 for another one, and the ligature of glyphs 5 and 6
+abbrev pub gsub_of_two : List ℕ
+gsub_of_two = words (1 ∷ 0 ∷ 10 ∷ 30 ∷ 46 ∷ [])
+    ++ words (1 ∷ 0x6C61 ∷ 0x746E ∷ 8 ∷ 4 ∷ 0 ∷ 0 ∷ 0xFFFF ∷ 1 ∷ 0 ∷ [])
+    ++ words (1 ∷ 0x6C69 ∷ 0x6761 ∷ 8 ∷ 0 ∷ 2 ∷ 0 ∷ 1 ∷ [])
+    ++ words (2 ∷ 6 ∷ 26 ∷ 1 ∷ 0 ∷ 1 ∷ 8 ∷ 1 ∷ 6 ∷ 1 ∷ 1 ∷ 1 ∷ 5 ∷ [])
+    ++ words (4 ∷ 0 ∷ 1 ∷ 8 ∷ 1 ∷ 8 ∷ 1 ∷ 14 ∷ 1 ∷ 1 ∷ 5 ∷ 1 ∷ 4 ∷ 50 ∷ 2 ∷ 6 ∷ [])
+
 -- glyph 5 is a base, glyph 6 a mark of attachment class 2
 abbrev pub gdef : List ℕ
 gdef = words (1 ∷ 0 ∷ 12 ∷ 0 ∷ 0 ∷ 22 ∷ 1 ∷ 5 ∷ 2 ∷ 1 ∷ 3 ∷ 1 ∷ 6 ∷ 1 ∷ 2 ∷ [])

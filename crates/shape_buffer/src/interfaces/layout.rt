@@ -80,6 +80,17 @@ pub trait hb_ot_layout_t<F> {
     fn get_feature_index(map: &Self::Map, table: TableIndex, tag: hb_tag_t) -> Option<u16>
         ensures { result ≡ (masks map.now).feature_index table tag };
 
+    /// Whether a lookup of the stage of a feature of `GSUB` would substitute exactly these glyphs, if they stood
+    /// alone; with `zero_context` lookups that look at what stands around don't count.
+    fn would_substitute(
+        map: &Self::Map,
+        face: &F,
+        tag: hb_tag_t,
+        glyphs: &[u32],
+        zero_context: bool,
+    ) -> bool
+        ensures { result ≡ (lookups map.now face.now).would_substitute tag glyphs.now zero_context };
+
     /// Prepares a buffer for substitution.
     fn substitute_start(face: &F, buffer: &mut hb_buffer_t)
         ensures { (map : Self.Map)

@@ -42,6 +42,7 @@ marked_by number b = record b { length_limit = Some number }
 
 abbrev pub telling_lookups : ℕ → ℕ → LookupMeaning
 telling_lookups map face = record {
+  would_substitute = λ tag glyphs zero_context. zero_context;
   substitute_start = marked_by (map + face);
   stage = λ i. marked_by (map + face + i);
   aat_substitute = λ features. marked_by 0;

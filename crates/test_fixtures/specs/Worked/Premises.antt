@@ -13,6 +13,7 @@ kept_if kept b = if kept then b else new_buffer
 -- lookups that every run calls, and none of the others
 abbrev pub always_called : LookupMeaning
 always_called = record {
+  would_substitute = λ tag glyphs zero_context. zero_context;
   substitute_start = λ b. b;
   stage = λ i. kept_if false;
   aat_substitute = λ features. kept_if false;
