@@ -1,9 +1,11 @@
 mod CanonicalLemmas
+mod ClusterRunLemmas
+mod EndOrderLemmas
 mod FlagRunLemmas
 mod OrderLemmas
+mod PassRows
 mod PhaseLemmas
 mod PremiseLemmas
 mod RunLemmas
 mod StringLemmas
 mod WorkedObligationLemmas
-mod PassRows

@@ -1,6 +1,6 @@
 -- The order of clusters along a whole run: rising in the text, facing its native direction while it is shaped, and
 -- shown in the direction of the text.
-use Rattle.std.proofs.Common.{◌≡◌, ◌≢◌, ℕ, Bool, true, false, List, [], ◌∷◌, ◌++◌, length, Option, Some, None, refl, ap, sym, ◌∙◌, arith, subst}
+use Rattle.std.proofs.Common.{◌≡◌, ◌≢◌, ℕ, Bool, true, false, List, [], ◌∷◌, ◌++◌, Option, Some, None, refl, ap, sym, ◌∙◌, subst}
 use Rattle.std.specs.Prelude.{Contains, not}
 use Rattle.std.specs.List.Sorted.{IsNonDecreasing}
 use Rattle.shape_items.specs.Buffer.{Buffer}
@@ -9,39 +9,37 @@ use Rattle.shape_items.specs.Clusters.{clusters}
 use Rattle.shape_common.specs.Direction.{is_backward, reverse_of}
 use Rattle.shape_items.specs.Flags.{flags_propagated}
 use Rattle.shape_buffer.specs.Guess.{guessed_script, known_or_ltr, script_or_ltr, direction_or}
-use Rattle.shape_items.specs.Items.{Item}
 use Rattle.shape_buffer.specs.Preservation.{PreservesOrder, IsClusterPreserving, EachStep}
 use Rattle.shape_buffer.specs.Outcome.{Step, step, run_steps}
 use Rattle.shape_common.specs.Unicode.{UnicodeMeaning}
 use Rattle.shape_common.specs.declared.text_types.Script.{Script}
-use Rattle.shape_common.specs.declared.text_types.BufferClusterLevel.TheVariants.{MonotoneGraphemes}
 use Rattle.shape_common.specs.declared.text_types.Direction.{Direction}
 use Rattle.shape_common.specs.declared.text_types.Direction.TheVariants.{Invalid, LeftToRight, RightToLeft, TopToBottom, BottomToTop}
 use Rattle.shape_buffer.proofs.Steps.PreservationLemmas.{EachStep-append}
 use Rattle.shape_fallback.proofs.PreservationLemmas.{fallback-preserves_clusters}
 use Rattle.shape_normalize.proofs.Normalized.ClusterOrderLemmas.{PreservesOrder-normalized}
 use Rattle.shape_normalize.proofs.Hooks.ReorderLemmas.{LawfulReorder}
+use Rattle.shape_normalize.specs.Normalized.{HookPreservesClusters}
+use Rattle.shape_plan.specs.Preservation.{CallsPreserveClusters}
 use Rattle.shape_plan.specs.Run.{Run}
 use Rattle.shape_glyphs.specs.Steps.{position_steps, show_steps, finish_steps}
 use Rattle.shape_glyphs.specs.Reversal.{reversed}
 use Rattle.shape_glyphs.proofs.StepPreservation.{steps_preserve_clusters}
 use Rattle.shape_prepare.specs.ClusterPoint.{InOrderFor, direction_for, is_reversed}
 use Rattle.shape_prepare.specs.PrepareSteps.{prepare_steps}
-use Rattle.shape_prepare.proofs.Preservation.FirstLemmas.{preparing_preserves_firsts}
 use Rattle.shape_prepare.proofs.Preservation.PreservationLemmas.{preparing_preserves_order}
 use Rattle.shape_prepare.proofs.Masking.MaskPreservation.{masks-preserve_clusters}
 use Rattle.shape_glyphs.proofs.SubstitutionPreservation.{substitution-preserves_clusters}
 use Rattle.shape_pipeline.specs.Headline.{target_of}
-use Rattle.shape_pipeline.specs.Order.{RunPreservesClusters, ComesInOrder, ClustersComeInOrder, grapheme_clusters}
-use Rattle.shape_pipeline.specs.Shaped.{normalising, glyph_phase, shaped_steps, all_steps, entered, finished, run_made}
+use Rattle.shape_pipeline.specs.Shaped.{normalising, glyph_phase, shaped_steps, all_steps}
 use Rattle.shape_pipeline.proofs.PhaseLemmas.{Leads, Leads-then, EachStep-glyph_phase, EachStep-position_steps}
 
 -- ---- states of a run, where each cluster is one of `From`
 
 -- each cluster comes from there, and the level is monotone
-record Comes (From : ℕ → Type 0) (b : Buffer) : Type 0 where
-  from : (k : ℕ) → Contains (clusters b.items) k → From k
-  monotone : IsMonotoneLevel b.cluster_level
+pub record Comes (From : ℕ → Type 0) (b : Buffer) : Type 0 where
+  pub from : (k : ℕ) → Contains (clusters b.items) k → From k
+  pub monotone : IsMonotoneLevel b.cluster_level
 
 -- reversed against the target direction exactly when the clusters fall
 record IsFacing (From : ℕ → Type 0) (target : Direction) (b : Buffer) : Type 0 where
@@ -51,14 +49,14 @@ record IsFacing (From : ℕ → Type 0) (target : Direction) (b : Buffer) : Type
   ordered : IsOrderedFor reversed (clusters b.items)
 
 -- in the order that the target direction asks
-record IsShown (From : ℕ → Type 0) (target : Direction) (b : Buffer) : Type 0 where
-  comes : Comes From b
-  ordered : IsOrderedFor (is_backward target) (clusters b.items)
+pub record IsShown (From : ℕ → Type 0) (target : Direction) (b : Buffer) : Type 0 where
+  pub comes : Comes From b
+  pub ordered : IsOrderedFor (is_backward target) (clusters b.items)
 
 -- a state that is kept by every step that preserves clusters
-record IsPreserved (State : Buffer → Type 0) : Type 0 where
-  monotone : (b : Buffer) → State b → IsMonotoneLevel b.cluster_level
-  kept : (old new : Buffer) → State old → PreservesOrder old new → State new
+pub record IsPreserved (State : Buffer → Type 0) : Type 0 where
+  pub monotone : (b : Buffer) → State b → IsMonotoneLevel b.cluster_level
+  pub kept : (old new : Buffer) → State old → PreservesOrder old new → State new
 
 comes-preserved : {From : ℕ → Type 0} {old new : Buffer} → Comes From old → PreservesOrder old new → Comes From new
 comes-preserved comes preserves = record {
@@ -82,7 +80,7 @@ IsPreserved-facing From target = record {
   };
 }
 
-IsPreserved-shown : (From : ℕ → Type 0) (target : Direction) → IsPreserved (IsShown From target)
+pub IsPreserved-shown : (From : ℕ → Type 0) (target : Direction) → IsPreserved (IsShown From target)
 IsPreserved-shown From target = record {
   monotone = λ b state. state.comes.monotone;
   kept = λ old new state preserves. record {
@@ -133,7 +131,7 @@ shown-reversed {From} target valid b state =
 -- ---- the parts
 
 module _ (run : Run) (target : Direction) (valid : target ≢ Invalid) (From : ℕ → Type 0)
-    (lawful : LawfulReorder run.rules.reorder) (preserves : RunPreservesClusters run) where
+    (lawful : LawfulReorder run.rules.reorder) (reordering : HookPreservesClusters run.rules) (calls : CallsPreserveClusters run) where
   -- a text as preparing leaves it
   facing-prepared : (reversed : Bool) (old new : Buffer) → InOrderFor reversed old new → old.direction ≡ target
       → IsMonotoneLevel old.cluster_level
@@ -147,17 +145,17 @@ module _ (run : Run) (target : Direction) (valid : target ≢ Invalid) (From : �
 
   facing-normalised : Leads (IsFacing From target) (normalising run.rules ∷ []) (IsFacing From target)
   facing-normalised = Leads-preserving (IsPreserved-facing From target) (normalising run.rules ∷ [])
-      (PreservesOrder-normalized run.rules lawful preserves.reordering, tt)
+      (PreservesOrder-normalized run.rules lawful reordering, tt)
 
   facing-glyphs : Leads (IsFacing From target) (glyph_phase run) (IsFacing From target)
   facing-glyphs = Leads-preserving (IsPreserved-facing From target) (glyph_phase run)
       (EachStep-glyph_phase IsClusterPreserving run (fallback-preserves_clusters run.unicode run.face run.direction run.script run.decisions)
-      (masks-preserve_clusters run preserves.calls) (substitution-preserves_clusters run preserves.calls))
+      (masks-preserve_clusters run calls) (substitution-preserves_clusters run calls))
 
   facing-placed : Leads (IsFacing From target) (position_steps run) (IsFacing From target)
   facing-placed = Leads-preserving (IsPreserved-facing From target) (position_steps run)
       (EachStep-position_steps IsClusterPreserving run (fallback-preserves_clusters run.unicode run.face run.direction run.script run.decisions)
-      (steps_preserve_clusters.advances run) (steps_preserve_clusters.tables run preserves.calls))
+      (steps_preserve_clusters.advances run) (steps_preserve_clusters.tables run calls))
 
   shown-finished : Leads (IsFacing From target) (finish_steps run) (IsShown From target)
   shown-finished =
@@ -166,7 +164,7 @@ module _ (run : Run) (target : Direction) (valid : target ≢ Invalid) (From : �
       let flags : EachStep IsClusterPreserving (step flags_propagated ∷ []) = (steps_preserve_clusters.flags, tt) in
       Leads-then {steps = step reversed ∷ []} {more = show_steps run ++ step flags_propagated ∷ []} reversal
       (Leads-preserving (IsPreserved-shown From target) (show_steps run ++ step flags_propagated ∷ [])
-      (EachStep-append IsClusterPreserving (show_steps run) (step flags_propagated ∷ []) (steps_preserve_clusters.showing run preserves.calls) flags))
+      (EachStep-append IsClusterPreserving (show_steps run) (step flags_propagated ∷ []) (steps_preserve_clusters.showing run calls) flags))
 
   shown-normalised : Leads (IsFacing From target) (normalising run.rules ∷ shaped_steps run) (IsShown From target)
   shown-normalised = Leads-then {steps = normalising run.rules ∷ []} {more = shaped_steps run} facing-normalised
@@ -174,13 +172,13 @@ module _ (run : Run) (target : Direction) (valid : target ≢ Invalid) (From : �
       (Leads-then {steps = position_steps run} {more = finish_steps run} facing-placed shown-finished))
 
   -- a whole run, from what is known of the text as it is prepared
-  shown-all : (b : Buffer) → b.direction ≡ target → IsMonotoneLevel b.cluster_level → IsNonDecreasing (clusters b.items)
+  pub shown-all : (b : Buffer) → b.direction ≡ target → IsMonotoneLevel b.cluster_level → IsNonDecreasing (clusters b.items)
       → ((k : ℕ) → Contains (clusters (run_steps (prepare_steps run target) b).items) k → From k)
       → IsShown From target (run_steps (all_steps run target) b)
   shown-all b is monotone rising from =
       let prepares : Leads (λ c. c ≡ b) (prepare_steps run target) (IsFacing From target) = record {
         leads = λ c same. rw same (facing-prepared (is_reversed run b) b (run_steps (prepare_steps run target) b)
-            (preparing_preserves_order run target b preserves.calls monotone rising) is monotone from);
+            (preparing_preserves_order run target b calls monotone rising) is monotone from);
       } in
       (Leads-then {steps = prepare_steps run target} {more = normalising run.rules
       ∷ shaped_steps run} prepares shown-normalised).leads b refl
@@ -208,53 +206,3 @@ direction_or-known BottomToTop other known is = let e : BottomToTop ≡ Invalid 
 
 pub target_of-known : (run : Run) (text : Buffer) → target_of run text ≢ Invalid
 target_of-known run text = direction_or-known text.direction _ (script_or_ltr-known run.unicode (guessed_script run.unicode text))
-
--- ---- what is handed out
-
--- a list without items is in order
-ordered-none : (backward : Bool) (xs : List ℕ) → xs ≡ [] → IsOrderedFor backward xs
-ordered-none true xs none = λ i j d first second. absurd (omega (arith, second, ap length none))
-ordered-none false xs none = λ i j d first second. absurd (omega (arith, second, ap length none))
-
--- and has no cluster
-none_in : (xs : List ℕ) (k : ℕ) → xs ≡ [] → Contains xs k → ⊥
-none_in xs k none is = omega (arith, is.1, ap length none)
-
--- the glyphs of a text come in order
-pub clusters-run_made : (run : Run) (target : Direction) → target ≢ Invalid → LawfulReorder run.rules.reorder → (text : Buffer)
-    → text.direction ≡ target
-    → ClustersComeInOrder run target text (run_made run target text)
-clusters-run_made run target valid lawful text towards preserves monotone rising = from text.items refl
-  where
-    -- a whole run, with each cluster from where preparing takes it
-    shown : (From : ℕ → Type 0) → ((k : ℕ) → Contains (clusters (run_steps (prepare_steps run target) (entered text)).items) k → From k)
-        → IsShown From target (run_steps (all_steps run target) (entered text))
-    shown From taken = shown-all run target valid From lawful preserves (entered text) towards monotone rising taken
-
-    of_text : IsShown (λ k. Contains (clusters text.items) k) target (run_steps (all_steps run target) (entered text))
-    of_text =
-        shown (λ k. Contains (clusters text.items) k) (preparing_preserves_order run target (entered text) preserves.calls monotone rising).none_new
-
-    of_firsts : text.cluster_level ≡ MonotoneGraphemes
-        → IsShown (λ k. Contains (grapheme_clusters run text) k) target (run_steps (all_steps run target) (entered text))
-    of_firsts level =
-        shown (λ k. Contains (grapheme_clusters run text) k) (preparing_preserves_firsts run target (entered text) preserves.calls level rising)
-
-    from : (items : List Item) → text.items ≡ items
-        → ComesInOrder run target text (elim items [
-          | [] ↦ text
-          | _
-              ∷ _ ↦ finished target (run_steps (all_steps run target) (entered text))
-        ])
-    from [] is =
-        let none : clusters text.items ≡ [] = rw is refl in
-        record {
-          from_text = λ k has. has;
-          from_firsts = λ level k has. absurd (none_in (clusters text.items) k none has);
-          ordered = ordered-none (is_backward target) (clusters text.items) none;
-        }
-    from (x ∷ xs) is = record {
-      from_text = of_text.comes.from;
-      from_firsts = λ level. (of_firsts level).comes.from;
-      ordered = of_text.ordered;
-    }

@@ -1,6 +1,8 @@
 -- What is promised of clusters: they come from the text, in the order of its direction.
-use Rattle.std.specs.Prelude.{◌≡◌, ℕ, List, Contains}
+use Rattle.std.specs.Prelude.{◌≡◌, ◌⊎◌, ℕ, true, List, Some, Contains}
 use Rattle.std.specs.List.Sorted.{IsNonDecreasing}
+use Rattle.cluster_order.specs.Ordering.{IsBringingNoCluster, IsOrdering}
+use Rattle.shape_buffer.specs.Preservation.{IsClusterPreserving}
 use Rattle.shape_items.specs.Buffer.{Buffer}
 use Rattle.shape_items.specs.ClusterOrder.{IsMonotoneLevel, IsOrderedFor}
 use Rattle.shape_items.specs.Clusters.{clusters}
@@ -8,15 +10,32 @@ use Rattle.shape_common.specs.Direction.{is_backward}
 use Rattle.shape_common.specs.declared.text_types.BufferClusterLevel.TheVariants.{MonotoneGraphemes}
 use Rattle.shape_common.specs.declared.text_types.Direction.{Direction}
 use Rattle.shape_normalize.specs.Normalized.{HookPreservesClusters}
-use Rattle.shape_plan.specs.Preservation.{CallsPreserveClusters}
+use Rattle.shape_plan.specs.Preservation.{CallsPreserveClusters, EachCalledLookup, EachCalledPause}
 use Rattle.shape_plan.specs.Run.{Run}
+use Rattle.shape_plan.specs.Shaper.{HookMeaning}
 use Rattle.shape_prepare.specs.ClusterPoint.{first_clusters, marked_text}
 use Rattle.shape_pipeline.specs.Shaped.{entered}
 
--- the cluster premises on lookups and hooks: they preserve clusters
+-- a run that ends in order: its last hook, `postprocess_glyphs`, puts clusters in the order of the plan's direction. Its pauses
+-- bring no cluster, and may leave clusters out of order; all other calls preserve them
+pub record EndsInOrder (run : Run) : Type 0 where
+  pub lookups : EachCalledLookup IsClusterPreserving run
+  pub hooks : HookMeaning
+  pub used : run.hooks ≡ Some hooks
+  pub preprocess : run.constants.has_preprocess_text ≡ true → IsClusterPreserving hooks.preprocess
+  pub setup_masks : run.constants.has_setup_masks ≡ true → IsClusterPreserving hooks.setup_masks
+  pub pause : run.constants.has_pause ≡ true → EachCalledPause IsBringingNoCluster run hooks
+  pub given : run.constants.has_postprocess_glyphs ≡ true
+  pub postprocess : IsOrdering (is_backward run.direction) hooks.postprocess
+
+-- the cluster premises on lookups and hooks: each call preserves clusters, or the run ends in order
 pub record RunPreservesClusters (run : Run) : Type 0 where
-  pub calls : CallsPreserveClusters run
+  pub calls : CallsPreserveClusters run ⊎ EndsInOrder run
   pub reordering : HookPreservesClusters run.rules
+
+-- the plan is for this direction; nothing is asked of it if each call preserves clusters
+abbrev pub IsPlannedFor : Run → Direction → Type 0
+IsPlannedFor run target = CallsPreserveClusters run ⊎ (run.direction ≡ target)
 
 -- the clusters of the first characters of a text's graphemes
 abbrev pub grapheme_clusters : Run → Buffer → List ℕ

@@ -1,5 +1,7 @@
 -- The obligations of a run, if its shaper gives no hook and its engine has no lookups: nothing.
-use Rattle.std.specs.Prelude.{◌≡◌, ◌⊎◌, false, None}
+use Rattle.std.specs.Prelude.{◌≡◌, ◌⊎◌, true, false, None}
+use Rattle.cluster_order.specs.Ordering.{IsBringingNoCluster, IsOrdering}
+use Rattle.shape_common.specs.Direction.{is_backward}
 use Rattle.shape_items.specs.Buffer.{Buffer}
 use Rattle.shape_items.specs.Prepared.{IsPrepared}
 use Rattle.shape_normalize.specs.CanonicalForm.{text_of, HasLawfulHooks, CanonicalTextPremises, EquivalencePremises, CanonicalFormPremises, PlainPremises}
@@ -24,6 +26,13 @@ pub record OrderByHook (run : Run) (hooks : HookMeaning) : Type 0 where
   pub preprocess : (run.constants.has_preprocess_text ≡ false) ⊎ IsClusterPreserving hooks.preprocess
   pub postprocess : (run.constants.has_postprocess_glyphs ≡ false) ⊎ IsClusterPreserving hooks.postprocess
   pub pause : (run.constants.has_pause ≡ false) ⊎ EachCalledPause IsClusterPreserving run hooks
+
+-- hook by hook, if the last one puts clusters in order: its pauses bring no cluster
+pub record OrderInTheEnd (run : Run) (hooks : HookMeaning) : Type 0 where
+  pub preprocess : (run.constants.has_preprocess_text ≡ false) ⊎ IsClusterPreserving hooks.preprocess
+  pub pause : (run.constants.has_pause ≡ false) ⊎ EachCalledPause IsBringingNoCluster run hooks
+  pub given : run.constants.has_postprocess_glyphs ≡ true
+  pub postprocess : IsOrdering (is_backward run.direction) hooks.postprocess
 
 -- and of the four that may change flags
 pub record FlagsByHook (run : Run) (hooks : HookMeaning) : Type 0 where

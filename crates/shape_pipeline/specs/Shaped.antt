@@ -2,7 +2,7 @@
 use Rattle.std.specs.Prelude.{◌≡◌, ◌≢◌, ◌<◌, ◌≤◌, ◌⊎◌, List, [], ◌∷◌, ◌++◌, Some, None, length}
 use Rattle.shape_items.specs.Buffer.{Buffer, limit_of, most_countable, run_limit, run_ops}
 use Rattle.shape_buffer.specs.Guess.{guessed, guessed_direction}
-use Rattle.shape_buffer.specs.Outcome.{Step, step, run_steps, EachWithin, SomePast}
+use Rattle.shape_buffer.specs.Outcome.{Step, run_steps, EachWithin, SomePast}
 use Rattle.shape_common.specs.declared.text_types.Direction.{Direction}
 use Rattle.shape_normalize.specs.Normalized.{normalized}
 use Rattle.shape_normalize.specs.RoundOne.{round_one}

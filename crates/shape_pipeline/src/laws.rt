@@ -26,9 +26,10 @@ ghost use Rattle.shape_plan.specs.declared.ot_shaper.shapers.hb_default_shaper_t
 ghost use Rattle.shape_pipeline.specs.Headline.{NormalForm, FlagsAreByCluster};
 ghost use Rattle.shape_pipeline.specs.Canonical.{ListIsCanonical, RunPreservesEquivalence};
 ghost use Rattle.shape_pipeline.specs.Canonical.{LeavesText, SpellingsMeet, prepared_characters};
-ghost use Rattle.shape_pipeline.specs.Order.{RunPreservesClusters, ClustersComeInOrder};
+ghost use Rattle.shape_pipeline.specs.Order.{RunPreservesClusters, ClustersComeInOrder, IsPlannedFor};
 ghost use Rattle.shape_pipeline.specs.Shaped.{run_made};
-ghost use Rattle.shape_pipeline.specs.Premises.{LeavesBuffers, OrderByHook, FlagsByHook, HasNoObligations};
+ghost use Rattle.shape_pipeline.specs.Premises.{LeavesBuffers, OrderByHook, OrderInTheEnd};
+ghost use Rattle.shape_pipeline.specs.Premises.{FlagsByHook, HasNoObligations};
 
 use shape_buffer::interfaces::{NoLookups, hb_font_t, hb_ot_layout_t, hb_unicode_funcs_t};
 pub use shape_normalize::laws::{hooks_not_given_are_lawful, reordering_permutes_the_run};
@@ -92,6 +93,21 @@ where
         → RunPreservesEquivalence run }
 {}
 
+/// A shaper whose pauses leave clusters out of order, as they do that move signs before their letters and merge later,
+/// and whose last hook, `postprocess_glyphs`, puts them in order again (`cluster_order::order_clusters` does so). Its
+/// pauses must bring no cluster, its other hooks preserve clusters, and its engine's lookups, too.
+pub fn ordering_hooks_preserve<U, F, M, S>()
+where
+    U: hb_unicode_funcs_t,
+    F: hb_font_t,
+    M: hb_ot_layout_t<F>,
+    S: hb_ot_shaper_t<U, F, M>,
+    ensures { (plan : Plan S M.Map S.Data) (face : F)
+        → let run = ⟦<S as Runs<U, F, M>>⟧.run plan face in
+        ((shaper : S) → OrderInTheEnd run (S.hooks shaper plan face))
+        → LookupsPreserveClusters run.lookups → HookPreservesClusters run.rules → RunPreservesClusters run }
+{}
+
 /// A run has no obligations if its shaper's hooks, whichever of them are given, do what is done without them, none
 /// reorders marks, and its lookups preserve clusters and flags. Then the run preserves both, too, and what canonical
 /// form asks of a shaper holds of every text.
@@ -148,8 +164,8 @@ pub fn glyphs_can_be_cut()
 
 /// What is promised of whole runs, for callers of `shape_internal`, whose `ok` says what a run makes: over any
 /// text in a known direction its clusters come in order and its flags by cluster, under their premises; the
-/// normalised list of any buffer has its form, and that of any text is canonical, under its premise. Does
-/// nothing.
+/// normalised list of any buffer has its form, and that of any text is canonical, under its premise. A run that
+/// puts its clusters in order in the end needs a plan for the text's direction. Does nothing.
 pub fn whole_runs_keep_promises<U, F, M, S>(
     plan: &hb_ot_shape_plan_t<'_, S, M::Map, S::Data>,
     face: &F,
@@ -160,7 +176,7 @@ where
     M: hb_ot_layout_t<F>,
     S: hb_ot_shaper_t<U, F, M>,
     ensures clusters { let run = ⟦<S as Runs<U, F, M>>⟧.run plan.now face.now in
-        (text : Buffer) → text.direction ≢ Direction.Invalid
+        (text : Buffer) → text.direction ≢ Direction.Invalid → IsPlannedFor run text.direction
         → ClustersComeInOrder run text.direction text (run_made run text.direction text) }
     ensures flags { let run = ⟦<S as Runs<U, F, M>>⟧.run plan.now face.now in
         (target : Direction) (text : Buffer)

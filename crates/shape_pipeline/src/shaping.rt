@@ -103,7 +103,8 @@ where
     F: hb_font_t,
     M: hb_ot_layout_t<F>,
     S: hb_ot_shaper_t<U, F, M>,
-    requires { text.old.direction ≢ Direction.Invalid }
+    requires known { text.old.direction ≢ Direction.Invalid }
+    requires planned { plan.now.direction ≡ text.old.direction }
     ensures ok { let run = ⟦<S as Runs<U, F, M>>⟧.run plan.now face.now in
         (original : Buffer) → text.old ≡ guessed U.unicode original
         → OnOk result (AreGlyphsOf run original text.new) }

@@ -1,7 +1,7 @@
 use Rattle.std.proofs.Common.{◌≡◌, ◌∙◌, ap, sym, subst, rules, Err}
 use Rattle.shape_items.specs.Buffer.{Buffer}
 use Rattle.shape_buffer.specs.Guess.{guessed}
-use Rattle.shape_plan.proofs.PlannedLemmas.{data-planned}
+use Rattle.shape_plan.proofs.PlannedLemmas.{data-planned, direction-planned}
 use Rattle.shape_plan.specs.Run.{run_of}
 use Rattle.shape_pipeline.specs.GlyphsOf.{AreGlyphsOf}
 use Rattle.shape_pipeline.specs.Planned.{planned_for}
@@ -46,3 +46,6 @@ returns-in-Ok-clause-length g c =
     let run = run_of unicode g.M.hb_ot_layout_t.masks g.M.hb_ot_layout_t.lookups g.S.hb_ot_shaper_t.constants g.S.hb_ot_shaper_t.hooks g.F.hb_font_t.face c.in-Ok.plan c.args.face.now in
     rw (← made) (λ is. subst (λ (b : Buffer). ShapingPasses run b.direction b) begins
     (c.in-Err-shape_guessed.ensures.length (ap Err (sym c.refused.ensures.cause ∙ is))))
+
+pub shape_guessed-requires-clause-planned : goal.shape_guessed-requires-clause-planned
+shape_guessed-requires-clause-planned g c = rw c.in-Ok.ensures.plan (direction-planned _ _ _ _ _ _ _ ∙ c.direction.ensures)

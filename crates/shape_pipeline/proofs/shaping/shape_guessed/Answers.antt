@@ -1,4 +1,4 @@
-use Rattle.std.proofs.Common.{◌≡◌, ◌∙◌, ap, sym, subst, refl}
+use Rattle.std.proofs.Common.{◌≡◌, ◌∙◌, inr, ap, sym, subst, refl}
 use Rattle.shape_items.specs.Buffer.{Buffer}
 use Rattle.shape_buffer.specs.Guess.{guessed, guessed_direction}
 use Rattle.shape_common.specs.declared.text_types.Direction.{Direction}
@@ -8,7 +8,8 @@ use Rattle.shape_pipeline.specs.Headline.{prepared_text, IsMadeOfNormalisedList,
 use Rattle.shape_pipeline.specs.Order.{ClustersComeInOrder}
 use Rattle.shape_pipeline.proofs.CanonicalLemmas.{list_is_canonical}
 use Rattle.shape_pipeline.proofs.FlagRunLemmas.{flags-run_made}
-use Rattle.shape_pipeline.proofs.OrderLemmas.{clusters-run_made, target_of-known}
+use Rattle.shape_pipeline.proofs.ClusterRunLemmas.{clusters-run_made}
+use Rattle.shape_pipeline.proofs.OrderLemmas.{target_of-known}
 use Rattle.shape_pipeline.proofs.RunLemmas.{made_of_list, normal_form, direction-made}
 use Rattle.shape_pipeline.specs.Shaped.{shaped, Shapes, ShapingPasses}
 use Rattle.shape_pipeline.proofs.shaping.shape_guessed.Goals as goal
@@ -29,6 +30,7 @@ returns-in-Ok-clause-ok g c = λ original is.
     let direction : c.direction-direction.result ≡ target = c.direction-direction.ensures ∙ ap (λ (b : Buffer). b.direction) is in
     let counted : Shapes run target text glyphs = subst (λ (b : Buffer). Shapes run target b glyphs) is
     (subst (λ (d : Direction). Shapes run d c.args.text.now glyphs) direction ran) in
+    let planned : run.direction ≡ target = c.requires.planned ∙ ap (λ (b : Buffer). b.direction) is in
     let made : glyphs ≡ shaped run original = counted.made in
     record {
       glyphs = made;
@@ -38,7 +40,7 @@ returns-in-Ok-clause-ok g c = λ original is.
       canonical = list_is_canonical unicode layout.masks layout.lookups shaper.constants shaper.hooks g.F.hb_font_t.face
           c.args.plan.now c.args.face.now lawful_unicode original;
       clusters = subst (λ (b : Buffer). ClustersComeInOrder run target text b) (sym made)
-          (clusters-run_made run target (target_of-known run original) lawful text refl);
+          (clusters-run_made run target (target_of-known run original) lawful text refl (inr planned));
       flags = λ preserves. subst (λ (b : Buffer). HasFlagsByCluster original b) (sym made)
           (flags-run_made run target lawful masks c.masks_are_features.ensures preserves original text refl);
       within = counted.within;

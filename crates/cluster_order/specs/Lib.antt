@@ -1,0 +1,4 @@
+pub mod Least
+pub mod Ordered
+pub mod Ordering
+pub mod Worked
