@@ -1,0 +1,5 @@
+pub mod Circles
+pub mod Items
+pub mod Moving
+pub mod Numbering
+pub mod Vowels

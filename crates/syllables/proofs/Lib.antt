@@ -1,0 +1,9 @@
+pub mod GrammarLemmas
+pub mod IndicTable
+pub mod KhmerTable
+pub mod MachineLemmas
+pub mod MatchLemmas
+pub mod MyanmarTable
+pub mod ReadingLemmas
+pub mod TableLemmas
+pub mod UniversalTable

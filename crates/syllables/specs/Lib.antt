@@ -1,0 +1,14 @@
+pub mod Derivatives
+pub mod Grammar
+pub mod IndicCategories
+pub mod IndicGrammar
+pub mod KhmerGrammar
+pub mod Machines
+pub mod MyanmarGrammar
+pub mod Numbering
+pub mod Pattern
+pub mod Reading
+pub mod Tables
+pub mod UniversalCategories
+pub mod UniversalGrammar
+pub mod Worked

@@ -1,0 +1,4 @@
+pub mod Indic
+pub mod Khmer
+pub mod Myanmar
+pub mod Universal
