@@ -6,7 +6,7 @@ use Rattle.shape_buffer.specs.Preservation.{IsFlagPreserving}
 use Rattle.shape_buffer.specs.Walks.{items_mapped}
 use Rattle.script_shapers.specs.Hangul.{jamo_mask, jamo_masks, jamo_masked}
 use Rattle.script_shapers.specs.declared.hangul.TheConstants.{LJMO, VJMO, TJMO}
-use Rattle.script_shapers.proofs.MaskLemmas.{added_flag, flags-mapped}
+use Rattle.letter_joining.proofs.MaskLemmas.{added_flag, flags-mapped}
 
 no_flag : (mask : hb_tag_t → ℕ) → ((tag : hb_tag_t) → HasNoDefinedFlag (mask tag)) → (kind : ℕ) → HasNoDefinedFlag (jamo_mask (jamo_masks mask) kind)
 no_flag mask none kind =

@@ -17,7 +17,7 @@ use Rattle.script_shapers.specs.ThaiForms.{item_at, item_formed, char_formed, en
 use Rattle.script_shapers.specs.declared.thai.forms.Action.{Action}
 use Rattle.script_shapers.specs.declared.thai.forms.Mark.{Mark}
 use Rattle.script_shapers.specs.declared.thai.forms.Walk.{Walk}
-use Rattle.script_shapers.proofs.MaskLemmas.{flags-same}
+use Rattle.letter_joining.proofs.MaskLemmas.{flags-same}
 use Rattle.script_shapers.proofs.PreservationLemmas.{PreservesAll, PreservesAll-same, PreservesAll-then, PreservesAll-unsafe_to_break}
 use Rattle.script_shapers.proofs.ReplaceLemmas.{Refused-then_made}
 use Rattle.script_shapers.proofs.ThaiLemmas.{sara_am_preserves_clusters, sara_am_preserves_flags}

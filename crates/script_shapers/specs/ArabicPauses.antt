@@ -10,7 +10,8 @@ use Rattle.arabic_fallback.specs.Fallback.{fallback_shaped}
 use Rattle.arabic_stretching.specs.Tiles.{tiles_recorded}
 use Rattle.arabic_fallback.specs.declared.classes.GlyphClass.{GlyphClass}
 use Rattle.arabic_fallback.specs.declared.fallback.FallbackMasks.{FallbackMasks}
-use Rattle.script_shapers.specs.declared.arabic.requests.TheConstants.{FALLBACK, STRETCH, STCH, ISOL, FINA, MEDI, INIT, RLIG}
+use Rattle.letter_joining.specs.declared.features.TheConstants.{ISOL, FINA, MEDI, INIT}
+use Rattle.script_shapers.specs.declared.arabic.requests.TheConstants.{FALLBACK, STRETCH, STCH, RLIG}
 
 abbrev pub lacks : MapMeaning → hb_tag_t → Bool
 lacks map tag =

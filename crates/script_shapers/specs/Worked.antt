@@ -1,11 +1,8 @@
 pub mod ArabicPauses
 pub mod ArabicRequests
-pub mod Choice
 pub mod Hangul
 pub mod HebrewForms
 pub mod HebrewPoints
-pub mod JoinedText
-pub mod Joining
 pub mod Modifiers
 pub mod Thai
 pub mod ThaiForms

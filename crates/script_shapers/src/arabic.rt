@@ -10,36 +10,29 @@ ghost use Rattle.shape_plan.specs.Plan.{Plan};
 ghost use Rattle.shape_pipeline.specs.Order.{RunPreservesClusters};
 ghost use Rattle.script_shapers.specs.Worked.ArabicPauses.{WorkedPauses};
 ghost use Rattle.script_shapers.specs.Worked.ArabicRequests.{WorkedRequests};
-ghost use Rattle.script_shapers.specs.Worked.JoinedText.{WorkedJoiningFlags};
-ghost use Rattle.script_shapers.specs.Worked.JoinedText.{WorkedForms};
 ghost use Rattle.script_shapers.specs.Modifiers.{modifiers_reordered, modifiers_reordered-reorders};
 ghost use Rattle.script_shapers.specs.declared.arabic.ArabicShaper.{ArabicShaper as AnyShaper};
-ghost use Rattle.script_shapers.specs.ArabicForms.{masks_by};
-ghost use Rattle.script_shapers.specs.ArabicFlags.{joined, joined-alone};
-ghost use Rattle.script_shapers.specs.Worked.Joining.{WorkedJoining};
+ghost use Rattle.letter_joining.specs.Forms.{masks_by};
+ghost use Rattle.letter_joining.specs.Flags.{joined, joined-alone};
 ghost use Rattle.script_shapers.specs.Worked.Modifiers.{WorkedModifiers};
-ghost use Rattle.script_shapers.specs.ArabicRequests.{arabic_requests, is_mongolian};
-ghost use Rattle.shape_buffer.specs.Outcome.{IsWithinLimit, Made, Outcome, step};
+ghost use Rattle.script_shapers.specs.ArabicRequests.{arabic_requests};
+ghost use Rattle.letter_joining.specs.Features.{is_mongolian};
+ghost use Rattle.shape_buffer.specs.Outcome.{IsWithinLimit, Outcome, step};
 ghost use Rattle.arabic_fallback.specs.Classes.{class_by};
 ghost use Rattle.arabic_stretching.specs.Stretching.{stretched};
 ghost use Rattle.script_shapers.specs.ArabicPauses.{made_by_pause};
 
-mod flags;
-mod forms;
-pub mod joining;
 mod modifiers;
 mod pauses;
 mod requests;
 
 use arabic_stretching::stretch_tiles;
-use flags::mark_all;
-use forms::{FormMasks, form_all};
+use letter_joining::features::{FIN2, FIN3, FINA, INIT, ISOL, MED2, MEDI, is_mongolian};
+use letter_joining::forms::FormMasks;
+use letter_joining::join_all;
 use modifiers::reorder_modifiers;
 use pauses::pause_at;
-use requests::{
-    FIN2, FIN3, FINA, INIT, ISOL, MED2, MEDI, ask_final_forms, ask_first, ask_last,
-    ask_other_forms, has_fallback, is_mongolian,
-};
+use requests::{ask_final_forms, ask_first, ask_last, ask_other_forms, has_fallback};
 use shape_buffer::buffer::{Direction, Script, ShapeError, hb_buffer_t, hb_tag_t};
 use shape_buffer::interfaces::{
     hb_font_t, hb_ot_layout_t, hb_ot_map_builder_t, hb_unicode_funcs_t,
@@ -129,14 +122,6 @@ impl collect_features_hook<ArabicShaper> for ArabicShaper {
         ask_other_forms(builder, fallback)?;
         ask_last(builder, script)
     }
-}
-
-/// Sets the masks of the forms of letters, and the flags that joining needs.
-fn join_all(masks: FormMasks, mongolian: bool, buffer: &mut hb_buffer_t)
-    ensures { Made (joined masks mongolian) buffer.old buffer.new }
-{
-    form_all(masks, mongolian, buffer);
-    mark_all(buffer);
 }
 
 impl<U: hb_unicode_funcs_t, F, M: hb_ot_layout_t<F>> setup_masks_hook<ArabicShaper, (), U, F, M>
@@ -253,11 +238,6 @@ pub fn arabic_runs_preserve<U: hb_unicode_funcs_t, F: hb_font_t, M: hb_ot_layout
     given_hooks_preserve::<U, F, M, ArabicShaper>();
 }
 
-/// The forms and states of joining, over HarfBuzz's whole table.
-pub fn joining_meets_worked_cases()
-    ensures { WorkedJoining }
-{}
-
 /// Which marks step to the front of a run, which don't, and their clusters, on runs worked out by hand.
 pub fn modifiers_meet_worked_cases()
     ensures { WorkedModifiers }
@@ -271,16 +251,6 @@ pub fn arabic_marks_are_placed<U: hb_unicode_funcs_t, F: hb_font_t, M: hb_ot_lay
     ensures own { ⟦<ArabicShaper as hb_ot_shaper_t<U, F, M>>⟧.constants.is_default ≡ false }
     ensures widths { ⟦<ArabicShaper as hb_ot_shaper_t<U, F, M>>⟧.constants.zero_width_marks ≡ 2 }
     ensures places { ⟦<ArabicShaper as hb_ot_shaper_t<U, F, M>>⟧.constants.fallback_position ≡ true }
-{}
-
-/// The forms of letters of whole texts, between contexts, about marks and joiners.
-pub fn forms_meet_worked_cases()
-    ensures { WorkedForms }
-{}
-
-/// The flags that joining gives to glyphs.
-pub fn flags_meet_worked_cases()
-    ensures { WorkedJoiningFlags }
 {}
 
 /// The features of Arabic and Syriac, and their stages.

@@ -11,7 +11,7 @@ use Rattle.shape_items.specs.Clusters.{merge}
 use Rattle.shape_items.specs.Items.{Item, new_item, new_properties}
 use Rattle.shape_common.specs.declared.text_types.hb_tag_t.{hb_tag_t}
 use Rattle.script_shapers.specs.Hangul.{composed_text, jamo_masks, jamo_masked}
-use Rattle.script_shapers.specs.Worked.JoinedText.{items_from, masks_of}
+use Rattle.letter_joining.specs.Worked.JoinedText.{items_from, masks_of}
 
 -- kiyeok and a make ga, and that with kiyeok gag
 abbrev pub unicode : UnicodeMeaning

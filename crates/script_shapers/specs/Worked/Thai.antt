@@ -7,7 +7,7 @@ use Rattle.shape_items.specs.Buffer.{Buffer, new_buffer}
 use Rattle.shape_items.specs.Clusters.{merge}
 use Rattle.shape_items.specs.Items.{Item}
 use Rattle.script_shapers.specs.Thai.{sara_am_parted}
-use Rattle.script_shapers.specs.Worked.JoinedText.{items_from}
+use Rattle.letter_joining.specs.Worked.JoinedText.{items_from}
 
 -- an item's character and cluster
 abbrev pub shown : Buffer → List (ℕ × ℕ)

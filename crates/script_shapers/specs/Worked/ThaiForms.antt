@@ -6,7 +6,7 @@ use Rattle.shape_items.specs.Buffer.{Buffer, new_buffer}
 use Rattle.shape_items.specs.Items.{Item}
 use Rattle.script_shapers.specs.ThaiForms.{forms_put, forms_due}
 use Rattle.script_shapers.specs.Worked.Hangul.{face}
-use Rattle.script_shapers.specs.Worked.JoinedText.{text, masks_of}
+use Rattle.letter_joining.specs.Worked.JoinedText.{text, masks_of}
 
 -- forms of Windows, and those of Macintosh, of the same characters
 abbrev pub windows : List ℕ

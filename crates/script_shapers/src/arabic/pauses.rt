@@ -6,9 +6,10 @@ ghost use Rattle.arabic_fallback.specs.Classes.{class_by};
 ghost use Rattle.script_shapers.specs.ArabicPauses;
 ghost use Rattle.script_shapers.specs.ArabicPauses.{masks_of};
 
-use crate::arabic::requests::{FALLBACK, FINA, INIT, ISOL, MEDI, RLIG, STCH, STRETCH};
+use crate::arabic::requests::{FALLBACK, RLIG, STCH, STRETCH};
 use arabic_fallback::{FallbackMasks, shape_fallback};
 use arabic_stretching::record_tiles;
+use letter_joining::features::{FINA, INIT, ISOL, MEDI};
 use shape_buffer::buffer::{ShapeError, hb_buffer_t, hb_tag_t};
 use shape_buffer::interfaces::{TableIndex, hb_font_t, hb_ot_layout_t};
 use std::alloc::Global;

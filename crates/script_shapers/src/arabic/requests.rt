@@ -1,11 +1,12 @@
 //! The features that the shaper of Arabic asks for, with a pause after each stage.
 ghost use Rattle.std.specs.Prelude.{◌≡◌, OnOk, IfErr};
 ghost use Rattle.shape_buffer.specs.MapBuilder.{with_requests};
-ghost use Rattle.script_shapers.specs.ArabicRequests.{is_arabic, is_mongolian, has_fallback};
+ghost use Rattle.script_shapers.specs.ArabicRequests.{is_arabic, has_fallback};
 ghost use Rattle.script_shapers.specs.ArabicRequests.{first_requests, form_requests, final_forms};
 ghost use Rattle.script_shapers.specs.ArabicRequests.{other_forms, ligature_requests};
 ghost use Rattle.script_shapers.specs.ArabicRequests.{last_requests};
 
+use letter_joining::features::{FIN2, FIN3, FINA, INIT, ISOL, MED2, MEDI};
 use shape_buffer::buffer::{Script, ShapeError, hb_tag_t};
 use shape_buffer::interfaces::{
     F_HAS_FALLBACK, F_MANUAL_ZWJ, F_NONE, hb_ot_map_builder_t, hb_ot_map_feature_flags_t,
@@ -19,27 +20,6 @@ pub const CCMP: hb_tag_t = hb_tag_t(0x6363_6D70);
 
 /// Forms of a language.
 pub const LOCL: hb_tag_t = hb_tag_t(0x6C6F_636C);
-
-/// The form of a letter by itself.
-pub const ISOL: hb_tag_t = hb_tag_t(0x6973_6F6C);
-
-/// The form of one that ends joined letters.
-pub const FINA: hb_tag_t = hb_tag_t(0x6669_6E61);
-
-/// That of an alaph after a letter that it doesn't join.
-pub const FIN2: hb_tag_t = hb_tag_t(0x6669_6E32);
-
-/// That of an alaph after a dalath or rish.
-pub const FIN3: hb_tag_t = hb_tag_t(0x6669_6E33);
-
-/// The form of one between two.
-pub const MEDI: hb_tag_t = hb_tag_t(0x6D65_6469);
-
-/// That of an alaph in the middle.
-pub const MED2: hb_tag_t = hb_tag_t(0x6D65_6432);
-
-/// The form of one that begins joined letters.
-pub const INIT: hb_tag_t = hb_tag_t(0x696E_6974);
 
 /// Required ligatures.
 pub const RLIG: hb_tag_t = hb_tag_t(0x726C_6967);
@@ -71,16 +51,6 @@ fn is_arabic(script: Option<Script>) -> bool
 {
     match script {
         Some(script) => script.0.0 == 0x4172_6162,
-        None => false,
-    }
-}
-
-/// Whether a script is Mongolian, whose variation selectors take the form of their letter.
-pub fn is_mongolian(script: Option<Script>) -> bool
-    ensures { result ≡ is_mongolian script }
-{
-    match script {
-        Some(script) => script.0.0 == 0x4D6F_6E67,
         None => false,
     }
 }

@@ -2,9 +2,9 @@ use Rattle.std.proofs.Common.{refl, inl, inr}
 use Rattle.script_shapers.specs.Modifiers.{modifiers_reordered}
 use Rattle.script_shapers.proofs.HookLemmas.{shaper-preserves}
 use Rattle.script_shapers.proofs.ModifierLemmas.{modifiers_preserve_runs}
-use Rattle.script_shapers.specs.ArabicRequests.{is_mongolian}
+use Rattle.letter_joining.specs.Features.{is_mongolian}
 use Rattle.arabic_fallback.specs.Classes.{class_by}
-use Rattle.script_shapers.proofs.ArabicLemmas.{flags-joined}
+use Rattle.letter_joining.proofs.FlagLemmas.{flags-joined}
 use Rattle.arabic_stretching.proofs.PreservationLemmas.{stretched-order, stretched-flags}
 use Rattle.script_shapers.proofs.ArabicPauseLemmas.{pause-order, pause-flags}
 use Rattle.script_shapers.proofs.arabic.arabic_runs_preserve.Goals as goal

@@ -1,0 +1,4 @@
+pub mod FlagLemmas
+mod FormMaskLemmas
+mod KindLemmas
+pub mod MaskLemmas

@@ -1,0 +1,2 @@
+pub mod JoinedText
+pub mod Joining

@@ -1,5 +1,0 @@
-use Rattle.script_shapers.specs.Worked.JoinedText.{worked_forms}
-use Rattle.script_shapers.proofs.arabic.forms_meet_worked_cases.Goals as goal
-
-pub returns : goal.returns
-returns c = worked_forms
