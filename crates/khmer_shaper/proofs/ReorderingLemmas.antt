@@ -1,0 +1,91 @@
+-- Reordering keeps clusters, flags and the number of items.
+use Rattle.std.proofs.Common.{ℕ, zero, suc, ◌+◌, ◌-◌, ◌<◌, ◌≤◌, ◌&&◌, nat_le, nat_lt, true, false, if◌then◌else◌, length, refl, ap, arith, inl, inr}
+use Rattle.std.proofs.lemmas.Bool.Decides.{nat_tests}
+use Rattle.std.proofs.lemmas.Bool.{cases_Bool, and_parts}
+use Rattle.shape_common.specs.Face.{FaceMeaning}
+use Rattle.shape_items.specs.Buffer.{Buffer}
+use Rattle.shape_buffer.specs.Layout.{HasNoDefinedFlag}
+use Rattle.shape_buffer.proofs.Flags.FeatureBitLemmas.{added_brings_none}
+use Rattle.syllabic.specs.Circles.{with_circles}
+use Rattle.syllabic.specs.Moving.{brought_before, both_brought_before}
+use Rattle.syllabic.specs.Walking.{item_at, syllable_of, kind_of_byte}
+use Rattle.syllabic.proofs.CircleLemmas.{Preserved-circles}
+use Rattle.syllabic.proofs.PreservationLemmas.{Keeps, Keeps-same, Keeps-then, Keeps-set, Keeps-brought_before, Keeps-both_brought_before, Keeps-each_syllable, KeepsSyllables, LeavesBoth, Preserved, Preserved-then, Preserved-kept}
+use Rattle.syllables.specs.IndicCategories.{H, VPre}
+use Rattle.khmer_shaper.specs.Reordering.{with_mask, mask_added, masks_added, has_category, ro_moved, is_coeng, is_ro, moved_at, moved_to, each_moved, reordered, reordered_some, each_reordered, circled, all_reordered}
+use Rattle.khmer_shaper.specs.declared.reordering.KhmerMasks.{KhmerMasks}
+
+-- none of the masks has a flag
+pub record MasksFlagless (masks : KhmerMasks) : Type 0 where
+  pub after_base : HasNoDefinedFlag masks.after_base
+  pub prebase : HasNoDefinedFlag masks.prebase
+  pub after_ro : HasNoDefinedFlag masks.after_ro
+
+leaves-with_mask : (mask : ℕ) → HasNoDefinedFlag mask → LeavesBoth (with_mask mask)
+leaves-with_mask mask none = record {
+  cluster = λ x. refl;
+  flags = λ flag defined x. ap (nat_lt 0) (added_brings_none mask x.mask flag none defined);
+}
+
+Keeps-masks_added : (mask : ℕ) → HasNoDefinedFlag mask → (start count : ℕ) (b : Buffer) → Keeps b (masks_added mask start count b)
+Keeps-masks_added mask none start zero b = Keeps-same b
+Keeps-masks_added mask none start (suc k) b =
+    let before = masks_added mask start k b in
+    Keeps-then b before (mask_added mask (start + k) before) (Keeps-masks_added mask none start k b)
+    (Keeps-set (with_mask mask) (leaves-with_mask mask none) (start + k) before)
+
+module _ (masks : KhmerMasks) (none : MasksFlagless masks) where
+  Keeps-ro_moved : (start end i : ℕ) (b : Buffer) → start ≤ i → i + 1 < end → end ≤ length b.items → Keeps b (ro_moved masks start end i b)
+  Keeps-ro_moved start end i b ordered inside within =
+      let one = masks_added masks.prebase i (i + 2 - i) b in
+      let first = Keeps-masks_added masks.prebase none.prebase i (i + 2 - i) b in
+      let two = both_brought_before start i one in
+      let second = Keeps-both_brought_before start i one ordered (omega (arith, inside, within, first.count)) in
+      Keeps-then b one (ro_moved masks start end i b) first
+      (Keeps-then one two (ro_moved masks start end i b) second (Keeps-masks_added masks.after_ro none.after_ro (i + 2) (end - (i + 2)) two))
+
+  Keeps-moved_at : (start end coengs i : ℕ) (b : Buffer) → start ≤ i → i < end → end ≤ length b.items → Keeps b (moved_at masks start end coengs i b)
+  Keeps-moved_at start end coengs i b ordered inside within = elim (cases_Bool (is_coeng end coengs i b)) [
+    | inl coeng ↦
+        let parts = and_parts (has_category H (item_at b.items i) && nat_le coengs 2) (nat_lt (i + 1) end) coeng in
+        let more : i + 1 < end = (let e = parts.1 in grind (arith, nat_tests, e)) in
+        rw coeng (elim (is_ro i b) as (λ t. Keeps b (if t then ro_moved masks start end i b else b)) [
+          | true ↦ Keeps-ro_moved start end i b ordered more within
+          | false ↦ Keeps-same b
+        ])
+    | inr other ↦ rw other (elim (has_category VPre (item_at b.items i)) as (λ t. Keeps b (if t then brought_before start i b else b)) [
+      | true ↦ Keeps-brought_before start i b ordered (omega (arith, inside, within))
+      | false ↦ Keeps-same b
+    ])
+  ]
+
+  Keeps-moved_to : (start end n : ℕ) (b : Buffer) → start + n < end → end ≤ length b.items → Keeps b (moved_to masks start end n b).0
+  Keeps-moved_to start end zero b inside within = Keeps-same b
+  Keeps-moved_to start end (suc k) b inside within =
+      let c = (moved_to masks start end k b).0 in
+      let coengs = (moved_to masks start end k b).1 in
+      let first = Keeps-moved_to start end k b (omega (arith, inside)) within in
+      Keeps-then b c (moved_at masks start end coengs (start + k + 1) c) first
+      (Keeps-moved_at start end coengs (start + k + 1) c (omega arith) (omega (arith, inside)) (omega (arith, within, first.count)))
+
+  Keeps-reordered : (b : Buffer) (start end : ℕ) → start < end → end ≤ length b.items → Keeps b (reordered masks b start end)
+  Keeps-reordered b start end some within =
+      let c = masks_added masks.after_base (start + 1) (end - (start + 1)) b in
+      let first = Keeps-masks_added masks.after_base none.after_base (start + 1) (end - (start + 1)) b in
+      elim (nat_le (kind_of_byte (syllable_of (item_at b.items start))) 1) as (λ t. Keeps b (if t then each_moved masks c start end else b)) [
+        | true ↦ Keeps-then b c (each_moved masks c start end) first
+            (Keeps-moved_to start end (end - start - 1) c (omega (arith, some)) (omega (arith, within, first.count)))
+        | false ↦ Keeps-same b
+      ]
+
+  keeps-reordered_some : KeepsSyllables (reordered_some masks)
+  keeps-reordered_some b start end ordered within = elim (cases_Bool (nat_lt start end)) [
+    | inl is ↦ let some : start < end = grind (arith, nat_tests, is) in rw is (Keeps-reordered b start end some within)
+    | inr none ↦ rw none (Keeps-same b)
+  ]
+
+  pub Preserved-reordered : (face : FaceMeaning) (b : Buffer) → Preserved b (all_reordered face masks b)
+  Preserved-reordered face b =
+      let c = with_circles face circled b in
+      Preserved-then b c (each_reordered masks c) (Preserved-circles face circled b)
+      (Preserved-kept c (each_reordered masks c) (Keeps-each_syllable (reordered_some masks) keeps-reordered_some c))

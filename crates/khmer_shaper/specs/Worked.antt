@@ -1,0 +1,5 @@
+pub mod Orders
+pub mod Requests
+pub mod Splitting
+pub mod Syllables
+pub mod Texts

@@ -1,0 +1,4 @@
+pub mod LengthLemmas
+pub mod PauseLemmas
+pub mod ReorderingLemmas
+pub mod TurningLemmas

@@ -1,0 +1,5 @@
+use Rattle.myanmar_shaper.specs.Worked.Orders.{worked_orders}
+use Rattle.myanmar_shaper.proofs.worked.orders_meet_worked_cases.Goals as goal
+
+pub returns : goal.returns
+returns c = worked_orders

@@ -1,0 +1,5 @@
+use Rattle.myanmar_shaper.specs.Worked.Syllables.{worked_syllables}
+use Rattle.myanmar_shaper.proofs.worked.syllables_meet_worked_cases.Goals as goal
+
+pub returns : goal.returns
+returns c = worked_syllables
