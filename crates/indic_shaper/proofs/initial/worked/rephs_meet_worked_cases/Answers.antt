@@ -1,0 +1,5 @@
+use Rattle.indic_shaper.specs.Worked.Initial.{worked_rephs}
+use Rattle.indic_shaper.proofs.initial.worked.rephs_meet_worked_cases.Goals as goal
+
+pub returns : goal.returns
+returns c = worked_rephs

@@ -1,0 +1,40 @@
+-- Where the font puts each consonant.
+-- Whether a letter has a form below the base or after it no character property says: the font's lookups do.
+use Rattle.std.specs.Prelude.{ℕ, ◌==◌, ◌&&◌, ◌||◌, not, Bool, List, [], ◌∷◌, if◌then◌else◌}
+use Rattle.shape_common.specs.declared.text_types.hb_tag_t.{hb_tag_t}
+use Rattle.shape_buffer.specs.Layout.{LookupMeaning}
+use Rattle.shape_buffer.specs.Walks.{items_mapped}
+use Rattle.shape_items.specs.Buffer.{Buffer}
+use Rattle.shape_items.specs.Items.{Item}
+use Rattle.indic_shaper.specs.Cutting.{is_new_circle, as_circle}
+use Rattle.indic_shaper.specs.Engine.{would}
+use Rattle.indic_shaper.specs.Glyphs.{position, with_position}
+use Rattle.indic_shaper.specs.declared.categories.TheConstants.{POS_BASE_C, POS_BELOW_C, POS_POST_C}
+use Rattle.indic_shaper.specs.declared.engine.Facts.{Facts}
+use Rattle.indic_shaper.specs.declared.requests.TheConstants.{BLWF, PREF, PSTF, VATU}
+
+-- a feature joins a consonant with the virama before it (new specification) or after it (old one); both are asked in either, since
+-- "some broken fonts (like Free Sans) simply copied lookups from old-spec to new-spec"
+abbrev pub joins : LookupMeaning → Facts → hb_tag_t → ℕ → Bool
+joins lookups facts tag consonant =
+    would lookups facts tag (facts.virama ∷ consonant ∷ []) || would lookups facts tag (consonant ∷ facts.virama ∷ [])
+
+-- by `blwf`, and by `vatu` (https://github.com/harfbuzz/harfbuzz/issues/1587): a form below the base, one after it (also one that goes before it, which follows it at first), or none
+abbrev pub consonant_position : LookupMeaning → Facts → ℕ → ℕ
+consonant_position lookups facts consonant =
+    if joins lookups facts BLWF consonant || joins lookups facts VATU consonant then POS_BELOW_C
+    else if joins lookups facts PSTF consonant || joins lookups facts PREF consonant then POS_POST_C
+    else POS_BASE_C
+
+-- a letter that may be the base, in a script with a virama
+abbrev pub is_candidate : Facts → Item → Bool
+is_candidate facts item = not (facts.virama == 0) && (position item == POS_BASE_C)
+
+abbrev pub placed : LookupMeaning → Facts → Item → Item
+placed lookups facts item =
+    if is_new_circle item then as_circle item
+    else if is_candidate facts item then with_position item (consonant_position lookups facts item.glyph_id)
+    else item
+
+abbrev pub consonants_placed : LookupMeaning → Facts → Buffer → Buffer
+consonants_placed lookups facts = items_mapped (placed lookups facts)
