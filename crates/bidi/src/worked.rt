@@ -1,0 +1,10 @@
+//! The definitions, computed on small cases whose results were worked out by hand.
+ghost use Rattle.bidi.specs.Worked.{WorkedExplicit, WorkedLines, WorkedNeutral, WorkedWeak};
+
+/// What each rule says of small texts.
+pub fn rules_meet_worked_cases()
+    ensures explicit { WorkedExplicit }
+    ensures weak { WorkedWeak }
+    ensures neutral { WorkedNeutral }
+    ensures lines { WorkedLines }
+{}
