@@ -1,27 +1,14 @@
 //! A text shaped so many times with one plan, by the shaper that its script asks for, with all tables of lookups of a font.
-ghost use Rattle.script_shapers.specs.ScriptPlans.{PlanFits};
 ghost use Rattle.shape_unicode.specs.Meaning.{unicode_database};
+ghost use Rattle.shaper_choice.specs.ScriptPlans.{PlanFits};
 
 use crate::runs::{Text, fill, unfaulted};
 use layout_map::map::hb_ot_map_t;
 use opentype_layout::{OpenTypeLayout, OpenedOpenTypeFace};
-use script_shapers::{
-    ArabicShaper, HangulShaper, HebrewShaper, ScriptPlan, ScriptShapers, ThaiShaper,
-    plan_by_script, shape_with_script_plan,
-};
 use shape_buffer::buffer::{Direction, GlyphBuffer, ShapeError, ShapeFault, UnicodeBuffer};
-use shape_plan::ot_shaper::DEFAULT_SHAPER;
 use shape_unicode::UnicodeDatabase;
+use shaper_choice::{SCRIPT_SHAPERS, ScriptPlan, plan_by_script, shape_with_script_plan};
 use std::alloc::Global;
-
-/// The shapers of all plans.
-const SHAPERS: ScriptShapers = ScriptShapers {
-    default: DEFAULT_SHAPER,
-    arabic: ArabicShaper,
-    hangul: HangulShaper,
-    hebrew: HebrewShaper,
-    thai: ThaiShaper,
-};
 
 /// The plan for a text; none if its direction is unknown.
 fn plan_for<'a>(
@@ -39,7 +26,7 @@ fn plan_for<'a>(
     let plan = plan_by_script::<UnicodeDatabase, OpenedOpenTypeFace, OpenTypeLayout>(
         alloc,
         face,
-        &SHAPERS,
+        &SCRIPT_SHAPERS,
         direction,
         script,
         None,

@@ -6,15 +6,6 @@ use Rattle.std.specs.Option.{option_map}
 use Rattle.std.specs.Prelude.{IfOk, OnErr, string_bytes}
 use Rattle.plan_cache.specs.Keys.{IsFor, IsKeptAt, IsKeptLast}
 use Rattle.plan_cache.specs.declared.keys.KeptPlan.{KeptPlan}
-use Rattle.script_shapers.specs.Choice.{run_of_category}
-use Rattle.script_shapers.specs.ScriptPlans.{plan_of_category, run_of_plan, PlanFits}
-use Rattle.script_shapers.specs.declared.arabic.ArabicShaper.{ArabicShaper}
-use Rattle.script_shapers.specs.declared.choice.Category.{Category}
-use Rattle.script_shapers.specs.declared.choice.Category.TheVariants as is
-use Rattle.script_shapers.specs.declared.hangul.HangulShaper.{HangulShaper}
-use Rattle.script_shapers.specs.declared.hebrew.HebrewShaper.{HebrewShaper}
-use Rattle.script_shapers.specs.declared.plans.ScriptPlan.{ScriptPlan}
-use Rattle.script_shapers.specs.declared.thai.ThaiShaper.{ThaiShaper}
 use Rattle.shape_buffer.specs.Guess.{guessed, guessed_direction, guessed_script}
 use Rattle.shape_buffer.specs.declared.buffer.error.ShapeError.{ShapeError}
 use Rattle.shape_common.specs.Unicode.{UnicodeMeaning}
@@ -26,46 +17,79 @@ use Rattle.shape_pipeline.specs.GlyphsOf.{TextPasses}
 use Rattle.shape_pipeline.specs.Headline.{target_of}
 use Rattle.shape_pipeline.specs.Shaped.{ShapingPasses}
 use Rattle.shape_plan.proofs.PlannedLemmas.{direction-planned, script-planned}
-use Rattle.shape_plan.specs.Plan.{Plan, Fits, known_script}
+use Rattle.shape_plan.specs.Plan.{Fits, known_script}
 use Rattle.shape_plan.specs.Planner.{Planning, planned}
 use Rattle.shape_plan.specs.Run.{Run}
-use Rattle.shape_plan.specs.declared.ot_shaper.shapers.hb_default_shaper_t.{hb_default_shaper_t}
+use Rattle.shaper_choice.specs.Choice.{OfEach, of_category}
+use Rattle.shaper_choice.specs.ScriptPlans.{PlanOfEach, RunOfEach, plan_of_category, run_of_plan, PlanFits}
+use Rattle.shaper_choice.specs.declared.choice.Category.{Category}
+use Rattle.shaper_choice.specs.declared.choice.Category.TheVariants as is
+use Rattle.shaper_choice.specs.declared.plans.ScriptPlan.{ScriptPlan}
 use Rattle.c_runs.specs.Plans.{IsMadeBy, AreMadeBy}
 
-module _ {P : Type 0} (default : Plan hb_default_shaper_t P Unit) (arabic : Plan ArabicShaper P Unit)
-    (hangul : Plan HangulShaper P Unit) (hebrew : Plan HebrewShaper P Unit) (thai : Plan ThaiShaper P Unit) where
-  plan-fits : (category : Category) (unicode : UnicodeMeaning) (text : Buffer)
-      → Fits unicode default text → Fits unicode arabic text → Fits unicode hangul text → Fits unicode hebrew text → Fits unicode thai text
-      → PlanFits unicode (plan_of_category category default arabic hangul hebrew thai) text
-  plan-fits is.Default unicode text a b c d e = a
-  plan-fits is.Arabic unicode text a b c d e = b
-  plan-fits is.Hangul unicode text a b c d e = c
-  plan-fits is.Hebrew unicode text a b c d e = d
-  plan-fits is.Thai unicode text a b c d e = e
+-- each of these plans fits a text
+pub record EachFits {P : Type 0} (unicode : UnicodeMeaning) (plans : PlanOfEach P) (text : Buffer) : Type 0 where
+  pub default : Fits unicode plans.default text
+  pub arabic : Fits unicode plans.arabic text
+  pub hangul : Fits unicode plans.hangul text
+  pub hebrew : Fits unicode plans.hebrew text
+  pub thai : Fits unicode plans.thai text
+  pub universal : Fits unicode plans.universal text
+  pub khmer : Fits unicode plans.khmer text
+  pub myanmar : Fits unicode plans.myanmar text
+  pub zawgyi : Fits unicode plans.zawgyi text
+  pub indic : Fits unicode plans.indic text
 
-  plan-runs : (category : Category) (f : Plan hb_default_shaper_t P Unit → Run) (g : Plan ArabicShaper P Unit → Run)
-      (h : Plan HangulShaper P Unit → Run) (i : Plan HebrewShaper P Unit → Run) (j : Plan ThaiShaper P Unit → Run)
-      → run_of_plan (plan_of_category category default arabic hangul hebrew thai) f g h i j
-      ≡ run_of_category category (f default) (g arabic) (h hangul) (i hebrew) (j thai)
-  plan-runs is.Default f g h i j = refl
-  plan-runs is.Arabic f g h i j = refl
-  plan-runs is.Hangul f g h i j = refl
-  plan-runs is.Hebrew f g h i j = refl
-  plan-runs is.Thai f g h i j = refl
+-- what each of them runs
+abbrev pub runs_of : {P : Type 0} → PlanOfEach P → RunOfEach P → OfEach Run
+runs_of plans runs = record {
+  default = runs.default plans.default;
+  arabic = runs.arabic plans.arabic;
+  hangul = runs.hangul plans.hangul;
+  hebrew = runs.hebrew plans.hebrew;
+  thai = runs.thai plans.thai;
+  universal = runs.universal plans.universal;
+  khmer = runs.khmer plans.khmer;
+  myanmar = runs.myanmar plans.myanmar;
+  zawgyi = runs.zawgyi plans.zawgyi;
+  indic = runs.indic plans.indic;
+}
+
+module _ {P : Type 0} (plans : PlanOfEach P) where
+  plan-fits : (category : Category) (unicode : UnicodeMeaning) (text : Buffer)
+      → EachFits unicode plans text → PlanFits unicode (plan_of_category category plans) text
+  plan-fits is.Default unicode text fits = fits.default
+  plan-fits is.Arabic unicode text fits = fits.arabic
+  plan-fits is.Hangul unicode text fits = fits.hangul
+  plan-fits is.Hebrew unicode text fits = fits.hebrew
+  plan-fits is.Thai unicode text fits = fits.thai
+  plan-fits is.Universal unicode text fits = fits.universal
+  plan-fits is.Khmer unicode text fits = fits.khmer
+  plan-fits is.Myanmar unicode text fits = fits.myanmar
+  plan-fits is.Zawgyi unicode text fits = fits.zawgyi
+  plan-fits is.Indic unicode text fits = fits.indic
+
+  plan-runs : (category : Category) (runs : RunOfEach P)
+      → run_of_plan (plan_of_category category plans) runs ≡ of_category category (runs_of plans runs)
+  plan-runs is.Default runs = refl
+  plan-runs is.Arabic runs = refl
+  plan-runs is.Hangul runs = refl
+  plan-runs is.Hebrew runs = refl
+  plan-runs is.Thai runs = refl
+  plan-runs is.Universal runs = refl
+  plan-runs is.Khmer runs = refl
+  plan-runs is.Myanmar runs = refl
+  plan-runs is.Zawgyi runs = refl
+  plan-runs is.Indic runs = refl
 
   pub same-fits : (category : Category) (unicode : UnicodeMeaning) (text : Buffer) (plan : ScriptPlan P)
-      → plan ≡ plan_of_category category default arabic hangul hebrew thai
-      → Fits unicode default text → Fits unicode arabic text → Fits unicode hangul text → Fits unicode hebrew text → Fits unicode thai text
-      → PlanFits unicode plan text
-  same-fits category unicode text plan is a b c d e =
-      subst (λ (p : ScriptPlan P). PlanFits unicode p text) (sym is) (plan-fits category unicode text a b c d e)
+      → plan ≡ plan_of_category category plans → EachFits unicode plans text → PlanFits unicode plan text
+  same-fits category unicode text plan is fits =
+      subst (λ (p : ScriptPlan P). PlanFits unicode p text) (sym is) (plan-fits category unicode text fits)
 
-  pub same-runs : (category : Category) (f : Plan hb_default_shaper_t P Unit → Run) (g : Plan ArabicShaper P Unit → Run)
-      (h : Plan HangulShaper P Unit → Run) (i : Plan HebrewShaper P Unit → Run) (j : Plan ThaiShaper P Unit → Run) (plan : ScriptPlan P)
-      → plan ≡ plan_of_category category default arabic hangul hebrew thai
-      → run_of_plan plan f g h i j ≡ run_of_category category (f default) (g arabic) (h hangul) (i hebrew) (j thai)
-  same-runs category f g h i j plan is =
-      ap (λ (p : ScriptPlan P). run_of_plan p f g h i j) is ∙ plan-runs category f g h i j
+  pub same-runs : (category : Category) (runs : RunOfEach P) (plan : ScriptPlan P)
+      → plan ≡ plan_of_category category plans → run_of_plan plan runs ≡ of_category category (runs_of plans runs)
+  same-runs category runs plan is = ap (λ (p : ScriptPlan P). run_of_plan p runs) is ∙ plan-runs category runs
 
 pub fits-planned : {F S P D : Type 0} (planning : Planning F S P D) (face : F) (shaper : S) (unicode : UnicodeMeaning) (text : Buffer)
     (language : Option (List ℕ)) (features : List Feature)

@@ -2,14 +2,9 @@
 use Rattle.std.specs.Prelude.{◌≡◌, ℕ, List, All, Option, string_bytes}
 use Rattle.std.specs.Option.{option_map}
 use Rattle.plan_cache.specs.declared.keys.KeptPlan.{KeptPlan}
-use Rattle.script_shapers.specs.declared.plans.ScriptShapers.{ScriptShapers}
 use Rattle.shape_common.specs.declared.text_types.Direction.{Direction}
 use Rattle.shape_common.specs.declared.text_types.Feature.{Feature}
 use Rattle.shape_common.specs.declared.text_types.Script.{Script}
-
--- the shapers that plans refer to: they hold nothing
-abbrev pub all_shapers : ScriptShapers
-all_shapers = record { default = record {}; arabic = record {}; hangul = record {}; hebrew = record {}; thai = record {} }
 
 -- a plan is the one that planning makes of what it is kept under
 abbrev pub IsMadeBy : {P : Type 0} → (Direction → Option Script → Option (List ℕ) → List Feature → P) → KeptPlan P → Type 0

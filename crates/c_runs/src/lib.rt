@@ -26,8 +26,8 @@ use crate::refusal::Refusal;
 use crate::runs::shape_runs;
 use crate::shaper::FontShaper;
 use opentype_layout::{OpenTypeFace, OpenTypeLayout, OpenedOpenTypeFace};
-use script_shapers::choice::{ScriptRuns, by_script};
 use shape_unicode::UnicodeDatabase;
+use shaper_choice::choice::{ScriptRuns, by_script};
 use std::alloc::Global;
 
 /// Shapes runs of a text with a face that is opened for them. Refuses with `Memory` alone.

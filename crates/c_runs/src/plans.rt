@@ -6,33 +6,20 @@ ghost use Rattle.shape_common.specs.declared.text_types.Feature.{Feature as AnyF
 ghost use Rattle.shape_items.specs.Buffer.{Buffer, run_limit};
 ghost use Rattle.shape_pipeline.specs.Headline.{target_of};
 ghost use Rattle.shape_pipeline.specs.Shaped.{shaped, ShapingPasses};
-ghost use Rattle.script_shapers.specs.ScriptPlans.{PlanFits};
-ghost use Rattle.script_shapers.specs.declared.plans.ScriptPlan.{ScriptPlan as AnyPlan};
-ghost use Rattle.c_runs.specs.Plans.{AreMadeBy, all_shapers};
+ghost use Rattle.shaper_choice.specs.ScriptPlans.{PlanFits, all_shapers};
+ghost use Rattle.shaper_choice.specs.declared.plans.ScriptPlan.{ScriptPlan as AnyPlan};
+ghost use Rattle.c_runs.specs.Plans.{AreMadeBy};
 
 use plan_cache::{KeptPlan, find_plan, keep_plan};
-use script_shapers::choice::{ScriptRuns, by_script};
-use script_shapers::plans::ScriptPlans;
-use script_shapers::{
-    ArabicShaper, HangulShaper, HebrewShaper, ScriptPlan, ScriptShapers, ThaiShaper,
-    plan_by_script, shape_with_script_plan,
-};
 use shape_buffer::buffer::{Feature, GlyphBuffer, ShapeError, UnicodeBuffer};
 use shape_buffer::interfaces::{hb_font_t, hb_ot_layout_t, hb_unicode_funcs_t};
-use shape_plan::DEFAULT_SHAPER;
+use shaper_choice::choice::{ScriptRuns, by_script};
+use shaper_choice::plans::ScriptPlans;
+use shaper_choice::{SCRIPT_SHAPERS, ScriptPlan, plan_by_script, shape_with_script_plan};
 use std::alloc::Global;
 
 /// The number of the one face of a call.
 const FACE: u32 = 0;
-
-/// The shapers of all plans.
-const SHAPERS: ScriptShapers = ScriptShapers {
-    default: DEFAULT_SHAPER,
-    arabic: ArabicShaper,
-    hangul: HangulShaper,
-    hebrew: HebrewShaper,
-    thai: ThaiShaper,
-};
 
 /// Plans over a font file, each kept under all that it was made for.
 pub type Kept<'a, P> = Vec<KeptPlan<ScriptPlan<'a, P>>>;
@@ -68,7 +55,7 @@ fn plan_for<'a, U: hb_unicode_funcs_t, F: hb_font_t, M: hb_ot_layout_t<F>>(
     plan_by_script::<U, F, M>(
         alloc,
         face,
-        &SHAPERS,
+        &SCRIPT_SHAPERS,
         direction,
         script,
         text.language(),

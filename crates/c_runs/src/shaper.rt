@@ -3,16 +3,17 @@ ghost use Rattle.std.specs.Prelude.{◌≡◌, IfOk, IfErr};
 ghost use Rattle.shape_items.specs.Buffer.{Buffer};
 ghost use Rattle.shape_pipeline.specs.Shaped.{shaped};
 ghost use Rattle.shape_plan.specs.Run.{Run};
-ghost use Rattle.c_runs.specs.Plans.{AreMadeBy, all_shapers};
+ghost use Rattle.shaper_choice.specs.ScriptPlans.{all_shapers};
+ghost use Rattle.c_runs.specs.Plans.{AreMadeBy};
 ghost use Rattle.c_runs.specs.Refusals.{TextPasses};
 
 use crate::plans::{Kept, shape_kept};
 use layout_map::map::hb_ot_map_t;
 use opentype_layout::{OpenTypeLayout, OpenedOpenTypeFace};
-use script_shapers::choice::{ScriptRuns, by_script};
-use script_shapers::plans::ScriptPlans;
 use shape_buffer::buffer::{Feature, GlyphBuffer, ShapeError, UnicodeBuffer};
 use shape_unicode::UnicodeDatabase;
+use shaper_choice::choice::{ScriptRuns, by_script};
+use shaper_choice::plans::ScriptPlans;
 use std::alloc::Global;
 
 /// Shapes one text after the other, each by the same runs.

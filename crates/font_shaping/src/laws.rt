@@ -1,9 +1,9 @@
 //! What a run with a font file must provide: nothing is left of it.
-ghost use Rattle.std.specs.Prelude.{◌≡◌, List};
+ghost use Rattle.std.specs.Prelude.{◌≡◌, List, true};
 ghost use Rattle.layout_map.specs.Map.{OtMap as Map};
 ghost use Rattle.opentype_layout.specs.Engine.{opentype_layout};
 ghost use Rattle.opentype_layout.specs.declared.face.OpenTypeFace.{OpenTypeFace as Face};
-ghost use Rattle.script_shapers.specs.Choice.{category_for};
+ghost use Rattle.shaper_choice.specs.Choice.{category_for, preserves_equivalence};
 ghost use Rattle.shape_common.specs.declared.text_types.Feature.{Feature as AnyFeature};
 ghost use Rattle.shape_items.specs.Buffer.{Buffer};
 ghost use Rattle.shape_pipeline.specs.Canonical.{RunPreservesEquivalence};
@@ -13,10 +13,13 @@ ghost use Rattle.shape_plan.specs.Plan.{Plan};
 ghost use Rattle.shape_plan.specs.Preservation.{RunPreservesFlags};
 ghost use Rattle.shape_plan.specs.declared.ot_shaper.shapers.hb_default_shaper_t.{hb_default_shaper_t as DefaultShaper};
 
+use indic_shaper::shaper::{IndicShaper, indic_runs_preserve};
+use khmer_shaper::shaper::{KhmerShaper, khmer_runs_preserve};
+use myanmar_shaper::shaper::{MyanmarShaper, myanmar_runs_preserve};
+use myanmar_shaper::zawgyi::{ZawgyiShaper, zawgyi_runs_preserve};
 use opentype_layout::laws::opentype_layout_preserves;
 use opentype_layout::{OpenTypeFace, OpenTypeLayout};
 use script_shapers::arabic::{ArabicShaper, arabic_runs_preserve};
-use script_shapers::choice::{Category, ScriptRuns, by_script};
 use script_shapers::hangul::{HangulShaper, hangul_runs_preserve};
 use script_shapers::hebrew::{HebrewShaper, hebrew_runs_preserve};
 use script_shapers::thai::{ThaiShaper, thai_runs_preserve};
@@ -24,6 +27,8 @@ use shape_buffer::interfaces::{hb_font_t, hb_ot_layout_t, hb_unicode_funcs_t};
 use shape_pipeline::laws::runs_without_hooks_have_no_obligations;
 use shape_pipeline::ot_shaper::{Runs, hb_default_shaper_t, hb_ot_shaper_t};
 use shape_pipeline::shaping::TextRuns;
+use shaper_choice::choice::{ScriptRuns, by_script};
+use universal_shaper::shaper::{UniversalShaper, universal_runs_preserve};
 
 /// A run of the default shaper with the tables of a font file has no obligations, whatever the bytes of the file are
 /// and whatever the plan: every premise of the promises about a run holds of it.
@@ -62,7 +67,8 @@ where
 {}
 
 /// A run by the shaper of a text's script with the tables of a font file preserves clusters and flags, whatever the bytes of
-/// the file are; by the default shaper it preserves equivalence, too. Its Unicode functions are those that it is given.
+/// the file are; by the default shaper, and those of Myanmar and Zawgyi, it preserves equivalence, too. Its Unicode functions are
+/// those that it is given.
 pub fn script_runs_preserve<'a, U: hb_unicode_funcs_t>()
     ensures unicode { (face : Face) (features : List AnyFeature) (text : Buffer)
         → (⟦<by_script as ScriptRuns<U, OpenTypeFace<'a>, OpenTypeLayout>>⟧.text_run face features text).unicode
@@ -72,7 +78,7 @@ pub fn script_runs_preserve<'a, U: hb_unicode_funcs_t>()
     ensures flags { (face : Face) (features : List AnyFeature) (text : Buffer) → RunPreservesFlags
         (⟦<by_script as ScriptRuns<U, OpenTypeFace<'a>, OpenTypeLayout>>⟧.text_run face features text) }
     ensures equivalence { (face : Face) (features : List AnyFeature) (text : Buffer)
-        → category_for U.unicode (opentype_layout face) text ≡ Category.Default
+        → preserves_equivalence (category_for U.unicode (opentype_layout face) text) ≡ true
         → RunPreservesEquivalence
         (⟦<by_script as ScriptRuns<U, OpenTypeFace<'a>, OpenTypeLayout>>⟧.text_run face features text) }
 {
@@ -82,9 +88,19 @@ pub fn script_runs_preserve<'a, U: hb_unicode_funcs_t>()
     hangul_runs_preserve::<U, OpenTypeFace, OpenTypeLayout>();
     hebrew_runs_preserve::<U, OpenTypeFace, OpenTypeLayout>();
     thai_runs_preserve::<U, OpenTypeFace, OpenTypeLayout>();
+    universal_runs_preserve::<U, OpenTypeFace, OpenTypeLayout>();
+    khmer_runs_preserve::<U, OpenTypeFace, OpenTypeLayout>();
+    myanmar_runs_preserve::<U, OpenTypeFace, OpenTypeLayout>();
+    zawgyi_runs_preserve::<U, OpenTypeFace, OpenTypeLayout>();
+    indic_runs_preserve::<U, OpenTypeFace, OpenTypeLayout>();
     text_runs_preserve::<U, OpenTypeFace, OpenTypeLayout, hb_default_shaper_t>();
     text_runs_preserve::<U, OpenTypeFace, OpenTypeLayout, ArabicShaper>();
     text_runs_preserve::<U, OpenTypeFace, OpenTypeLayout, HangulShaper>();
     text_runs_preserve::<U, OpenTypeFace, OpenTypeLayout, HebrewShaper>();
     text_runs_preserve::<U, OpenTypeFace, OpenTypeLayout, ThaiShaper>();
+    text_runs_preserve::<U, OpenTypeFace, OpenTypeLayout, UniversalShaper>();
+    text_runs_preserve::<U, OpenTypeFace, OpenTypeLayout, KhmerShaper>();
+    text_runs_preserve::<U, OpenTypeFace, OpenTypeLayout, MyanmarShaper>();
+    text_runs_preserve::<U, OpenTypeFace, OpenTypeLayout, ZawgyiShaper>();
+    text_runs_preserve::<U, OpenTypeFace, OpenTypeLayout, IndicShaper>();
 }

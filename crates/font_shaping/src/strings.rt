@@ -9,11 +9,11 @@ ghost use Rattle.font_shaping.specs.Strings.{WithFaceOf, WithTextOf};
 use crate::laws::script_runs_preserve;
 use crate::shaping::shape_with_font;
 use opentype_layout::{OpenTypeFace, OpenTypeLayout};
-use script_shapers::choice::{ScriptRuns, by_script};
 use shape_pipeline::strings::{strings_keep_promises, text_of_str};
 use shape_pipeline::{
     Feature, GlyphBuffer, ShapeError, ShapeFault, UnicodeBuffer, hb_unicode_funcs_t,
 };
+use shaper_choice::choice::{ScriptRuns, by_script};
 use std::alloc::Global;
 
 /// Why a string was not shaped with the bytes of a font file.

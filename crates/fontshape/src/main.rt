@@ -27,6 +27,7 @@ use crate::picture::Picture;
 use crate::shaping::{Planned, opened, shaped};
 use crate::written::{Font, Given, write_line};
 use glyph_outlines::Outlines;
+use opentype_layout::OpenedOpenTypeFace;
 use shape_font::FontFace;
 use shape_pipeline::hb_font_t;
 use shape_text_forms::SerializeFlags;
@@ -187,6 +188,27 @@ fn warn_of_boxes(rt: &HostRuntime, options: &Options, bytes: &[u8]) -> Result<()
     }
 }
 
+/// Takes all lines with a face, and the same face for the font's tables of lookups if that was opened.
+fn run_over<'a, W: Write + Drop>(
+    rt: &HostRuntime,
+    options: &'a Options,
+    face: FontFace<'a>,
+    opened: Option<&'a OpenedOpenTypeFace<'a>>,
+    outlines: Option<Outlines<'a>>,
+    output: Output<'a, W>,
+) -> Result<(), Failure> {
+    let alloc = rt.alloc();
+    let mut work = Work {
+        options,
+        font: Font::new(alloc, options, face)?,
+        planned: opened.map(Planned::new),
+        outlines,
+        picture: Picture::new(alloc, face.units_per_em()),
+        output,
+    };
+    work.run(rt)
+}
+
 /// Shapes with the font of a file, for this writer.
 fn run_to<W: Write + Drop>(
     rt: &HostRuntime,
@@ -202,18 +224,10 @@ fn run_to<W: Write + Drop>(
     let outlines = drawn(alloc, options, bytes)?;
     warn_of_boxes(rt, options, bytes)?;
     let output = Output::new(alloc, options.output().unwrap_or(OUTPUT), writer)?;
-    let Ok(opened) = opened(alloc, options, face) else {
-        return Err(Failure::Memory);
-    };
-    let mut work = Work {
-        options,
-        font: Font::new(alloc, options, face)?,
-        planned: opened.as_ref().map(Planned::new),
-        outlines,
-        picture: Picture::new(alloc, face.units_per_em()),
-        output,
-    };
-    work.run(rt)
+    match opened(alloc, options, face) {
+        Ok(opened) => run_over(rt, options, face, opened.as_ref(), outlines, output),
+        Err(_) => Err(Failure::Memory),
+    }
 }
 
 /// Shapes with the font of a file.

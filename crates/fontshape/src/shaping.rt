@@ -1,18 +1,13 @@
 //! Shaping one text as the options ask.
 ghost use Rattle.std.specs.Prelude.{◌≡◌};
-ghost use Rattle.script_shapers.specs.ScriptPlans.{PlanFits};
 ghost use Rattle.shape_unicode.specs.Meaning.{unicode_database};
+ghost use Rattle.shaper_choice.specs.ScriptPlans.{PlanFits};
 
 use crate::line::Line;
 use crate::options::Options;
 use kern_table::KernTable;
 use layout_map::map::hb_ot_map_t;
 use opentype_layout::{OpenTypeFace, OpenTypeLayout, OpenedOpenTypeFace};
-use script_shapers::choice::shape_by_script;
-use script_shapers::{
-    ArabicShaper, HangulShaper, HebrewShaper, ScriptPlan, ScriptShapers, ThaiShaper,
-    plan_by_script, shape_with_script_plan,
-};
 use shape_font::FontFace;
 use shape_pipeline::ot_shaper::{
     ComposedDiacritics, ComposedDiacriticsNoShortCircuit, Decomposed, Preference, Shortest,
@@ -22,16 +17,10 @@ use shape_pipeline::{
     hb_default_shaper_t, hb_font_t, hb_ot_layout_t, hb_ot_shaper_t, shape,
 };
 use shape_unicode::UnicodeDatabase;
-use std::alloc::Global;
-
-/// The shapers of all plans.
-const SHAPERS: ScriptShapers = ScriptShapers {
-    default: DEFAULT_SHAPER,
-    arabic: ArabicShaper,
-    hangul: HangulShaper,
-    hebrew: HebrewShaper,
-    thai: ThaiShaper,
+use shaper_choice::{
+    SCRIPT_SHAPERS, ScriptPlan, plan_by_script, shape_by_script, shape_with_script_plan,
 };
+use std::alloc::Global;
 
 /// The face for the font's tables of lookups, with the plan of the last line. A line of the same script and direction
 /// needs no other one, since language and features are those of the options. Making a plan takes as long as shaping a
@@ -68,7 +57,7 @@ impl<'a> Planned<'a> {
         plan_by_script::<UnicodeDatabase, OpenedOpenTypeFace, OpenTypeLayout>(
             alloc,
             self.face,
-            &SHAPERS,
+            &SCRIPT_SHAPERS,
             inner.direction_by::<UnicodeDatabase>(script),
             script,
             buffer.language(),

@@ -21,10 +21,10 @@ use c_runs::plain::{
 use c_runs::refusal::{DONE, Refusal};
 use c_runs::shape_opened;
 use opentype_layout::{OpenTypeLayout, OpenedOpenTypeFace};
-use script_shapers::choice::{ScriptRuns, by_script};
 use shape_buffer::interfaces::hb_font_t;
 use shape_text_forms::{direction_from_string, feature_from_string, script_from_string};
 use shape_unicode::UnicodeDatabase;
+use shaper_choice::choice::{ScriptRuns, by_script};
 use std::alloc::Global;
 
 /// How many units the em square has of the font with this number; 0 exactly if the bytes have no such font.

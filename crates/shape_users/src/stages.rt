@@ -122,6 +122,16 @@ impl<F, E: engine_stages<F>> hb_ot_layout_t<F> for Staged<E> {
         None
     }
 
+    fn would_substitute(
+        _map: &(),
+        _face: &F,
+        _tag: hb_tag_t,
+        _glyphs: &[u32],
+        _zero_context: bool,
+    ) -> bool {
+        false
+    }
+
     fn substitute_start(_face: &F, _buffer: &mut hb_buffer_t) {}
 
     fn stages(_map: &()) -> usize {

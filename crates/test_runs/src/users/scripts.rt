@@ -3,12 +3,9 @@
 use crate::comparing::assert_that;
 use crate::users::rows::{Asked, assert_rows};
 use crate::users::shaping::{Shaper, by_graphemes, face_of, print_glyphs, text_of};
-use script_shapers::{
-    ArabicShaper, HangulShaper, HebrewShaper, ScriptShapers, ThaiShaper, plan_by_script,
-    shape_with_script_plan,
-};
-use shape_pipeline::{DEFAULT_SHAPER, Direction, MapFace, NoLookups, Script, hb_tag_t};
+use shape_pipeline::{Direction, MapFace, NoLookups, Script, hb_tag_t};
 use shape_unicode::UnicodeDatabase;
+use shaper_choice::{Category, SCRIPT_SHAPERS, plan_by_script, served_by, shape_with_script_plan};
 use std::alloc::Global;
 use std::process::Abort;
 
@@ -57,17 +54,10 @@ fn texts_by_each_shaper(rt: HostRuntime) {
 /// The glyphs of a text in Hangul by a plan for its script.
 fn print_planned(rt: &impl Abort, alloc: Global, printed: &mut String, face: &MapFace, text: &str) {
     let hangul = Some(Script(hb_tag_t::from_bytes(b"Hang")));
-    let shapers = ScriptShapers {
-        default: DEFAULT_SHAPER,
-        arabic: ArabicShaper,
-        hangul: HangulShaper,
-        hebrew: HebrewShaper,
-        thai: ThaiShaper,
-    };
     let plan = plan_by_script::<UnicodeDatabase, MapFace, NoLookups>(
         alloc,
         face,
-        &shapers,
+        &SCRIPT_SHAPERS,
         Direction::LeftToRight,
         hangul,
         None,
@@ -94,4 +84,23 @@ fn a_plan_is_made_by_script(rt: HostRuntime) {
         "\u{1100}\u{1161}\u{302E}",
     );
     assert_that(&rt, printed.as_str() == " 2@0 1@0");
+}
+
+#[test]
+fn scripts_are_served(rt: HostRuntime) {
+    let cases = [
+        (b"Latn", Category::Default),
+        (b"Syrc", Category::Arabic),
+        (b"Laoo", Category::Thai),
+        (b"Khmr", Category::Khmer),
+        (b"Mymr", Category::Myanmar),
+        (b"Mong", Category::Universal),
+        (b"Deva", Category::Indic),
+    ];
+    for (tag, category) in cases {
+        assert_that(
+            &rt,
+            served_by(Script(hb_tag_t::from_bytes(tag))) == category,
+        );
+    }
 }

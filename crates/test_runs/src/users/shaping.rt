@@ -1,6 +1,6 @@
 //! What these tests shape with: faces of a few characters, and the whole database of Unicode.
 use bitflags::Flags;
-use script_shapers::{ArabicShaper, HebrewShaper, shape_by_script};
+use script_shapers::{ArabicShaper, HebrewShaper};
 use shape_pipeline::lines::{Line, can_cut, cut_lines};
 use shape_pipeline::ot_shape_plan::hb_ot_shape_plan_t;
 use shape_pipeline::ot_shaper::Decomposed;
@@ -12,6 +12,7 @@ use shape_pipeline::{
 use shape_unicode::UnicodeDatabase;
 use shape_users::capitals::CapitalsShaper;
 use shape_users::ligatures::Ligatures;
+use shaper_choice::shape_by_script;
 use std::alloc::Global;
 use std::process::Abort;
 use test_fixtures::printing::append_glyph;

@@ -2,8 +2,8 @@ use Rattle.std.proofs.lemmas.Result.{IfOk-weaker}
 use Rattle.font_shaping.proofs.ScriptLemmas.{comes-by}
 use Rattle.font_shaping.proofs.shaping.shape_with_font.Goals as goal
 
-pub returns-clause-canonical_by_default : goal.returns-clause-canonical_by_default
-returns-clause-canonical_by_default g c = λ is.
+pub returns-clause-canonical_by_script : goal.returns-clause-canonical_by_script
+returns-clause-canonical_by_script g c = λ is.
     IfOk-weaker c.shape_by_script.result _ _
     (λ glyphs are. are.canonical (c.script_runs_preserve.ensures.equivalence c.args.face.now c.args.features.now c.args.text is))
     c.shape_by_script.ensures.ok
