@@ -1,7 +1,8 @@
 #!/usr/bin/env python3
-"""Compares bindings/ with the program `fontshape`: the example in C, the one in Python, and the one in Rust if there is a
-rustc, on a hundred lines over the DejaVu and Noto fonts that are installed, Latin, Greek, Hebrew, Arabic, Thai and Hangul,
-with features, directions, scripts and languages. The example in C runs under valgrind, if that is installed.
+"""Compares bindings/ with the program `fontshape`: the example in C, the package for Python, installed by pip into a folder
+of its own, and the example of the crate for Rust if there is a cargo, on a hundred lines over the DejaVu and Noto fonts that
+are installed, Latin, Greek, Hebrew, Arabic, Thai and Hangul, with features, directions, scripts and languages. The example in
+C runs under valgrind, if that is installed; the tests of the package run if pytest is, those of the crate with cargo.
 
 Then `calls.c` calls each function of luthgarn.h with right and wrong inputs, with each block of memory refused in turn, and
 `--calls N` (10000) times at random, with a stack of 1 MiB; and 200 times under valgrind.
@@ -12,6 +13,7 @@ folder, and luthgarn_c alone is proved again.
 Ends with status 77, and says why, if gcc, make or DejaVu Sans are missing, or there is no rt to build a program with.
 """
 import argparse
+import importlib.util
 import os
 import random
 import resource
@@ -83,16 +85,40 @@ def build(work, over_ci):
     gcc = ["gcc", "-std=gnu99", "-O1", "-Wall", "-Wextra", "-Werror", "-Wl,--wrap=malloc,--wrap=realloc,--wrap=free"]
     run(gcc + ["-o", os.path.join(work, "calls"), os.path.join(HERE, "calls.c"), os.path.join(C, "libluthgarn.a")])
     valgrind = VALGRIND if shutil.which("valgrind") else []
-    programs = {"C": valgrind + [os.path.join(C, "shape")], "Python": [sys.executable, os.path.join(BINDINGS, "python", "luthgarn.py")]}
-    if shutil.which("rustc"):
-        program = os.path.join(work, "shape_rs")
-        run(["rustc", "-O", "--edition", "2021", "-L", C, "-l", "static=luthgarn", "-o", program, os.path.join(BINDINGS, "rust", "shape.rs")])
-        programs["Rust"] = [program]
+    programs = {"C": valgrind + [os.path.join(C, "shape")], "Python": python_program(work)}
+    if shutil.which("cargo"):
+        programs["Rust"] = rust_program(work)
     else:
-        print("bindings: the program in Rust is left out: there is no rustc")
+        print("bindings: the crate for Rust is left out: there is no cargo")
     if not valgrind:
         print("bindings: the program in C runs without valgrind, which isn't installed")
     return programs
+
+
+def python_program(work):
+    """The package's program, once pip has installed the package into a folder, without network, or from where it stands if
+    there is no pip. Its tests run, if there is a pytest."""
+    package, folder = os.path.join(BINDINGS, "python"), os.path.join(work, "python")
+    if importlib.util.find_spec("pip"):
+        run([sys.executable, "-m", "pip", "install", "--quiet", "--no-deps", "--no-index", "--target", folder, package])
+    else:
+        folder = os.path.join(package, "src")
+        print("bindings: the package for Python isn't installed: there is no pip")
+    os.environ["PYTHONPATH"] = folder
+    if importlib.util.find_spec("pytest"):
+        run([sys.executable, "-B", "-m", "pytest", "-q", "-p", "no:cacheprovider", package])
+    else:
+        print("bindings: the package's tests are left out: there is no pytest")
+    return [sys.executable, "-B", "-m", "luthgarn"]
+
+
+def rust_program(work):
+    """The example of the crate, once its tests have passed."""
+    target = os.path.join(work, "rust")
+    how = ["--quiet", "--offline", "--manifest-path", os.path.join(BINDINGS, "rust", "Cargo.toml"), "--target-dir", target]
+    run(["cargo", "test"] + how)
+    run(["cargo", "build", "--release", "--example", "shape"] + how)
+    return [os.path.join(target, "release", "examples", "shape")]
 
 
 def lines_of(rng, script, count):
@@ -111,8 +137,10 @@ def compare(programs, rng):
         features = [word for option, word in zip(asked[::2], asked[1::2]) if option == "-f"]
         words = [options[option] + word for option, word in zip(asked[::2], asked[1::2]) if option != "-f"]
         words += ["--features=" + ",".join(features)] if features else []
-        right = run([FONTSHAPE, "--no-glyph-names", "--utf8-clusters"] + words + [font], text).decode().splitlines()
         for name, program in programs.items():
+            # (clusters count characters in Python, bytes in the others)
+            form = ["--no-glyph-names"] + ["--utf8-clusters"] * (name != "Python")
+            right = run([FONTSHAPE] + form + words + [font], text).decode().splitlines()
             found = run(program + [font] + asked, text).decode().splitlines()
             for line, a, b in zip(lines, right, found):
                 if a != b:

@@ -1,0 +1,93 @@
+"""The package over DejaVu Sans (Debian's fonts-dejavu-core): `python3 -m pytest bindings/python`."""
+import sys
+import threading
+from pathlib import Path
+
+import pytest
+
+sys.path.insert(0, str(Path(__file__).resolve().parents[1] / "src"))
+import luthgarn  # noqa: E402
+
+DEJAVU = Path("/usr/share/fonts/truetype/dejavu/DejaVuSans.ttf")
+pytestmark = pytest.mark.skipif(not DEJAVU.exists(), reason="no DejaVu Sans (Debian's fonts-dejavu-core)")
+
+
+@pytest.fixture(scope="module")
+def font():
+    return luthgarn.Font.open(DEJAVU)
+
+
+def advances(glyphs):
+    return [glyph.x_advance for glyph in glyphs]
+
+
+def test_a_word(font):
+    """hb-shape: [Ccaron=0+1430|a=1+1255|u=2+1298]"""
+    glyphs = luthgarn.shape(font, "Čau")
+    assert advances(glyphs) == [1430, 1255, 1298]
+    assert [glyph.cluster for glyph in glyphs] == [0, 1, 2]
+    assert font.units_per_em == 2048
+
+
+def test_kerning_by_each_form_of_features(font):
+    kerned, plain = advances(luthgarn.shape(font, "AV")), advances(luthgarn.shape(font, "AV", features={"kern": False}))
+    assert sum(kerned) < sum(plain)
+    assert plain == advances(luthgarn.shape(font, "AV", features=["kern=0"]))
+    assert plain == advances(luthgarn.shape(font, "AV", features={"kern": [(0, 2, 0)]}))
+
+
+def test_spans_count_characters(font):
+    """In "ČAVAV" kerning is off for the last pair alone, whose characters are 3 and 4."""
+    on, part = (luthgarn.shape(font, "ČAVAV", features=features) for features in (None, {"kern": [(3, 5, 0)]}))
+    assert advances(on)[1] == advances(part)[1] and advances(on)[3] < advances(part)[3]
+
+
+def test_clusters_count_characters(font):
+    assert [glyph.cluster for glyph in luthgarn.shape(font, "é😀a")] == [0, 1, 2]
+    assert [glyph.cluster for glyph in luthgarn.shape(font, "אב")] == [1, 0]
+
+
+def test_texts_of_one_call(font):
+    texts = ["AV", "", "Čau"]
+    assert luthgarn.shape_all(font, texts) == [luthgarn.shape(font, text) for text in texts]
+
+
+def test_a_buffer_as_in_uharfbuzz(font):
+    buffer = luthgarn.Buffer()
+    buffer.add_str("AV")
+    buffer.guess_segment_properties()
+    assert buffer.shape(font) == luthgarn.shape(font, "AV")
+    assert [glyph.codepoint for glyph in buffer.shape(font)] == [36, 57]
+
+
+def test_arrays(font):
+    numpy = pytest.importorskip("numpy")
+    found = luthgarn.shape(font, "AV").arrays()
+    assert found["x_advance"].dtype == numpy.int32 and found["cluster"].tolist() == [0, 1]
+    assert len(luthgarn.shape(font, "").arrays()["glyph"]) == 0
+
+
+def test_refusals_have_names(font):
+    with pytest.raises(luthgarn.BadFont):
+        luthgarn.Font(b"no font")
+    with pytest.raises(luthgarn.BadFont):
+        luthgarn.Font(font.data, index=9)
+    with pytest.raises(luthgarn.BadFeature):
+        luthgarn.shape(font, "a", features=["kern="])
+    with pytest.raises(luthgarn.UnknownName):
+        luthgarn.shape(font, "a", direction="sideways")
+    with pytest.raises(luthgarn.UnknownName):
+        luthgarn.shape(font, "a", language="a-language-of-no-country")
+    with pytest.raises(luthgarn.BadText) as refused:
+        luthgarn.shape_all(font, ["a", "\ud800"])
+    assert refused.value.line == 1
+
+
+def test_threads_share_a_font(font):
+    wanted, found = luthgarn.shape(font, "AVATAR"), []
+    threads = [threading.Thread(target=lambda: found.append(luthgarn.shape(font, "AVATAR"))) for _ in range(8)]
+    for thread in threads:
+        thread.start()
+    for thread in threads:
+        thread.join()
+    assert found == [wanted] * 8
