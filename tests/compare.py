@@ -8,13 +8,15 @@ models print, and libraries with Unicode's test files (Debian's package `unicode
 Status 0: no difference. 1: there are some, which are shown. 77: something is not installed.
 """
 from checks import (
-    cuts, line_breaks, normalising, normalization, options, paragraphs, random_fonts, scripts, texts,
+    cuts, line_breaks, normalising, normalization, options, paragraphs, random_fonts, scripts,
+    syllables, texts,
 )
 from checks.command import run_kind
 
 KINDS = {
     "texts": texts,
     "scripts": scripts,
+    "syllables": syllables,
     "paragraphs": paragraphs,
     "options": options,
     "fonts": random_fonts,
