@@ -1,11 +1,12 @@
 #!/usr/bin/env python3
-"""Writes docs/API.md, the public items of each library, from the sources.
+"""Checks the pages that list what the sources have, and lists the public items of libraries.
 
-    tests/api-index.py            writes the page
-    tests/api-index.py --check    ends with status 1 if the page isn't what it would write, or if
-                                  the table of must-fail edits in docs/TESTING.md doesn't name
-                                  exactly those that there are, or if docs/SAFE_AND_TOTAL.md lacks
-                                  a public function that requires something
+    tests/pages.py                     ends with status 1 if the table of must-fail edits in
+                                       docs/TESTING.md doesn't name exactly those that there are, if
+                                       docs/SAFE_AND_TOTAL.md lacks a public function that requires
+                                       something, or if a wrong rule of tests/rules can't be planted
+    tests/pages.py --index [CRATE ..]  prints the public items of these libraries, or of all, lowest
+                                       crate first
 
 An item is public if every module on its path is, or if a `pub use` of such a module names it.
 Crates of tests and of benches are left out, and so are programs.
@@ -17,7 +18,6 @@ import textwrap
 from pathlib import Path
 
 ROOT = Path(__file__).resolve().parent.parent
-PAGE = ROOT / "docs" / "API.md"
 TESTING = ROOT / "docs" / "TESTING.md"
 SAFE_AND_TOTAL = ROOT / "docs" / "SAFE_AND_TOTAL.md"
 YARD = re.compile(r"^(test|bench)_|_(tests|bench)$|^test_fixtures$|^unlawful_search$")
@@ -25,10 +25,8 @@ ITEM = re.compile(r"(pub )?(?:const )?(?:unsafe )?"
                   r"(fn|struct|enum|trait|const|static|type|mod) (\w+)")
 HEAD = """# Public items, by library
 
-Made by `tests/api-index.py` from the sources, lowest crate first; the gate checks that it isn't
-stale. Items stand under the module that a caller names, with the first sentence of their
-documentation and the names of their methods. What each promises stands in its contract;
-[PROMISES](PROMISES.md) is the index of these.
+Items stand under the module that a caller names, with the first sentence of their documentation
+and the names of their methods. What each promises stands in its contract.
 """
 # The most constants of a module that are listed one by one.
 FEW = 8
@@ -194,13 +192,15 @@ def section(crate):
     return lines
 
 
-def page():
+def page(wanted):
+    """The public items of the libraries that are wanted, or of all."""
     listed = [line.split(":")[0].split()[0]
               for line in (ROOT / "crates.txt").read_text().split("\n")
               if ":" in line and not line.startswith("#")]
     lines = [HEAD]
     for crate in listed:
-        if not YARD.search(crate) and (ROOT / "crates" / crate / "src" / "lib.rt").exists():
+        is_library = (ROOT / "crates" / crate / "src" / "lib.rt").exists()
+        if is_library and (crate in wanted or not wanted and not YARD.search(crate)):
             lines += section(crate)
     return "\n".join(lines).rstrip("\n") + "\n"
 
@@ -324,13 +324,10 @@ def stale_plants():
 
 def check():
     """What is stale, a line each."""
-    stale = []
-    if not PAGE.exists() or PAGE.read_text() != page():
-        stale.append("docs/API.md: run tests/api-index.py")
     edits = {f"{edit.parent.parent.name}/{edit.stem}"
              for edit in ROOT.glob("crates/*/must-fail/*.edit")}
     named = edits_of_page()
-    stale += [f"docs/TESTING.md lacks the edit {edit}" for edit in sorted(edits - named)]
+    stale = [f"docs/TESTING.md lacks the edit {edit}" for edit in sorted(edits - named)]
     stale += [f"docs/TESTING.md names an edit that isn't there: {edit}"
               for edit in sorted(named - edits)]
     stale += [f"docs/SAFE_AND_TOTAL.md lacks {line}" for line in lacking_conditions()]
@@ -339,12 +336,12 @@ def check():
 
 
 def main():
-    if sys.argv[1:] == ["--check"]:
-        stale = check()
-        print("\n".join(stale) if stale else "api-index: the pages are up to date")
-        return 1 if stale else 0
-    PAGE.write_text(page())
-    return 0
+    if sys.argv[1:2] == ["--index"]:
+        print(page(sys.argv[2:]), end="")
+        return 0
+    stale = check()
+    print("\n".join(stale) if stale else "pages: up to date")
+    return 1 if stale else 0
 
 
 if __name__ == "__main__":
