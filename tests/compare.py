@@ -9,7 +9,7 @@ Status 0: no difference. 1: there are some, which are shown. 77: something is no
 """
 from checks import (
     cuts, line_breaks, normalising, normalization, options, paragraphs, random_fonts, scripts,
-    syllables, texts,
+    suite, syllables, texts,
 )
 from checks.command import run_kind
 
@@ -18,6 +18,7 @@ KINDS = {
     "scripts": scripts,
     "syllables": syllables,
     "paragraphs": paragraphs,
+    "suite": suite,
     "options": options,
     "fonts": random_fonts,
     "cuts": cuts,
