@@ -176,6 +176,7 @@ BOMBS = {
     "marks on marks": (
         {"GPOS": layout([lookup(6, [marks_on(6)])], b"mkmk"), "GDEF": gdef(0)}, "m"),
     "marks on one base": (marks(TO_BASES), "am"),
+    "100,000 marks on one base": (marks(TO_BASES), "M"),
     "marks on one base, 1,000 lookups": (marks(TO_BASES, shared=1000), "am"),
     "marks on one base, nested, back and forth": (
         {"GPOS": layout(BACK_AND_FORTH, b"mark"), "GDEF": gdef(0)}, "am"),
@@ -262,11 +263,12 @@ def bomb_font(tables, kind):
 
 
 def bomb_text(kind, length):
-    """Letters, in eight lines too, marks, or one half of each, letters first; marks between two
-    letters, and one mark more or none; ZWNJ, after one letter; letters that join; letters by the
-    stages of Arabic, downwards, or written as JSON; letters right to left, of which the last is
-    another one, or three quarters as many; or ZWJ in Arabic, after one letter or each, of which
-    the last is a letter a; or Arabic after a letter a between two b."""
+    """Letters, in eight lines too, marks, or one half of each, letters first; a letter and ten
+    times as many marks; marks between two letters, and one mark more or none; ZWNJ, after one
+    letter; letters that join; letters by the stages of Arabic, downwards, or written as JSON;
+    letters right to left, of which the last is another one, or three quarters as many; or ZWJ in
+    Arabic, after one letter or each, of which the last is a letter a; or Arabic after a letter a
+    between two b."""
     half = length // 2
     texts = {"a": "a" * length, "json": "a" * length,
              "m": "\u0301" * length, "z": "a" + chr(ZWNJ) * (length - 1),
@@ -278,7 +280,8 @@ def bomb_text(kind, length):
              "j": chr(ALEF) + chr(ZWJ) * (length - 1),
              "ja": (chr(ALEF) + chr(ZWJ)) * (half - 1) + "a" + chr(ZWJ),
              "jb": "bab" + chr(ALEF) * (length - 3),
-             "am": "a" * half + "\u0301" * (length - half)}
+             "am": "a" * half + "\u0301" * (length - half),
+             "M": "a" + "\u0301" * (10 * length)}
     return texts[kind]
 
 

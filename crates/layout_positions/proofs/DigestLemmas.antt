@@ -1,6 +1,6 @@
 -- a lookup whose digest holds no glyph of the list may be passed over, and a place whose glyph it doesn't hold
 use Prim.Native.Nat.{zero}
-use Rattle.std.proofs.Common.{◌≡◌, ℕ, suc, ◌+◌, ◌-◌, ◌*◌, ◌<◌, ◌≤◌, ◌^◌, Bool, true, false, List, [], ◌∷◌, length, max, min, nat_eq, nat_lt, fold, refl, sym, ap, ◌∙◌, subst, arith, if◌then◌else◌, drop, slice_index_or, map}
+use Rattle.std.proofs.Common.{◌≡◌, ℕ, suc, ◌+◌, ◌-◌, ◌*◌, ◌<◌, ◌≤◌, ◌^◌, Bool, true, false, List, [], ◌∷◌, length, max, min, nat_eq, nat_lt, fold, refl, sym, ap, ◌∙◌, subst, arith, if◌then◌else◌, drop, slice_index_or}
 use Rattle.std.proofs.lemmas.Bool.Decides.{nat_tests}
 use Rattle.std.proofs.lemmas.List.{drop_more, length-drop}
 use Rattle.std.proofs.lemmas.Nat.{mul-le}
@@ -15,7 +15,6 @@ use Rattle.layout_digests.specs.Digests.{has, IsWithin}
 use Rattle.layout_digests.specs.declared.digest.Digest.{Digest}
 use Rattle.layout_digests.specs.declared.digested.Digested.{Digested}
 use Rattle.layout_positions.specs.Digested.{IsOut, IsDigested, HoldsFirst, HoldsGlyphs, AreUnheld, lookups_in}
-use Rattle.layout_positions.specs.Uncovered.{IsUncovered}
 use Rattle.layout_positions.specs.Walk.{Walk, lookup_step, Budgeted, first_walk, gone_over, walk_charged, lookup_applied}
 use Rattle.layout_positions.specs.declared.bases.BaseSeen.{BaseSeen}
 use Rattle.layout_matching.proofs.LoopLemmas.{times_after}

@@ -16,3 +16,4 @@ pub mod KnownLemmas
 pub mod TollLemmas
 pub mod StopLemmas
 pub mod MadeLemmas
+pub mod FlaggedLemmas

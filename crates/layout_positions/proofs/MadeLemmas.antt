@@ -6,7 +6,7 @@ use Rattle.shape_buffer.specs.Outcome.{Made}
 use Rattle.layout_matching.specs.declared.lookup.Lookup.{Lookup}
 use Rattle.layout_positions.specs.Attachment.{offsets_finished}
 use Rattle.layout_positions.specs.Preserves.{Kept}
-use Rattle.layout_positions.specs.Walk.{Budgeted, lookup_applied, budgeted, settled_up, positioned}
+use Rattle.layout_positions.specs.Walk.{lookup_applied, budgeted, settled_up, positioned}
 use Rattle.layout_positions.proofs.PreservationLemmas.{positioned-kept, finished-kept}
 
 made_kept : (f : Buffer → Buffer) (b c : Buffer) → c ≡ f b → Kept b (f b) → Made f b c

@@ -1,4 +1,5 @@
 pub mod Edits
+pub mod Flagged
 pub mod Values
 pub mod Anchors
 pub mod Ways

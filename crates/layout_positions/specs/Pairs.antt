@@ -40,17 +40,26 @@ single_applied l start i b = option_map_or (single_put i b) (single_of l.table.n
 
 -- ---- pairs
 
--- the two records of a pair, one after the other
-abbrev pub pair_at : List ℕ → ℕ → ℕ → PairValues
-pair_at t start at = let first = u16_of t (start + 4) in
-    let second = u16_of t (start + 6) in
+-- the two records of a pair, of these formats, one after the other
+abbrev pub records_at : List ℕ → ℕ → ℕ → ℕ → PairValues
+records_at t first second at =
     record { first = value_at t first at; second = value_at t second (at + value_size first); has_second = not (nat_eq second 0) }
 
+abbrev pub records_size : ℕ → ℕ → ℕ
+records_size first second = value_size first + value_size second
+
+abbrev pub records_if : List ℕ → ℕ → ℕ → ℕ → Option PairValues
+records_if t first second at = if has_bytes t at (records_size first second) then Some (records_at t first second at) else None
+
+-- in the formats of the subtable
+abbrev pub pair_at : List ℕ → ℕ → ℕ → PairValues
+pair_at t start at = records_at t (u16_of t (start + 4)) (u16_of t (start + 6)) at
+
 abbrev pub pair_size : List ℕ → ℕ → ℕ
-pair_size t start = value_size (u16_of t (start + 4)) + value_size (u16_of t (start + 6))
+pair_size t start = records_size (u16_of t (start + 4)) (u16_of t (start + 6))
 
 abbrev pub pair_if : List ℕ → ℕ → ℕ → Option PairValues
-pair_if t start at = if has_bytes t at (pair_size t start) then Some (pair_at t start at) else None
+pair_if t start at = records_if t (u16_of t (start + 4)) (u16_of t (start + 6)) at
 
 -- format 1: for each first glyph a set of second ones in order, each with the two records
 abbrev pub pair_set : List ℕ → ℕ → ℕ → Option ℕ

@@ -5,11 +5,14 @@ ghost use Rattle.std.specs.Prelude.{◌≡◌, ◌<◌, ◌+◌, ◌&&◌, ◌^�
 ghost use Rattle.std.specs.Int.{bit_at};
 ghost use Rattle.layout_tables.specs.Lookups.{subtable_of};
 ghost use Rattle.layout_matching.specs.Skipping.{nth};
+ghost use Rattle.layout_positions.specs.Flagged.{IsFlagged};
 ghost use Rattle.layout_positions.specs.Known as known_marks;
 ghost use Rattle.layout_positions.specs.Subtables;
 
 use crate::adjustment::{apply_pair, apply_single};
+use crate::flagged::{Flagged, none_flagged};
 use crate::listed::{listed_mark, place_listed};
+use crate::marks::Mark;
 use crate::subtables::{Carried, Outcome, place_cursive};
 use layout_matching::found::first_subtable;
 use layout_matching::lookup::Lookup;
@@ -99,11 +102,13 @@ pub(crate) fn attaches_marks(lookup: &Lookup<'_>) -> bool
     }
 }
 
-/// What a lookup has made of a glyph by some of its subtables, and which are known not to list it.
+/// What a lookup has made of a glyph by some of its subtables, which are known not to list it, and what is marked unsafe to
+/// break.
 #[derive(Clone, Copy)]
 struct Tried {
     placed: Outcome,
     out: u64,
+    flagged: Flagged,
 }
 
 /// Applies a subtable of marks to the glyph at place `i`, or learns that it doesn't list it.
@@ -124,6 +129,7 @@ fn try_marks(
     requires this { subtable_of lookup.now.table.now 9 lookup.now.place k ≡ Some subtable }
     requires unplaced { tried.placed.next ≡ None }
     requires out { known_marks.AreOut lookup.now (nth buffer.old.items i).glyph_id tried.out }
+    requires flagged { IsFlagged tried.flagged buffer.old.items }
     ensures placed { record {
       buffer = buffer.new;
       next = result.placed.next;
@@ -133,18 +139,25 @@ fn try_marks(
         (Subtables.sought lookup.now subtable i buffer.old tried.placed.carried.seen
         tried.placed.carried.left) }
     ensures out { known_marks.AreOut lookup.now (nth buffer.old.items i).glyph_id result.out }
+    ensures flagged { IsFlagged result.flagged buffer.new.items }
 {
-    let Tried { placed, out } = tried;
+    let mut tried = tried;
     match listed_mark(lookup, subtable.start, buffer, i) {
-        Some(number) => Tried {
-            placed: place_listed(lookup, subtable, buffer, i, placed.carried, number),
-            out,
-        },
-        None => Tried {
-            placed,
-            out: with_out(lookup, buffer.infos()[i].glyph_id, out, k),
-        },
+        Some(number) => {
+            let mark = Mark { place: i, number };
+            let carried = tried.placed.carried;
+            tried.placed = place_listed(
+                lookup,
+                subtable,
+                buffer,
+                mark,
+                carried,
+                &mut tried.flagged,
+            );
+        }
+        None => tried.out = with_out(lookup, buffer.infos()[i].glyph_id, tried.out, k),
     }
+    tried
 }
 
 /// Applies a subtable of type 1 or 2 to the glyph at place `i`, and none of another type. It isn't shared with the walks that
@@ -220,6 +233,7 @@ fn try_new(
     requires this { subtable_of lookup.now.table.now 9 lookup.now.place k ≡ Some subtable }
     requires unplaced { tried.placed.next ≡ None }
     requires out { known_marks.AreOut lookup.now (nth buffer.old.items i).glyph_id tried.out }
+    requires flagged { IsFlagged tried.flagged buffer.old.items }
     ensures placed { record {
       buffer = buffer.new;
       next = result.placed.next;
@@ -229,12 +243,14 @@ fn try_new(
         (Subtables.sought lookup.now subtable i buffer.old tried.placed.carried.seen
         tried.placed.carried.left) }
     ensures out { known_marks.AreOut lookup.now (nth buffer.old.items i).glyph_id result.out }
+    ensures flagged { IsFlagged result.flagged buffer.new.items }
 {
     match subtable.kind {
         4 | 5 | 6 => try_marks(lookup, subtable, buffer, i, k, tried),
         _ => Tried {
             placed: try_other(lookup, subtable, buffer, i, tried.placed.carried),
             out: tried.out,
+            flagged: none_flagged(),
         },
     }
 }
@@ -247,6 +263,7 @@ fn try_known(lookup: &Lookup<'_>, buffer: &mut hb_buffer_t, i: usize, k: u32, tr
     requires inside { i < length buffer.old.items }
     requires few { k < 2 ^ 16 }
     requires out { known_marks.AreOut lookup.now (nth buffer.old.items i).glyph_id tried.out }
+    requires flagged { IsFlagged tried.flagged buffer.old.items }
     ensures step { record {
       buffer = buffer.new;
       next = result.placed.next;
@@ -263,6 +280,7 @@ fn try_known(lookup: &Lookup<'_>, buffer: &mut hb_buffer_t, i: usize, k: u32, tr
           subtable = k;
         }) }
     ensures out { known_marks.AreOut lookup.now (nth buffer.old.items i).glyph_id result.out }
+    ensures flagged { IsFlagged result.flagged buffer.new.items }
 {
     if tried.placed.next.is_some() {
         return tried;
@@ -284,10 +302,12 @@ pub(crate) fn apply_known(
     i: usize,
     carried: Carried,
     known: &mut [Known],
+    flagged: &mut Flagged,
 ) -> Outcome
     requires place { lookup.now.place < 2 ^ 17 }
     requires inside { i < length buffer.old.items }
     requires known { All (known_marks.IsKnown lookup.now) known.old }
+    requires flagged { IsFlagged flagged.old buffer.old.items }
     ensures made { record {
       buffer = buffer.new;
       next = result.next;
@@ -295,6 +315,7 @@ pub(crate) fn apply_known(
       left = result.carried.left;
     } ≡ Subtables.lookup_placed lookup.now i carried.left carried.seen buffer.old }
     ensures known { All (known_marks.IsKnown lookup.now) known.new }
+    ensures flagged { IsFlagged flagged.new buffer.new.items }
 {
     let glyph = buffer.infos()[i].glyph_id;
     let mut tried = Tried {
@@ -303,10 +324,12 @@ pub(crate) fn apply_known(
             carried,
         },
         out: recalled(lookup, glyph, known),
+        flagged: *flagged,
     };
     for k in 0..subtable_count(lookup.table, lookup.place) {
         tried = try_known(lookup, buffer, i, k, tried);
     }
     keep(lookup, glyph, tried.out, known);
+    *flagged = tried.flagged;
     tried.placed
 }

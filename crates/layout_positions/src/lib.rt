@@ -14,6 +14,7 @@ pub mod attachment;
 pub mod bases;
 pub mod cursive;
 pub mod edits;
+pub mod flagged;
 pub mod known;
 pub mod laws;
 pub mod listed;

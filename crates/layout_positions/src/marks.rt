@@ -2,11 +2,13 @@
 ghost use Rattle.std.specs.Prelude.{◌≡◌, ◌<◌, ◌+◌, ◌^◌, length, None};
 ghost use Rattle.std.specs.Option.{IfSome, option_and_then};
 ghost use Rattle.layout_positions.specs.Edits.{concat_marked};
+ghost use Rattle.layout_positions.specs.Flagged.{IsFlagged};
 ghost use Rattle.layout_positions.specs.Marks;
 
 use crate::anchors::{Anchor, anchor_of_class, mark_anchor, mark_class, number_there};
 use crate::attachment::{MARK_ATTACHED, chain};
-use crate::edits::{break_between, concat_between, position, put};
+use crate::edits::{asks_for_concat, concat_between, position, put};
+use crate::flagged::{Flagged, break_from, none_flagged};
 use crate::neighbours::{glyph_at, start_at, stop_before};
 use crate::places::after;
 use layout_matching::lookup::Lookup;
@@ -16,12 +18,27 @@ use shape_buffer::wrapping::difference;
 use shape_buffer::{GlyphPosition, hb_buffer_t, hb_glyph_info_t};
 use shape_font::bytes::{records, u16_at};
 
-/// A mark, the glyph that it may stand on, and which mark of its subtable it is.
+/// A mark, the glyph that it may stand on, which mark of its subtable it is, and what is marked unsafe to break.
 #[derive(Clone, Copy)]
 pub struct Pairing {
     pub mark: usize,
     pub base: usize,
     pub number: u32,
+    pub flagged: Flagged,
+}
+
+/// A mark: its place, and which one of its subtable it is.
+#[derive(Clone, Copy)]
+pub struct Mark {
+    pub place: usize,
+    pub number: u32,
+}
+
+/// The place where a lookup goes on, none if it didn't apply, and what is marked unsafe to break.
+#[derive(Clone, Copy)]
+pub struct Attached {
+    pub next: Option<usize>,
+    pub flagged: Flagged,
 }
 
 /// The position of a mark whose anchor stands on that of the glyph at place `base`.
@@ -37,17 +54,23 @@ fn mark_position(at: &Pairing, mark: Anchor, base: Anchor, position: GlyphPositi
 }
 
 /// Attaches a mark. Returns the place where the lookup goes on.
-fn put_mark(buffer: &mut hb_buffer_t, at: &Pairing, mark: Anchor, base: Anchor) -> Option<usize>
-    requires { at.now.mark < length buffer.old.items }
+fn put_mark(buffer: &mut hb_buffer_t, at: &Pairing, mark: Anchor, base: Anchor) -> Attached
+    requires inside { at.now.mark < length buffer.old.items }
+    requires flagged { IsFlagged at.now.flagged buffer.old.items }
     ensures made { buffer.new
         ≡ (Marks.mark_put at.now.mark at.now.base mark buffer.old base).buffer }
-    ensures next { result ≡ (Marks.mark_put at.now.mark at.now.base mark buffer.old base).next }
+    ensures next { result.next
+        ≡ (Marks.mark_put at.now.mark at.now.base mark buffer.old base).next }
+    ensures flagged { IsFlagged result.flagged buffer.new.items }
 {
     let next = after(buffer.len(), at.mark);
-    break_between(buffer, at.base, next);
+    let flagged = break_from(buffer, at.flagged, at.base, next);
     let there = position(buffer, at.mark);
     put(buffer, at.mark, mark_position(at, mark, base, there));
-    Some(next)
+    Attached {
+        next: Some(next),
+        flagged,
+    }
 }
 
 /// Where the array of marks stands.
@@ -59,6 +82,22 @@ fn mark_array(table: &[u8], start: usize) -> Option<usize>
     offset16(table, start, start + 8)
 }
 
+/// The anchor of a row of a matrix for the class of mark number `number`.
+fn base_anchor(
+    table: &[u8],
+    start: usize,
+    number: u32,
+    row: u32,
+    matrix: Option<usize>,
+) -> Option<Anchor>
+    requires start { start < 2 ^ 34 }
+    requires matrix { IfSome matrix (λ m. m < 2 ^ 36) }
+    ensures { result ≡ option_and_then (Marks.base_anchor table.now start number row) matrix }
+{
+    let class = mark_class(table, mark_array(table, start), number);
+    anchor_of_class(table, matrix?, u16_at(table, start + 6), row, class)
+}
+
 /// Attaches a mark to a glyph by a row of a matrix, if that has an anchor for the mark's class.
 fn attach_mark(
     lookup: &Lookup<'_>,
@@ -67,22 +106,29 @@ fn attach_mark(
     at: &Pairing,
     row: u32,
     matrix: Option<usize>,
-) -> Option<usize>
+) -> Attached
     requires start { start < 2 ^ 34 }
     requires matrix { IfSome matrix (λ m. m < 2 ^ 36) }
     requires inside { at.now.mark < length buffer.old.items }
+    requires flagged { IsFlagged at.now.flagged buffer.old.items }
     ensures made { buffer.new ≡ (Marks.mark_attached lookup.now start at.now.mark at.now.base
         at.now.number row matrix buffer.old).buffer }
-    ensures next { result ≡ (Marks.mark_attached lookup.now start at.now.mark at.now.base
+    ensures next { result.next ≡ (Marks.mark_attached lookup.now start at.now.mark at.now.base
         at.now.number
         row matrix buffer.old).next }
+    ensures flagged { IsFlagged result.flagged buffer.new.items }
 {
-    let table = lookup.table;
-    let marks = mark_array(table, start);
-    let class = mark_class(table, marks, at.number);
-    let mark = mark_anchor(table, marks, at.number);
-    let base = anchor_of_class(table, matrix?, u16_at(table, start + 6), row, class)?;
-    put_mark(buffer, at, mark, base)
+    match base_anchor(lookup.table, start, at.number, row, matrix) {
+        Some(base) => {
+            let marks = mark_array(lookup.table, start);
+            let mark = mark_anchor(lookup.table, marks, at.number);
+            put_mark(buffer, at, mark, base)
+        }
+        None => Attached {
+            next: None,
+            flagged: at.flagged,
+        },
+    }
 }
 
 /// The row of the glyph at place `j` in the subtable.
@@ -95,67 +141,57 @@ fn row(lookup: &Lookup<'_>, start: usize, buffer: &hb_buffer_t, j: usize) -> Opt
 }
 
 /// Marks a mark and what is before it, from a place on, unsafe to concat. The lookup doesn't apply.
-fn concat_from(buffer: &mut hb_buffer_t, from: usize, mark: usize) -> Option<usize>
-    requires { mark < length buffer.old.items }
+#[tactic(auto, using(crate::proofs::FlaggedLemmas::concat_unasked))]
+pub(crate) fn concat_from(
+    buffer: &mut hb_buffer_t,
+    flagged: Flagged,
+    from: usize,
+    mark: usize,
+) -> Attached
+    requires inside { mark < length buffer.old.items }
+    requires flagged { IsFlagged flagged buffer.old.items }
     ensures made { buffer.new ≡ concat_marked from (mark + 1) buffer.old }
-    ensures none { result ≡ None }
+    ensures none { result.next ≡ None }
+    ensures flagged { IsFlagged result.flagged buffer.new.items }
 {
+    if !asks_for_concat(buffer) {
+        return Attached {
+            next: None,
+            flagged,
+        };
+    }
     let end = after(buffer.len(), mark);
     concat_between(buffer, from, end);
-    None
+    Attached {
+        next: None,
+        flagged: none_flagged(),
+    }
 }
 
 /// Attaches a mark to a glyph of the subtable's list of bases, or of marks.
-fn put_on_glyph(
+pub(crate) fn put_on_glyph(
     lookup: &Lookup<'_>,
     start: usize,
     buffer: &mut hb_buffer_t,
     at: &Pairing,
-) -> Option<usize>
+) -> Attached
     requires start { start < 2 ^ 34 }
     requires inside { at.now.mark < length buffer.old.items }
+    requires flagged { IsFlagged at.now.flagged buffer.old.items }
     ensures made { buffer.new
         ≡ (Marks.mark_on_glyph lookup.now start at.now.mark at.now.number buffer.old
         at.now.base).buffer }
-    ensures next { result ≡ (Marks.mark_on_glyph lookup.now start at.now.mark at.now.number
+    ensures next { result.next ≡ (Marks.mark_on_glyph lookup.now start at.now.mark at.now.number
         buffer.old
         at.now.base).next }
+    ensures flagged { IsFlagged result.flagged buffer.new.items }
 {
     match row(lookup, start, buffer, at.base) {
         Some(row) => {
             let matrix = offset16(lookup.table, start, start + 10);
             attach_mark(lookup, start, buffer, at, row, matrix)
         }
-        None => concat_from(buffer, at.base, at.mark),
-    }
-}
-
-/// Attaches mark number `number` of the subtable, at place `i`, to its base, the glyph at place `base`.
-/// Returns the place where the lookup goes on.
-pub(crate) fn attach_to_base(
-    lookup: &Lookup<'_>,
-    start: usize,
-    base: Option<usize>,
-    buffer: &mut hb_buffer_t,
-    i: usize,
-    number: u32,
-) -> Option<usize>
-    requires start { start < 2 ^ 34 }
-    requires inside { i < length buffer.old.items }
-    ensures made { buffer.new
-        ≡ (Marks.mark_base_at lookup.now start base i buffer.old number).buffer }
-    ensures next { result ≡ (Marks.mark_base_at lookup.now start base i buffer.old number).next }
-{
-    match base {
-        Some(base) => {
-            let at = Pairing {
-                mark: i,
-                base,
-                number,
-            };
-            put_on_glyph(lookup, start, buffer, &at)
-        }
-        None => concat_from(buffer, 0, i),
+        None => concat_from(buffer, at.flagged, at.base, at.mark),
     }
 }
 
@@ -193,19 +229,21 @@ fn put_on_matrix(
     buffer: &mut hb_buffer_t,
     at: &Pairing,
     matrix: usize,
-) -> Option<usize>
+) -> Attached
     requires start { start < 2 ^ 34 }
     requires matrix { matrix < 2 ^ 36 }
     requires inside { at.now.mark < length buffer.old.items }
+    requires flagged { IsFlagged at.now.flagged buffer.old.items }
     ensures made { buffer.new ≡ (Marks.mark_on_matrix lookup.now start at.now.mark at.now.base
         at.now.number buffer.old matrix).buffer }
-    ensures next { result ≡ (Marks.mark_on_matrix lookup.now start at.now.mark at.now.base
+    ensures next { result.next ≡ (Marks.mark_on_matrix lookup.now start at.now.mark at.now.base
         at.now.number
         buffer.old matrix).next }
+    ensures flagged { IsFlagged result.flagged buffer.new.items }
 {
     let count = u16_at(lookup.table, matrix);
     if count == 0 {
-        return concat_from(buffer, at.base, at.mark);
+        return concat_from(buffer, at.flagged, at.base, at.mark);
     }
     let ligature = item_at(buffer.infos(), at.base);
     let there = component(count, &ligature, &item_at(buffer.infos(), at.mark));
@@ -225,53 +263,25 @@ fn matrix_at(lookup: &Lookup<'_>, start: usize, buffer: &hb_buffer_t, j: usize) 
 }
 
 /// Attaches a mark to a ligature of the subtable's list.
-fn put_on_ligature(
+pub(crate) fn put_on_ligature(
     lookup: &Lookup<'_>,
     start: usize,
     buffer: &mut hb_buffer_t,
     at: &Pairing,
-) -> Option<usize>
+) -> Attached
     requires start { start < 2 ^ 34 }
     requires inside { at.now.mark < length buffer.old.items }
+    requires flagged { IsFlagged at.now.flagged buffer.old.items }
     ensures made { buffer.new ≡ (Marks.mark_on_ligature lookup.now start at.now.mark at.now.number
         buffer.old at.now.base).buffer }
-    ensures next { result ≡ (Marks.mark_on_ligature lookup.now start at.now.mark at.now.number
+    ensures next { result.next ≡ (Marks.mark_on_ligature lookup.now start at.now.mark at.now.number
         buffer.old
         at.now.base).next }
+    ensures flagged { IsFlagged result.flagged buffer.new.items }
 {
     match matrix_at(lookup, start, buffer, at.base) {
         Some(matrix) => put_on_matrix(lookup, start, buffer, at, matrix),
-        None => concat_from(buffer, at.base, at.mark),
-    }
-}
-
-/// Attaches mark number `number` of the subtable, at place `i`, to its ligature, the glyph at place
-/// `base`. Returns the place where the lookup goes on.
-pub(crate) fn attach_to_ligature(
-    lookup: &Lookup<'_>,
-    start: usize,
-    base: Option<usize>,
-    buffer: &mut hb_buffer_t,
-    i: usize,
-    number: u32,
-) -> Option<usize>
-    requires start { start < 2 ^ 34 }
-    requires inside { i < length buffer.old.items }
-    ensures made { buffer.new
-        ≡ (Marks.mark_ligature_at lookup.now start base i buffer.old number).buffer }
-    ensures next { result
-        ≡ (Marks.mark_ligature_at lookup.now start base i buffer.old number).next }
-{
-    match base {
-        Some(base) => {
-            let at = Pairing {
-                mark: i,
-                base,
-                number,
-            };
-            put_on_ligature(lookup, start, buffer, &at)
-        }
-        None => concat_from(buffer, 0, i),
+        None => concat_from(buffer, at.flagged, at.base, at.mark),
     }
 }
 
@@ -310,50 +320,56 @@ fn put_on_mark(
     start: usize,
     buffer: &mut hb_buffer_t,
     at: &Pairing,
-) -> Option<usize>
+) -> Attached
     requires start { start < 2 ^ 34 }
     requires inside { at.now.mark < length buffer.old.items }
+    requires flagged { IsFlagged at.now.flagged buffer.old.items }
     ensures made { buffer.new
         ≡ (Marks.mark_on_mark lookup.now start at.now.mark at.now.number buffer.old
         at.now.base).buffer }
-    ensures next { result ≡ (Marks.mark_on_mark lookup.now start at.now.mark at.now.number
+    ensures next { result.next ≡ (Marks.mark_on_mark lookup.now start at.now.mark at.now.number
         buffer.old
         at.now.base).next }
+    ensures flagged { IsFlagged result.flagged buffer.new.items }
 {
     let other = item_at(buffer.infos(), at.base);
     let is_mark = other._hb_glyph_info_get_glyph_class().0 & 8 != 0;
     if is_mark && are_together(&item_at(buffer.infos(), at.mark), &other) {
         put_on_glyph(lookup, start, buffer, at)
     } else {
-        concat_from(buffer, at.base, at.mark)
+        concat_from(buffer, at.flagged, at.base, at.mark)
     }
 }
 
-/// Attaches mark number `number` of the subtable, at place `i`, to the mark before it. Returns the
-/// place where the lookup goes on.
+/// Attaches a mark to the mark before it.
 pub(crate) fn attach_to_mark(
     lookup: &Lookup<'_>,
     start: usize,
     buffer: &mut hb_buffer_t,
-    i: usize,
-    number: u32,
-) -> Option<usize>
+    mark: Mark,
+    flagged: Flagged,
+) -> Attached
     requires start { start < 2 ^ 34 }
-    requires inside { i < length buffer.old.items }
-    ensures made { buffer.new ≡ (Marks.mark_mark_at lookup.now start i buffer.old number).buffer }
-    ensures next { result ≡ (Marks.mark_mark_at lookup.now start i buffer.old number).next }
+    requires inside { mark.place < length buffer.old.items }
+    requires flagged { IsFlagged flagged buffer.old.items }
+    ensures made { buffer.new
+        ≡ (Marks.mark_mark_at lookup.now start mark.place buffer.old mark.number).buffer }
+    ensures next { result.next
+        ≡ (Marks.mark_mark_at lookup.now start mark.place buffer.old mark.number).next }
+    ensures flagged { IsFlagged result.flagged buffer.new.items }
 {
     let seen = for_marks(lookup);
-    let stop = stop_before(&seen, buffer.infos(), i);
+    let stop = stop_before(&seen, buffer.infos(), mark.place);
     match glyph_at(&seen, buffer.infos(), stop) {
         Some(base) => {
             let at = Pairing {
-                mark: i,
+                mark: mark.place,
                 base,
-                number,
+                number: mark.number,
+                flagged,
             };
             put_on_mark(lookup, start, buffer, &at)
         }
-        None => concat_from(buffer, start_at(stop), i),
+        None => concat_from(buffer, flagged, start_at(stop), mark.place),
     }
 }

@@ -46,14 +46,12 @@ pub fn single(table: &[u8], start: usize, glyph: u32) -> Option<Adjustment>
     single_record(table, start, number)
 }
 
-/// The two records of a pair at `at`, in the formats of the subtable at `start`.
-fn pair_at(table: &[u8], start: usize, at: usize) -> PairValues
-    requires start { start < 2 ^ 34 }
-    requires at { at < 480000000000 }
-    ensures { result ≡ Pairs.pair_at table.now start at }
+/// The two records of a pair at `at`, of these formats. The subtable says them once for all its pairs, so they are read once for
+/// each.
+fn records_at(table: &[u8], first: u16, second: u16, at: usize) -> PairValues
+    requires { at < 480000000000 }
+    ensures { result ≡ Pairs.records_at table.now first second at }
 {
-    let first = u16_at(table, start + 4);
-    let second = u16_at(table, start + 6);
     PairValues {
         first: value_record(table, first, at),
         second: value_record(table, second, at + size(first)),
@@ -62,22 +60,20 @@ fn pair_at(table: &[u8], start: usize, at: usize) -> PairValues
 }
 
 /// How many bytes the two records of a pair have.
-fn pair_size(table: &[u8], start: usize) -> usize
-    requires { start < 2 ^ 34 }
-    ensures value { result ≡ Pairs.pair_size table.now start }
+fn records_size(first: u16, second: u16) -> usize
+    ensures value { result ≡ Pairs.records_size first second }
     ensures small { result ≤ 64 }
 {
-    size(u16_at(table, start + 4)) + size(u16_at(table, start + 6))
+    size(first) + size(second)
 }
 
 /// The two records at `at`, if the table has room for them.
-fn pair_if(table: &[u8], start: usize, at: usize) -> Option<PairValues>
-    requires start { start < 2 ^ 34 }
-    requires at { at < 480000000000 }
-    ensures { result ≡ Pairs.pair_if table.now start at }
+fn records_if(table: &[u8], first: u16, second: u16, at: usize) -> Option<PairValues>
+    requires { at < 480000000000 }
+    ensures { result ≡ Pairs.records_if table.now first second at }
 {
-    if has_bytes(table, at, pair_size(table, start)) {
-        Some(pair_at(table, start, at))
+    if has_bytes(table, at, records_size(first, second)) {
+        Some(records_at(table, first, second, at))
     } else {
         None
     }
@@ -122,9 +118,14 @@ fn pair_within(table: &[u8], start: usize, set: usize, glyph: u32) -> Option<Pai
     requires set { set < 2 ^ 35 }
     ensures { result ≡ Pairs.pair_in_set table.now start glyph set }
 {
-    let size = 2 + pair_size(table, start);
+    let first = u16_at(table, start + 4);
+    let second = u16_at(table, start + 6);
+    let size = 2 + records_size(first, second);
     match second_in(table, size, set, glyph) {
-        Some(r) => Some(pair_at(table, start, set + 4 + record_offset(r as usize, size))),
+        Some(r) => {
+            let at = set + 4 + record_offset(r as usize, size);
+            Some(records_at(table, first, second, at))
+        }
         None => None,
     }
 }
@@ -155,15 +156,17 @@ fn classed_pair(table: &[u8], start: usize, left: u32, right: u32) -> Option<Pai
     requires { start < 2 ^ 34 }
     ensures { result ≡ Pairs.classed_pair table.now start left right }
 {
-    let first = class_at(table, start, start + 8, left);
-    let second = class_at(table, start, start + 10, right);
+    let row = class_at(table, start, start + 8, left);
+    let column = class_at(table, start, start + 10, right);
     let columns = u16_at(table, start + 14);
-    if u16_at(table, start + 12) <= first || columns <= second {
+    if u16_at(table, start + 12) <= row || columns <= column {
         return None;
     }
-    let n = cell(u32::from(first), u32::from(columns), u32::from(second));
-    let offset = record_offset(n, pair_size(table, start));
-    pair_if(table, start, start + 16 + offset)
+    let n = cell(u32::from(row), u32::from(columns), u32::from(column));
+    let first = u16_at(table, start + 4);
+    let second = u16_at(table, start + 6);
+    let offset = record_offset(n, records_size(first, second));
+    records_if(table, first, second, start + 16 + offset)
 }
 
 /// What the subtable of pair adjustment at `start` has for two glyphs; `number` is that of the

@@ -4,6 +4,7 @@ ghost use Rattle.shape_buffer.specs.Outcome.{Made};
 ghost use Rattle.layout_matching.specs.Found as found_rules;
 ghost use Rattle.layout_matching.specs.Loops.{times};
 ghost use Rattle.layout_matching.specs.Work;
+ghost use Rattle.layout_positions.specs.Flagged.{IsFlagged};
 ghost use Rattle.layout_positions.specs.Known as known_marks;
 ghost use Rattle.layout_positions.specs.Nested;
 ghost use Rattle.layout_positions.specs.Walk;
@@ -11,6 +12,7 @@ ghost use Rattle.layout_positions.specs.Digested.{IsDigested, HoldsGlyphs, AreUn
 ghost use Rattle.layout_positions.specs.declared.bases.BaseSeen.{BaseSeen};
 
 use crate::bases::BaseSeen;
+use crate::flagged::{Flagged, none_flagged};
 use crate::known::{Known, LONG, ROOM, apply_known, attaches_marks};
 use crate::nested::apply_nested;
 use crate::places::after;
@@ -83,29 +85,35 @@ fn apply_at(
     lookup: &Lookup<'_>,
     has_rules: bool,
     buffer: &mut hb_buffer_t,
-    at: usize,
-    carried: Carried,
+    spot: Spot,
     known: &mut [Known],
+    flagged: &mut Flagged,
 ) -> Outcome
     requires near { lookup.now.place < 2 ^ 17 }
     requires kind { has_rules ≡ found_rules.is_context lookup.now }
-    requires inside { at < length buffer.old.items }
+    requires inside { spot.at < length buffer.old.items }
     requires known { All (known_marks.IsKnown lookup.now) known.old }
+    requires flagged { IsFlagged flagged.old buffer.old.items }
     ensures made { record {
       buffer = buffer.new;
       next = result.next;
       seen = result.carried.seen;
       left = result.carried.left;
-    } ≡ Nested.nested_placed Nested.LEVELS lookup.now at carried.left carried.seen buffer.old }
+    } ≡ Nested.nested_placed Nested.LEVELS lookup.now spot.at spot.carried.left
+        spot.carried.seen buffer.old }
     ensures known { All (known_marks.IsKnown lookup.now) known.new }
+    ensures flagged { IsFlagged flagged.new buffer.new.items }
 {
+    let Spot { at, carried } = spot;
     if has_rules {
+        *flagged = none_flagged();
         return apply_nested(LEVELS, lookup, buffer, at, carried);
     }
     if known.is_empty() {
+        *flagged = none_flagged();
         return apply_lookup(lookup, buffer, at, carried);
     }
-    apply_known(lookup, buffer, at, carried, known)
+    apply_known(lookup, buffer, at, carried, known, flagged)
 }
 
 /// Applies a lookup at a place of the walk, if what is left suffices for what it may try there. Else nothing is left.
@@ -115,11 +123,13 @@ fn try_at(
     buffer: &mut hb_buffer_t,
     spot: Spot,
     known: &mut [Known],
+    flagged: &mut Flagged,
 ) -> Spot
     requires near { lookup.now.place < 2 ^ 17 }
     requires kind { has_rules ≡ found_rules.is_context lookup.now }
     requires inside { spot.at < length buffer.old.items }
     requires known { All (known_marks.IsKnown lookup.now) known.old }
+    requires flagged { IsFlagged flagged.old buffer.old.items }
     ensures made { record {
       buffer = buffer.new;
       at = result.at;
@@ -132,6 +142,7 @@ fn try_at(
       left = spot.carried.left;
     }) }
     ensures known { All (known_marks.IsKnown lookup.now) known.new }
+    ensures flagged { IsFlagged flagged.new buffer.new.items }
 {
     let next = after(buffer.len(), spot.at);
     let seen = spot.carried.seen;
@@ -141,8 +152,11 @@ fn try_at(
             carried: Carried { seen, left: 0 },
         };
     };
-    let carried = Carried { seen, left };
-    let outcome = apply_at(lookup, has_rules, buffer, spot.at, carried, known);
+    let here = Spot {
+        at: spot.at,
+        carried: Carried { seen, left },
+    };
+    let outcome = apply_at(lookup, has_rules, buffer, here, known, flagged);
     Spot {
         at: match outcome.next {
             Some(there) => there,
@@ -159,10 +173,12 @@ fn step_on(
     buffer: &mut hb_buffer_t,
     spot: Spot,
     known: &mut [Known],
+    flagged: &mut Flagged,
 ) -> Spot
     requires near { lookup.now.place < 2 ^ 17 }
     requires kind { has_rules ≡ found_rules.is_context lookup.now }
     requires known { All (known_marks.IsKnown lookup.now) known.old }
+    requires flagged { IsFlagged flagged.old buffer.old.items }
     ensures made { record {
       buffer = buffer.new;
       at = result.at;
@@ -175,6 +191,7 @@ fn step_on(
       left = spot.carried.left;
     }) }
     ensures known { All (known_marks.IsKnown lookup.now) known.new }
+    ensures flagged { IsFlagged flagged.new buffer.new.items }
 {
     if buffer.len() <= spot.at {
         return spot;
@@ -185,7 +202,7 @@ fn step_on(
             carried: spot.carried,
         };
     }
-    try_at(lookup, has_rules, buffer, spot, known)
+    try_at(lookup, has_rules, buffer, spot, known, flagged)
 }
 
 /// How many glyphs from a place on, of so many, a digest doesn't hold.
@@ -249,6 +266,7 @@ fn go_along(
         at: 0,
         carried: Carried { seen, left },
     };
+    let mut flagged = none_flagged();
     let count = buffer.len();
     let mut done = 0;
     while done < count {
@@ -256,7 +274,7 @@ fn go_along(
         spot.at += steps;
         done += steps;
         if done < count {
-            spot = step_on(&named.lookup, has_rules, buffer, spot, known);
+            spot = step_on(&named.lookup, has_rules, buffer, spot, known, &mut flagged);
             done += 1;
         }
     }

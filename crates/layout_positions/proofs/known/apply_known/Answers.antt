@@ -29,6 +29,7 @@ loop-k-preserved c =
       len = ap (λ (s : Trial). length s.buffer.items) made ∙ length_tried l i here ∙ c.loop-k.invariant.len;
       glyph = ap (λ (s : Trial). (nth s.buffer.items i).glyph_id) made ∙ glyph_tried l i here ∙ c.loop-k.invariant.glyph;
       out = subst (λ g. AreOut l g c.try_known-tried.result.out) c.loop-k.invariant.glyph c.try_known-tried.ensures.out;
+      flagged = c.try_known-tried.ensures.flagged;
     }
 
 pub try_known-tried-requires-clause-out : goal.try_known-tried-requires-clause-out

@@ -1,6 +1,7 @@
 use Rattle.std.proofs.Common.{◌≡◌, None, length}
 use Rattle.layout_matching.specs.Loops.{times}
 use Rattle.layout_matching.specs.Skipping.{nth}
+use Rattle.layout_positions.specs.Flagged.{IsFlagged}
 use Rattle.layout_positions.specs.Known.{AreOut}
 use Rattle.layout_positions.specs.Subtables.{Trial, trial_step}
 use Rattle.layout_positions.proofs.known.apply_known.Given as goal
@@ -16,4 +17,5 @@ invariant-loop-k l =
       len : length l.buffer.items ≡ length l.fn.buffer.items;
       glyph : (nth l.buffer.items l.i).glyph_id ≡ l.glyph;
       out : AreOut l.lookup l.glyph l.tried.out;
+      flagged : IsFlagged l.tried.flagged l.buffer.items;
     }

@@ -1,4 +1,4 @@
-use Rattle.std.proofs.Common.{◌≡◌, ◌+◌, ◌<◌, ◌≤◌, length, sym, ap, subst, ◌∙◌, arith}
+use Rattle.std.proofs.Common.{◌+◌, ◌<◌, ◌≤◌, length, sym, ap, subst, ◌∙◌, arith}
 use Rattle.layout_matching.proofs.LoopLemmas.{times_step}
 use Rattle.layout_positions.specs.Turning.{Turn, turn_step, first_turn}
 use Rattle.layout_positions.proofs.TurnLemmas.{turn_on, turned_still}

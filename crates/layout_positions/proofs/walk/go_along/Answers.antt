@@ -27,6 +27,7 @@ loop-done-preserved-then-done-count c =
       within = omega (arith, c.if-done-count.true);
       made = times_step step (c.loop-done.done + c.steps_over-steps.result) first there next on c.step_on-spot.ensures.made;
       known = c.step_on-spot.ensures.known;
+      flagged = c.step_on-spot.ensures.flagged;
     }
 
 pub loop-done-preserved : goal.loop-done-preserved
@@ -43,6 +44,7 @@ loop-done-preserved c =
       made = gone_further step c.steps_over-steps.result c.loop-done.done first here there c.loop-done.invariant.made
           (c.steps_over-steps.ensures.passed seen left);
       known = c.loop-done.invariant.known;
+      flagged = c.loop-done.invariant.flagged;
     }
 
 pub returns : goal.returns

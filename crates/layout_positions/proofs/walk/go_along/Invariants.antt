@@ -1,5 +1,6 @@
 use Rattle.std.proofs.Common.{◌≡◌, ◌≤◌, ◌-◌, All}
 use Rattle.layout_matching.specs.Loops.{times}
+use Rattle.layout_positions.specs.Flagged.{IsFlagged}
 use Rattle.layout_positions.specs.Known.{IsKnown}
 use Rattle.layout_positions.specs.Walk.{Walk, lookup_step, first_walk}
 use Rattle.layout_positions.proofs.walk.go_along.Given as goal
@@ -10,6 +11,7 @@ invariant-loop-done l =
       within : l.done ≤ l.count;
       made : here ≡ times (lookup_step l.named.lookup) l.done (first_walk (record { buffer = l.fn.buffer; left = l.fn.left }));
       known : All (IsKnown l.named.lookup) l.known;
+      flagged : IsFlagged l.flagged l.buffer.items;
     }
 
 abbrev pub decreases-loop-done : goal.decreases-loop-done

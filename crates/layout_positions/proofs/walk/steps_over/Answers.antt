@@ -1,4 +1,4 @@
-use Rattle.std.proofs.Common.{◌≡◌, ◌+◌, ◌≤◌, length, ap, subst, arith}
+use Rattle.std.proofs.Common.{◌+◌, ◌≤◌, length, subst, arith}
 use Rattle.layout_positions.specs.Digested.{AreUnheld}
 use Rattle.layout_positions.proofs.DigestLemmas.{steps_passed}
 use Rattle.layout_positions.proofs.walk.steps_over.Goals as goal
