@@ -1,0 +1,4 @@
+pub mod ProductLemmas
+pub mod SegmentLemmas
+pub mod PartLemmas
+pub mod LineLemmas

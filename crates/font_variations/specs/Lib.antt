@@ -1,0 +1,13 @@
+pub mod Tents
+pub mod Regions
+pub mod Deltas
+pub mod Axes
+pub mod Normal
+pub mod Segments
+pub mod Parts
+pub mod Coordinates
+pub mod Metrics
+pub mod Lines
+pub mod IndexMaps
+pub mod Worked
+pub mod Laws

@@ -1,0 +1,163 @@
+//! What is added to a number of a font at some coordinates.
+ghost use Rattle.std.specs.Prelude.{◌≡◌, ◌<◌, ◌≤◌, ◌^◌, ◌*◌, ◌+◌};
+ghost use Rattle.font_variations.specs.Deltas;
+
+use crate::regions::region_scalar;
+use font_bytes::bytes::{i8_at, i16_at, i32_at, u16_at, u32_at};
+use std::num::{nearest_i32_to_f32, saturating_f32_to_i32};
+
+/// How the numbers of a row are stored.
+#[derive(Clone, Copy)]
+struct RowShape {
+    long: bool,
+    wide: u16,
+    count: u16,
+}
+
+/// The columns of the ItemVariationData at `at`.
+fn columns(store: &[u8], at: usize) -> RowShape
+    requires { at < 2 ^ 32 }
+    ensures long { result.long ≡ Deltas.has_long_words store.now at }
+    ensures wide { result.wide ≡ Deltas.wide_count store.now at }
+    ensures count { result.count ≡ Deltas.column_count store.now at }
+{
+    let words = u16_at(store, at + 2);
+    RowShape {
+        long: 0x8000 <= words,
+        wide: words % 0x8000,
+        count: u16_at(store, at + 4),
+    }
+}
+
+/// Where a row stands.
+fn row_at(store: &[u8], at: usize, row: u16) -> usize
+    requires { at < 2 ^ 32 }
+    ensures value { result ≡ Deltas.row_at store.now at row }
+    ensures near { result < 2 ^ 36 }
+{
+    let columns = columns(store, at);
+    let unit = if columns.long { 2 } else { 1 };
+    let size = (usize::from(columns.wide) + usize::from(columns.count)) * unit;
+    at + 6 + 2 * usize::from(columns.count) + size * usize::from(row)
+}
+
+/// Whether the table has room for all rows, and no more columns are wide than there are.
+fn are_rows(store: &[u8], at: usize) -> bool
+    requires { at < 2 ^ 32 }
+    ensures { result ≡ Deltas.are_rows store.now at }
+{
+    let columns = columns(store, at);
+    columns.wide <= columns.count && row_at(store, at, u16_at(store, at)) <= store.len()
+}
+
+/// The number in a column of the row at `start`.
+#[tactic(auto, unfolding(crate::specs::Deltas::delta_in))]
+fn delta_in(store: &[u8], long: bool, wide: u16, start: usize, column: u16) -> i32
+    requires { start < 2 ^ 36 }
+    ensures { result ≡ Deltas.delta_in store.now long wide start column }
+{
+    let size = if long { 2 } else { 1 };
+    if column < wide {
+        let at = start + 2 * size * usize::from(column);
+        return if long {
+            i32_at(store, at)
+        } else {
+            i16_at(store, at)
+        };
+    }
+    let at = start + size * (usize::from(wide) + usize::from(column));
+    if long {
+        i16_at(store, at)
+    } else {
+        i8_at(store, at)
+    }
+}
+
+/// The scalar of a column's region times its delta.
+#[tactic(auto, unfolding(crate::specs::Deltas::part_of))]
+fn part(store: &[u8], coordinates: &[i32], at: usize, start: usize, column: u16) -> f32
+    requires at { at < 2 ^ 32 }
+    requires start { start < 2 ^ 36 }
+    ensures { result ≡ Deltas.part_of store.now coordinates.now at start column }
+{
+    let list = u32_at(store, 2) as usize;
+    let region = u16_at(store, at + 6 + 2 * usize::from(column));
+    let columns = columns(store, at);
+    let delta = delta_in(store, columns.long, columns.wide, start, column);
+    region_scalar(store, list, coordinates, region) * nearest_i32_to_f32(delta)
+}
+
+/// The sum of the parts of the first `count` columns.
+#[tactic(auto, using(crate::proofs::ProductLemmas::sum_next, crate::proofs::ProductLemmas::sum_end))]
+fn sum(store: &[u8], coordinates: &[i32], at: usize, start: usize, count: u16) -> f32
+    requires at { at < 2 ^ 32 }
+    requires start { start < 2 ^ 36 }
+    ensures { result ≡ Deltas.sum_of store.now coordinates.now at start count }
+{
+    let mut sum = 0.0;
+    for column in 0..count {
+        sum += part(store, coordinates, at, start, column);
+    }
+    sum
+}
+
+/// The sum of a row of the ItemVariationData at `at`; 0 if it has no such row.
+fn row_delta(store: &[u8], coordinates: &[i32], at: usize, row: u16) -> f32
+    requires { at < 2 ^ 32 }
+    ensures { result ≡ Deltas.row_delta store.now coordinates.now at row }
+{
+    if row < u16_at(store, at) && are_rows(store, at) {
+        sum(
+            store,
+            coordinates,
+            at,
+            row_at(store, at, row),
+            u16_at(store, at + 4),
+        )
+    } else {
+        0.0
+    }
+}
+
+/// Where the ItemVariationData with this number stands; 0 if the store has none.
+fn data_at(store: &[u8], outer: u16) -> usize
+    ensures value { result ≡ Deltas.data_at store.now outer }
+    ensures near { result < 2 ^ 32 }
+{
+    u32_at(store, 8 + 4 * usize::from(outer)) as usize
+}
+
+/// Whether the store has the ItemVariationData with this number.
+fn has_data(store: &[u8], outer: u16) -> bool
+    ensures { result ≡ Deltas.has_data store.now outer }
+{
+    u16_at(store, 0) == 1 && outer < u16_at(store, 6) && 0 < data_at(store, outer)
+}
+
+/// What the delta set with this index says at the coordinates, by an ItemVariationStore: the outer
+/// index stands in the upper 16 bits. 0 if the store has no such set, and if the table doesn't
+/// hold all of its data.
+#[tactic(auto, unfolding(crate::specs::Deltas::delta_of))]
+pub fn delta(store: &[u8], coordinates: &[i32], index: u32) -> f32
+    ensures { result ≡ Deltas.delta_of store.now coordinates.now index }
+{
+    let outer = (index / 65536) as u16;
+    if has_data(store, outer) {
+        row_delta(
+            store,
+            coordinates,
+            data_at(store, outer),
+            (index % 65536) as u16,
+        )
+    } else {
+        0.0
+    }
+}
+
+/// To the nearest integer, halves up.
+#[tactic(auto, unfolding(crate::specs::Deltas::rounded))]
+pub fn rounded(x: f32) -> i32
+    ensures { result ≡ Deltas.rounded x }
+{
+    saturating_f32_to_i32((x + 0.5).floor())
+}
