@@ -3,8 +3,8 @@
 
 FOLDER has `faces`; over PLAIN, which is FONT without tables of lookups, and KERN, which has `kern` beside it, runs are measured.
 Where `faces` was built without runs, or without rustybuzz, their columns are empty."""
-import re, subprocess, sys, tempfile
-from texts import KINDS, SCRIPTED
+import os, re, subprocess, sys, tempfile
+from texts import KINDS, SCRIPTED, SYLLABLES
 
 FOLDER, FONT, PLAIN, KERN = sys.argv[1:5]
 SIZES = 5, 80, 2000
@@ -32,7 +32,7 @@ def cost(engine, font, text, low=2, high=6, inside=None):
 
 def written(folder, kind, size):
     """A file with so many characters of a kind; words have no spaces."""
-    text = KINDS.get(kind) or SCRIPTED[kind]
+    text = KINDS.get(kind) or SCRIPTED.get(kind) or SYLLABLES[kind][0]
     if size <= 20: text = "".join(text.split())
     path = f"{folder}/{kind}-{size}.txt"
     open(path, "w", newline="").write((text * (size // len(text) + 1))[:size])
@@ -64,6 +64,12 @@ with tempfile.TemporaryDirectory() as folder:
         print("| text | HarfBuzz | rustybuzz | `OpenedOpenTypeFace` |\n|---|---|---|---|")
         for kind in SCRIPTED:
             print(f"| {kind} | " + " | ".join(row(folder, kind, size, ("hbrun", "rbrun", "scripted"), FONT)) + " |", flush=True)
+    print("\nThe same over fonts of the script, of those that are installed; HarfBuzz : rustybuzz : here, instructions a character\n")
+    print("| text | font | 40 | 80 | 2,000 |\n|---|---|---|---|---|")
+    for kind, (_, fonts) in SYLLABLES.items():
+        for font in filter(os.path.exists, fonts):
+            cells = (" : ".join(row(folder, kind, size, ("hbrun", "rbrun", "scripted"), font)) for size in (40, 80, 2000))
+            print(f"| {kind} | {os.path.basename(font)} | " + " | ".join(cells) + " |", flush=True)
     print("\nA word of five with all tables of lookups, instructions: a run with its plan, less one whose plan is kept; the face opened, too\n")
     print("| text | what | HarfBuzz | rustybuzz | `OpenTypeFace` | `OpenedOpenTypeFace` |\n|---|---|---|---|---|---|")
     for kind in "latin", "cyrillic":

@@ -5,7 +5,7 @@ processor time (the gate's machine may be slow), or more than 200 MB. The bombs 
 apply themselves, substitutions that grow, parts of tables that are shared, kerning of 65,535
 parts, origins and names that are searched for, long names. Those that use up what a run may ask for take
 longer, in step with the text (docs/SAFE_AND_TOTAL.md): they stand in SPENT, and run over a fifth
-of it.
+of it. Texts that are hard to cut into syllables, or to put in order, are those of `syllable_bombs`.
 
 The worst fonts of earlier searches are named in tests/hostile/worst.txt (`search`).
 """
@@ -19,6 +19,7 @@ from checks.fonts import add_table, bytes_of, new_font
 from checks.hostile_runs import LENGTH, SECONDS, Runs, add_run_options, need_all
 from checks.mutated import load_bases, mutated_font
 from checks.programs import TESTS
+from checks.syllable_bombs import TEXTS, syllable_bomb
 
 WORST = TESTS / "hostile" / "worst.txt"
 # the gate's machine may be slower than that of the figures
@@ -295,6 +296,10 @@ def take_bomb(runs, name, length):
     runs.take(name, bomb_font(tables, kind), bomb_text(kind, length), options)
 
 
+def take_syllables(runs, name, length):
+    runs.take(name, *syllable_bomb(name, length))
+
+
 def take_worst(runs):
     """The worst fonts of earlier searches."""
     bases = load_bases()
@@ -306,7 +311,7 @@ def take_worst(runs):
 
 
 def add_options(parser):
-    parser.add_argument("--bomb", metavar="NAME", choices=BOMBS,
+    parser.add_argument("--bomb", metavar="NAME", choices=[*BOMBS, *TEXTS],
                         help="one bomb alone, over the whole text")
     parser.add_argument("--write", metavar="FILE", help="writes the font of that bomb")
     add_run_options(parser)
@@ -317,12 +322,16 @@ def run(args):
     with Runs(args.program, GATE_SECONDS) as runs:
         if args.bomb:
             if args.write:
+                data = (bomb_font(*BOMBS[args.bomb]) if args.bomb in BOMBS
+                        else syllable_bomb(args.bomb, LENGTH)[0])
                 with open(args.write, "wb") as file:
-                    file.write(bomb_font(*BOMBS[args.bomb]))
-            take_bomb(runs, args.bomb, LENGTH)
+                    file.write(data)
+            (take_bomb if args.bomb in BOMBS else take_syllables)(runs, args.bomb, LENGTH)
         else:
             for name in BOMBS:
                 take_bomb(runs, name, LENGTH // 5 if name in SPENT else LENGTH)
+            for name in TEXTS:
+                take_syllables(runs, name, LENGTH)
             take_worst(runs)
         runs.print_counts()
         if args.keep:

@@ -4,7 +4,7 @@ use Rattle.std.specs.List.{prefix_len}
 use Rattle.shape_items.specs.Buffer.{Buffer}
 use Rattle.shape_items.specs.BufferClusters.{merge_clusters}
 use Rattle.shape_items.specs.Items.{Item}
-use Rattle.shape_buffer.specs.Ranges.{reversed_range}
+use Rattle.syllabic.specs.Moving.{reversed}
 use Rattle.syllabic.specs.Walking.{item_at, category_of, OfSyllable}
 use Rattle.syllables.specs.IndicCategories.{VPre}
 
@@ -14,12 +14,6 @@ place_of item = item.properties.shaper_auxiliary
 -- vowels before the base and their selectors have position 2
 abbrev pub is_pre_vowel : Item → Bool
 is_pre_vowel item = place_of item == 2
-
-abbrev pub reversed : (start end : ℕ) → Buffer → Buffer
-reversed start end b = record b {
-  items = reversed_range start end b.items;
-  positions = reversed_range start end b.positions;
-}
 
 -- a vowel before the base
 abbrev pub is_vowel : ℕ → Buffer → Bool

@@ -8,6 +8,7 @@ ghost use Rattle.myanmar_shaper.specs.Turning;
 
 use crate::places::PRE_VOWEL;
 use shape_buffer::buffer::{hb_buffer_t, hb_glyph_info_t};
+use syllabic::moving::reverse;
 use syllables::categories::indic::VPRE;
 
 fn is_pre_vowel(info: &hb_glyph_info_t) -> bool
@@ -22,17 +23,6 @@ fn count_pre_vowels(infos: &[hb_glyph_info_t]) -> usize
     ensures within { result ≤ length infos.now }
 {
     infos.iter().take_while(|info| is_pre_vowel(info)).count()
-}
-
-/// Reverses items. A call of its own, since lemmas say what it leaves.
-fn reverse(buffer: &mut hb_buffer_t, start: usize, end: usize)
-    requires ordered { start ≤ end }
-    requires within { end ≤ length buffer.old.items }
-    ensures made { buffer.new ≡ Turning.reversed start end buffer.old }
-    ensures len { length buffer.new.items ≡ length buffer.old.items }
-    ensures limit { limit_of buffer.new ≡ limit_of buffer.old }
-{
-    buffer.reverse_range(start, end);
 }
 
 /// Reverses the group that the item `k` ends, if it is a vowel: the items are reversed by then, so

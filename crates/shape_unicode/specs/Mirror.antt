@@ -24,6 +24,10 @@ is_between_brackets c = nat_lt 0xBB c && nat_lt c 0xF3A
 abbrev pub is_before_angles : ℕ → Bool
 is_before_angles c = nat_lt 0x1FFF c && nat_lt c 0x2039
 
+-- after the last of all pairs
+abbrev pub is_past_pairs : ℕ → Bool
+is_past_pairs c = nat_lt 0xFF63 c
+
 -- Bidi_Mirroring_Glyph
 abbrev pub mirrored_of : ℕ → Option ℕ
 mirrored_of c = if is_bidi_mirrored c then other_of_pair c else None

@@ -4,7 +4,7 @@
 //! are Bidi_Mirrored. The pairs are those of version 15.
 ghost use Rattle.std.specs.Prelude.{◌≡◌, nat_lt};
 ghost use Rattle.shape_unicode.specs.Mirror.{other_one, other_of_pair, is_between_brackets, mirrored_of};
-ghost use Rattle.shape_unicode.specs.Mirror.{is_before_angles};
+ghost use Rattle.shape_unicode.specs.Mirror.{is_before_angles, is_past_pairs};
 
 use crate::mirror_pairs::MIRROR_PAIRS;
 
@@ -40,6 +40,13 @@ fn is_before_angles(c: char) -> bool
     '\u{1FFF}' < c && c < '\u{2039}'
 }
 
+/// Whether `c` stands past the last pair, as the letters of Adlam, Sogdian and other scripts beyond U+FFFF do.
+fn is_past_pairs(c: char) -> bool
+    ensures { result ≡ is_past_pairs c }
+{
+    '\u{FF63}' < c
+}
+
 /// Whether `c` stands before the first bracket: nothing there is mirrored: above all the space, which is in most texts.
 fn is_before_brackets(c: char) -> bool
     ensures { result ≡ nat_lt c 0x28 }
@@ -59,6 +66,9 @@ pub(crate) fn mirrored_of(c: char) -> Option<char>
         return None;
     }
     if is_before_brackets(c) {
+        return None;
+    }
+    if is_past_pairs(c) {
         return None;
     }
     if ucd_bidi::is_bidi_mirrored(c) {

@@ -6,7 +6,7 @@ use Rattle.shape_items.specs.Clusters.{clusters}
 use Rattle.shape_items.specs.Items.{Item}
 use Rattle.shape_items.specs.PreservesFlags.{has_flag, some_has}
 use Rattle.shape_items.proofs.Order.DrawsInOrder.{DrawsInOrder, DrawsInOrder-same, DrawsInOrder-after, DrawsInOrder-again}
-use Rattle.syllabic.specs.Constraints.{pairs_of, tag_of, is_barred, no_before, before_next, piece, parted, are_due, with_items, vowels_parted}
+use Rattle.syllabic.specs.Constraints.{pairs_of, tag_of, is_barred, no_before, before_next, piece, parted, are_needed, with_items, vowels_parted}
 use Rattle.syllabic.specs.declared.constraints.Before.{Before}
 use Rattle.syllabic.proofs.PreservationLemmas.{Preserved, Preserved-same, Preserved-replaced}
 
@@ -55,7 +55,7 @@ Preserved-vowels b =
     let tag = tag_of b.script in
     let pairs = pairs_of tag in
     let items = parted pairs (tag == 0x4465_7661) no_before b.items in
-    elim (are_due b.flags pairs) as (λ t. Preserved b (if t then with_items items b else b)) [
+    elim (are_needed pairs (tag == 0x4465_7661) b) as (λ t. Preserved b (if t then with_items items b else b)) [
       | true ↦ Preserved-replaced b items (parted-draws pairs (tag == 0x4465_7661) no_before b.items)
           (parted-brings_none pairs (tag == 0x4465_7661) b.items)
       | false ↦ Preserved-same b

@@ -74,3 +74,30 @@ pub fn bring_both_before(buffer: &mut hb_buffer_t, place: usize, from: usize)
     step_before(buffer, place, from);
     step_before(buffer, place + 1, from + 1);
 }
+
+/// Reverses items. A call of its own, since lemmas say what it leaves.
+pub fn reverse(buffer: &mut hb_buffer_t, start: usize, end: usize)
+    requires ordered { start ≤ end }
+    requires within { end ≤ length buffer.old.items }
+    ensures made { buffer.new ≡ Moving.reversed start end buffer.old }
+    ensures len { length buffer.new.items ≡ length buffer.old.items }
+    ensures limit { limit_of buffer.new ≡ limit_of buffer.old }
+{
+    buffer.reverse_range(start, end);
+}
+
+/// Moves the items from `from` up to `to` before those from a place up to them, the last one first, once they are in one
+/// cluster. Its time is in step with the span, however many items move.
+pub fn bring_run_before(buffer: &mut hb_buffer_t, place: usize, from: usize, to: usize)
+    requires ordered { place ≤ from }
+    requires some { from ≤ to }
+    requires within { to ≤ length buffer.old.items }
+    ensures made { buffer.new ≡ Moving.run_brought_before place from to buffer.old }
+    ensures len { length buffer.new.items ≡ length buffer.old.items }
+    ensures limit { limit_of buffer.new ≡ limit_of buffer.old }
+{
+    let _count = buffer.len();
+    buffer.merge_clusters(place, to);
+    reverse(buffer, place, to);
+    reverse(buffer, place + (to - from), to);
+}

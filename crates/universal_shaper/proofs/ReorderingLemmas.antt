@@ -3,17 +3,18 @@ use Rattle.std.proofs.Common.{◌≡◌, ℕ, zero, suc, ◌+◌, ◌-◌, ◌<�
 use Rattle.std.proofs.lemmas.Bool.Decides.{nat_tests}
 use Rattle.std.proofs.lemmas.Bool.{cases_Bool, and_parts}
 use Rattle.std.proofs.lemmas.List.{length-drop, length-take-le}
-use Rattle.std.proofs.lemmas.List.Sums.{prefix_len-le-length}
+use Rattle.std.proofs.lemmas.List.Sums.{prefix_len-le-length, suffix_len-le-length}
 use Rattle.shape_common.specs.Face.{FaceMeaning}
 use Rattle.shape_items.specs.Buffer.{Buffer}
 use Rattle.shape_items.specs.Items.{Item}
 use Rattle.syllables.specs.UniversalCategories.{R}
 use Rattle.syllabic.specs.Circles.{with_circles}
-use Rattle.syllabic.specs.Moving.{brought_before, sent_after}
+use Rattle.syllabic.specs.Moving.{run_brought_before, sent_after}
 use Rattle.syllabic.specs.Walking.{item_at, category_of, syllable_of}
 use Rattle.syllabic.proofs.CircleLemmas.{Preserved-circles}
-use Rattle.syllabic.proofs.PreservationLemmas.{Keeps, Keeps-same, Keeps-then, Keeps-brought_before, Keeps-sent_after, Keeps-each_syllable, KeepsSyllables, Preserved, Preserved-then, Preserved-kept}
-use Rattle.universal_shaper.specs.Reordering.{is_halant, is_before, count_base, repha_moved, goes_first, moved_at, moved_to, first_moved, is_reordered, reordered, reordered_some, each_reordered, circled, all_reordered}
+use Rattle.syllabic.proofs.ReversingLemmas.{Keeps-run_brought_before}
+use Rattle.syllabic.proofs.PreservationLemmas.{Keeps, Keeps-same, Keeps-then, Keeps-sent_after, Keeps-each_syllable, KeepsSyllables, Preserved, Preserved-then, Preserved-kept}
+use Rattle.universal_shaper.specs.Reordering.{is_halant, is_before, count_base, repha_moved, goes_first, count_first, ends_run, moved_at, moved_to, first_moved, is_reordered, reordered, reordered_some, each_reordered, circled, all_reordered}
 
 -- the items that a repha goes behind are in the syllable
 count_base-within : (items : List Item) (start end : ℕ) → start < end → end ≤ length items
@@ -34,28 +35,39 @@ Keeps-repha_moved b start end some within =
       | false ↦ Keeps-same b
     ]
 
--- the front is never past the next item
-Keeps-moved_at : (front i : ℕ) (b : Buffer) → i < length b.items → Keeps b (moved_at front i b)
-Keeps-moved_at front i b within =
+-- the run that ends before a place is after the front
+run-within : (items : List Item) (front to : ℕ) → front ≤ to → to ≤ length items
+    → front ≤ to - count_first (slice_range items front to)
+run-within items front to ordered within =
+    let run = slice_range items front to in
+    let few : count_first run ≤ length run = suffix_len-le-length goes_first run in
+    let long : length run ≡ to - front = length-take-le (to - front) (drop front items)
+    (rw (length-drop front items) (omega (arith, ordered, within))) in
+    omega (arith, few, long, ordered)
+
+Keeps-moved_at : (end front i : ℕ) (b : Buffer) → i < length b.items → Keeps b (moved_at end front i b)
+Keeps-moved_at end front i b within =
+    let from = i + 1 - count_first (slice_range b.items front (i + 1)) in
     elim (is_halant (item_at b.items i)) as (λ t. Keeps b (if t then b
-    else if goes_first (item_at b.items i) && nat_lt front i then brought_before front i b else b)) [
+    else if nat_lt front i && ends_run end i b.items then run_brought_before front from (i + 1) b else b)) [
       | true ↦ Keeps-same b
-      | false ↦ elim (cases_Bool (goes_first (item_at b.items i) && nat_lt front i)) [
+      | false ↦ elim (cases_Bool (nat_lt front i && ends_run end i b.items)) [
         | inl moves ↦
-            let both = and_parts (goes_first (item_at b.items i)) (nat_lt front i) moves in
-            let before : front < i = (let e = both.1 in grind (arith, nat_tests, e)) in
-            rw moves (Keeps-brought_before front i b (omega (arith, before)) within)
+            let both = and_parts (nat_lt front i) (ends_run end i b.items) moves in
+            let before : front < i = (let e = both.0 in grind (arith, nat_tests, e)) in
+            let after = run-within b.items front (i + 1) (omega (arith, before)) (omega (arith, within)) in
+            rw moves (Keeps-run_brought_before front from (i + 1) b after (omega arith) (omega (arith, within)))
         | inr stays ↦ rw stays (Keeps-same b)
       ]
     ]
 
-Keeps-moved_to : (start n : ℕ) (b : Buffer) → start + n ≤ length b.items → Keeps b (moved_to start n b).0
-Keeps-moved_to start zero b within = Keeps-same b
-Keeps-moved_to start (suc k) b within =
-    let c = (moved_to start k b).0 in
-    let front = (moved_to start k b).1 in
-    let first = Keeps-moved_to start k b (omega (arith, within)) in
-    Keeps-then b c (moved_at front (start + k) c) first (Keeps-moved_at front (start + k) c (omega (arith, within, first.count)))
+Keeps-moved_to : (start end n : ℕ) (b : Buffer) → start + n ≤ length b.items → Keeps b (moved_to start end n b).0
+Keeps-moved_to start end zero b within = Keeps-same b
+Keeps-moved_to start end (suc k) b within =
+    let c = (moved_to start end k b).0 in
+    let front = (moved_to start end k b).1 in
+    let first = Keeps-moved_to start end k b (omega (arith, within)) in
+    Keeps-then b c (moved_at end front (start + k) c) first (Keeps-moved_at end front (start + k) c (omega (arith, within, first.count)))
 
 Keeps-reordered : (b : Buffer) (start end : ℕ) → start < end → end ≤ length b.items → Keeps b (reordered b start end)
 Keeps-reordered b start end some within =
@@ -63,7 +75,7 @@ Keeps-reordered b start end some within =
     let first = Keeps-repha_moved b start end some within in
     elim (is_reordered (syllable_of (item_at b.items start))) as (λ t. Keeps b (if t then first_moved c start end else b)) [
       | true ↦ Keeps-then b c (first_moved c start end) first
-          (Keeps-moved_to start (end - start) c (omega (arith, some, within, first.count)))
+          (Keeps-moved_to start end (end - start) c (omega (arith, some, within, first.count)))
       | false ↦ Keeps-same b
     ]
 

@@ -1,12 +1,12 @@
 -- The order of a syllable.
 use Rattle.std.specs.Prelude.{ℕ, zero, suc, ◌+◌, ◌-◌, ◌==◌, ◌&&◌, ◌||◌, not, nat_le, nat_lt, Bool, if◌then◌else◌, List, slice_range, Some}
-use Rattle.std.specs.List.{prefix_len}
+use Rattle.std.specs.List.{prefix_len, suffix_len}
 use Rattle.shape_common.specs.Face.{FaceMeaning}
 use Rattle.shape_items.specs.Buffer.{Buffer}
 use Rattle.shape_items.specs.Items.{Item}
 use Rattle.syllables.specs.UniversalCategories.{B, H, IS, HVM, R, VPre, VMPre, MPre, VAbv, VMPst, FMAbv, FMPst}
 use Rattle.syllabic.specs.Circles.{with_circles}
-use Rattle.syllabic.specs.Moving.{brought_before, sent_after}
+use Rattle.syllabic.specs.Moving.{run_brought_before, sent_after}
 use Rattle.syllabic.specs.Walking.{item_at, category_of, syllable_of, kind_of_byte, at_syllable, each_syllable, OfSyllable}
 use Rattle.syllabic.specs.declared.circles.Circled.{Circled}
 
@@ -39,24 +39,33 @@ repha_moved b start end =
 abbrev pub goes_first : Item → Bool
 goes_first item = ((category_of item == VPre) || (category_of item == VMPre)) && (item.properties.ligature_component == 0)
 
-abbrev pub moved_at : (front i : ℕ) → Buffer → Buffer
-moved_at front i b =
+-- an item that goes first, if the next one of its syllable doesn't
+abbrev pub ends_run : (end i : ℕ) → List Item → Bool
+ends_run end i items = goes_first (item_at items i) && not (nat_lt (i + 1) end && goes_first (item_at items (i + 1)))
+
+abbrev pub count_first : List Item → ℕ
+count_first items = suffix_len goes_first items
+
+-- a run of items that go first goes to the front at its end, the last one first
+abbrev pub moved_at : (end front i : ℕ) → Buffer → Buffer
+moved_at end front i b =
     if is_halant (item_at b.items i) then b
-    else if goes_first (item_at b.items i) && nat_lt front i then brought_before front i b else b
+    else if nat_lt front i && ends_run end i b.items
+    then run_brought_before front (i + 1 - count_first (slice_range b.items front (i + 1))) (i + 1) b else b
 
 -- the front is after a halant
 abbrev pub front_at : (front i : ℕ) → Buffer → ℕ
 front_at front i b = if is_halant (item_at b.items i) then i + 1 else front
 
-abbrev pub moved_next : ℕ → Buffer × ℕ → Buffer × ℕ
-moved_next i (b, front) = (moved_at front i b, front_at front i b)
+abbrev pub moved_next : (end i : ℕ) → Buffer × ℕ → Buffer × ℕ
+moved_next end i (b, front) = (moved_at end front i b, front_at front i b)
 
-abbrev pub moved_to : (start count : ℕ) → Buffer → Buffer × ℕ
-moved_to start zero b = (b, start)
-moved_to start (suc k) b = moved_next (start + k) (moved_to start k b)
+abbrev pub moved_to : (start end count : ℕ) → Buffer → Buffer × ℕ
+moved_to start end zero b = (b, start)
+moved_to start end (suc k) b = moved_next end (start + k) (moved_to start end k b)
 
 abbrev pub first_moved : OfSyllable
-first_moved b start end = (moved_to start (end - start) b).0
+first_moved b start end = (moved_to start end (end - start) b).0
 
 -- clusters that end in a virama (0) or sakot (1), standard ones (2), symbols (5) and broken ones (7)
 abbrev pub is_reordered : ℕ → Bool

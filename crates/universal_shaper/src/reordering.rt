@@ -8,7 +8,7 @@ use shape_buffer::buffer::{ShapeError, hb_buffer_t, hb_glyph_info_t};
 use shape_buffer::interfaces::hb_font_t;
 use std::alloc::Global;
 use syllabic::circles::{Circled, insert_circles};
-use syllabic::moving::{bring_before, send_after};
+use syllabic::moving::{bring_run_before, send_after};
 use syllabic::walking::{begins_at, end_of, kind_of_byte};
 use syllables::categories::universal::{
     B, FMABV, FMPST, H, HVM, IS, MPRE, R, VABV, VMPRE, VMPST, VPRE,
@@ -66,21 +66,44 @@ fn goes_first(info: &hb_glyph_info_t) -> bool
     (category == VPRE || category == VMPRE) && info._hb_glyph_info_get_ligature_component() == 0
 }
 
-/// Moves the item at a place to the front if it goes there, and returns where the front is for the next one: after a halant.
-fn move_at(buffer: &mut hb_buffer_t, front: usize, i: usize) -> usize
-    requires { i < length buffer.old.items }
-    ensures made { buffer.new ≡ Reordering.moved_at front i buffer.old }
+/// How many items that go first a list ends with.
+fn count_first(infos: &[hb_glyph_info_t]) -> usize
+    ensures value { result ≡ Reordering.count_first infos.now }
+    ensures within { result ≤ length infos.now }
+{
+    infos
+        .iter()
+        .rev()
+        .take_while(|info| goes_first(info))
+        .count()
+}
+
+/// Whether the item at a place goes first, and the next one of its syllable doesn't.
+fn ends_run(infos: &[hb_glyph_info_t], end: usize, i: usize) -> bool
+    requires inside { i < end }
+    requires within { end ≤ length infos.now }
+    ensures { result ≡ Reordering.ends_run end i infos.now }
+{
+    goes_first(&infos[i]) && !(i + 1 < end && goes_first(&infos[i + 1]))
+}
+
+/// Moves those that go first to the front if the item at a place is the last of them, and returns where the front is for the
+/// next one: after a halant. Those of one run move together, so that a long run takes time in step with its length.
+fn move_at(buffer: &mut hb_buffer_t, front: usize, end: usize, i: usize) -> usize
+    requires inside { i < end }
+    requires within { end ≤ length buffer.old.items }
+    ensures made { buffer.new ≡ Reordering.moved_at end front i buffer.old }
     ensures value { result ≡ Reordering.front_at front i buffer.old }
     ensures len { length buffer.new.items ≡ length buffer.old.items }
     ensures limit { limit_of buffer.new ≡ limit_of buffer.old }
 {
     let _count = buffer.len();
-    let info = buffer.infos()[i];
-    if is_halant(&info) {
+    if is_halant(&buffer.infos()[i]) {
         return i + 1;
     }
-    if goes_first(&info) && front < i {
-        bring_before(buffer, front, i);
+    if front < i && ends_run(buffer.infos(), end, i) {
+        let count = count_first(&buffer.infos()[front..i + 1]);
+        bring_run_before(buffer, front, i + 1 - count, i + 1);
     }
     front
 }
@@ -95,7 +118,7 @@ fn move_first(buffer: &mut hb_buffer_t, start: usize, end: usize)
 {
     let mut front = start;
     for k in 0..end - start {
-        front = move_at(buffer, front, start + k);
+        front = move_at(buffer, front, end, start + k);
     }
 }
 

@@ -2,6 +2,7 @@
 ghost use Rattle.universal_shaper.specs.Worked.Categories.{WorkedCategories};
 ghost use Rattle.universal_shaper.specs.Worked.Forms.{WorkedFormsOfSyllables};
 ghost use Rattle.universal_shaper.specs.Worked.Orders.{WorkedOrders};
+ghost use Rattle.universal_shaper.specs.Worked.Pauses.{WorkedPauses};
 ghost use Rattle.universal_shaper.specs.Worked.Records.{WorkedRecords};
 ghost use Rattle.universal_shaper.specs.Worked.Requests.{WorkedRequests};
 ghost use Rattle.universal_shaper.specs.Worked.Syllables.{WorkedSyllables};
@@ -40,4 +41,9 @@ pub fn orders_meet_worked_cases()
 /// The forms of syllables, and of letters in scripts that join.
 pub fn forms_meet_worked_cases()
     ensures { WorkedFormsOfSyllables }
+{}
+
+/// What each pause does.
+pub fn pauses_meet_worked_cases()
+    ensures { WorkedPauses }
 {}

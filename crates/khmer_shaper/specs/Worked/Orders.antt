@@ -1,12 +1,12 @@
 -- The order of syllables, and the masks of their items, worked out by hand.
-use Rattle.std.specs.Prelude.{◌≡◌, ℕ, ◌+◌, List, [], ◌∷◌, length, map, refl}
+use Rattle.std.specs.Prelude.{◌≡◌, ℕ, ◌+◌, List, [], ◌∷◌, ◌++◌, length, map, refl}
 use Rattle.shape_common.specs.declared.text_types.BufferClusterLevel.TheVariants.{Characters}
 use Rattle.shape_items.specs.Buffer.{Buffer}
 use Rattle.shape_items.specs.Clusters.{merge}
 use Rattle.shape_items.specs.Items.{Item}
-use Rattle.syllabic.specs.Worked.Items.{item, buffer}
+use Rattle.syllabic.specs.Worked.Items.{item, buffer, chars}
 use Rattle.syllables.specs.IndicCategories.{C, H, Ra, VPre, VPst}
-use Rattle.khmer_shaper.specs.Reordering.{reordered}
+use Rattle.khmer_shaper.specs.Reordering.{reordered, each_reordered}
 use Rattle.khmer_shaper.specs.declared.reordering.KhmerMasks.{KhmerMasks}
 
 abbrev masks : KhmerMasks
@@ -56,6 +56,12 @@ by_character letters =
     map (λ (x : Item). (x.codepoint, x.cluster))
     (reordered masks (record (buffer (items_from 16 0 letters)) { cluster_level = Characters }) 0 (length letters)).items
 
+-- the characters and masks of two syllables, one after the other
+abbrev both : List Letter → List Letter → List (ℕ × ℕ)
+both first second =
+    map (λ (x : Item). (x.codepoint, x.mask))
+    (each_reordered masks (buffer (items_from 16 0 first ++ items_from 32 (length first) second))).items
+
 pub record WorkedOrders : Type 0 where
   -- what follows the base gets the mask of blwf, abvf and pstf
   pub after_base : ordered 0 (ka ∷ aa ∷ []) ≡ (0x1780, 0, 0) ∷ (0x17B6, 1, 16) ∷ []
@@ -84,6 +90,17 @@ pub record WorkedOrders : Type 0 where
   -- broken syllables (1) are ordered alike, others (2) aren't
   pub broken : ordered 1 (coeng ∷ ta ∷ e ∷ []) ≡ (0x17C1, 0, 16) ∷ (0x17D2, 0, 0) ∷ (0x178F, 0, 16) ∷ []
   pub other : ordered 2 (ka ∷ e ∷ []) ≡ (0x1780, 0, 0) ∷ (0x17C1, 1, 0) ∷ []
+  -- after COENG and RO a third COENG is looked at, and no fourth
+  pub ro_counts_as_second : characters (ka ∷ coeng ∷ ro ∷ coeng ∷ ta ∷ coeng ∷ ro ∷ [])
+      ≡ 0x17D2 ∷ 0x179A ∷ 0x1780 ∷ 0x17D2 ∷ 0x178F ∷ 0x17D2 ∷ 0x179A ∷ []
+  -- a syllable ends where the next one begins: no mask, no vowel and no RO of that one counts
+  pub next_unmasked : both (ka ∷ coeng ∷ ro ∷ []) (ta ∷ aa ∷ [])
+      ≡ (0x17D2, 48) ∷ (0x179A, 48) ∷ (0x1780, 0) ∷ (0x178F, 0) ∷ (0x17B6, 16) ∷ []
+  pub next_vowel : both (ka ∷ []) (e ∷ []) ≡ (0x1780, 0) ∷ (0x17C1, 0) ∷ []
+  pub later_vowel : both (ka ∷ aa ∷ []) (ta ∷ []) ≡ (0x1780, 0) ∷ (0x17B6, 16) ∷ (0x178F, 0) ∷ []
+  pub next_ro : both (ka ∷ coeng ∷ []) (ro ∷ []) ≡ (0x1780, 0) ∷ (0x17D2, 16) ∷ (0x179A, 0) ∷ []
+  pub third_vowel : chars (each_reordered masks (buffer (items_from 16 0 (ka ∷ []) ++ items_from 32 1 (ta ∷ []) ++ items_from 50 2 (e ∷ [])))).items
+      ≡ 0x1780 ∷ 0x178F ∷ 0x17C1 ∷ []
 
 pub worked_orders : WorkedOrders
 unfolding merge
@@ -103,4 +120,10 @@ worked_orders = record {
   coeng_last = refl;
   broken = refl;
   other = refl;
+  ro_counts_as_second = refl;
+  next_unmasked = refl;
+  next_vowel = refl;
+  later_vowel = refl;
+  next_ro = refl;
+  third_vowel = refl;
 }

@@ -3,7 +3,7 @@ use Rattle.std.specs.Prelude.{◌≡◌, ◌==◌, ◌||◌, Some, None, if◌th
 use Rattle.shape_common.specs.PlainUnicode.{plain_unicode}
 use Rattle.shape_common.specs.Unicode.{UnicodeMeaning}
 use Rattle.shape_common.specs.declared.general_category.hb_unicode_general_category_t.TheVariants.{NonspacingMark, OtherLetter}
-use Rattle.khmer_shaper.specs.Splitting.{split, compose_letters}
+use Rattle.khmer_shaper.specs.Splitting.{split, height, compose_letters}
 
 -- a and acute make one character, and so do grave and acute, which are marks; the first splits, and U+17C1
 abbrev unicode : UnicodeMeaning
@@ -23,6 +23,15 @@ pub record WorkedSplitting : Type 0 where
   pub composed : compose_letters unicode 0x61 0x301 ≡ Some 0xE1
   pub other : compose_letters unicode 0x62 0x301 ≡ None
   pub marks : compose_letters unicode 0x300 0x301 ≡ None
+  -- what splitting falls along: E, the five vowels, all others
+  pub heights : map (height unicode) (0x17C1 ∷ 0x17BE ∷ 0x17C5 ∷ 0x61 ∷ []) ≡ 0 ∷ 1 ∷ 1 ∷ 2 ∷ []
 
 pub worked_splitting : WorkedSplitting
-worked_splitting = record { of_two = refl; whole = refl; composed = refl; other = refl; marks = refl }
+worked_splitting = record {
+  of_two = refl;
+  whole = refl;
+  composed = refl;
+  other = refl;
+  marks = refl;
+  heights = refl;
+}

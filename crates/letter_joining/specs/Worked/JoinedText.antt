@@ -1,5 +1,5 @@
 -- Texts whose letters join: the forms of their letters, and the flags of their glyphs, worked out by hand.
-use Rattle.std.specs.Prelude.{◌≡◌, ℕ, suc, Bool, true, false, List, [], ◌∷◌, map, refl}
+use Rattle.std.specs.Prelude.{◌≡◌, ℕ, suc, Bool, true, false, None, Some, List, [], ◌∷◌, map, refl}
 use Rattle.ucd_bidi.specs.JoiningType.{joining_type}
 use Rattle.ucd_bidi.specs.JoiningGroup.{joining_group}
 use Rattle.ucd_bidi.specs.JoiningTypeRows.{joining_type_rows}
@@ -8,8 +8,12 @@ use Rattle.ucd_table.specs.Rows.{value_in}
 use Rattle.shape_common.specs.declared.flags.BufferFlags.{BufferFlags}
 use Rattle.shape_items.specs.Buffer.{Buffer, new_buffer}
 use Rattle.shape_items.specs.Items.{Item, new_item}
-use Rattle.letter_joining.specs.Forms.{formed}
-use Rattle.letter_joining.specs.Flags.{marked}
+use Rattle.letter_joining.specs.Features.{is_mongolian}
+use Rattle.letter_joining.specs.Joining.{is_selector}
+use Rattle.letter_joining.specs.declared.joining.Kind.TheVariants as kind
+use Rattle.letter_joining.specs.declared.joining.State.TheVariants as state
+use Rattle.letter_joining.specs.Forms.{formed, mask_list, masks_by}
+use Rattle.letter_joining.specs.Flags.{joins_back, marked, may_change as may_change_after}
 use Rattle.letter_joining.specs.declared.forms.FormMasks.{FormMasks}
 
 -- a mask of its own for each form
@@ -97,6 +101,23 @@ pub record WorkedForms : Type 0 where
   -- a variation selector of Mongolian has the form of its letter, in that script alone
   pub selector : forms true (text (0x1828 ∷ 0x180B ∷ 0x1828 ∷ [])) ≡ init ∷ init ∷ fina ∷ []
   pub no_selector : forms false (text (0x1828 ∷ 0x180B ∷ 0x1828 ∷ [])) ≡ init ∷ 0 ∷ fina ∷ []
+  -- selectors of Mongolian are U+180B to U+180D and U+180F; U+180E is none
+  pub selectors : map is_selector (0x180A ∷ 0x180B ∷ 0x180D ∷ 0x180E ∷ 0x180F ∷ 0x1810 ∷ [])
+      ≡ false ∷ true ∷ true ∷ false ∷ true ∷ false ∷ []
+  pub mongolian_script : is_mongolian (Some (record { 0 = record { 0 = 0x4D6F6E67 } })) ≡ true
+  pub arabic_script : is_mongolian (Some (record { 0 = record { 0 = 0x41726162 } })) ≡ false
+  pub no_script : is_mongolian None ≡ false
+  -- the masks of a map by the tags isol, fina, fin2, fin3, medi, med2, init
+  pub by_tags : masks_by (λ tag. tag.0) ≡ record {
+    isol = 0x69736F6C;
+    fina = 0x66696E61;
+    fin2 = 0x66696E32;
+    fin3 = 0x66696E33;
+    medi = 0x6D656469;
+    med2 = 0x6D656432;
+    init = 0x696E6974;
+  }
+  pub mask_places : mask_list masks ≡ 0 ∷ isol ∷ fina ∷ fin2 ∷ fin3 ∷ medi ∷ med2 ∷ init ∷ []
 
 pub worked_forms : WorkedForms
 unfolding joining_type joining_group value_in joining_type_rows joining_group_rows
@@ -125,6 +146,12 @@ worked_forms = record {
   two_alaphs = refl;
   selector = refl;
   no_selector = refl;
+  selectors = refl;
+  mongolian_script = refl;
+  arabic_script = refl;
+  no_script = refl;
+  by_tags = refl;
+  mask_places = refl;
 }
 
 pub record WorkedJoiningFlags : Type 0 where
@@ -145,6 +172,18 @@ pub record WorkedJoiningFlags : Type 0 where
   pub with_context : flags 0 (between [] (0x628 ∷ 0x64B ∷ []) (0x628 ∷ [])) ≡ 0 ∷ 3 ∷ []
   pub context_apart : flags concat (between [] (0x621 ∷ 0x628 ∷ 0x64B ∷ []) (0x621 ∷ [])) ≡ 2 ∷ 2 ∷ 2 ∷ []
   pub no_letter : flags concat (between [] (0x64B ∷ []) (0x628 ∷ [])) ≡ 0 ∷ []
+  -- tatweel may follow a letter only up to the next one
+  pub up_to_next : flags tatweel (text (0x628 ∷ 0x628 ∷ 0x621 ∷ [])) ≡ 0 ∷ 4 ∷ 0 ∷ []
+  pub joined_up_to_next : flags 0 (text (0x628 ∷ 0x628 ∷ 0x627 ∷ 0x621 ∷ [])) ≡ 0 ∷ 3 ∷ 3 ∷ 0 ∷ []
+  -- which letters may join back, and after which states the one before may change: HarfBuzz's conditions for "unsafe to concat"
+  pub join_back : map joins_back (kind.Apart ∷ kind.Left ∷ kind.Right ∷ kind.Dual ∷ kind.Alaph ∷ kind.DalathRish ∷ [])
+      ≡ false ∷ false ∷ true ∷ true ∷ true ∷ true ∷ []
+  pub may_change : map may_change_after
+      (state.Free ∷ state.Ended ∷ state.Begun ∷ state.Going ∷ state.JoinedAlaph ∷ state.FinalAlaph ∷ state.AfterDalath ∷ [])
+      ≡ false ∷ false ∷ true ∷ true ∷ true ∷ true ∷ false ∷ []
+  -- a text without a letter that joins on has nothing to mark before what follows it
+  pub none_before_context : flags concat (between [] (0x621 ∷ []) (0x628 ∷ [])) ≡ 0 ∷ []
+  pub alef_before_context : flags concat (between [] (0x627 ∷ 0x621 ∷ []) (0x628 ∷ [])) ≡ 2 ∷ 0 ∷ []
 
 pub worked_flags : WorkedJoiningFlags
 unfolding joining_type joining_group value_in joining_type_rows joining_group_rows
@@ -162,4 +201,10 @@ worked_flags = record {
   with_context = refl;
   context_apart = refl;
   no_letter = refl;
+  up_to_next = refl;
+  joined_up_to_next = refl;
+  join_back = refl;
+  may_change = refl;
+  none_before_context = refl;
+  alef_before_context = refl;
 }

@@ -1,7 +1,7 @@
 -- HarfBuzz's table of joining, row by row: for each state and kind of the next character the form that the letter before it
 -- gets, its own form and the state after it.
-use Rattle.std.specs.Prelude.{◌≡◌, refl}
-use Rattle.letter_joining.specs.Joining.{next_state, own_form, form_before}
+use Rattle.std.specs.Prelude.{◌≡◌, true, false, None, Some, [], ◌∷◌, map, refl}
+use Rattle.letter_joining.specs.Joining.{next_state, own_form, form_before, form_number, is_joined_by, joined_form, kind_number, place_of, state_number}
 use Rattle.letter_joining.specs.declared.joining.Kind.{Kind}
 use Rattle.letter_joining.specs.declared.joining.Kind.TheVariants as kind
 use Rattle.letter_joining.specs.declared.joining.State.{State}
@@ -55,6 +55,24 @@ pub record WorkedJoining : Type 0 where
   pub afterdalath-dual : Entry state.AfterDalath kind.Dual form.None form.Isol state.Begun
   pub afterdalath-alaph : Entry state.AfterDalath kind.Alaph form.None form.Fin3 state.FinalAlaph
   pub afterdalath-dalathrish : Entry state.AfterDalath kind.DalathRish form.None form.Isol state.AfterDalath
+  -- the places of kinds, states and forms in tables, and those of a row of eight for each kind
+  pub kind_numbers : map kind_number (kind.Apart ∷ kind.Left ∷ kind.Right ∷ kind.Dual ∷ kind.Alaph ∷ kind.DalathRish ∷ [])
+      ≡ 0 ∷ 1 ∷ 2 ∷ 3 ∷ 4 ∷ 5 ∷ []
+  pub state_numbers : map state_number
+      (state.Free ∷ state.Ended ∷ state.Begun ∷ state.Going ∷ state.JoinedAlaph ∷ state.FinalAlaph ∷ state.AfterDalath ∷ [])
+      ≡ 0 ∷ 1 ∷ 2 ∷ 3 ∷ 4 ∷ 5 ∷ 6 ∷ []
+  pub form_numbers : map form_number
+      (form.None ∷ form.Isol ∷ form.Fina ∷ form.Fin2 ∷ form.Fin3 ∷ form.Medi ∷ form.Med2 ∷ form.Init ∷ [])
+      ≡ 0 ∷ 1 ∷ 2 ∷ 3 ∷ 4 ∷ 5 ∷ 6 ∷ 7 ∷ []
+  pub place : place_of state.Going kind.Dual ≡ 27
+  -- letters that the next one may join, and the form of one before such a letter
+  pub joined_by : map is_joined_by
+      (None ∷ Some kind.Apart ∷ Some kind.Left ∷ Some kind.Right ∷ Some kind.Dual ∷ Some kind.Alaph ∷ Some kind.DalathRish ∷ [])
+      ≡ false ∷ false ∷ false ∷ true ∷ true ∷ true ∷ true ∷ []
+  pub first_of_two : joined_form state.Free kind.Dual ≡ form.Init
+  pub between_two : joined_form state.Begun kind.Dual ≡ form.Medi
+  pub last_of_two : joined_form state.Begun kind.Right ≡ form.Fina
+  pub alaph_between : joined_form state.Begun kind.Alaph ≡ form.Med2
 
 pub worked_joining : WorkedJoining
 worked_joining = record {
@@ -100,4 +118,13 @@ worked_joining = record {
   afterdalath-dual = (refl, refl, refl);
   afterdalath-alaph = (refl, refl, refl);
   afterdalath-dalathrish = (refl, refl, refl);
+  kind_numbers = refl;
+  state_numbers = refl;
+  form_numbers = refl;
+  place = refl;
+  joined_by = refl;
+  first_of_two = refl;
+  between_two = refl;
+  last_of_two = refl;
+  alaph_between = refl;
 }

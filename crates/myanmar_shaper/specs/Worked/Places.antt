@@ -45,6 +45,13 @@ pub record WorkedPlaces : Type 0 where
   pub anusvara_above : of (C ∷ VAbv ∷ A ∷ []) ≡ 4 ∷ 5 ∷ 5 ∷ []
   pub below_again : of (C ∷ VBlw ∷ A ∷ VBlw ∷ N ∷ Asat ∷ []) ≡ 4 ∷ 8 ∷ 7 ∷ 8 ∷ 9 ∷ 9 ∷ []
   pub after_below : of (C ∷ VBlw ∷ N ∷ A ∷ VBlw ∷ []) ≡ 4 ∷ 8 ∷ 9 ∷ 9 ∷ 9 ∷ []
+  -- a kinzi without anything is one; a virama that follows other letters makes none
+  pub kinzi_only : of (Ra ∷ Asat ∷ H ∷ []) ≡ 5 ∷ 5 ∷ 5 ∷ []
+  pub virama_third : of (C ∷ C ∷ H ∷ C ∷ []) ≡ 4 ∷ 5 ∷ 5 ∷ 5 ∷ []
+  pub asat_second : of (C ∷ Asat ∷ H ∷ C ∷ []) ≡ 4 ∷ 5 ∷ 5 ∷ 5 ∷ []
+  pub ra_first : of (Ra ∷ C ∷ H ∷ C ∷ []) ≡ 4 ∷ 5 ∷ 5 ∷ 5 ∷ []
+  -- a syllable's own items alone get positions
+  pub within : map place_of (each_placed (buffer (map of_category (C ∷ C ∷ C ∷ []))) 1 2).items ≡ 0 ∷ 4 ∷ 0 ∷ []
 
 pub worked_places : WorkedPlaces
 worked_places = record {
@@ -70,4 +77,9 @@ worked_places = record {
   anusvara_above = refl;
   below_again = refl;
   after_below = refl;
+  kinzi_only = refl;
+  virama_third = refl;
+  asat_second = refl;
+  ra_first = refl;
+  within = refl;
 }

@@ -1,9 +1,9 @@
 -- Which shaper a script asks for, in horizontal and in vertical texts, by the script that the engine chose.
-use Rattle.std.specs.Prelude.{◌≡◌, ℕ, Option, None, Some, refl}
+use Rattle.std.specs.Prelude.{◌≡◌, ℕ, true, false, Option, None, Some, List, [], ◌∷◌, map, refl}
 use Rattle.shape_common.specs.declared.text_types.Direction.{Direction}
 use Rattle.shape_common.specs.declared.text_types.Direction.TheVariants.{LeftToRight, RightToLeft, TopToBottom, BottomToTop}
 use Rattle.shape_common.specs.declared.text_types.hb_tag_t.{hb_tag_t}
-use Rattle.shaper_choice.specs.Choice.{category_of}
+use Rattle.shaper_choice.specs.Choice.{OfEach, category_of, of_category, preserves_equivalence, served_by}
 use Rattle.shaper_choice.specs.declared.choice.Category.{Category}
 use Rattle.shaper_choice.specs.declared.choice.Category.TheVariants as is
 
@@ -12,6 +12,27 @@ tag number = Some (record { 0 = number })
 
 abbrev pub of : ℕ → Direction → Option hb_tag_t → Category
 of script direction chosen = category_of (Some (record { 0 = record { 0 = script } })) direction chosen
+
+abbrev served_by_tag : ℕ → Category
+served_by_tag script = served_by (record { 0 = record { 0 = script } })
+
+abbrev all_categories : List Category
+all_categories =
+    is.Default ∷ is.Arabic ∷ is.Hangul ∷ is.Hebrew ∷ is.Thai ∷ is.Universal ∷ is.Khmer ∷ is.Myanmar ∷ is.Zawgyi ∷ is.Indic ∷ []
+
+abbrev numbers : OfEach ℕ
+numbers = record {
+  default = 1;
+  arabic = 2;
+  hangul = 3;
+  hebrew = 4;
+  thai = 5;
+  universal = 6;
+  khmer = 7;
+  myanmar = 8;
+  zawgyi = 9;
+  indic = 10;
+}
 
 pub record WorkedChoice : Type 0 where
   -- Arabic in horizontal texts, whatever the font has; Syriac unless the font has DFLT alone
@@ -57,6 +78,17 @@ pub record WorkedChoice : Type 0 where
   pub latin : of 0x4C61746E LeftToRight (tag 0x6C61746E) ≡ is.Default
   pub ethiopic_third : of 0x45746869 LeftToRight (tag 0x65746833) ≡ is.Default
   pub no_script : category_of None LeftToRight None ≡ is.Default
+  -- what serves a script: Latin and Chinese need no shaper of their own; Arabic, Syriac, Korean, Hebrew, Lao, Tibetan, Mongolian,
+  -- Khmer, Myanmar, Zawgyi, Telugu
+  pub served : map served_by_tag (0x4C61746E ∷ 0x48616E69 ∷ 0x41726162 ∷ 0x53797263 ∷ 0x48616E67 ∷ 0x48656272 ∷ 0x4C616F6F ∷ 0x54696274
+      ∷ 0x4D6F6E67 ∷ 0x4B686D72 ∷ 0x4D796D72 ∷ 0x51616167 ∷ 0x54656C75 ∷ [])
+      ≡ is.Default ∷ is.Default ∷ is.Arabic ∷ is.Arabic ∷ is.Hangul ∷ is.Hebrew ∷ is.Thai ∷ is.Universal ∷ is.Universal ∷ is.Khmer
+      ∷ is.Myanmar ∷ is.Zawgyi ∷ is.Indic ∷ []
+  -- one of something for each shaper
+  pub of_each : map (λ (c : Category). of_category c numbers) all_categories ≡ 1 ∷ 2 ∷ 3 ∷ 4 ∷ 5 ∷ 6 ∷ 7 ∷ 8 ∷ 9 ∷ 10 ∷ []
+  -- the default shaper and those of Myanmar have no hook before normalising or in it
+  pub equivalence : map preserves_equivalence all_categories
+      ≡ true ∷ false ∷ false ∷ false ∷ false ∷ false ∷ false ∷ true ∷ true ∷ false ∷ []
 
 pub worked_choice : WorkedChoice
 worked_choice = record {
@@ -97,4 +129,7 @@ worked_choice = record {
   latin = refl;
   ethiopic_third = refl;
   no_script = refl;
+  served = refl;
+  of_each = refl;
+  equivalence = refl;
 }

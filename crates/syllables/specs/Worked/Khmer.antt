@@ -40,6 +40,13 @@ pub record WorkedKhmer : Type 0 where
   -- other
   pub other : first (X ∷ C ∷ []) ≡ found 2 1
   pub joiner : first (ZWJ ∷ ZWJ ∷ []) ≡ found 2 1
+  -- a letter below with a robatic right behind it
+  pub below_robatic : first (C ∷ H ∷ C ∷ Robatic ∷ []) ≡ found 0 4
+  -- any number of signs of the group x, and signs between all vowels
+  pub signs : first (C ∷ Xgroup ∷ Xgroup ∷ Xgroup ∷ Xgroup ∷ Xgroup ∷ Xgroup ∷ []) ≡ found 0 7
+  pub sign_below : first (C ∷ VPre ∷ Xgroup ∷ VBlw ∷ []) ≡ found 0 4
+  pub sign_above : first (C ∷ VBlw ∷ Xgroup ∷ VAbv ∷ []) ≡ found 0 4
+  pub sign_after : first (C ∷ VAbv ∷ Xgroup ∷ VPst ∷ []) ≡ found 0 4
 
 pub worked_khmer : WorkedKhmer
 worked_khmer = record {
@@ -63,4 +70,9 @@ worked_khmer = record {
   last_signs = refl;
   other = refl;
   joiner = refl;
+  below_robatic = refl;
+  signs = refl;
+  sign_below = refl;
+  sign_above = refl;
+  sign_after = refl;
 }

@@ -44,6 +44,23 @@ pub record WorkedMyanmar : Type 0 where
   pub asat_joiner : first (Asat ∷ ZWNJ ∷ []) ≡ found 1 2
   -- other
   pub other : first (X ∷ C ∷ []) ≡ found 2 1
+  -- a dot below with or without asat; the medial letters WA, HA and LA by themselves and in pairs
+  pub dot : first (C ∷ N ∷ C ∷ []) ≡ found 0 2
+  pub dot_asat : first (C ∷ N ∷ Asat ∷ []) ≡ found 0 3
+  pub wa : first (C ∷ MW ∷ []) ≡ found 0 2
+  pub wa_ha : first (C ∷ MW ∷ MH ∷ []) ≡ found 0 3
+  pub wa_la : first (C ∷ MW ∷ ML ∷ []) ≡ found 0 3
+  pub ha_la : first (C ∷ MH ∷ ML ∷ []) ≡ found 0 3
+  pub la : first (C ∷ ML ∷ []) ≡ found 0 2
+  -- any number of asats, vowels of one place and anusvaras, of vowels after the base and of tones, too
+  pub asats : first (C ∷ Asat ∷ Asat ∷ Asat ∷ []) ≡ found 0 4
+  pub vowels_above : first (C ∷ VAbv ∷ VAbv ∷ []) ≡ found 0 3
+  pub vowels_below : first (C ∷ VBlw ∷ VBlw ∷ []) ≡ found 0 3
+  pub anusvaras : first (C ∷ A ∷ A ∷ []) ≡ found 0 3
+  pub after_asats : first (C ∷ VPst ∷ Asat ∷ Asat ∷ []) ≡ found 0 4
+  pub after_above : first (C ∷ VPst ∷ VAbv ∷ VAbv ∷ []) ≡ found 0 4
+  pub after_anusvaras : first (C ∷ VPst ∷ A ∷ A ∷ []) ≡ found 0 4
+  pub tone_anusvaras : first (C ∷ PT ∷ A ∷ A ∷ []) ≡ found 0 4
 
 pub worked_myanmar : WorkedMyanmar
 worked_myanmar = record {
@@ -69,4 +86,19 @@ worked_myanmar = record {
   virama_alone = refl;
   asat_joiner = refl;
   other = refl;
+  dot = refl;
+  dot_asat = refl;
+  wa = refl;
+  wa_ha = refl;
+  wa_la = refl;
+  ha_la = refl;
+  la = refl;
+  asats = refl;
+  vowels_above = refl;
+  vowels_below = refl;
+  anusvaras = refl;
+  after_asats = refl;
+  after_above = refl;
+  after_anusvaras = refl;
+  tone_anusvaras = refl;
 }

@@ -1,5 +1,5 @@
 -- The first syllables of texts by `universal_grammar`, found by hand with its rules.
-use Rattle.std.specs.Prelude.{◌≡◌, ℕ, List, [], ◌∷◌, refl}
+use Rattle.std.specs.Prelude.{◌≡◌, ℕ, List, [], ◌∷◌, map, replicate, refl}
 use Rattle.syllables.specs.Grammar.{first_syllable}
 use Rattle.syllables.specs.UniversalCategories.{O, B, N, GB, CGJ, SUB, H, HN, ZWNJ, WJ, R, VPre, VMPre, FAbv, FBlw, FPst, MAbv, MBlw, MPst, MPre, CMAbv, CMBlw, VAbv, VBlw, VPst, VMAbv, VMBlw, VMPst, SMAbv, SMBlw, CS, IS, FMAbv, FMBlw, FMPst, Sk, G, J, SB, SE, HVM, HM, HR, RK}
 use Rattle.syllables.specs.UniversalGrammar.{universal_grammar}
@@ -69,7 +69,25 @@ pub record WorkedUniversal : Type 0 where
   -- CGJs stay with what is before them
   pub in_cluster : first (B ∷ CGJ ∷ CGJ ∷ VAbv ∷ CGJ ∷ []) ≡ found 2 5
   pub with_single : first (WJ ∷ CGJ ∷ B ∷ []) ≡ found 8 2
-  pub first : first (CGJ ∷ B ∷ []) ≡ found 8 1
+  pub joiner_first : first (CGJ ∷ B ∷ []) ≡ found 8 1
+  -- what may be there any number of times: modifiers of consonants, vowels and their modifiers, finals and theirs
+  pub repeated : map (λ c. first (B ∷ c ∷ c ∷ []))
+      (CMAbv ∷ CMBlw ∷ VPre ∷ VAbv ∷ VBlw ∷ VPst ∷ VMPre ∷ VMAbv ∷ VMBlw ∷ VMPst ∷ FAbv ∷ FBlw ∷ FPst ∷ FMAbv ∷ FMBlw ∷ [])
+      ≡ replicate 15 (found 2 3)
+  -- and at most once: medials, a halant with vowels, the last modifier, ZWNJ
+  pub once : map (λ c. first (B ∷ c ∷ c ∷ [])) (MPre ∷ MAbv ∷ MBlw ∷ MPst ∷ HVM ∷ FMPst ∷ ZWNJ ∷ []) ≡ replicate 7 (found 2 2)
+  -- letters below the base have modifiers of their own, and sakot joins one letter after another one
+  pub subjoined_modifier : first (B ∷ SUB ∷ CMAbv ∷ CMBlw ∷ []) ≡ found 2 4
+  pub joined_modifier : first (B ∷ H ∷ B ∷ CMBlw ∷ []) ≡ found 2 4
+  pub joined_by_sakots : first (B ∷ VAbv ∷ Sk ∷ B ∷ Sk ∷ B ∷ []) ≡ found 2 6
+  -- long numbers, marks of symbols below, and modifiers of a hieroglyph, each of them once
+  pub long_number : first (N ∷ HN ∷ N ∷ HN ∷ N ∷ []) ≡ found 4 5
+  pub long_joiner_terminated : first (N ∷ HN ∷ N ∷ HN ∷ N ∷ HN ∷ []) ≡ found 3 6
+  pub marks_below : first (O ∷ SMBlw ∷ SMBlw ∷ []) ≡ found 5 3
+  pub marks_above_below : first (O ∷ SMAbv ∷ SMBlw ∷ SMBlw ∷ []) ≡ found 5 4
+  pub turned_twice : first (G ∷ HR ∷ HR ∷ []) ≡ found 6 2
+  pub modified_twice : first (G ∷ HM ∷ HM ∷ []) ≡ found 6 2
+  pub joined_segments : first (G ∷ J ∷ SB ∷ SB ∷ G ∷ []) ≡ found 6 5
 
 pub worked_universal : WorkedUniversal
 worked_universal = record {
@@ -116,5 +134,17 @@ worked_universal = record {
   hieroglyph_joiner = refl;
   in_cluster = refl;
   with_single = refl;
-  first = refl;
+  joiner_first = refl;
+  repeated = refl;
+  once = refl;
+  subjoined_modifier = refl;
+  joined_modifier = refl;
+  joined_by_sakots = refl;
+  long_number = refl;
+  long_joiner_terminated = refl;
+  marks_below = refl;
+  marks_above_below = refl;
+  turned_twice = refl;
+  modified_twice = refl;
+  joined_segments = refl;
 }

@@ -1,7 +1,9 @@
 -- Categories of characters, by the rules of the specification.
-use Rattle.std.specs.Prelude.{◌≡◌, refl}
+use Rattle.std.specs.Prelude.{◌≡◌, [], ◌∷◌, refl}
 use Rattle.syllables.specs.UniversalCategories.{B, CGJ, CMAbv, CS, FMPst, FPst, G, GB, H, HN, HVM, IS, J, MBlw, MPre, N, O, R, RK, SB, SE, SMAbv, SUB, Sk, VAbv, VBlw, VMAbv, VMPre, VMPst, VPre, VPst, WJ, ZWNJ}
-use Rattle.universal_shaper.specs.Categories.{category}
+use Rattle.shape_buffer.specs.Walks.{items_mapped}
+use Rattle.syllabic.specs.Worked.Items.{item, buffer}
+use Rattle.universal_shaper.specs.Categories.{category, categorized}
 
 pub record WorkedCategories : Type 0 where
   -- letters of Tibetan, Javanese and Adlam, the dotted circle; the space is no base
@@ -62,8 +64,19 @@ pub record WorkedCategories : Type 0 where
   pub thai : category 0xE01 ≡ O
   pub ideograph : category 0x20000 ≡ O
   pub last : category 0x10FFFF ≡ O
+  -- the bounds of what can't be seen in plane 14; one more is no character
+  pub first_unseen : category 0xE0000 ≡ WJ
+  pub last_unseen : category 0xE0FFF ≡ WJ
+  pub before_unseen : category 0xDFFFF ≡ O
+  pub past_unseen : category 0xE1000 ≡ O
+  pub before_selectors : category 0xE00FF ≡ WJ
+  pub past_selectors : category 0xE01F0 ≡ WJ
+  -- each item of a text gets that of its character, and nothing else
+  pub items : (categorized (buffer (item 0xF40 3 0 0x12 ∷ item 0xF72 4 7 0x12 ∷ []))).items
+      ≡ item 0xF40 3 B 0x12 ∷ item 0xF72 4 VBlw 0x12 ∷ []
 
 pub worked_categories : WorkedCategories
+unfolding items_mapped
 worked_categories = record {
   consonant = refl;
   javanese = refl;
@@ -112,4 +125,11 @@ worked_categories = record {
   thai = refl;
   ideograph = refl;
   last = refl;
+  first_unseen = refl;
+  last_unseen = refl;
+  before_unseen = refl;
+  past_unseen = refl;
+  before_selectors = refl;
+  past_selectors = refl;
+  items = refl;
 }

@@ -1,9 +1,9 @@
 -- The order of syllables, and where dotted circles go.
-use Rattle.std.specs.Prelude.{◌≡◌, ℕ, true, List, [], ◌∷◌, refl}
+use Rattle.std.specs.Prelude.{◌≡◌, ◌==◌, ℕ, Bool, true, false, List, [], ◌∷◌, map, replicate, refl}
 use Rattle.shape_common.specs.declared.text_types.GlyphId.{GlyphId}
 use Rattle.shape_items.specs.Items.{Item}
 use Rattle.shape_items.specs.Clusters.{merge}
-use Rattle.syllables.specs.UniversalCategories.{O, B, N, R, H, HVM, IS, VPre, VMPre, VBlw, FAbv, MBlw}
+use Rattle.syllables.specs.UniversalCategories.{O, B, N, R, H, HVM, IS, CS, Sk, G, SUB, ZWNJ, VPre, VMPre, VAbv, VBlw, VMPst, FAbv, MBlw, MPre, FMAbv, FMPst, CMAbv, CMBlw, SMAbv, SMBlw}
 use Rattle.syllabic.specs.Circles.{circled_items, no_circling}
 use Rattle.syllabic.specs.Worked.Items.{item, buffer, chars, clusters_of}
 use Rattle.universal_shaper.specs.Reordering.{each_reordered, circled}
@@ -47,6 +47,17 @@ glyph = record { 0 = 9 }
 abbrev with_base : List Item → List ℕ
 with_base items = chars (circled_items circled glyph no_circling items)
 
+-- whether a repha stays before an item of a category that follows a letter; parts of a glyph (component 1) go nowhere themselves
+abbrev last_but_one : List ℕ → ℕ
+last_but_one (a ∷ b ∷ c ∷ []) = b
+last_but_one _ = 0
+
+abbrev repha_stops : ℕ → Bool
+repha_stops category =
+    let x = item 0x78 2 category 0x12 in
+    let part = record x { properties = record x.properties { ligature_component = 1 } } in
+    last_but_one (order (repha 0 ∷ letter 1 ∷ part ∷ [])) == 0x72
+
 pub record WorkedOrders : Type 0 where
   -- a vowel goes before its letter, and its cluster is the letter's; so does a modifier before the base
   pub vowel : order (letter 0 ∷ before 1 ∷ []) ≡ 0x65 ∷ 0x61 ∷ []
@@ -87,6 +98,31 @@ pub record WorkedOrders : Type 0 where
   pub circle : with_base (item 0x75 0 VBlw 0x17 ∷ []) ≡ 0x25CC ∷ 0x75 ∷ []
   pub circle_after_repha : with_base (item 0x72 0 R 0x17 ∷ item 0x75 1 VBlw 0x17 ∷ []) ≡ 0x72 ∷ 0x25CC ∷ 0x75 ∷ []
   pub no_circle : with_base (repha 0 ∷ below 1 ∷ []) ≡ 0x72 ∷ 0x75 ∷ []
+  -- a repha goes before each that follows the base, the first and the last of each span of categories; behind others
+  pub repha_before_vowels : map repha_stops (VPre ∷ MPre ∷ VAbv ∷ VMPst ∷ FMAbv ∷ FMPst ∷ []) ≡ replicate 6 true
+  pub repha_over : map repha_stops (B ∷ SUB ∷ CMAbv ∷ CMBlw ∷ SMAbv ∷ SMBlw ∷ CS ∷ Sk ∷ ZWNJ ∷ []) ≡ replicate 9 false
+  -- a halant that lookups have joined is passed, too
+  pub repha_joined_halant : order (repha 0 ∷ letter 1 ∷ joined_halant 2 ∷ below 3 ∷ []) ≡ 0x61 ∷ 0x68 ∷ 0x72 ∷ 0x75 ∷ []
+  -- sakot isn't a halant here
+  pub sakot_passed : order (letter 0 ∷ item 0x68 1 Sk 0x12 ∷ letter 2 ∷ before 3 ∷ []) ≡ 0x65 ∷ 0x61 ∷ 0x68 ∷ 0x61 ∷ []
+  -- after a halant the front is there, for all vowels that follow
+  pub front_after_halant : order (letter 0 ∷ before 1 ∷ halant 2 ∷ letter 3 ∷ before 4 ∷ item 0x69 5 VPre 0x12 ∷ [])
+      ≡ 0x65 ∷ 0x61 ∷ 0x68 ∷ 0x69 ∷ 0x65 ∷ 0x61 ∷ []
+  -- a number ended by a joiner (0x13) and hieroglyphs (0x16) stay; a sign alone past a later syllable, too
+  pub number_joiner : order (item 0x31 0 N 0x13 ∷ item 0x65 1 VPre 0x13 ∷ []) ≡ 0x31 ∷ 0x65 ∷ []
+  pub hieroglyph : order (item 0x31 0 G 0x16 ∷ item 0x65 1 VPre 0x16 ∷ []) ≡ 0x31 ∷ 0x65 ∷ []
+  pub apart_later : order (letter 0 ∷ item 0x62 1 B 0x22 ∷ item 0x65 2 VPre 0x38 ∷ []) ≡ 0x61 ∷ 0x62 ∷ 0x65 ∷ []
+  -- a run of them goes to the front together, one after another one too; they are in one cluster with what they go past, and no more
+  pub run : order (letter 0 ∷ item 0x79 1 MBlw 0x12 ∷ before 2 ∷ item 0x69 3 VPre 0x12 ∷ item 0x6D 4 VMPre 0x12 ∷ below 5 ∷ [])
+      ≡ 0x6D ∷ 0x69 ∷ 0x65 ∷ 0x61 ∷ 0x79 ∷ 0x75 ∷ []
+  pub run_clusters : clusters (letter 0 ∷ item 0x79 1 MBlw 0x12 ∷ before 2 ∷ item 0x69 3 VPre 0x12 ∷ below 4 ∷ [])
+      ≡ 0 ∷ 0 ∷ 0 ∷ 0 ∷ 4 ∷ []
+  pub two_runs : order (letter 0 ∷ before 1 ∷ below 2 ∷ item 0x6D 3 VMPre 0x12 ∷ item 0x6E 4 VMPre 0x12 ∷ [])
+      ≡ 0x6E ∷ 0x6D ∷ 0x65 ∷ 0x61 ∷ 0x75 ∷ []
+  pub run_at_front : order (before 0 ∷ item 0x69 1 VPre 0x12 ∷ letter 2 ∷ []) ≡ 0x69 ∷ 0x65 ∷ 0x61 ∷ []
+  pub run_at_front_clusters : clusters (before 0 ∷ item 0x69 1 VPre 0x12 ∷ letter 2 ∷ []) ≡ 0 ∷ 0 ∷ 2 ∷ []
+  -- a run ends with its syllable
+  pub run_at_end : order (letter 0 ∷ before 1 ∷ item 0x69 2 VPre 0x22 ∷ item 0x62 3 B 0x22 ∷ []) ≡ 0x65 ∷ 0x61 ∷ 0x69 ∷ 0x62 ∷ []
 
 pub worked_orders : WorkedOrders
 unfolding merge
@@ -121,4 +157,18 @@ worked_orders = record {
   circle = refl;
   circle_after_repha = refl;
   no_circle = refl;
+  repha_before_vowels = refl;
+  repha_over = refl;
+  repha_joined_halant = refl;
+  sakot_passed = refl;
+  front_after_halant = refl;
+  number_joiner = refl;
+  hieroglyph = refl;
+  apart_later = refl;
+  run = refl;
+  run_clusters = refl;
+  two_runs = refl;
+  run_at_front = refl;
+  run_at_front_clusters = refl;
+  run_at_end = refl;
 }

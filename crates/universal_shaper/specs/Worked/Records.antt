@@ -44,6 +44,13 @@ pub record WorkedRecords : Type 0 where
   pub no_prebase : categories (prebases_recorded (buffer (made false 0 B 0x12 ∷ []))) ≡ B ∷ []
   -- what lookups have made so far is forgotten
   pub cleared : categories (prebases_recorded (substitutions_cleared (buffer (made true 0 B 0x12 ∷ [])))) ≡ B ∷ []
+  -- the span of a syllable is its own: not so many items as stand before its end
+  pub one_of_one : masks (rephas_masked 8 (buffer (letter 0x12 ∷ letter 0x22 ∷ sign 0x32 ∷ letter 0x32 ∷ []))) ≡ 8 ∷ 8 ∷ 8 ∷ 0 ∷ []
+  -- nothing is noted past the end of a syllable
+  pub repha_at_end : categories (rephas_recorded 8 (buffer (made false 8 B 0x12 ∷ made false 8 B 0x22 ∷ []))) ≡ B ∷ B ∷ []
+  pub prebase_at_end : categories (prebases_recorded (buffer (made false 0 B 0x12 ∷ made false 0 B 0x22 ∷ []))) ≡ B ∷ B ∷ []
+  pub prebase_later : categories (prebases_recorded (buffer (made false 0 B 0x12 ∷ made false 0 B 0x22 ∷ made true 0 B 0x22 ∷ [])))
+      ≡ B ∷ B ∷ VPre ∷ []
 
 pub worked_records : WorkedRecords
 unfolding items_mapped
@@ -59,4 +66,8 @@ worked_records = record {
   prebase = refl;
   no_prebase = refl;
   cleared = refl;
+  one_of_one = refl;
+  repha_at_end = refl;
+  prebase_at_end = refl;
+  prebase_later = refl;
 }

@@ -1,6 +1,6 @@
 use Rattle.std.proofs.Common.{ap, ◌∙◌, length}
-use Rattle.myanmar_shaper.proofs.TurningLemmas.{length-reversed}
-use Rattle.myanmar_shaper.proofs.turning.reverse.Goals as goal
+use Rattle.syllabic.proofs.MovingLemmas.{length-reversed}
+use Rattle.syllabic.proofs.moving.reverse.Goals as goal
 
 pub returns-clause-len : goal.returns-clause-len
 returns-clause-len c =
