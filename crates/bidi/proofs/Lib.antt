@@ -3,4 +3,12 @@ pub mod WeakLemmas
 pub mod NeutralLemmas
 pub mod StackLemmas
 pub mod ExplicitLemmas
+pub mod MembersLemmas
+pub mod BracketLemmas
+pub mod SequenceLemmas
+pub mod KeptLemmas
+pub mod WithinLemmas
+pub mod TextLemmas
 pub mod LineLemmas
+pub mod InverseLemmas
+pub mod LevelLemmas

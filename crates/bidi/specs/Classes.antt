@@ -2,7 +2,7 @@
 use Rattle.std.specs.Prelude.{ℕ, ◌==◌, ◌%◌, ◌||◌, Bool, if◌then◌else◌}
 use Rattle.ucd_bidi.specs.BidiClass.{bidi_class_number}
 use Rattle.ucd_bidi.specs.declared.BidiClass.{BidiClass}
-use Rattle.ucd_bidi.specs.declared.BidiClass.TheVariants.{ArabicLetter, BoundaryNeutral, FirstStrongIsolate, LeftToRight, LeftToRightEmbedding, LeftToRightIsolate, LeftToRightOverride, OtherNeutral, ParagraphSeparator, PopDirectionalFormat, PopDirectionalIsolate, RightToLeft, RightToLeftEmbedding, RightToLeftIsolate, RightToLeftOverride, SegmentSeparator, WhiteSpace}
+use Rattle.ucd_bidi.specs.declared.BidiClass.TheVariants.{ArabicLetter, ArabicNumber, BoundaryNeutral, EuropeanNumber, FirstStrongIsolate, LeftToRight, LeftToRightEmbedding, LeftToRightIsolate, LeftToRightOverride, OtherNeutral, ParagraphSeparator, PopDirectionalFormat, PopDirectionalIsolate, RightToLeft, RightToLeftEmbedding, RightToLeftIsolate, RightToLeftOverride, SegmentSeparator, WhiteSpace}
 
 abbrev pub is : BidiClass → BidiClass → Bool
 is class other = bidi_class_number class == bidi_class_number other
@@ -29,6 +29,10 @@ is_neutral class = is class OtherNeutral || (is class WhiteSpace || (is class Se
 -- among neutral characters numbers act as R
 abbrev pub direction : BidiClass → BidiClass
 direction class = if is class LeftToRight then LeftToRight else RightToLeft
+
+-- L, and R, EN and AN, which act as R in N0
+abbrev pub is_directed : BidiClass → Bool
+is_directed class = is class LeftToRight || (is class RightToLeft || (is class EuropeanNumber || is class ArabicNumber))
 
 -- BD2: an even level is left to right
 abbrev pub of_level : ℕ → BidiClass

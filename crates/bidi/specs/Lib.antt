@@ -2,6 +2,10 @@ pub mod Classes
 pub mod Weak
 pub mod Neutral
 pub mod Explicit
+pub mod Members
+pub mod Brackets
+pub mod Sequences
 pub mod Levels
+pub mod Text
 pub mod Lines
 pub mod Worked

@@ -1,5 +1,5 @@
 -- The rules L1 and L2, for the characters of a line.
-use Rattle.std.specs.Prelude.{ℕ, zero, suc, ◌+◌, ◌-◌, ◌%◌, ◌==◌, ◌||◌, min, max, Bool, true, false, List, [], ◌∷◌, ◌++◌, map, nat_le, if◌then◌else◌}
+use Rattle.std.specs.Prelude.{◌≡◌, ℕ, zero, suc, ◌+◌, ◌-◌, ◌%◌, ◌==◌, ◌<◌, ◌||◌, length, replicate, slice_index_or, slice_set, min, max, Bool, true, false, List, [], ◌∷◌, ◌++◌, map, nat_le, if◌then◌else◌}
 use Rattle.ucd_bidi.specs.declared.BidiClass.{BidiClass}
 use Rattle.ucd_bidi.specs.declared.BidiClass.TheVariants.{ParagraphSeparator, SegmentSeparator, WhiteSpace}
 use Rattle.bidi.specs.Classes.{is, is_isolate, is_removed}
@@ -61,3 +61,16 @@ indices levels = map place_of (places_from 0 levels)
 abbrev pub visual_order : List ℕ → List ℕ
 visual_order levels =
     map place_of (reordered (lowest_odd levels) (highest levels + 1 - lowest_odd levels) (places_from 0 levels))
+
+-- where each character of an order stands: `place` is that of the first one, and `places` are those known so far
+abbrev pub placed_from : ℕ → List ℕ → List ℕ → List ℕ
+placed_from place [] places = places
+placed_from place (character ∷ order) places = placed_from (place + 1) order (slice_set places character place)
+
+abbrev pub visual_places : List ℕ → List ℕ
+visual_places order = placed_from 0 order (replicate (length order) 0)
+
+-- the character at a place stands there, and at the place of a character it is the character
+pub record AreInverse (order places : List ℕ) : Type 0 where
+  pub there : (place : ℕ) → place < length order → slice_index_or places (slice_index_or order place 0) 0 ≡ place
+  pub back : (character : ℕ) → character < length order → slice_index_or order (slice_index_or places character 0) 0 ≡ character

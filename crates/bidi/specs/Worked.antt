@@ -1,12 +1,15 @@
 -- The rules, computed on small cases whose results were worked out by hand, most from the standard's own examples.
-use Rattle.std.specs.Prelude.{◌≡◌, ℕ, Bool, true, false, [], ◌∷◌, map, refl}
+pub mod Sequences
+use Rattle.std.specs.Prelude.{◌≡◌, ℕ, Bool, true, false, None, Some, [], ◌∷◌, map, refl}
 use Rattle.ucd_bidi.specs.declared.BidiClass.{BidiClass}
 use Rattle.ucd_bidi.specs.declared.BidiClass.TheVariants.{ArabicLetter, ArabicNumber, BoundaryNeutral, CommonSeparator, EuropeanNumber, EuropeanSeparator, EuropeanTerminator, FirstStrongIsolate, LeftToRight, LeftToRightEmbedding, LeftToRightIsolate, LeftToRightOverride, NonspacingMark, OtherNeutral, ParagraphSeparator, PopDirectionalFormat, PopDirectionalIsolate, RightToLeft, RightToLeftEmbedding, RightToLeftIsolate, RightToLeftOverride, SegmentSeparator, WhiteSpace}
-use Rattle.bidi.specs.Explicit.{Stack, closed, embedded, explicit, first_is_right, isolated, next_level, stack_of, terminated}
-use Rattle.bidi.specs.Lines.{line_levels, visual_order}
+use Rattle.bidi.specs.Explicit.{Stack, closed, embedded, explicit, first_is_right, has_room, isolated, next_level, stack_of, terminated}
+use Rattle.bidi.specs.Levels.{paragraph_level}
+use Rattle.bidi.specs.Lines.{line_levels, visual_order, visual_places}
 use Rattle.bidi.specs.Neutral.{implicit_level, neutral}
 use Rattle.bidi.specs.Weak.{w1, w2, w3, w4, w5, w6, w7}
 use Rattle.bidi.specs.declared.explicit.Placed.{Placed}
+use Rattle.bidi.specs.declared.levels.Direction.TheVariants.{LeftToRight as Left, RightToLeft as Right}
 
 abbrev level_of : Placed → ℕ
 level_of placed = placed.level
@@ -123,6 +126,12 @@ pub record WorkedExplicit : Type 0 where
   pub isolate_ends : (closed (isolated true (stack_of 0))).isolates ≡ 0
   pub pdf_leaves_an_isolate : terminated (full true) ≡ full true
   pub pdf_leaves_the_last : terminated (stack_of 1) ≡ stack_of 1
+  pub room_up_to_125 : (has_room true (stack_of 124) ∷ has_room false (stack_of 123) ∷ has_room false (stack_of 124) ∷ has_room true (stack_of 125) ∷ []) ≡ (true ∷ true ∷ false ∷ false ∷ [])
+  pub no_isolate_at_the_start : (stack_of 0).top.isolate ≡ false
+  pub one_isolate_ends : (closed (isolated true (isolated true (stack_of 0)))).isolates ≡ 1
+  pub one_overflow_embedding_ends : (terminated (embedded true OtherNeutral (embedded true OtherNeutral (full false)))).overflow_embeddings ≡ 1
+  pub x5c_not_past_its_pdi : map level_of (explicit 0 (FirstStrongIsolate ∷ OtherNeutral ∷ PopDirectionalIsolate ∷ RightToLeft ∷ [])) ≡ (0 ∷ 2 ∷ 0 ∷ 0 ∷ [])
+  pub p3_given_or_found : (paragraph_level (Some Left) (RightToLeft ∷ []) ∷ paragraph_level (Some Right) (LeftToRight ∷ []) ∷ paragraph_level None (RightToLeft ∷ []) ∷ paragraph_level None (LeftToRight ∷ []) ∷ []) ≡ (0 ∷ 1 ∷ 1 ∷ 0 ∷ [])
 
 pub worked_explicit : WorkedExplicit
 worked_explicit = record {
@@ -160,6 +169,12 @@ worked_explicit = record {
   isolate_ends = refl;
   pdf_leaves_an_isolate = refl;
   pdf_leaves_the_last = refl;
+  room_up_to_125 = refl;
+  no_isolate_at_the_start = refl;
+  one_isolate_ends = refl;
+  one_overflow_embedding_ends = refl;
+  x5c_not_past_its_pdi = refl;
+  p3_given_or_found = refl;
 }
 
 pub record WorkedLines : Type 0 where
@@ -171,6 +186,7 @@ pub record WorkedLines : Type 0 where
   pub l2_nested : visual_order (0 ∷ 0 ∷ 1 ∷ 1 ∷ 2 ∷ 2 ∷ 1 ∷ []) ≡ (0 ∷ 1 ∷ 6 ∷ 4 ∷ 5 ∷ 3 ∷ 2 ∷ [])
   pub l2_runs : visual_order (2 ∷ 2 ∷ 1 ∷ 3 ∷ 3 ∷ 1 ∷ 0 ∷ []) ≡ (5 ∷ 4 ∷ 3 ∷ 2 ∷ 0 ∷ 1 ∷ 6 ∷ [])
   pub l2_even_alone : visual_order (2 ∷ 4 ∷ 2 ∷ []) ≡ (0 ∷ 1 ∷ 2 ∷ [])
+  pub places_of_an_order : visual_places (2 ∷ 0 ∷ 1 ∷ []) ≡ (1 ∷ 2 ∷ 0 ∷ [])
 
 pub worked_lines : WorkedLines
 worked_lines = record {
@@ -182,4 +198,5 @@ worked_lines = record {
   l2_nested = refl;
   l2_runs = refl;
   l2_even_alone = refl;
+  places_of_an_order = refl;
 }

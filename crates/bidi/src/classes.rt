@@ -71,6 +71,16 @@ pub(crate) fn direction(class: BidiClass) -> BidiClass
     }
 }
 
+/// Whether N0 takes a class for a direction: L, R, or a number.
+pub(crate) fn is_directed(class: BidiClass) -> bool
+    ensures { result ≡ Classes.is_directed class }
+{
+    is(class, BidiClass::LeftToRight)
+        || is(class, BidiClass::RightToLeft)
+        || is(class, BidiClass::EuropeanNumber)
+        || is(class, BidiClass::ArabicNumber)
+}
+
 /// BD2: the direction of an embedding level.
 pub(crate) fn of_level(level: u8) -> BidiClass
     ensures { result ≡ Classes.of_level level }

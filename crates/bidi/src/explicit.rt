@@ -1,5 +1,5 @@
 //! The rules P2, P3 and X1 to X8: levels by embeddings, overrides and isolates.
-ghost use Rattle.std.specs.Prelude.{◌≡◌, ℕ, ◌+◌, ◌<◌, ◌≤◌, ◌^◌, drop, length, reverse, true, false, Bool, IfOk, OnOk};
+ghost use Rattle.std.specs.Prelude.{◌≡◌, ℕ, ◌+◌, ◌<◌, ◌≤◌, ◌^◌, drop, length, reverse, true, false, All, Bool, IfOk, OnOk};
 ghost use Rattle.bidi.specs.Explicit;
 ghost use Rattle.bidi.specs.Explicit.{Stack as StackValue};
 ghost use Rattle.bidi.specs.Weak.{next_class};
@@ -280,8 +280,18 @@ fn place_between(base: u8, before: Status, after: Status, class: BidiClass) -> P
     before.place(class)
 }
 
-/// X1 to X8: the level of each character, and the class that overrides leave it.
+/// X1 to X8: the level of each character, and the class that overrides leave it. Takes time in step with
+/// the text, and refuses if memory runs out.
 pub fn explicit(alloc: Global, classes: &[BidiClass], base: u8) -> Result<Vec<Placed>, AllocError>
+    ensures placed { IfOk result (λ placed. placed.items ≡ Explicit.explicit base classes.now) }
+    ensures within { base ≤ 125 → IfOk result (λ placed. All (λ p. p.level ≤ 125) placed.items) }
+{
+    let placed = place_all(alloc, classes, base)?;
+    Ok(placed)
+}
+
+/// The levels and the classes themselves.
+fn place_all(alloc: Global, classes: &[BidiClass], base: u8) -> Result<Vec<Placed>, AllocError>
     ensures { IfOk result (λ placed. placed.items ≡ Explicit.explicit base classes.now) }
 {
     let mut all = Vec::new(alloc);

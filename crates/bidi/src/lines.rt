@@ -1,8 +1,9 @@
 //! The rules L1 and L2, for the characters of a line.
-ghost use Rattle.std.specs.Prelude.{◌≡◌, ◌+◌, ◌-◌, ◌≤◌, [], ◌++◌, length, map, reverse, IfOk, OnOk, IsPermutation};
+ghost use Rattle.std.specs.Prelude.{◌≡◌, ℕ, List, ◌+◌, ◌-◌, ◌≤◌, [], ◌++◌, length, map, reverse, IfOk, OnOk, IsPermutation};
 ghost use Rattle.bidi.specs.Lines;
 
 use crate::classes::{is, is_isolate, is_removed};
+use crate::places::put;
 use std::alloc::{AllocError, Global};
 use ucd_bidi::BidiClass;
 
@@ -121,6 +122,28 @@ pub fn visual_order(alloc: Global, levels: &[u8]) -> Result<Vec<usize>, AllocErr
 {
     let order = ordered(alloc, levels)?;
     Ok(order)
+}
+
+/// Where each character of a line stands from left to right, given the order of [`visual_order`]: the one
+/// is the inverse of the other.
+pub fn visual_places(alloc: Global, order: &[usize]) -> Result<Vec<usize>, AllocError>
+    ensures places { IfOk result (λ places. places.items ≡ Lines.visual_places order.now) }
+    ensures inverse { (levels : List ℕ) → IsPermutation (Lines.indices levels) order.now
+        → IfOk result (λ places. Lines.AreInverse order.now places.items) }
+{
+    let places = placed(alloc, order)?;
+    Ok(places)
+}
+
+/// The places themselves.
+fn placed(alloc: Global, order: &[usize]) -> Result<Vec<usize>, AllocError>
+    ensures { IfOk result (λ places. places.items ≡ Lines.visual_places order.now) }
+{
+    let mut places: Vec<usize> = vec![in alloc; 0; order.len()]?;
+    for i in 0..order.len() {
+        put(&mut places, order[i], i);
+    }
+    Ok(places)
 }
 
 /// The order itself.

@@ -86,7 +86,7 @@ pub fn neutral(classes: &mut [BidiClass], embedding: BidiClass, sos: BidiClass, 
 pub fn implicit_level(level: u8, class: BidiClass) -> u8
     requires { level ≤ 125 }
     ensures level { result ≡ Neutral.implicit_level level class }
-    ensures within { result ≤ 127 }
+    ensures within { result ≤ 126 }
 {
     let number = is(class, BidiClass::ArabicNumber) || is(class, BidiClass::EuropeanNumber);
     if level % 2 == 0 {

@@ -113,7 +113,7 @@ fn w4_class(before: BidiClass, class: BidiClass, after: BidiClass) -> BidiClass
 }
 
 /// The class at a place, or one that is no number's past the end.
-fn class_at(classes: &[BidiClass], place: usize) -> BidiClass
+pub(crate) fn class_at(classes: &[BidiClass], place: usize) -> BidiClass
     ensures { result ≡ Weak.next_class (drop place classes.now) }
 {
     if place < classes.len() {

@@ -1,3 +1,4 @@
+use Rattle.bidi.specs.Worked.Sequences.{worked_brackets, worked_sequences}
 use Rattle.bidi.specs.Worked.{worked_explicit, worked_lines, worked_neutral, worked_weak}
 use Rattle.bidi.proofs.worked.rules_meet_worked_cases.Goals as goal
 
@@ -12,3 +13,9 @@ returns-clause-neutral c = worked_neutral
 
 pub returns-clause-lines : goal.returns-clause-lines
 returns-clause-lines c = worked_lines
+
+pub returns-clause-sequences : goal.returns-clause-sequences
+returns-clause-sequences c = worked_sequences
+
+pub returns-clause-brackets : goal.returns-clause-brackets
+returns-clause-brackets c = worked_brackets

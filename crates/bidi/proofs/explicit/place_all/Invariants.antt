@@ -1,6 +1,6 @@
 use Rattle.std.proofs.Common.{◌≡◌, ◌≤◌, ◌++◌, drop}
 use Rattle.bidi.specs.Explicit.{explicit, explicit_from}
-use Rattle.bidi.proofs.explicit.explicit.Given as goal
+use Rattle.bidi.proofs.explicit.place_all.Given as goal
 
 abbrev pub invariant-loop-i : goal.invariant-loop-i
 invariant-loop-i l = record {
