@@ -2,7 +2,7 @@
 -- scalar of the region times the delta for it. Sums and products are those of binary32, in the order of the columns, as
 -- HarfBuzz computes them.
 use Prim.Native.Nat.{zero}
-use Rattle.std.specs.Prelude.{ℕ, suc, ℤ, List, Bool, ◌+◌, ◌*◌, ◌/◌, ◌%◌, ◌&&◌, nat_eq, nat_lt, nat_le, length, if◌then◌else◌}
+use Rattle.std.specs.Prelude.{◌≡◌, ◌<◌, slice_index_or, ℕ, suc, ℤ, List, Bool, ◌+◌, ◌*◌, ◌/◌, ◌%◌, ◌&&◌, nat_eq, nat_lt, nat_le, length, if◌then◌else◌}
 use Rattle.std.specs.Float.{Float, binary32, floor}
 use lib.Ieee.{mul, add, of_bits, of_int, to_signed}
 use Rattle.font_bytes.specs.Bytes.{u16_of, u32_of, i8_of, i16_of, i32_of}
@@ -47,10 +47,19 @@ delta_in t long wide start column = let size = (if long then 2 else 1) in
     (if nat_lt column wide then wide_delta t long (start + 2 * size * column)
     else narrow_delta t long (start + size * (wide + column)))
 
+-- the scalar of a region of the store, whose list of regions stands at an offset; and that scalars that are kept are those of
+-- the first regions
+abbrev pub scalar_of : List ℕ → List ℤ → ℕ → Float
+scalar_of t coordinates region = region_scalar t (u32_of t 2) coordinates region
+
+abbrev pub AreScalars : List ℕ → List ℤ → List Float → Type 0
+AreScalars t coordinates scalars = (region : ℕ) (d : Float) → region < length scalars
+    → slice_index_or scalars region d ≡ scalar_of t coordinates region
+
 -- the part of a column: the scalar of its region times its delta
 unfoldable pub part_of : List ℕ → List ℤ → ℕ → ℕ → ℕ → Float
 part_of t coordinates at start column =
-    mul binary32 (region_scalar t (u32_of t 2) coordinates (u16_of t (at + 6 + 2 * column)))
+    mul binary32 (scalar_of t coordinates (u16_of t (at + 6 + 2 * column)))
     (of_int binary32 (delta_in t (has_long_words t at) (wide_count t at) start column))
 
 -- the sum of `n` parts from number `i` on, and of what there is before

@@ -18,6 +18,9 @@ region_at t list region = list + 4 + 6 * (u16_of t list * region)
 abbrev pub is_whole : List ℕ → ℕ → Bool
 is_whole t list = nat_le (region_at t list (u16_of t (list + 2))) (length t)
 
+abbrev pub region_count : List ℕ → ℕ → ℕ
+region_count t list = if is_whole t list then u16_of t (list + 2) else 0
+
 -- the scalar of an axis of the region whose records stand at `at`
 unfoldable pub axis_scalar : List ℕ → List ℤ → ℕ → ℕ → Float
 axis_scalar t coordinates at axis = let record_at = at + 6 * axis in

@@ -1,10 +1,21 @@
 //! What is added to a number of a font at some coordinates.
-ghost use Rattle.std.specs.Prelude.{◌≡◌, ◌<◌, ◌≤◌, ◌^◌, ◌*◌, ◌+◌};
+ghost use Rattle.std.specs.Prelude.{◌≡◌, ◌<◌, ◌≤◌, ◌^◌, ◌*◌, ◌+◌, IfOk};
 ghost use Rattle.font_variations.specs.Deltas;
 
-use crate::regions::region_scalar;
+use crate::regions::{region_count, region_scalar};
 use font_bytes::bytes::{i8_at, i16_at, i32_at, u16_at, u32_at};
+use std::alloc::{AllocError, Global};
 use std::num::{nearest_i32_to_f32, saturating_f32_to_i32};
+
+/// An ItemVariationStore at some coordinates, and scalars of its first regions there, so that a
+/// run computes each once. None need be kept.
+#[derive(Clone, Copy)]
+pub struct StoreAt<'a> {
+    bytes: &'a [u8],
+    coordinates: &'a [i32],
+    scalars: &'a [f32],
+    ghost kept: { Deltas.AreScalars bytes.now coordinates.now scalars.now },
+}
 
 /// How the numbers of a row are stored.
 #[derive(Clone, Copy)]
@@ -75,45 +86,39 @@ fn delta_in(store: &[u8], long: bool, wide: u16, start: usize, column: u16) -> i
 
 /// The scalar of a column's region times its delta.
 #[tactic(auto, unfolding(crate::specs::Deltas::part_of))]
-fn part(store: &[u8], coordinates: &[i32], at: usize, start: usize, column: u16) -> f32
+fn part(store: &StoreAt<'_>, at: usize, start: usize, column: u16) -> f32
     requires at { at < 2 ^ 32 }
     requires start { start < 2 ^ 36 }
-    ensures { result ≡ Deltas.part_of store.now coordinates.now at start column }
+    ensures { result ≡ Deltas.part_of store.now.bytes.now store.now.coordinates.now at start column }
 {
-    let list = u32_at(store, 2) as usize;
-    let region = u16_at(store, at + 6 + 2 * usize::from(column));
-    let columns = columns(store, at);
-    let delta = delta_in(store, columns.long, columns.wide, start, column);
-    region_scalar(store, list, coordinates, region) * nearest_i32_to_f32(delta)
+    let region = u16_at(store.bytes, at + 6 + 2 * usize::from(column));
+    let columns = columns(store.bytes, at);
+    let delta = delta_in(store.bytes, columns.long, columns.wide, start, column);
+    store.scalar(region) * nearest_i32_to_f32(delta)
 }
 
 /// The sum of the parts of the first `count` columns.
 #[tactic(auto, using(crate::proofs::ProductLemmas::sum_next, crate::proofs::ProductLemmas::sum_end))]
-fn sum(store: &[u8], coordinates: &[i32], at: usize, start: usize, count: u16) -> f32
+fn sum(store: &StoreAt<'_>, at: usize, start: usize, count: u16) -> f32
     requires at { at < 2 ^ 32 }
     requires start { start < 2 ^ 36 }
-    ensures { result ≡ Deltas.sum_of store.now coordinates.now at start count }
+    ensures { result ≡ Deltas.sum_of store.now.bytes.now store.now.coordinates.now at start count }
 {
     let mut sum = 0.0;
     for column in 0..count {
-        sum += part(store, coordinates, at, start, column);
+        sum += part(store, at, start, column);
     }
     sum
 }
 
 /// The sum of a row of the ItemVariationData at `at`; 0 if it has no such row.
-fn row_delta(store: &[u8], coordinates: &[i32], at: usize, row: u16) -> f32
+fn row_delta(store: &StoreAt<'_>, at: usize, row: u16) -> f32
     requires { at < 2 ^ 32 }
-    ensures { result ≡ Deltas.row_delta store.now coordinates.now at row }
+    ensures { result ≡ Deltas.row_delta store.now.bytes.now store.now.coordinates.now at row }
 {
-    if row < u16_at(store, at) && are_rows(store, at) {
-        sum(
-            store,
-            coordinates,
-            at,
-            row_at(store, at, row),
-            u16_at(store, at + 4),
-        )
+    let bytes = store.bytes;
+    if row < u16_at(bytes, at) && are_rows(bytes, at) {
+        sum(store, at, row_at(bytes, at, row), u16_at(bytes, at + 4))
     } else {
         0.0
     }
@@ -134,24 +139,85 @@ fn has_data(store: &[u8], outer: u16) -> bool
     u16_at(store, 0) == 1 && outer < u16_at(store, 6) && 0 < data_at(store, outer)
 }
 
-/// What the delta set with this index says at the coordinates, by an ItemVariationStore: the outer
-/// index stands in the upper 16 bits. 0 if the store has no such set, and if the table doesn't
-/// hold all of its data.
-#[tactic(auto, unfolding(crate::specs::Deltas::delta_of))]
+/// The scalars of all regions of an ItemVariationStore at the coordinates, to be kept for a run.
+/// There are none if the table doesn't hold the whole list. Refuses only if a growth was refused.
+pub fn region_scalars(
+    alloc: Global,
+    store: &[u8],
+    coordinates: &[i32],
+) -> Result<Vec<f32>, AllocError>
+    ensures { IfOk result (λ scalars. Deltas.AreScalars store.now coordinates.now scalars.items) }
+{
+    let list = u32_at(store, 2) as usize;
+    let mut scalars = Vec::new(alloc);
+    for region in 0..region_count(store, list) {
+        scalars.push(region_scalar(store, list, coordinates, region))?;
+    }
+    Ok(scalars)
+}
+
+impl<'a> StoreAt<'a> {
+    /// A store at the coordinates, with nothing kept.
+    pub fn new(bytes: &'a [u8], coordinates: &'a [i32]) -> StoreAt<'a>
+        ensures bytes { result.bytes.now ≡ bytes.now }
+        ensures coordinates { result.coordinates.now ≡ coordinates.now }
+    {
+        StoreAt {
+            bytes,
+            coordinates,
+            scalars: &[],
+        }
+    }
+
+    /// A store at the coordinates, with scalars that were kept, as [`region_scalars`] makes them.
+    pub fn with_scalars(bytes: &'a [u8], coordinates: &'a [i32], scalars: &'a [f32]) -> StoreAt<'a>
+        requires { Deltas.AreScalars bytes.now coordinates.now scalars.now }
+        ensures bytes { result.bytes.now ≡ bytes.now }
+        ensures coordinates { result.coordinates.now ≡ coordinates.now }
+    {
+        StoreAt {
+            bytes,
+            coordinates,
+            scalars,
+        }
+    }
+
+    /// The scalar of a region: the one that is kept, or computed anew.
+    fn scalar(&self, region: u16) -> f32
+        ensures { result ≡ Deltas.scalar_of self.now.bytes.now self.now.coordinates.now region }
+    {
+        let place = usize::from(region);
+        if place < self.scalars.len() {
+            self.scalars[place]
+        } else {
+            let list = u32_at(self.bytes, 2) as usize;
+            region_scalar(self.bytes, list, self.coordinates, region)
+        }
+    }
+
+    /// What the delta set with this index says at the coordinates: the outer index stands in the
+    /// upper 16 bits. 0 if the store has no such set, and if the table doesn't hold all of its
+    /// data. Takes a step for each column of the set, and for each axis of a region whose scalar
+    /// isn't kept.
+    #[tactic(auto, unfolding(crate::specs::Deltas::delta_of))]
+    pub fn delta(&self, index: u32) -> f32
+        ensures { result ≡ Deltas.delta_of self.now.bytes.now self.now.coordinates.now index }
+    {
+        let outer = (index / 65536) as u16;
+        if has_data(self.bytes, outer) {
+            row_delta(self, data_at(self.bytes, outer), (index % 65536) as u16)
+        } else {
+            0.0
+        }
+    }
+}
+
+/// What the delta set with this index says at the coordinates, by an ItemVariationStore of which
+/// nothing is kept: see [`StoreAt::delta`].
 pub fn delta(store: &[u8], coordinates: &[i32], index: u32) -> f32
     ensures { result ≡ Deltas.delta_of store.now coordinates.now index }
 {
-    let outer = (index / 65536) as u16;
-    if has_data(store, outer) {
-        row_delta(
-            store,
-            coordinates,
-            data_at(store, outer),
-            (index % 65536) as u16,
-        )
-    } else {
-        0.0
-    }
+    StoreAt::new(store, coordinates).delta(index)
 }
 
 /// To the nearest integer, halves up.

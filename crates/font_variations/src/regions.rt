@@ -60,6 +60,20 @@ fn region_at(table: &[u8], list: usize, region: u16) -> usize
     list + 4 + 6 * (usize::from(u16_at(table, list)) * usize::from(region))
 }
 
+/// How many regions the VariationRegionList at `list` has; none if the table doesn't hold all of
+/// it.
+pub fn region_count(table: &[u8], list: usize) -> u16
+    requires { list < 2 ^ 33 }
+    ensures { result ≡ Regions.region_count table.now list }
+{
+    let regions = u16_at(table, list + 2);
+    if region_at(table, list, regions) <= table.len() {
+        regions
+    } else {
+        0
+    }
+}
+
 /// How far the region with this number of the VariationRegionList at `list` takes part at the
 /// coordinates, from 0 to 1. 0 if there is no such region, and if the table doesn't hold the whole
 /// list. Takes a step for each axis of the list.
