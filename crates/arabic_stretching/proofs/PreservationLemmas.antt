@@ -1,9 +1,9 @@
 -- Noting tiles and stretching them preserve clusters and flags.
-use Rattle.std.proofs.Common.{◌≡◌, ℕ, zero, suc, ◌+◌, Bool, true, false, None, List, drop, length, reverse, refl, ap, sym, ◌∙◌, subst, inl, inr, if◌then◌else◌}
+use Rattle.std.proofs.Common.{◌≡◌, ℕ, zero, suc, ◌+◌, Bool, true, false, None, List, drop, length, reverse, nat_lt, refl, ap, sym, ◌∙◌, subst, inl, inr, if◌then◌else◌}
 use Rattle.std.proofs.lemmas.List.{reverse-reverse}
 use Rattle.std.specs.List.{list_any}
 use Rattle.shape_common.specs.Face.{FaceMeaning}
-use Rattle.shape_items.specs.Buffer.{Buffer}
+use Rattle.shape_items.specs.Buffer.{Buffer, limit_of}
 use Rattle.shape_items.specs.BufferClusters.{unsafe_to_break}
 use Rattle.shape_items.specs.ClusterOrder.{PreservesClusters}
 use Rattle.shape_items.specs.Clusters.{clusters}
@@ -14,7 +14,7 @@ use Rattle.shape_items.proofs.Order.DrawsInOrder.{DrawsInOrder-then, PreservesCl
 use Rattle.shape_buffer.specs.Preservation.{PreservesOrder, IsClusterPreserving, IsFlagPreserving}
 use Rattle.shape_buffer.proofs.Steps.PreservationLemmas.{PreservesOrder-same, PreservesOrder-then, order-items_mapped, flags-items_mapped, order-unsafe_to_break}
 use Rattle.arabic_stretching.specs.Copying.{stretched_from}
-use Rattle.arabic_stretching.specs.Stretching.{glyphs_from, is_leftward, turned, laid_out, stretched_in, stretched}
+use Rattle.arabic_stretching.specs.Stretching.{glyphs_from, is_leftward, turned, laid_out, laid_within, stretched_in, stretched}
 use Rattle.arabic_stretching.specs.Tiles.{tile_of, recorded, tiles_recorded, is_tile, span_len, begins_at, span_marked_at, spans_marked_to, spans_marked}
 use Rattle.arabic_stretching.proofs.DrawnLemmas.{keys, stretched-draws, stretched-some, glyphs-draws, glyphs-some}
 use Rattle.shape_items.proofs.Order.ReversedLemmas.{clusters-reverse, some_has-reverse}
@@ -74,17 +74,34 @@ module _ (face : FaceMeaning) (right_to_left : Bool) where
       let gs = glyphs_from b.items b.positions in
       glyphs-some flag b.items b.positions (stretched-some flag face right_to_left None gs some)
 
-  inner-order : (b : Buffer) → PreservesOrder b (laid_out face right_to_left (spans_marked b))
-  inner-order b =
-      let c = spans_marked b in
-      PreservesOrder-then b c (laid_out face right_to_left c) (to-order (length b.items) b)
-      (record { clusters = laid-clusters c; direction = refl; flags = refl; level = refl })
+  marked-order : (b : Buffer) → PreservesOrder b (spans_marked (laid_out face right_to_left b))
+  marked-order b =
+      let c = laid_out face right_to_left b in
+      PreservesOrder-then b c (spans_marked c) (record { clusters = laid-clusters b; direction = refl; flags = refl; level = refl })
+      (to-order (length c.items) c)
 
-  inner-flags : (b : Buffer) → PreservesFlags b (laid_out face right_to_left (spans_marked b))
+  marked-flags : (b : Buffer) → PreservesFlags b (spans_marked (laid_out face right_to_left b))
+  marked-flags b =
+      let c = laid_out face right_to_left b in
+      PreservesFlags-then b c (spans_marked c)
+      (record { flags = refl; stays_set = λ e. e; none_new = λ flag is some. inl (laid-some flag b some) })
+      (to-flags (length c.items) c)
+
+  inner-order : (b : Buffer) → PreservesOrder b (laid_within face right_to_left b)
+  inner-order b =
+      let laid = laid_out face right_to_left b in
+      elim (nat_lt (limit_of b) (length laid.items)) as (λ t. PreservesOrder b (if t then b else spans_marked laid)) [
+        | true ↦ PreservesOrder-same b
+        | false ↦ marked-order b
+      ]
+
+  inner-flags : (b : Buffer) → PreservesFlags b (laid_within face right_to_left b)
   inner-flags b =
-      let c = spans_marked b in
-      PreservesFlags-then b c (laid_out face right_to_left c) (to-flags (length b.items) b)
-      (record { flags = refl; stays_set = λ e. e; none_new = λ flag is some. inl (laid-some flag c some) })
+      let laid = laid_out face right_to_left b in
+      elim (nat_lt (limit_of b) (length laid.items)) as (λ t. PreservesFlags b (if t then b else spans_marked laid)) [
+        | true ↦ PreservesFlags-same b
+        | false ↦ marked-flags b
+      ]
 
 -- ---- turned round before and after
 
@@ -125,7 +142,7 @@ pub stretched-order : (face : FaceMeaning) → IsClusterPreserving (stretched fa
 stretched-order face b monotone =
     let right_to_left = is_leftward b.direction in
     elim (list_any is_tile b.items) as (λ t. PreservesOrder b (if t then stretched_in face right_to_left b else b)) [
-      | true ↦ turned-order (λ x. laid_out face right_to_left (spans_marked x)) (inner-order face right_to_left) right_to_left b
+      | true ↦ turned-order (laid_within face right_to_left) (inner-order face right_to_left) right_to_left b
       | false ↦ PreservesOrder-same b
     ]
 
@@ -133,6 +150,6 @@ pub stretched-flags : (face : FaceMeaning) → IsFlagPreserving (stretched face)
 stretched-flags face b =
     let right_to_left = is_leftward b.direction in
     elim (list_any is_tile b.items) as (λ t. PreservesFlags b (if t then stretched_in face right_to_left b else b)) [
-      | true ↦ turned-flags (λ x. laid_out face right_to_left (spans_marked x)) (inner-flags face right_to_left) right_to_left b
+      | true ↦ turned-flags (laid_within face right_to_left) (inner-flags face right_to_left) right_to_left b
       | false ↦ PreservesFlags-same b
     ]

@@ -1,11 +1,11 @@
--- The whole of stretching: in the order of the text tiles are marked unsafe to break with their words, and put over them.
-use Rattle.std.specs.Prelude.{Bool, true, false, None, List, [], ◌∷◌, map, reverse, if◌then◌else◌}
+-- The whole of stretching: in the order of the text tiles are put over their words, and marked unsafe to break with them.
+use Rattle.std.specs.Prelude.{Bool, true, false, None, List, [], ◌∷◌, length, map, reverse, nat_lt, if◌then◌else◌}
 use Rattle.std.specs.List.{list_any}
 use Rattle.shape_common.specs.Face.{FaceMeaning}
 use Rattle.shape_common.specs.declared.positions.GlyphPosition.{GlyphPosition}
 use Rattle.shape_common.specs.declared.text_types.Direction.{Direction}
 use Rattle.shape_common.specs.declared.text_types.Direction.TheVariants.{RightToLeft}
-use Rattle.shape_items.specs.Buffer.{Buffer}
+use Rattle.shape_items.specs.Buffer.{Buffer, limit_of}
 use Rattle.shape_items.specs.Items.{Item}
 use Rattle.arabic_stretching.specs.Copying.{stretched_from}
 use Rattle.arabic_stretching.specs.Tiles.{is_tile, spans_marked}
@@ -40,9 +40,13 @@ abbrev pub turned : Bool → Buffer → Buffer
 turned right_to_left b =
     if right_to_left then record b { items = reverse b.items; positions = reverse b.positions } else b
 
+-- they are marked unsafe to break, each run of tiles with its word; if that makes more glyphs than the run may have, all stays
+abbrev pub laid_within : FaceMeaning → Bool → Buffer → Buffer
+laid_within face right_to_left b = let laid = laid_out face right_to_left b in
+    (if nat_lt (limit_of b) (length laid.items) then b else spans_marked laid)
+
 abbrev pub stretched_in : FaceMeaning → Bool → Buffer → Buffer
-stretched_in face right_to_left b =
-    turned right_to_left (laid_out face right_to_left (spans_marked (turned right_to_left b)))
+stretched_in face right_to_left b = turned right_to_left (laid_within face right_to_left (turned right_to_left b))
 
 -- nothing changes without tiles
 abbrev pub stretched : FaceMeaning → Buffer → Buffer

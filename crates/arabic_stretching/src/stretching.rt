@@ -1,11 +1,10 @@
 //! The whole of stretching.
-ghost use Rattle.std.specs.Prelude.{◌≡◌, ◌<◌, ◌≤◌, length, map, OnOk, IfOk, IsOkUnless, IsErrOf};
+ghost use Rattle.std.specs.Prelude.{◌≡◌, ◌≤◌, length, map, OnOk, IfOk, IsOkUnless};
 ghost use Rattle.std.specs.List.{list_any};
 ghost use Rattle.shape_items.specs.Buffer.{limit_of};
 ghost use Rattle.shape_buffer.specs.Outcome.{IsWithinLimit, Made, Outcome, step};
-ghost use Rattle.shape_buffer.specs.declared.buffer.error.ShapeError.TheVariants.{Length};
 ghost use Rattle.arabic_stretching.specs.Tiles;
-ghost use Rattle.arabic_stretching.specs.Stretching.{glyphs_from, glyph_info, glyph_position, is_leftward, turned, laid, laid_out, stretched};
+ghost use Rattle.arabic_stretching.specs.Stretching.{glyphs_from, glyph_info, glyph_position, is_leftward, turned, laid, laid_within, stretched};
 
 use crate::copying::stretch;
 use crate::fitting::Glyph;
@@ -62,23 +61,33 @@ fn put(alloc: Global, glyphs: &[Glyph], buffer: &mut hb_buffer_t) -> Result<(), 
     buffer.put_lists(infos, positions)
 }
 
-/// Puts the tiles of a text in its order over their words.
+/// Puts the tiles of a text in its order over their words, and marks them unsafe to break with these. Changes nothing if there
+/// would be more glyphs than the run may make, as HarfBuzz does.
+#[tactic(auto, using(crate::proofs::OutcomeLemmas::too_long, crate::proofs::OutcomeLemmas::laid_fits))]
 fn lay_out<F: hb_font_t>(
     alloc: Global,
     face: &F,
     right_to_left: bool,
     buffer: &mut hb_buffer_t,
 ) -> Result<(), ShapeError>
-    ensures ok { OnOk result (buffer.new ≡ laid_out (F.face face.now) right_to_left buffer.old) }
-    ensures within { OnOk result (length (laid_out
-        (F.face face.now) right_to_left buffer.old).items ≤ limit_of buffer.old) }
-    ensures past { IsErrOf result Length
-        → limit_of buffer.old < length (laid_out (F.face face.now) right_to_left buffer.old).items }
+    requires { IsWithinLimit buffer.old }
+    ensures ok { OnOk result
+        (buffer.new ≡ laid_within (F.face face.now) right_to_left buffer.old) }
+    ensures within { OnOk result (length buffer.new.items ≤ limit_of buffer.old) }
+    ensures limit { OnOk result (limit_of buffer.new ≡ limit_of buffer.old) }
+    ensures memory { IsOkUnless result ShapeError.Memory }
 {
     let glyphs = glyphs_of(alloc, buffer)?;
     let limit = buffer.length_limit();
-    let stretched = stretch(alloc, face, right_to_left, limit, glyphs.as_slice())?;
-    put(alloc, stretched.as_slice(), buffer)
+    match stretch(alloc, face, right_to_left, limit, glyphs.as_slice()) {
+        Ok(stretched) => {
+            put(alloc, stretched.as_slice(), buffer)?;
+            mark_spans(buffer);
+            Ok(())
+        }
+        Err(ShapeError::Length) => Ok(()),
+        Err(ShapeError::Memory) => Err(ShapeError::Memory),
+    }
 }
 
 /// Whether a text runs from right to left.
@@ -107,22 +116,22 @@ fn has_tiles(infos: &[hb_glyph_info_t]) -> bool
 }
 
 /// Repeats the tiles of signs, so that each sign is as wide as the word after it and stands over it, and marks both unsafe to
-/// break. It belongs after positioning, and changes nothing if no tile was noted. Refuses with `Length` if there would be more
-/// glyphs than the run may make, with `Memory` if a growth was refused.
+/// break. It belongs after positioning, and changes nothing if no tile was noted, or if there would be more glyphs than the run
+/// may make. Refuses with `Memory` if a growth was refused, and with nothing else.
 pub fn stretch_tiles<F: hb_font_t>(
     alloc: Global,
     face: &F,
     buffer: &mut hb_buffer_t,
 ) -> Result<(), ShapeError>
     requires { IsWithinLimit buffer.old }
-    ensures { Outcome (step (stretched (F.face face.now))) buffer.old buffer.new result }
+    ensures outcome { Outcome (step (stretched (F.face face.now))) buffer.old buffer.new result }
+    ensures memory { IsOkUnless result ShapeError.Memory }
 {
     if !has_tiles(buffer.infos()) {
         return Ok(());
     }
     let right_to_left = is_leftward(buffer.direction());
     turn(right_to_left, buffer);
-    mark_spans(buffer);
     lay_out(alloc, face, right_to_left, buffer)?;
     turn(right_to_left, buffer);
     Ok(())
