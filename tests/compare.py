@@ -8,8 +8,8 @@ models print, and libraries with Unicode's test files (Debian's package `unicode
 Status 0: no difference. 1: there are some, which are shown. 77: something is not installed.
 """
 from checks import (
-    cuts, line_breaks, normalising, normalization, options, paragraphs, random_fonts, scripts,
-    suite, syllables, texts,
+    bidi, cuts, line_breaks, normalising, normalization, options, paragraphs, random_fonts,
+    scripts, suite, syllables, texts,
 )
 from checks.command import run_kind
 
@@ -25,6 +25,7 @@ KINDS = {
     "normalising": normalising,
     "normalization": normalization,
     "line-breaks": line_breaks,
+    "bidi": bidi,
 }
 
 if __name__ == "__main__":

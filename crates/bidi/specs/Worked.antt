@@ -131,7 +131,7 @@ pub record WorkedExplicit : Type 0 where
   pub one_isolate_ends : (closed (isolated true (isolated true (stack_of 0)))).isolates ≡ 1
   pub one_overflow_embedding_ends : (terminated (embedded true OtherNeutral (embedded true OtherNeutral (full false)))).overflow_embeddings ≡ 1
   pub x5c_not_past_its_pdi : map level_of (explicit 0 (FirstStrongIsolate ∷ OtherNeutral ∷ PopDirectionalIsolate ∷ RightToLeft ∷ [])) ≡ (0 ∷ 2 ∷ 0 ∷ 0 ∷ [])
-  pub p3_given_or_found : (paragraph_level (Some Left) (RightToLeft ∷ []) ∷ paragraph_level (Some Right) (LeftToRight ∷ []) ∷ paragraph_level None (RightToLeft ∷ []) ∷ paragraph_level None (LeftToRight ∷ []) ∷ []) ≡ (0 ∷ 1 ∷ 1 ∷ 0 ∷ [])
+  pub p3_given_or_found : (paragraph_level (Some Left) (RightToLeft ∷ []) ∷ paragraph_level (Some Right) (LeftToRight ∷ []) ∷ paragraph_level None (RightToLeft ∷ []) ∷ paragraph_level None (LeftToRight ∷ []) ∷ paragraph_level None (PopDirectionalIsolate ∷ RightToLeft ∷ []) ∷ []) ≡ (0 ∷ 1 ∷ 1 ∷ 0 ∷ 1 ∷ [])
 
 pub worked_explicit : WorkedExplicit
 worked_explicit = record {
