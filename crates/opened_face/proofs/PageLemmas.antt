@@ -17,4 +17,4 @@ stored f pages index glyphs is_index filled all c in_index in_glyphs =
     let whole : 256 * (c / 256) + c % 256 ≡ c = omega arith in
     let same : 256 * slice_index pages ((256 * place + c % 256) / 256) + (256 * place + c % 256) % 256 ≡ c =
     rw (quotient, rest, page) whole in
-    filled (256 * place + c % 256) in_glyphs ∙ ap (mapped_glyph f.cmap.now f.symbols) same
+    filled (256 * place + c % 256) in_glyphs ∙ ap (mapped_glyph f.cmap.now f.font_page) same

@@ -13,7 +13,7 @@ IsIndexOf pages index = (p : ℕ) → p < length index → slice_index index p <
 
 -- glyph `i` of these pages, one page of 256 characters after the other
 unfoldable pub glyph_in : FontFace → List ℕ → ℕ → ℕ
-glyph_in f pages i = mapped_glyph f.cmap.now f.symbols (256 * slice_index pages (i / 256) + i % 256)
+glyph_in f pages i = mapped_glyph f.cmap.now f.font_page (256 * slice_index pages (i / 256) + i % 256)
 
 abbrev pub AreGlyphsOf : FontFace → List ℕ → List ℕ → Type 0
 AreGlyphsOf f pages glyphs = (i : ℕ) → i < length glyphs → slice_index glyphs i ≡ glyph_in f pages i
@@ -22,7 +22,7 @@ AreGlyphsOf f pages glyphs = (i : ℕ) → i < length glyphs → slice_index gly
 abbrev pub AreStored : FontFace → List ℕ → List ℕ → Type 0
 AreStored f index glyphs = (c : ℕ) → c / 256 < length index
     → 256 * slice_index index (c / 256) + c % 256 < length glyphs
-    → slice_index glyphs (256 * slice_index index (c / 256) + c % 256) ≡ mapped_glyph f.cmap.now f.symbols c
+    → slice_index glyphs (256 * slice_index index (c / 256) + c % 256) ≡ mapped_glyph f.cmap.now f.font_page c
 
 -- each stored advance is that of its glyph
 abbrev pub AreAdvances : FontFace → List ℤ → Type 0

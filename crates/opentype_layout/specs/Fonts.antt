@@ -3,8 +3,9 @@ use Rattle.std.specs.Prelude.{◌≡◌, ℕ, List, nat_lt}
 use Rattle.opentype_layout.specs.declared.face.OpenTypeFace.{OpenTypeFace}
 use Rattle.shape_font.specs.Bytes.{u16_of}
 use Rattle.shape_font.specs.Directory.{bytes_of, has_table}
+use Rattle.shape_font.specs.FontPages.{font_page_of}
 use Rattle.shape_font.specs.Metrics.{long_metrics}
-use Rattle.shape_font.specs.Subtables.{chosen_subtable, symbols_of}
+use Rattle.shape_font.specs.Subtables.{chosen_subtable}
 use Rattle.shape_font.specs.Variations.{sequences_of}
 use Rattle.shape_font.specs.declared.face.FontFace.{FontFace}
 
@@ -20,7 +21,7 @@ pub record IsFontOf (bytes : List ℕ) (index : ℕ) (font : FontFace) : Type 0 
   pub v_count : font.v_count ≡ long_metrics (bytes_of bytes index 0x766D7478) (u16_of (bytes_of bytes index 0x76686561) 34)
   pub long_places : font.long_places ≡ nat_lt 0 (u16_of (bytes_of bytes index 0x68656164) 50)
   pub outlines : font.outlines ≡ has_table bytes index 0x676C7966
-  pub symbols : font.symbols ≡ symbols_of (bytes_of bytes index 0x636D6170)
+  pub font_page : font.font_page ≡ font_page_of (bytes_of bytes index 0x636D6170) (bytes_of bytes index 0x4F532F32)
   pub has_gsub : font.tables.gsub ≡ has_table bytes index 0x47535542
   pub has_gpos : font.tables.gpos ≡ has_table bytes index 0x47504F53
   pub has_morx : font.tables.morx ≡ has_table bytes index 0x6D6F7278

@@ -1,9 +1,11 @@
 -- glyphs of characters, by the tables of `cmap`; glyph 0 is none
-use Rattle.std.specs.Prelude.{ℕ, List, Bool, true, false, Option, cond, ◌+◌, ◌-◌, ◌*◌, ◌/◌, ◌%◌, ◌&&◌, nat_lt, nat_eq, if◌then◌else◌, slice_index}
+use Rattle.std.specs.Prelude.{ℕ, List, Bool, true, false, Option, cond, ◌+◌, ◌-◌, ◌*◌, ◌/◌, ◌%◌, nat_lt, nat_eq, if◌then◌else◌, slice_index}
 use Rattle.std.specs.Option.{option_map_or}
 use Rattle.std.specs.declared.cmp.Ordering.{Ordering}
 use Rattle.shape_font.specs.Bytes.{u16_of, u32_of, fitting}
+use Rattle.shape_font.specs.FontPages.{place_in}
 use Rattle.shape_font.specs.Search.{side_of, side_from_end, found_by}
+use Rattle.shape_font.specs.declared.font_pages.FontPage.{FontPage}
 
 -- format 0: a byte for each of 256 characters
 abbrev pub glyph_0 : List ℕ → ℕ → ℕ
@@ -70,7 +72,7 @@ cmap_glyph t c = let format = u16_of t 0 in
     else (if nat_eq format 13 then glyph_of_groups t true c
     else 0))))))
 
--- a table of symbols has its glyphs at U+F000 .. U+F0FF; they stand for U+0000 .. U+00FF too if it has none there
-abbrev pub mapped_glyph : List ℕ → Bool → ℕ → ℕ
-mapped_glyph t symbols c = let glyph = cmap_glyph t c in
-    (if symbols && nat_eq glyph 0 && nat_lt c 256 then cmap_glyph t (0xF000 + c) else glyph)
+-- a character without a glyph at its own number has the one at its code in the page
+abbrev pub mapped_glyph : List ℕ → FontPage → ℕ → ℕ
+mapped_glyph t page c = let glyph = cmap_glyph t c in
+    (if nat_eq glyph 0 then option_map_or (cmap_glyph t) (place_in page c) 0 else glyph)

@@ -2,6 +2,7 @@
 use Rattle.std.specs.Prelude.{ℕ, List, [], Bool, Option, Some, None, is_some, ◌+◌, ◌*◌, nat_le, nat_lt, nat_eq, length, if◌then◌else◌, slice_range}
 use Rattle.std.specs.Option.{option_and_then, unwrap_or}
 use Rattle.shape_font.specs.Bytes.{u16_of, u32_of, fitting}
+use Rattle.shape_font.specs.ResourceFork.{is_fork, font_of}
 use Rattle.shape_font.specs.Search.{first_at}
 
 -- where the font with this number begins: a collection (`ttcf`) lists its fonts, another file is one font
@@ -27,9 +28,10 @@ record_count bytes start = fitting bytes (u16_of bytes (start + 4)) (start + 12)
 abbrev pub table_at : List ℕ → ℕ → ℕ → Option (List ℕ)
 table_at bytes start tag = table_among bytes start (record_count bytes start) tag
 
--- the table with this tag, of the font with this number
+-- the table with this tag, of the font with this number; a font in a resource fork is a file of its own
 abbrev pub table_of : List ℕ → ℕ → ℕ → Option (List ℕ)
-table_of bytes index tag = option_and_then (λ start. table_at bytes start tag) (font_start bytes index)
+table_of bytes index tag = if is_fork bytes then table_at (font_of bytes index) 0 tag
+    else option_and_then (λ start. table_at bytes start tag) (font_start bytes index)
 
 unfoldable pub has_table : List ℕ → ℕ → ℕ → Bool
 has_table bytes index tag = is_some (table_of bytes index tag)

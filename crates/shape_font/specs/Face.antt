@@ -19,7 +19,7 @@ numbered g = if nat_lt 0 g then Some (record { 0 = g }) else None
 
 -- the glyph of a character by `cmap`
 abbrev pub glyph_of : FontFace → ℕ → Option GlyphId
-glyph_of f c = numbered (mapped_glyph f.cmap.now f.symbols c)
+glyph_of f c = numbered (mapped_glyph f.cmap.now f.font_page c)
 
 -- its glyph before a selector: the one that it has alone, or one of its own; none if the font says nothing
 abbrev pub varied : FontFace → ℕ → GlyphVariant → Option GlyphId

@@ -1,7 +1,9 @@
 pub mod Bytes
 pub mod Search
-pub mod Directory
 pub mod Subtables
+pub mod ResourceFork
+pub mod Directory
+pub mod FontPages
 pub mod Cmap
 pub mod Variations
 pub mod Metrics

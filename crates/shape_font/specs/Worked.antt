@@ -1,5 +1,6 @@
 pub mod Tables
 pub mod Glyphs
+pub mod FontPages
 pub mod Lines
 pub mod Searches
 pub mod Names

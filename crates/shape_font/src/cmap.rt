@@ -1,9 +1,10 @@
-//! Glyphs of characters: formats 0, 4, 6, 10, 12 and 13 of the table `cmap`.
+//! Glyphs of characters: formats 0, 4, 6, 10, 12 and 13 of the table `cmap`, and what pages of old fonts add.
 ghost use Rattle.std.specs.Prelude.{◌≡◌, ◌<◌, ◌^◌};
 ghost use Rattle.std.specs.Option.{IfSome};
 ghost use Rattle.shape_font.specs.Cmap.{glyph_0, side_of_segment, segment_of, segment_glyph, glyph_of_segments, listed_glyph, side_of_group, group_of, group_glyph, groups_of, glyph_of_groups, cmap_glyph, mapped_glyph};
 
 use crate::bytes::{long, records, u8_at, u16_at, u32_at};
+use crate::font_pages::{FontPage, place};
 use crate::search::{found, found_within, side, side_by_end};
 use std::cmp::Ordering;
 
@@ -154,14 +155,16 @@ pub fn glyph(table: &[u8], c: u32) -> u32
     }
 }
 
-/// The glyph of a character, or 0. In a table of symbols one below 256 without a glyph has that of U+F000 plus itself.
-pub fn mapped(table: &[u8], symbols: bool, c: u32) -> u32
-    ensures { result ≡ mapped_glyph table.now symbols c }
+/// The glyph of a character, or 0: the one at its own number, else the one at its code in the page.
+pub fn mapped(table: &[u8], page: FontPage, c: u32) -> u32
+    ensures { result ≡ mapped_glyph table.now page c }
 {
     let found = glyph(table, c);
-    if symbols && found == 0 && c < 256 {
-        glyph(table, 0xF000 + c)
-    } else {
-        found
+    if found != 0 {
+        return found;
+    }
+    match place(page, c) {
+        Some(code) => glyph(table, code),
+        None => 0,
     }
 }

@@ -3,7 +3,8 @@ ghost use Rattle.std.specs.Prelude.{◌≡◌, ◌≤ℤ◌, ◌&&◌, pos, negs
 ghost use Rattle.std.specs.Option.{IfSome, option_map};
 ghost use Rattle.shape_font.specs.Bytes.{u16_of};
 ghost use Rattle.shape_font.specs.Cmap.{mapped_glyph};
-ghost use Rattle.shape_font.specs.Subtables.{chosen_subtable, symbols_of};
+ghost use Rattle.shape_font.specs.FontPages.{font_page_of};
+ghost use Rattle.shape_font.specs.Subtables.{chosen_subtable};
 ghost use Rattle.shape_font.specs.Variations.{sequences_of};
 ghost use Rattle.shape_font.specs.Directory.{bytes_of, has_table};
 ghost use Rattle.shape_font.specs.Metrics.{long_metrics};
@@ -14,7 +15,8 @@ ghost use Rattle.shape_font.specs.Face;
 
 use crate::bytes::{u16_at, u32_at};
 use crate::directory::Directory;
-use crate::subtables::{chosen, symbols};
+use crate::font_pages::{FontPage, font_page};
+use crate::subtables::chosen;
 use crate::tags::{
     CMAP, GDEF, GLYF, GPOS, GSUB, HEAD, HHEA, HMTX, KERN, KERX, LOCA, MAXP, MORX, OS2, POST, TRAK,
     VHEA, VMTX, VORG,
@@ -36,7 +38,7 @@ pub struct FontFace<'a> {
     v_count: u16,
     long_places: bool,
     outlines: bool,
-    symbols: bool,
+    font_page: FontPage,
     tables: hb_tables_t,
     cmap: &'a [u8],
     sequences: &'a [u8],
@@ -98,8 +100,8 @@ impl<'a> FontFace<'a> {
         ensures long_places { IfSome result (λ f. f.long_places
             ≡ nat_lt 0 (u16_of (bytes_of bytes.now index HEAD) 50)) }
         ensures outlines { IfSome result (λ f. f.outlines ≡ has_table bytes.now index GLYF) }
-        ensures symbols { IfSome result (λ f. f.symbols
-            ≡ symbols_of (bytes_of bytes.now index CMAP)) }
+        ensures font_page { IfSome result (λ f. f.font_page
+            ≡ font_page_of (bytes_of bytes.now index CMAP) (bytes_of bytes.now index OS2)) }
         ensures gsub { IfSome result (λ f. f.tables.gsub ≡ has_table bytes.now index GSUB) }
         ensures gpos { IfSome result (λ f. f.tables.gpos ≡ has_table bytes.now index GPOS) }
         ensures morx { IfSome result (λ f. f.tables.morx ≡ has_table bytes.now index MORX) }
@@ -138,7 +140,7 @@ impl<'a> FontFace<'a> {
             v_count: metrics::metrics_in(vmtx, u16_at(vhea, 34)),
             long_places: u16_at(head, 50) != 0,
             outlines: font.has(GLYF),
-            symbols: symbols(cmap),
+            font_page: font_page(cmap, font.table_or_empty(OS2)),
             tables: lookups(&font),
             cmap: chosen(cmap),
             sequences: variations::sequences(cmap),
@@ -216,9 +218,9 @@ impl<'a> FontFace<'a> {
 
     /// The number of the glyph that `cmap` gives the character with this number, 0 if it gives none.
     pub fn glyph_number(&self, c: u32) -> u32
-        ensures { result ≡ mapped_glyph self.now.cmap.now self.now.symbols c }
+        ensures { result ≡ mapped_glyph self.now.cmap.now self.now.font_page c }
     {
-        cmap::mapped(self.cmap, self.symbols, c)
+        cmap::mapped(self.cmap, self.font_page, c)
     }
 
     /// The glyph of a character by `cmap`. It may be past the last glyph of the font.

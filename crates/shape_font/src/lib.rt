@@ -3,7 +3,8 @@
 //!
 //! Any bytes are taken. What lies past the end of a table reads as 0, so no call is refused, and one line says what
 //! each one means; no table is copied, and no memory is taken. [`bytes`] reads numbers, [`directory`] finds
-//! tables, [`cmap`] glyphs of characters, [`metrics`] advances and boxes, and [`face`] puts them together.
+//! tables, [`resource_fork`] the fonts of Apple's suitcases, [`cmap`] glyphs of characters, by a page of [`font_pages`] in
+//! fonts from before Unicode, [`metrics`] advances and boxes, and [`face`] puts them together.
 //! [`worked`] has the definitions computed on bytes that were read by hand.
 #![tactic(auto)]
 #![allow(non_camel_case_types)]
@@ -12,9 +13,11 @@ pub mod bytes;
 pub mod cmap;
 pub mod directory;
 pub mod face;
+pub mod font_pages;
 pub mod laws;
 pub mod metrics;
 pub mod names;
+pub mod resource_fork;
 pub mod search;
 pub mod subtables;
 mod tags;

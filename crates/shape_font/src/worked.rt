@@ -1,6 +1,7 @@
 //! The definitions, computed on bytes that were read by hand.
 ghost use Rattle.shape_font.specs.Worked.Tables.{WorkedNumbers, WorkedDirectory, WorkedCollections, WorkedSubtables, WorkedTags};
 ghost use Rattle.shape_font.specs.Worked.Glyphs.{WorkedLists, WorkedSegments, WorkedGroups, WorkedSymbols, WorkedMetrics};
+ghost use Rattle.shape_font.specs.Worked.FontPages.{WorkedFontPages, WorkedForks};
 ghost use Rattle.shape_font.specs.Worked.Lines.{WorkedLines};
 ghost use Rattle.shape_font.specs.Worked.Searches.{WorkedSearches, WorkedVariations};
 ghost use Rattle.shape_font.specs.Worked.Names.{WorkedNames};
@@ -23,6 +24,12 @@ pub fn glyphs_meet_worked_cases()
     ensures symbols { WorkedSymbols }
     ensures metrics { WorkedMetrics }
     ensures lines { WorkedLines }
+{}
+
+/// Pages of fonts from before Unicode, and fonts in resource forks.
+pub fn old_fonts_meet_worked_cases()
+    ensures pages { WorkedFontPages }
+    ensures forks { WorkedForks }
 {}
 
 /// Searches by midpoints, variation sequences, names, and what a face returns.

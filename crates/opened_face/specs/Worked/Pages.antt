@@ -1,21 +1,22 @@
 -- What an opened face stores, on tables that were read by hand.
-use Rattle.std.specs.Prelude.{◌≡◌, ◌<◌, ◌≤◌, ℕ, ℤ, pos, List, [], ◌∷◌, length, slice_index, slice_index_or, false, refl}
+use Rattle.std.specs.Prelude.{◌≡◌, ◌<◌, ◌≤◌, ℕ, ℤ, pos, List, [], ◌∷◌, length, slice_index, slice_index_or, refl}
 use Rattle.std.proofs.Common.{lit<, ◌∙◌}
 use Rattle.kern_table.specs.declared.sides.PairGlyphs.{PairGlyphs}
 use Rattle.shape_font.specs.Worked.Glyphs.{words, short_list}
 use Rattle.shape_font.specs.declared.face.FontFace.{FontFace}
+use Rattle.shape_font.specs.declared.font_pages.FontPage.TheVariants.{Unicode}
 use Rattle.opened_face.specs.Pages.{IsIndexOf, glyph_in, AreGlyphsOf, AreStored, AreAdvances, IsOpened}
 
 pub record WorkedPages : Type 0 where
   -- page 5 is the second of the stored ones
   pub place : (pages : List ℕ) → IsIndexOf pages (9 ∷ 9 ∷ 9 ∷ 0 ∷ 9 ∷ 1 ∷ []) → 1 < length pages → slice_index pages 1 ≡ 5
   -- U+0041 has glyph 7; page 0 is the second of the stored ones
-  pub filled : (f : FontFace) (glyphs : List ℕ) → f.symbols ≡ false → f.cmap.now ≡ short_list
+  pub filled : (f : FontFace) (glyphs : List ℕ) → f.font_page ≡ Unicode → f.cmap.now ≡ short_list
       → AreGlyphsOf f (3 ∷ 0 ∷ []) glyphs → 321 < length glyphs → slice_index glyphs 321 ≡ 7
-  pub found : (f : FontFace) (glyphs : List ℕ) → f.symbols ≡ false → f.cmap.now ≡ short_list
+  pub found : (f : FontFace) (glyphs : List ℕ) → f.font_page ≡ Unicode → f.cmap.now ≡ short_list
       → AreStored f (1 ∷ []) glyphs → 321 < length glyphs → slice_index glyphs 321 ≡ 7
   -- U+0141 has none
-  pub found_in_page_1 : (f : FontFace) (glyphs : List ℕ) → f.symbols ≡ false → f.cmap.now ≡ short_list
+  pub found_in_page_1 : (f : FontFace) (glyphs : List ℕ) → f.font_page ≡ Unicode → f.cmap.now ≡ short_list
       → AreStored f (1 ∷ 0 ∷ []) glyphs → 65 < length glyphs → slice_index glyphs 65 ≡ 0
   -- the second of two long metrics serves all later glyphs
   pub advance : (f : FontFace) (advances : List ℤ) → f.glyph_count ≡ 7 → f.h_count ≡ 2

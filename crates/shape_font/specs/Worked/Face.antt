@@ -10,17 +10,18 @@ use Rattle.shape_font.specs.Worked.Glyphs.{words, short_list, header}
 use Rattle.shape_font.specs.Worked.Lines.{origins, plain_line}
 use Rattle.shape_font.specs.Worked.Searches.{three_selectors}
 use Rattle.shape_font.specs.declared.face.FontFace.{FontFace}
+use Rattle.shape_font.specs.declared.font_pages.FontPage.TheVariants.{Unicode}
 
 pub record WorkedFace : Type 0 where
   pub glyph_0_is_none : numbered 0 ≡ None
   pub glyph_1 : numbered 1 ≡ Some (record { 0 = 1 })
   pub glyph_of_32_bits : numbered 65543 ≡ Some (record { 0 = 65543 })
   -- U+0041 has glyph 7, U+0042 glyph 9
-  pub of_a_character : (f : FontFace) → f.symbols ≡ false → f.cmap.now ≡ short_list
+  pub of_a_character : (f : FontFace) → f.font_page ≡ Unicode → f.cmap.now ≡ short_list
       → glyph_of f 0x41 ≡ Some (record { 0 = 7 })
-  pub past_the_last_of_a_character : (f : FontFace) → f.glyph_count ≡ 9 → f.symbols ≡ false → f.cmap.now ≡ short_list
+  pub past_the_last_of_a_character : (f : FontFace) → f.glyph_count ≡ 9 → f.font_page ≡ Unicode → f.cmap.now ≡ short_list
       → glyph_of f 0x42 ≡ Some (record { 0 = 9 })
-  pub as_alone : (f : FontFace) → f.symbols ≡ false → f.cmap.now ≡ short_list → f.sequences.now ≡ three_selectors
+  pub as_alone : (f : FontFace) → f.font_page ≡ Unicode → f.cmap.now ≡ short_list → f.sequences.now ≡ three_selectors
       → variant_of f 0x41 0xFE00 ≡ Some (record { 0 = 7 })
   pub own : (f : FontFace) → f.sequences.now ≡ three_selectors → variant_of f 0x41 0xFE01 ≡ Some (record { 0 = 7 })
   pub own_past_the_last : (f : FontFace) → f.glyph_count ≡ 7 → f.sequences.now ≡ three_selectors
@@ -100,7 +101,7 @@ pub record WorkedOrigins : Type 0 where
   pub by_its_bearing : (f : FontFace) → f.v_count ≡ 1 → f.vmtx.now ≡ words (900 ∷ 50 ∷ 60 ∷ []) → origin_over f 1 box ≡ pos 760
   -- 295 is left, and half of that is 147
   pub in_the_middle : (f : FontFace) → f.v_count ≡ 0 → f.os2.now ≡ [] → f.hhea.now ≡ plain_line → origin_over f 1 box ≡ pos 847
-  pub glyph : (f : FontFace) → f.symbols ≡ false → f.cmap.now ≡ short_list
+  pub glyph : (f : FontFace) → f.font_page ≡ Unicode → f.cmap.now ≡ short_list
       → (font_face f).nominal_glyph 0x41 ≡ Some (record { 0 = 7 })
   pub variant : (f : FontFace) → f.sequences.now ≡ three_selectors
       → (font_face f).variation_glyph 0x41 0xFE01 ≡ Some (record { 0 = 7 })

@@ -2,6 +2,7 @@
 use Rattle.std.specs.Prelude.{◌≡◌, ℕ, pos, negsuc, List, [], ◌∷◌, ◌++◌, ◌/◌, ◌%◌, Some, None, true, false, replicate, refl}
 use Rattle.shape_font.specs.Bytes.{i16_of}
 use Rattle.shape_font.specs.Cmap.{cmap_glyph, mapped_glyph, groups_of}
+use Rattle.shape_font.specs.declared.font_pages.FontPage.TheVariants.{Unicode, Symbols}
 use Rattle.shape_font.specs.Metrics.{long_metrics, advance_of, bearing_of, place_of, box_of, no_box, framed_of}
 
 -- numbers of two bytes each
@@ -107,11 +108,11 @@ abbrev pub symbols_in_groups : List ℕ
 symbols_in_groups = words (12 ∷ 0 ∷ 0 ∷ 40 ∷ 0 ∷ 0 ∷ 0 ∷ 2 ∷ 0 ∷ 0x20 ∷ 0 ∷ 0x20 ∷ 0 ∷ 5 ∷ 0 ∷ 0xF020 ∷ 0 ∷ 0xF020 ∷ 0 ∷ 9 ∷ [])
 
 pub record WorkedSymbols : Type 0 where
-  pub moved : mapped_glyph symbols_listed true 0xFF ≡ 3
-  pub not_moved_without_symbols : mapped_glyph symbols_listed false 0xFF ≡ 0
-  pub not_moved_from_256 : mapped_glyph symbols_listed true 0x100 ≡ 0
-  pub in_its_place : mapped_glyph symbols_listed true 0xF100 ≡ 4
-  pub own_glyph_first : mapped_glyph symbols_in_groups true 0x20 ≡ 5
+  pub moved : mapped_glyph symbols_listed Symbols 0xFF ≡ 3
+  pub not_moved_without_symbols : mapped_glyph symbols_listed Unicode 0xFF ≡ 0
+  pub not_moved_from_256 : mapped_glyph symbols_listed Symbols 0x100 ≡ 0
+  pub in_its_place : mapped_glyph symbols_listed Symbols 0xF100 ≡ 4
+  pub own_glyph_first : mapped_glyph symbols_in_groups Symbols 0x20 ≡ 5
 
 pub worked_symbols : WorkedSymbols
 worked_symbols = record {
