@@ -6,8 +6,8 @@
 Those of tests/sessions are of `shapeline`, those of tests/fontshape of `fontshape`;
 tests/sessions/README.md says how a session is written. If no file is named it takes all, then the
 inputs that fuzzing kept, in tests/fuzz, then runs `shapeline` with each of its reads failing in
-turn, and with each of its writes, until a run has no such call, and `fontshape` on a long text and
-to a full device. It ends with status 1 if something isn't as it should be, and says at which case,
+turn, and with each of its writes, until a run has no such call, and `fontshape` on a long text, to
+a full device and a closed pipe, and with an argument that isn't UTF-8. It ends with status 1 if something isn't as it should be, and says at which case,
 input or call.
 """
 import os
@@ -286,6 +286,32 @@ def run_full_device(folder):
     return right
 
 
+def run_closed_pipe(folder):
+    """`fontshape` ends in silence once nobody reads on, as `head` does after its lines. Returns
+    whether it does."""
+    reader, writer = os.pipe()
+    os.close(reader)
+    words = [FONTSHAPE, "tiny.ttf", "AB"]
+    ended = subprocess.run(words, stdout=writer, stderr=subprocess.PIPE, cwd=folder, timeout=LIMIT)
+    os.close(writer)
+    right = (ended.returncode, ended.stderr) == (0, b"")
+    if not right:
+        print(f"fontshape to a closed pipe: status {ended.returncode}, {ended.stderr}")
+    return right
+
+
+def run_malformed_argument(folder):
+    """`fontshape` says which argument isn't UTF-8, and from where on. Returns whether it does."""
+    words = [FONTSHAPE, "tiny.ttf", "--bot", b"\xC3\xA9\xC3("]
+    ended = subprocess.run(words, capture_output=True, cwd=folder, timeout=LIMIT)
+    said = (b"error: argument 3 isn't UTF-8 from its byte 3 on: give the text by --text-file or "
+            b"--unicodes\n")
+    right = (ended.returncode, ended.stdout, ended.stderr) == (2, b"", said)
+    if not right:
+        print(f"fontshape on a malformed argument: status {ended.returncode}, {ended.stderr}")
+    return right
+
+
 def run_heavy_font(folder):
     """The picture of a line has at most a megabyte and takes little time, whatever the font: A has
     65,536 points, and B is made of 256 of itself, again and again. Returns whether it does."""
@@ -311,7 +337,8 @@ def main():
         right = [run_sessions(named or all_files, folder)]
         if not named:
             right += [run_fuzzed(), run_failing_calls(), run_long_text(folder),
-                      run_full_device(folder), run_heavy_font(folder)]
+                      run_full_device(folder), run_closed_pipe(folder),
+                      run_malformed_argument(folder), run_heavy_font(folder)]
     sys.exit(0 if all(right) else 1)
 
 

@@ -32,7 +32,7 @@ SWITCHES = [
     "--remove-default-ignorables", "--unsafe-to-concat", "--safe-to-insert-tatweel",
     "--no-glyph-names", "--no-positions", "--no-advances", "--no-clusters", "--ned",
     "--show-extents", "--show-flags", "--show-text", "--show-unicode", "--show-line-num",
-    "--verbose",
+    "--verbose", "--single-par",
 ]
 FEATURES = ["kern", "-kern", "kern=0", "kern[3:5]=0", "kern[:2]=0,-liga", "kern[1]=0 liga", ""]
 NUMBERS = ["41", "U+0041", "U+0041,U+0042", "0041 0301 42", "<U+05D0|U+05B8>", "1F600", "uni0041",
@@ -79,6 +79,8 @@ def shaping_options(chance, sized):
     if chance.random() < 0.3:
         one_word = ["--features=" + chance.choice(FEATURES)]
         options += chance.choice([one_word, ["--features", chance.choice(FEATURES[:-1])]])
+    if chance.random() < 0.1:
+        options.append("--shapers=" + chance.choice(["ot", "fallback", "ot,fallback"]))
     if chance.random() < 0.2:
         options.append(f"--invisible-glyph={chance.choice([0, 3, 36, 65535])}")
     if chance.random() < 0.2:

@@ -52,6 +52,8 @@ class Test:
 
     def text(self):
         """The characters as a line of their own, none if there is no such line."""
+        if "--single-par" in self.options:
+            return None
         numbers = [int(it, 16) for it in re.findall("[0-9A-Fa-f]+", self.unicodes.replace("U+", ""))]
         if any(it == 10 or 0xD800 <= it < 0xE000 or it > 0x10FFFF for it in numbers):
             return None

@@ -8,6 +8,9 @@ const AFTER_HELP: &str = "\
 A value stands after = or is the next word. After a bare -- no word is an option. The last of several
 values of an option counts.
 
+A feature is switched on by its tag, as smcp or smcp=1, and off by -smcp or smcp=0; aalt=2 takes the second
+of several forms. It holds for the clusters in brackets alone: [3], [3:5] up to 5 and without it, [3:], [:5].
+
 Status 1: a file can't be read or written, or is no font, or memory ran out. Status 2: the arguments.
 Status 3: a text was refused.";
 
@@ -26,13 +29,15 @@ enum Takes {
     Word(&'static str),
     /// A number from 0 to this one.
     Number(u64),
+    /// A word under this name, of a picture that is drawn.
+    Look(&'static str),
 }
 
 /// An option: its name, a letter for it or a space, what it takes, and its help.
 #[derive(Clone, Copy)]
 struct Choice(&'static str, char, Takes, &'static str);
 
-static INPUT_CHOICES: [Choice; 10] = [
+static INPUT_CHOICES: [Choice; 11] = [
     Choice(
         "face-index",
         'y',
@@ -51,6 +56,12 @@ static INPUT_CHOICES: [Choice; 10] = [
         'u',
         Takes::Word("LIST"),
         "The text by numbers such as U+0041,1F600",
+    ),
+    Choice(
+        "single-par",
+        ' ',
+        Takes::Nothing,
+        "All of the input is one text",
     ),
     Choice(
         "text-before",
@@ -80,7 +91,7 @@ static INPUT_CHOICES: [Choice; 10] = [
     Choice("eot", ' ', Takes::Nothing, "Each text ends a paragraph"),
 ];
 
-static SHAPING_CHOICES: [Choice; 15] = [
+static SHAPING_CHOICES: [Choice; 16] = [
     Choice(
         "features",
         ' ',
@@ -100,6 +111,12 @@ static SHAPING_CHOICES: [Choice; 15] = [
         "A tag of ISO 15924 (guessed)",
     ),
     Choice("language", ' ', Takes::Word("LANGUAGE"), "A name of BCP 47"),
+    Choice(
+        "shapers",
+        ' ',
+        Takes::Word("LIST"),
+        "Shapers to try in order: ot, or fallback for each character by itself",
+    ),
     Choice(
         "font-size",
         ' ',
@@ -168,7 +185,7 @@ static SHAPING_CHOICES: [Choice; 15] = [
     ),
 ];
 
-static OUTPUT_CHOICES: [Choice; 14] = [
+static OUTPUT_CHOICES: [Choice; 17] = [
     Choice(
         "output-file",
         'o',
@@ -186,6 +203,24 @@ static OUTPUT_CHOICES: [Choice; 14] = [
         ' ',
         Takes::Nothing,
         "Draw all lines, a bar for each cluster, a mark where one may be cut",
+    ),
+    Choice(
+        "background",
+        ' ',
+        Takes::Look("COLOUR"),
+        "The colour of the picture, as RRGGBB or RRGGBBAA (white)",
+    ),
+    Choice(
+        "foreground",
+        ' ',
+        Takes::Look("COLOUR"),
+        "The colour of its glyphs (black)",
+    ),
+    Choice(
+        "margin",
+        ' ',
+        Takes::Look("N"),
+        "Its margins in units of the font, one to four numbers (an eighth of the em square)",
     ),
     Choice(
         "show-text",
@@ -256,9 +291,13 @@ fn argument<'a>(alloc: Global, choice: Choice, heading: &'a str) -> Result<Arg<'
     if letter != ' ' {
         arg = arg.short(letter);
     }
+    if name == "shapers" {
+        arg = arg.alias("shaper")?;
+    }
     Ok(match takes {
         Takes::Nothing => arg.action(ArgAction::SetTrue),
         Takes::Word(value) => arg.value_name(value).allow_hyphen_values(true),
+        Takes::Look(value) => arg.value_name(value).requires_arg("svg")?,
         Takes::Number(most) => arg
             .value_name("N")
             .value_parser(ValueParser::unsigned(0, most)),

@@ -99,13 +99,23 @@ impl Drawing {
         self.bounds.high = self.bounds.high.max(y);
     }
 
-    /// Draws an outline from this place on.
-    pub fn glyph(&mut self, segments: &[Segment], pen: Place) -> Result<(), AllocError> {
+    /// Draws the outline of a glyph of a cluster from this place on.
+    pub fn glyph(
+        &mut self,
+        glyph: u16,
+        cluster: u32,
+        segments: &[Segment],
+        pen: Place,
+    ) -> Result<(), AllocError> {
         if !self.has_room() {
             return Ok(());
         }
         let (x, y) = (rounded(near(pen.x)), rounded(near(pen.y)));
-        write!(self.out, "<path transform=\"translate({x} {y})\" d=\"")?;
+        write!(
+            self.out,
+            "<path class=\"glyph\" data-glyph=\"{glyph}\" data-cluster=\"{cluster}\""
+        )?;
+        write!(self.out, " transform=\"translate({x} {y})\" d=\"")?;
         for segment in segments {
             self.segment(*segment, pen)?;
         }
@@ -138,21 +148,35 @@ impl Drawing {
         write!(self.out, "{letter}{x} {y}")
     }
 
-    /// Begins the lines, which are so wide; they are the rest of the drawing.
-    pub fn begin_lines(&mut self, width: f64) -> Result<(), AllocError> {
+    /// Begins the lines of clusters, which are so wide; they are the rest of the drawing.
+    pub fn begin_clusters(&mut self, width: f64) -> Result<(), AllocError> {
         let width = rounded(width);
-        write!(self.out, "<g stroke-width=\"{width}\">\n")
+        write!(
+            self.out,
+            "<g class=\"clusters\" stroke-width=\"{width}\">\n"
+        )
     }
 
-    /// Draws a line of this colour.
-    pub fn line(&mut self, colour: &str, from: Place, to: Place) -> Result<(), AllocError> {
+    /// Draws a line of a cluster, of this class and colour.
+    pub fn line(
+        &mut self,
+        class: &str,
+        cluster: u32,
+        colour: &str,
+        from: Place,
+        to: Place,
+    ) -> Result<(), AllocError> {
         if !self.has_room() {
             return Ok(());
         }
         self.sees(from);
         self.sees(to);
         let (x, y) = (rounded(near(from.x)), rounded(near(from.y)));
-        write!(self.out, "<path stroke=\"{colour}\" d=\"M{x} {y}")?;
+        write!(
+            self.out,
+            "<path class=\"{class}\" data-cluster=\"{cluster}\" stroke=\"{colour}\""
+        )?;
+        write!(self.out, " d=\"M{x} {y}")?;
         let (x, y) = (rounded(near(to.x)), rounded(near(to.y)));
         write!(self.out, "L{x} {y}\"/>\n")
     }
@@ -160,7 +184,10 @@ impl Drawing {
     /// Appends the drawing to a picture, with its origin at this height.
     pub fn append_to(&self, picture: &mut String, base: f64) -> Result<(), AllocError> {
         let base = rounded(base);
-        write!(picture, "<g transform=\"translate(0 {base})\">\n")?;
+        write!(
+            picture,
+            "<g class=\"line\" transform=\"translate(0 {base})\">\n"
+        )?;
         picture.push_str(self.out.as_str())?;
         picture.push_str("</g>\n</g>\n")
     }

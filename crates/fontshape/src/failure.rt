@@ -20,6 +20,8 @@ pub enum Failure {
     Refused(String),
     /// A growth of memory was refused.
     Memory,
+    /// Nobody reads on what is written.
+    Closed,
 }
 
 impl Failure {
@@ -47,8 +49,14 @@ impl Failure {
         }
     }
 
-    /// A file without the font of this number.
-    pub fn no_font(alloc: Global, name: &str, number: u32) -> Failure {
+    /// A file, which holds these bytes, without the font of this number.
+    pub fn no_font(alloc: Global, name: &str, bytes: &[u8], number: u32) -> Failure {
+        if bytes.starts_with(b"wOFF") {
+            return Failure::file(alloc, name, "a compressed font (WOFF); unpack it first");
+        }
+        if bytes.starts_with(b"wOF2") {
+            return Failure::file(alloc, name, "a compressed font (WOFF2); unpack it first");
+        }
         if number == 0 {
             return Failure::file(alloc, name, "not a font file");
         }
@@ -62,6 +70,24 @@ impl Failure {
     pub fn io(alloc: Global, name: &str, error: io::Error) -> Failure {
         match format!(in alloc; "{name}: {error}") {
             Ok(text) => Failure::File(text),
+            Err(_) => Failure::Memory,
+        }
+    }
+
+    /// A write that failed; where nobody reads on, as `head` after its lines, there is nothing to say.
+    pub fn write(alloc: Global, name: &str, error: io::Error) -> Failure {
+        match error.kind() {
+            io::ErrorKind::BrokenPipe => Failure::Closed,
+            _ => Failure::io(alloc, name, error),
+        }
+    }
+
+    /// The argument with this number, counted from 1, that isn't UTF-8 from this byte on.
+    pub fn malformed(alloc: Global, number: usize, at: usize) -> Failure {
+        match format!(in alloc;
+            "argument {number} isn't UTF-8 from its byte {at} on: give the text by --text-file or --unicodes"
+        ) {
+            Ok(text) => Failure::Argument(text),
             Err(_) => Failure::Memory,
         }
     }
@@ -80,7 +106,7 @@ impl Failure {
     }
 
     /// The status that the program ends with: 2 if the arguments are wrong, 1 for a file or for want of memory, 3 for a
-    /// text that was refused, and 0 only after help and the version.
+    /// text that was refused, and 0 only after help and the version, and where nobody reads on.
     pub fn status(&self) -> u8
         ensures within { result ≤ 3 }
         ensures usage { (e : _) → self.now ≡ Failure.Usage e → (result ≡ 0) ⊎ (result ≡ 2) }
@@ -88,9 +114,11 @@ impl Failure {
         ensures file { (text : _) → self.now ≡ Failure.File text → result ≡ 1 }
         ensures refused { (text : _) → self.now ≡ Failure.Refused text → result ≡ 3 }
         ensures memory { self.now ≡ Failure.Memory → result ≡ 1 }
+        ensures closed { self.now ≡ Failure.Closed → result ≡ 0 }
     {
         match self {
             Failure::Usage(error) if !error.use_stderr() => 0,
+            Failure::Closed => 0,
             Failure::Usage(_) => 2,
             Failure::Argument(_) => 2,
             Failure::File(_) | Failure::Memory => 1,
@@ -101,7 +129,7 @@ impl Failure {
     /// What is said of it, except for what `clap` says.
     pub fn text(&self) -> &str {
         match self {
-            Failure::Usage(_) => "",
+            Failure::Usage(_) | Failure::Closed => "",
             Failure::Argument(text) | Failure::File(text) | Failure::Refused(text) => text.as_str(),
             Failure::Memory => "out of memory",
         }

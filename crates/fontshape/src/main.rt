@@ -1,14 +1,16 @@
 //! Shapes texts with a font file, and writes the glyphs as `hb-shape` does.
 //!
 //! [`command`] says which arguments there are, [`options`] and [`values`] what they ask for; [`line`] reads a line,
-//! [`shaping`] shapes it, [`written`] writes it to an [`output`] in a [`size`], and [`picture`] draws it.
+//! [`shaping`] shapes it, or [`fallback`], [`written`] writes it to an [`output`] in a [`size`], and [`picture`] draws it.
 #![tactic(auto)]
 #![allow(non_camel_case_types)]
 
 mod command;
 mod drawing;
 mod failure;
+mod fallback;
 mod line;
+mod look;
 mod options;
 mod output;
 mod picture;
@@ -29,9 +31,11 @@ use crate::written::{Font, Given, write_line};
 use glyph_outlines::Outlines;
 use opentype_layout::OpenedOpenTypeFace;
 use shape_font::FontFace;
+use shape_font::directory::Directory;
 use shape_pipeline::hb_font_t;
 use shape_text_forms::SerializeFlags;
 use std::alloc::Global;
+use std::env::{Env, FillError};
 use std::fs::File;
 use std::io::{BufRead, BufReader, Read, Write};
 use std::process::ExitCode;
@@ -68,7 +72,7 @@ impl<'a, W: Write + Drop> Work<'a, W> {
             Err(error) => return Err(Failure::line(alloc, number, error)),
         };
         match &self.outlines {
-            Some(outlines) => match self.picture.add(alloc, outlines, &glyphs) {
+            Some(outlines) => match self.picture.add(alloc, outlines, &line, &glyphs) {
                 Ok(()) => Ok(()),
                 Err(error) => Err(Failure::line(alloc, number, error)),
             },
@@ -108,21 +112,51 @@ impl<'a, W: Write + Drop> Work<'a, W> {
         Ok(())
     }
 
+    /// Takes all that a reader gives as one text, if there is anything.
+    fn take_whole<R: BufRead + Drop>(
+        &mut self,
+        alloc: Global,
+        reader: R,
+        name: &str,
+    ) -> Result<(), Failure> {
+        let mut reader = reader;
+        let mut text = Vec::new(alloc);
+        match reader.read_to_end(&mut text) {
+            Ok(0) => Ok(()),
+            Ok(_) => self.take_line(alloc, text.as_slice(), 1),
+            Err(error) => Err(Failure::io(alloc, name, error)),
+        }
+    }
+
+    /// Takes what a reader gives, as the options ask.
+    fn take<R: BufRead + Drop>(
+        &mut self,
+        alloc: Global,
+        reader: R,
+        name: &str,
+    ) -> Result<(), Failure> {
+        if self.options.single_par() {
+            self.take_whole(alloc, reader, name)
+        } else {
+            self.take_lines(alloc, reader, name)
+        }
+    }
+
     /// Takes each line of the texts that the options name.
     fn take_source(&mut self, rt: &HostRuntime) -> Result<(), Failure> {
         let alloc = rt.alloc();
         match self.options.source() {
-            Source::Given(text) => self.take_lines(alloc, text.as_bytes(), INPUT),
+            Source::Given(text) => self.take(alloc, text.as_bytes(), INPUT),
             Source::File(name) => match File::open(rt, name.as_str()) {
                 Ok(file) => {
                     let reader = buffered(alloc, file)?;
-                    self.take_lines(alloc, reader, name.as_str())
+                    self.take(alloc, reader, name.as_str())
                 }
                 Err(error) => Err(Failure::io(alloc, name.as_str(), error)),
             },
             Source::Input => {
                 let reader = buffered(alloc, rt.reader())?;
-                self.take_lines(alloc, reader, INPUT)
+                self.take(alloc, reader, INPUT)
             }
         }
     }
@@ -132,7 +166,7 @@ impl<'a, W: Write + Drop> Work<'a, W> {
         let alloc = rt.alloc();
         self.take_source(rt)?;
         if self.outlines.is_some() {
-            let svg = self.picture.svg(alloc)?;
+            let svg = self.picture.svg(alloc, self.options.look())?;
             self.output.write(alloc, svg.as_bytes())?;
         }
         Ok(())
@@ -175,14 +209,32 @@ fn drawn<'a>(
     }
 }
 
-/// Says that boxes are asked for of a font that has none.
+/// Tables of bitmaps and of layers in colours: `sbix`, `CBDT`, `COLR`.
+const COLOURED: [u32; 3] = [0x7362_6978, 0x4342_4454, 0x434F_4C52];
+
+/// What boxes a font has not, none if it has all.
+fn missing_boxes(options: &Options, bytes: &[u8]) -> Option<&'static str> {
+    let index = options.face_index();
+    if Outlines::from_slice(bytes, index).is_none() {
+        return Some("no boxes, since it has no table glyf");
+    }
+    let font = Directory::of(bytes, index);
+    if COLOURED.iter().any(|tag| font.has(*tag)) {
+        return Some("boxes of outlines alone, and not of its bitmaps or layers (sbix, CBDT, COLR)");
+    }
+    None
+}
+
+/// Says that boxes are asked for that a font hasn't.
 fn warn_of_boxes(rt: &HostRuntime, options: &Options, bytes: &[u8]) -> Result<(), Failure> {
-    let asked = options.form().asks(SerializeFlags::GLYPH_EXTENTS);
-    if !asked || Outlines::from_slice(bytes, options.face_index()).is_some() {
+    if !options.form().asks(SerializeFlags::GLYPH_EXTENTS) {
         return Ok(());
     }
+    let Some(missing) = missing_boxes(options, bytes) else {
+        return Ok(());
+    };
     let name = options.font();
-    match eprintln!(rt; "warning: {name}: no boxes, since it has no table glyf") {
+    match eprintln!(rt; "warning: {name}: {missing}") {
         Ok(()) => Ok(()),
         Err(error) => Err(Failure::io(rt.alloc(), "standard error", error)),
     }
@@ -219,7 +271,7 @@ fn run_to<W: Write + Drop>(
     let alloc = rt.alloc();
     let index = options.face_index();
     let Some(face) = FontFace::from_slice(bytes, index) else {
-        return Err(Failure::no_font(alloc, options.font(), index));
+        return Err(Failure::no_font(alloc, options.font(), bytes, index));
     };
     let outlines = drawn(alloc, options, bytes)?;
     warn_of_boxes(rt, options, bytes)?;
@@ -241,12 +293,39 @@ fn run(rt: &HostRuntime, options: &Options, bytes: &[u8]) -> Result<(), Failure>
     }
 }
 
+/// The most bytes of an argument that is looked at.
+const LONGEST: usize = 4096;
+
+/// The argument that isn't UTF-8, and its byte from which on it isn't, both counted from 1; none if it isn't found.
+fn malformed(rt: &HostRuntime) -> Option<(usize, usize)> {
+    let mut bytes = [0u8; LONGEST];
+    for number in 1..usize::MAX {
+        let len = match rt.arg(number, &mut bytes) {
+            Ok(len) => len,
+            Err(FillError::TooLong) => continue,
+            Err(FillError::NotPresent) => return None,
+        };
+        if let Err(error) = str::from_utf8(bytes.get(..len).unwrap_or(&[])) {
+            return Some((number, error.valid_up_to().saturating_add(1)));
+        }
+    }
+    None
+}
+
+/// Why the arguments can't be read.
+fn unreadable(rt: &HostRuntime, error: io::Error) -> Failure {
+    match malformed(rt) {
+        Some((number, at)) => Failure::malformed(rt.alloc(), number, at),
+        None => Failure::io(rt.alloc(), "the arguments", error),
+    }
+}
+
 /// Reads the arguments and does what they ask.
 fn obey(rt: &HostRuntime) -> Result<(), Failure> {
     let alloc = rt.alloc();
     let words = match env::args(rt) {
         Ok(words) => words,
-        Err(error) => return Err(Failure::io(alloc, "the arguments", error)),
+        Err(error) => return Err(unreadable(rt, error)),
     };
     let words: Vec<String> = words.collect(alloc)?;
     let matches = match command(alloc)?.try_get_matches_from(words.as_slice()) {
@@ -264,6 +343,7 @@ fn obey(rt: &HostRuntime) -> Result<(), Failure> {
 fn give_up(rt: &HostRuntime, failure: &Failure) -> io::Result<ExitCode> {
     match failure {
         Failure::Usage(error) => error.print(rt)?,
+        Failure::Closed => {}
         _ => eprintln!(rt; "error: {}", failure.text())?,
     }
     Ok(ExitCode::from(failure.status()))

@@ -1,5 +1,6 @@
 //! What the arguments ask for.
 use crate::failure::Failure;
+use crate::look::Look;
 use crate::size::Size;
 use crate::values;
 use clap::ArgMatches;
@@ -44,6 +45,7 @@ pub struct Shown {
 pub struct Options {
     font: String,
     source: Source,
+    single_par: bool,
     before: String,
     after: String,
     features: Vec<Feature>,
@@ -53,6 +55,7 @@ pub struct Options {
     size: Option<Size>,
     level: BufferClusterLevel,
     mode: Option<u32>,
+    fallback: bool,
     face_index: u32,
     utf8_clusters: bool,
     layout: bool,
@@ -61,6 +64,7 @@ pub struct Options {
     flags: u32,
     form: u32,
     format: Format,
+    look: Look,
     shown: Shown,
     output: Option<String>,
 }
@@ -71,6 +75,7 @@ impl Options {
         Ok(Options {
             font: values::word_or(alloc, matches, "font", "")?,
             source: values::source(alloc, matches)?,
+            single_par: matches.get_flag("single-par"),
             before: values::context(alloc, matches, "--text-before", "--unicodes-before")?,
             after: values::context(alloc, matches, "--text-after", "--unicodes-after")?,
             features: values::features(alloc, matches)?,
@@ -80,6 +85,7 @@ impl Options {
             size: values::size(alloc, matches)?,
             level: values::level(matches),
             mode: matches.get_one::<u32>("mode"),
+            fallback: values::fallback(alloc, matches)?,
             face_index: matches.get_one::<u32>("face-index").unwrap_or(0),
             utf8_clusters: matches.get_flag("utf8-clusters"),
             layout: !matches.get_flag("no-layout"),
@@ -88,6 +94,7 @@ impl Options {
             flags: values::run_flags(matches),
             form: values::form_flags(matches),
             format: values::format(alloc, matches)?,
+            look: values::look(alloc, matches)?,
             shown: values::shown(matches),
             output: values::word(alloc, matches, "output-file")?,
         })
@@ -101,6 +108,11 @@ impl Options {
     /// Where texts come from.
     pub fn source(&self) -> &Source {
         &self.source
+    }
+
+    /// Whether the input is one text, and not one a line.
+    pub fn single_par(&self) -> bool {
+        self.single_par
     }
 
     /// What stands before each text.
@@ -151,6 +163,11 @@ impl Options {
         self.mode
     }
 
+    /// Whether each character is to be shaped by itself.
+    pub fn fallback(&self) -> bool {
+        self.fallback
+    }
+
     /// The number of the font in a collection.
     pub fn face_index(&self) -> u32 {
         self.face_index
@@ -189,6 +206,11 @@ impl Options {
     /// How lines are written.
     pub fn format(&self) -> Format {
         self.format
+    }
+
+    /// How a picture looks.
+    pub fn look(&self) -> &Look {
+        &self.look
     }
 
     /// What is written before the glyphs of a line.

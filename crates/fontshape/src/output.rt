@@ -23,7 +23,7 @@ impl<'a, W: Write + Drop> Output<'a, W> {
     pub fn write(&mut self, alloc: Global, bytes: &[u8]) -> Result<(), Failure> {
         match self.writer.write_all(bytes) {
             Ok(()) => Ok(()),
-            Err(error) => Err(Failure::io(alloc, self.name, error)),
+            Err(error) => Err(Failure::write(alloc, self.name, error)),
         }
     }
 
@@ -31,7 +31,7 @@ impl<'a, W: Write + Drop> Output<'a, W> {
     pub fn flush(&mut self, alloc: Global) -> Result<(), Failure> {
         match self.writer.flush() {
             Ok(()) => Ok(()),
-            Err(error) => Err(Failure::io(alloc, self.name, error)),
+            Err(error) => Err(Failure::write(alloc, self.name, error)),
         }
     }
 }

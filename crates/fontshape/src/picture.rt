@@ -4,6 +4,8 @@
 //! at most [`MOST_BYTES`] bytes and is made of at most [`MOST_POINTS`] points, contours and components, that of all lines
 //! of [`FULL_LINES`] times as much: what would pass either is left out.
 use crate::drawing::{Bounds, Drawing, Place, rounded};
+use crate::line::Line;
+use crate::look::{Look, Margins};
 use glyph_outlines::Outlines;
 use shape_pipeline::{Direction, GlyphBuffer, GlyphCluster, ShapeError};
 use std::alloc::{AllocError, Global};
@@ -17,6 +19,12 @@ const MOST_POINTS: u32 = 200_000;
 /// How many lines of so many bytes or points a picture holds: else a font of 60 KB makes one of gigabytes of a short
 /// text, by a line for each letter.
 const FULL_LINES: u8 = 16;
+
+/// How many pixels wide and high the em square is, where a page doesn't say how large the picture is to be.
+const PIXELS: f64 = 64.0;
+
+/// The most bytes of the title, but for those of its last character.
+const MOST_TITLE: usize = 200;
 
 /// Where bars of clusters stand, seen from the pen, and how long the marks across them are.
 #[derive(Clone, Copy)]
@@ -104,7 +112,7 @@ fn draw_glyphs(
         }
         let outline = outlines.outline(alloc, glyph, MOST_BYTES)?;
         points = points.saturating_add(outline.points());
-        drawing.glyph(outline.segments(), pen)?;
+        drawing.glyph(glyph, info.cluster, outline.segments(), pen)?;
     }
     Ok(points)
 }
@@ -119,7 +127,8 @@ fn draw_cluster(
 ) -> Result<(), AllocError> {
     let begin = bars.at(place_at(places, cluster.start));
     let end = bars.at(place_at(places, cluster.end));
-    drawing.line(if odd { "#39c" } else { "#c63" }, begin, end)?;
+    let colour = if odd { "#39c" } else { "#c63" };
+    drawing.line("cluster", cluster.cluster, colour, begin, end)?;
     if cluster.unsafe_to_break {
         return Ok(());
     }
@@ -137,7 +146,7 @@ fn draw_cluster(
         x: cut.x + across,
         y: cut.y + along,
     };
-    drawing.line("#000", from, to)
+    drawing.line("break", cluster.cluster, "currentColor", from, to)
 }
 
 /// Draws a bar for each cluster, in two alternating colours, with marks.
@@ -157,9 +166,43 @@ fn draw_clusters(
     Ok(())
 }
 
+/// Appends a character of the title, as XML writes it; U+FFFD stands for one that XML doesn't have.
+fn push_escaped(out: &mut String, c: char) -> Result<(), AllocError> {
+    match c {
+        '<' => out.push_str("&lt;"),
+        '>' => out.push_str("&gt;"),
+        '&' => out.push_str("&amp;"),
+        '\t' => out.push(c),
+        '\0'..='\u{1F}' | '\u{FFFE}' | '\u{FFFF}' => out.push('\u{FFFD}'),
+        _ => out.push(c),
+    }
+}
+
+/// The margins from the one above on clockwise, all so wide if nothing is asked for.
+fn sides(asked: &Option<Margins>, else_all: f64) -> [f64; 4] {
+    match asked {
+        Some(margins) => [
+            f64::from(margins.top),
+            f64::from(margins.right),
+            f64::from(margins.bottom),
+            f64::from(margins.left),
+        ],
+        None => [else_all; 4],
+    }
+}
+
+/// The colour that is asked for, or this one.
+fn colour<'a>(asked: &'a Option<String>, other: &'a str) -> &'a str {
+    match asked {
+        Some(colour) => colour.as_str(),
+        None => other,
+    }
+}
+
 /// A picture of lines, of which each stands below the one before it.
 #[derive(Drop)]
 pub struct Picture {
+    title: String,
     body: String,
     points: u32,
     em: f64,
@@ -172,6 +215,7 @@ impl Picture {
     /// A picture without a line, for a font with such an em square.
     pub fn new(alloc: Global, units_per_em: u16) -> Picture {
         Picture {
+            title: String::new(alloc),
             body: String::new(alloc),
             points: 0,
             em: f64::from(units_per_em),
@@ -193,13 +237,29 @@ impl Picture {
         all.saturating_sub(self.points).min(MOST_POINTS)
     }
 
-    /// Adds a line below all others. Refuses if a growth was refused.
+    /// Puts a line of text into the title, as far as there is room.
+    fn name(&mut self, line: &Line) -> Result<(), AllocError> {
+        if !self.title.is_empty() {
+            self.title.push(' ')?;
+        }
+        for character in line.characters() {
+            if MOST_TITLE <= self.title.len() {
+                return Ok(());
+            }
+            push_escaped(&mut self.title, character.c)?;
+        }
+        Ok(())
+    }
+
+    /// Adds a line with its glyphs below all others. Refuses if a growth was refused.
     pub fn add(
         &mut self,
         alloc: Global,
         outlines: &Outlines,
+        line: &Line,
         glyphs: &GlyphBuffer,
     ) -> Result<(), ShapeError> {
+        self.name(line)?;
         let places = places(alloc, glyphs)?;
         let places = places.as_slice();
         let mut drawing = Drawing::new(alloc, self.room());
@@ -209,7 +269,7 @@ impl Picture {
         let read = draw_glyphs(alloc, &mut drawing, outlines, glyphs, places, most)?;
         self.points = self.points.saturating_add(read);
         let bars = Bars::of(glyphs.direction(), self.em, drawing.bounds());
-        drawing.begin_lines(self.em * 0.03125)?;
+        drawing.begin_clusters(self.em * 0.03125)?;
         draw_clusters(alloc, &mut drawing, glyphs, places, bars)?;
         let least = if glyphs.direction().is_vertical() {
             0.0
@@ -223,27 +283,45 @@ impl Picture {
     /// Puts a drawing below all that is there, with a gap between them and at least so much room above its origin.
     fn put(&mut self, drawing: &Drawing, least: f64) -> Result<(), AllocError> {
         let bounds = drawing.bounds();
-        let gap = self.em * 0.125;
+        let gap = if self.body.is_empty() {
+            0.0
+        } else {
+            self.em * 0.25
+        };
         let base = self.low - gap - bounds.high.max(least);
-        self.low = base + bounds.low - gap;
-        self.left = self.left.min(bounds.left - gap);
-        self.right = self.right.max(bounds.right + gap);
+        self.low = base + bounds.low;
+        self.left = self.left.min(bounds.left);
+        self.right = self.right.max(bounds.right);
         drawing.append_to(&mut self.body, base)
     }
 
+    /// Writes how large the picture is, in pixels of a page and in its own units, with these margins.
+    fn write_size(&self, out: &mut String, margins: [f64; 4]) -> Result<(), AllocError> {
+        let [top, right, bottom, left] = margins;
+        let width = self.right - self.left + left + right;
+        let height = top + bottom - self.low;
+        let scale = PIXELS / self.em;
+        let (wide, high) = (rounded(width * scale), rounded(height * scale));
+        write!(out, " width=\"{wide}\" height=\"{high}\"")?;
+        let (x, y) = (rounded(self.left - left), rounded(0.0 - top));
+        let (width, height) = (rounded(width), rounded(height));
+        write!(out, " viewBox=\"{x} {y} {width} {height}\"")
+    }
+
     /// The picture as SVG.
-    pub fn svg(&self, alloc: Global) -> Result<String, AllocError> {
+    pub fn svg(&self, alloc: Global, look: &Look) -> Result<String, AllocError> {
         let mut out = String::new(alloc);
-        out.push_str("<svg xmlns=\"http://www.w3.org/2000/svg\" style=\"background:#fff\"")?;
-        let (x, width, height) = (
-            rounded(self.left),
-            rounded(self.right - self.left),
-            rounded(0.0 - self.low),
+        out.push_str("<svg xmlns=\"http://www.w3.org/2000/svg\"")?;
+        self.write_size(&mut out, sides(&look.margins, self.em * 0.125))?;
+        let (paper, ink) = (
+            colour(&look.background, "#fff"),
+            colour(&look.foreground, "#000"),
         );
-        write!(
-            out,
-            " viewBox=\"{x} 0 {width} {height}\">\n<g transform=\"scale(1 -1)\">\n"
-        )?;
+        write!(out, " style=\"background:{paper};color:{ink}\">\n")?;
+        if !self.title.is_empty() {
+            write!(out, "<title>{}</title>\n", self.title.as_str())?;
+        }
+        out.push_str("<g fill=\"currentColor\" transform=\"scale(1 -1)\">\n")?;
         out.push_str(self.body.as_str())?;
         out.push_str("</g>\n</svg>\n")?;
         Ok(out)

@@ -3,6 +3,7 @@ ghost use Rattle.std.specs.Prelude.{◌≡◌};
 ghost use Rattle.shape_unicode.specs.Meaning.{unicode_database};
 ghost use Rattle.shaper_choice.specs.ScriptPlans.{PlanFits};
 
+use crate::fallback::shaped_alone;
 use crate::line::Line;
 use crate::options::Options;
 use kern_table::KernTable;
@@ -227,7 +228,8 @@ pub fn opened<'a>(
     }
 }
 
-/// The glyphs of a line, by the font's tables of lookups if the face was opened for them. Refuses as `shape` does.
+/// The glyphs of a line, by the font's tables of lookups if the face was opened for them, or of each character by itself.
+/// Refuses as `shape` does.
 pub fn shaped(
     alloc: Global,
     options: &Options,
@@ -236,6 +238,9 @@ pub fn shaped(
     line: &Line,
 ) -> Result<GlyphBuffer, ShapeError> {
     let buffer = filled(alloc, options, line)?;
+    if options.fallback() {
+        return Ok(shaped_alone(face, buffer));
+    }
     match planned {
         Some(planned) if options.mode().is_none() => planned.shaped(alloc, options, buffer),
         Some(planned) => {

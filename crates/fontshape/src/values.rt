@@ -2,6 +2,7 @@
 ghost use Rattle.std.specs.Prelude.{◌≡◌};
 
 use crate::failure::Failure;
+use crate::look::{Look, colour_from_string, margins_from_string};
 use crate::options::{Format, Shown, Source};
 use crate::size::{Size, size_from_string};
 use crate::unicodes::text_of_numbers;
@@ -132,10 +133,24 @@ pub fn context(
     }
 }
 
+/// A list without the quotes around it, if it stands in quotes of one kind.
+fn unquoted(list: &str) -> &str {
+    for quote in ['"', '\''] {
+        let inner = list
+            .strip_prefix(quote)
+            .and_then(|rest| rest.strip_suffix(quote));
+        if let Some(inner) = inner {
+            return inner;
+        }
+    }
+    list
+}
+
 /// The features of a list, with commas or spaces between them; nothing stands between two.
 pub fn features(alloc: Global, matches: &ArgMatches) -> Result<Vec<Feature>, Failure> {
     let mut features = Vec::new(alloc);
-    for text in matches.get_str("features").unwrap_or("").split([',', ' ']) {
+    let list = unquoted(matches.get_str("features").unwrap_or(""));
+    for text in list.split([',', ' ']) {
         if text.is_empty() {
             continue;
         }
@@ -177,6 +192,55 @@ pub fn script(alloc: Global, matches: &ArgMatches) -> Result<Option<Script>, Fai
         Some(script) => Ok(Some(script)),
         None => Err(Failure::value(alloc, "script", value, "a tag of ISO 15924 such as Latn")),
     }
+}
+
+/// Whether the first shaper of the list is `fallback` and not `ot`: either serves each text, so that no other one is tried.
+pub fn fallback(alloc: Global, matches: &ArgMatches) -> Result<bool, Failure> {
+    let list = matches.get_str("shapers").unwrap_or("ot");
+    if !list
+        .split(',')
+        .all(|name| name == "ot" || name == "fallback")
+    {
+        return Err(Failure::value(alloc, "shapers", list, "ot or fallback"));
+    }
+    Ok(list.starts_with("fallback"))
+}
+
+/// The colour of an option.
+fn colour(alloc: Global, matches: &ArgMatches, name: &str) -> Result<Option<String>, Failure> {
+    let Some(value) = matches.get_str(name) else {
+        return Ok(None);
+    };
+    match colour_from_string(alloc, value)? {
+        Some(colour) => Ok(Some(colour)),
+        None => Err(Failure::value(
+            alloc,
+            name,
+            value,
+            "three, four, six or eight hexadecimal digits such as FFD700",
+        )),
+    }
+}
+
+/// How a picture looks.
+pub fn look(alloc: Global, matches: &ArgMatches) -> Result<Look, Failure> {
+    let margins = match matches.get_str("margin") {
+        Some(value) => match margins_from_string(value) {
+            Some(margins) => Some(margins),
+            None => return Err(Failure::value(
+                alloc,
+                "margin",
+                value,
+                "one to four whole numbers up to 1000000",
+            )),
+        },
+        None => None,
+    };
+    Ok(Look {
+        background: colour(alloc, matches, "background")?,
+        foreground: colour(alloc, matches, "foreground")?,
+        margins,
+    })
 }
 
 /// How many units wide and high the em square is to be, none for those of the font.
