@@ -7,7 +7,7 @@ ghost use Rattle.shaper_choice.specs.Choice.{category_for, preserves_equivalence
 ghost use Rattle.shape_common.specs.declared.text_types.Feature.{Feature as AnyFeature};
 ghost use Rattle.shape_items.specs.Buffer.{Buffer};
 ghost use Rattle.shape_pipeline.specs.Canonical.{RunPreservesEquivalence};
-ghost use Rattle.shape_pipeline.specs.Order.{RunPreservesClusters};
+ghost use Rattle.shape_pipeline.specs.Order.{RunOrdersClusters};
 ghost use Rattle.shape_pipeline.specs.Premises.{HasNoObligations};
 ghost use Rattle.shape_plan.specs.Plan.{Plan};
 ghost use Rattle.shape_plan.specs.Preservation.{RunPreservesFlags};
@@ -53,9 +53,9 @@ where
     M: hb_ot_layout_t<F>,
     S: hb_ot_shaper_t<U, F, M>,
     ensures clusters { ((plan : Plan S M.Map S.Data) (face : F)
-        → RunPreservesClusters (⟦<S as Runs<U, F, M>>⟧.run plan face))
+        → RunOrdersClusters (⟦<S as Runs<U, F, M>>⟧.run plan face))
         → (face : F) (shaper : S) (features : List AnyFeature) (text : Buffer)
-        → RunPreservesClusters (⟦<S as TextRuns<U, F, M>>⟧.text_run face shaper features text) }
+        → RunOrdersClusters (⟦<S as TextRuns<U, F, M>>⟧.text_run face shaper features text) }
     ensures flags { ((plan : Plan S M.Map S.Data) (face : F)
         → RunPreservesFlags (⟦<S as Runs<U, F, M>>⟧.run plan face))
         → (face : F) (shaper : S) (features : List AnyFeature) (text : Buffer)
@@ -73,7 +73,7 @@ pub fn script_runs_preserve<'a, U: hb_unicode_funcs_t>()
     ensures unicode { (face : Face) (features : List AnyFeature) (text : Buffer)
         → (⟦<by_script as ScriptRuns<U, OpenTypeFace<'a>, OpenTypeLayout>>⟧.text_run face features text).unicode
         ≡ U.unicode }
-    ensures clusters { (face : Face) (features : List AnyFeature) (text : Buffer) → RunPreservesClusters
+    ensures clusters { (face : Face) (features : List AnyFeature) (text : Buffer) → RunOrdersClusters
         (⟦<by_script as ScriptRuns<U, OpenTypeFace<'a>, OpenTypeLayout>>⟧.text_run face features text) }
     ensures flags { (face : Face) (features : List AnyFeature) (text : Buffer) → RunPreservesFlags
         (⟦<by_script as ScriptRuns<U, OpenTypeFace<'a>, OpenTypeLayout>>⟧.text_run face features text) }

@@ -6,7 +6,7 @@ ghost use Rattle.shape_common.specs.Direction.{is_backward};
 ghost use Rattle.shape_buffer.specs.Preservation.{LookupsPreserveClusters, LookupsPreserveFlags};
 ghost use Rattle.shape_plan.specs.Plan.{Plan};
 ghost use Rattle.shape_plan.specs.Preservation.{RunPreservesFlags};
-ghost use Rattle.shape_pipeline.specs.Order.{RunPreservesClusters};
+ghost use Rattle.shape_pipeline.specs.Order.{RunOrdersClusters};
 ghost use Rattle.indic_shaper.specs.declared.shaper.IndicShaper.{IndicShaper as AnyShaper};
 ghost use Rattle.syllabic.specs.Constraints.{vowels_parted};
 ghost use Rattle.indic_shaper.specs.Pauses.{made_by_pause};
@@ -251,13 +251,13 @@ impl<U: hb_unicode_funcs_t, F: hb_font_t, M: hb_ot_layout_t<F>> postprocess_glyp
     }
 }
 
-/// A run by this shaper preserves clusters if its engine's lookups do, and flags if they do,
-/// whatever the Unicode functions, the plan and the face. Between its pauses clusters may be out
-/// of order; `postprocess_glyphs` puts them in order.
+/// A run by this shaper orders clusters if its engine's lookups preserve them, and preserves flags
+/// if they do, whatever the Unicode functions, the plan and the face. Between its pauses clusters
+/// may be out of order; `postprocess_glyphs` puts them in order.
 pub fn indic_runs_preserve<U: hb_unicode_funcs_t, F: hb_font_t, M: hb_ot_layout_t<F>>()
     ensures clusters { (plan : Plan AnyShaper M.Map Unit) (face : F)
         → let run = ⟦<IndicShaper as Runs<U, F, M>>⟧.run plan face in
-        LookupsPreserveClusters run.lookups → RunPreservesClusters run }
+        LookupsPreserveClusters run.lookups → RunOrdersClusters run }
     ensures flags { (plan : Plan AnyShaper M.Map Unit) (face : F)
         → let run = ⟦<IndicShaper as Runs<U, F, M>>⟧.run plan face in
         LookupsPreserveFlags run.lookups → RunPreservesFlags run }

@@ -1,9 +1,8 @@
 -- The clusters of what a run hands out, whichever way its calls keep their order.
 use Rattle.std.proofs.Common.{◌≡◌, ◌≢◌, inl, inr, ℕ, Bool, true, false, List, [], ◌∷◌, length, refl, ap, arith}
 use Rattle.std.specs.Prelude.{Contains}
-use Rattle.std.specs.List.Sorted.{IsNonDecreasing}
 use Rattle.shape_items.specs.Buffer.{Buffer}
-use Rattle.shape_items.specs.ClusterOrder.{IsMonotoneLevel, IsOrderedFor}
+use Rattle.shape_items.specs.ClusterOrder.{IsOrderedFor}
 use Rattle.shape_items.specs.Clusters.{clusters}
 use Rattle.shape_items.specs.Items.{Item}
 use Rattle.shape_buffer.specs.Outcome.{run_steps}
@@ -11,14 +10,12 @@ use Rattle.shape_common.specs.Direction.{is_backward}
 use Rattle.shape_common.specs.declared.text_types.BufferClusterLevel.TheVariants.{MonotoneGraphemes}
 use Rattle.shape_common.specs.declared.text_types.Direction.{Direction}
 use Rattle.shape_common.specs.declared.text_types.Direction.TheVariants.{Invalid}
-use Rattle.shape_normalize.specs.Normalized.{HookPreservesClusters}
 use Rattle.shape_normalize.proofs.Hooks.ReorderLemmas.{LawfulReorder}
-use Rattle.shape_plan.specs.Preservation.{CallsPreserveClusters}
 use Rattle.shape_plan.specs.Run.{Run}
 use Rattle.shape_prepare.specs.PrepareSteps.{prepare_steps}
 use Rattle.shape_prepare.proofs.Preservation.FirstLemmas.{preparing_preserves_firsts}
 use Rattle.shape_prepare.proofs.Preservation.PreservationLemmas.{preparing_preserves_order}
-use Rattle.shape_pipeline.specs.Order.{EndsInOrder, IsPlannedFor, ComesInOrder, ClustersComeInOrder, grapheme_clusters}
+use Rattle.shape_pipeline.specs.Order.{RunPreservesClusters, EndsInOrder, ComesInOrder, OrderIsKept, ClustersComeInOrder, grapheme_clusters}
 use Rattle.shape_pipeline.specs.Shaped.{all_steps, entered, finished, run_made}
 use Rattle.shape_pipeline.proofs.EndOrderLemmas.{quiet, quiet-calls, shown-in_the_end}
 use Rattle.shape_pipeline.proofs.OrderLemmas.{IsShown, shown-all}
@@ -75,35 +72,29 @@ come-made run target text prepared shown = from text.items refl
     }
 
 -- they come in order if each call preserves clusters
-made-by_calls : (run : Run) (target : Direction) → target ≢ Invalid → LawfulReorder run.rules.reorder → HookPreservesClusters run.rules
-    → (text : Buffer) → text.direction ≡ target → IsMonotoneLevel text.cluster_level → IsNonDecreasing (clusters text.items)
-    → CallsPreserveClusters run → ComesInOrder run target text (run_made run target text)
-made-by_calls run target valid lawful reordering text towards monotone rising calls =
+pub made-by_calls : (run : Run) (target : Direction) → target ≢ Invalid → LawfulReorder run.rules.reorder
+    → (text : Buffer) → text.direction ≡ target → RunPreservesClusters run → OrderIsKept run target text (run_made run target text)
+made-by_calls run target valid lawful text towards preserves monotone rising =
+    let calls = preserves.calls in
     come-made run target text (record {
       of_text = (preparing_preserves_order run target (entered text) calls monotone rising).none_new;
       of_firsts = λ level. preparing_preserves_firsts run target (entered text) calls level rising;
     })
-    (λ From taken. shown-all run target valid From lawful reordering calls (entered text) towards monotone rising taken)
+    (λ From taken. shown-all run target valid From lawful preserves.reordering calls (entered text) towards monotone rising taken)
 
 -- and if the run ends in order, by a plan for its direction
-made-in_the_end : (run : Run) (target : Direction) → LawfulReorder run.rules.reorder → HookPreservesClusters run.rules
-    → (text : Buffer) → IsMonotoneLevel text.cluster_level → IsNonDecreasing (clusters text.items)
-    → EndsInOrder run → run.direction ≡ target → ComesInOrder run target text (run_made run target text)
-made-in_the_end run target lawful reordering text monotone rising ends planned =
+pub made-in_the_end : (run : Run) (target : Direction) → LawfulReorder run.rules.reorder
+    → (text : Buffer) → run.direction ≡ target → EndsInOrder run → OrderIsKept run target text (run_made run target text)
+made-in_the_end run target lawful text planned ends monotone rising =
     let calls = quiet-calls run ends in
     come-made run target text (record {
       of_text = (preparing_preserves_order (quiet run) target (entered text) calls monotone rising).none_new;
       of_firsts = λ level. preparing_preserves_firsts (quiet run) target (entered text) calls level rising;
     })
-    (λ From taken. shown-in_the_end run ends target planned lawful reordering From (entered text) monotone rising taken)
+    (λ From taken. shown-in_the_end run ends target planned lawful ends.reordering From (entered text) monotone rising taken)
 
+-- so they do by a plan for the direction of the text
 pub clusters-run_made : (run : Run) (target : Direction) → target ≢ Invalid → LawfulReorder run.rules.reorder → (text : Buffer)
-    → text.direction ≡ target → IsPlannedFor run target
-    → ClustersComeInOrder run target text (run_made run target text)
-clusters-run_made run target valid lawful text towards planned preserves monotone rising = elim planned [
-  | inl calls ↦ made-by_calls run target valid lawful preserves.reordering text towards monotone rising calls
-  | inr for_target ↦ elim preserves.calls [
-    | inl calls ↦ made-by_calls run target valid lawful preserves.reordering text towards monotone rising calls
-    | inr ends ↦ made-in_the_end run target lawful preserves.reordering text monotone rising ends for_target
-  ]
-]
+    → text.direction ≡ target → run.direction ≡ target → ClustersComeInOrder run target text (run_made run target text)
+clusters-run_made run target valid lawful text towards planned (inl preserves) = made-by_calls run target valid lawful text towards preserves
+clusters-run_made run target valid lawful text towards planned (inr ends) = made-in_the_end run target lawful text planned ends

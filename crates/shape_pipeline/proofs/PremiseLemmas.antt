@@ -15,7 +15,7 @@ use Rattle.shape_items.proofs.Flags.FlagLemmas.{PreservesFlags-same}
 use Rattle.shape_normalize.specs.CanonicalForm.{HasLawfulHooks, TextPremises, HasNoSelector}
 use Rattle.shape_normalize.specs.Normalized.{HookPreservesClusters}
 use Rattle.shape_items.specs.Prepared.{IsPrepared}
-use Rattle.shape_plan.specs.Preservation.{EachHook, EachCall, CallsPreserveClusters, RunPreservesFlags, has_steps}
+use Rattle.shape_plan.specs.Preservation.{EachHook, EachCall, RunPreservesFlags, has_steps}
 use Rattle.shape_plan.specs.Plan.{Plan, hooks_of}
 use Rattle.shape_plan.specs.Rules.{Rules, rules_of, used_decompositions, used_compose}
 use Rattle.shape_plan.specs.Run.{Run, run_of}
@@ -26,7 +26,7 @@ use Rattle.shape_plan.proofs.MaskLemmas.{preserving-masks_alone}
 use Rattle.shape_pipeline.specs.Canonical.{RunPreservesEquivalence}
 use Rattle.shape_pipeline.specs.Headline.{prepared_text}
 use Rattle.shape_pipeline.specs.Headline.{target_of}
-use Rattle.shape_pipeline.specs.Order.{EndsInOrder, RunPreservesClusters}
+use Rattle.shape_pipeline.specs.Order.{RunPreservesClusters, RunOrdersClusters}
 use Rattle.shape_pipeline.specs.Premises.{LeavesBuffers, OrderByHook, OrderInTheEnd, FlagsByHook, HasNoObligations}
 use Rattle.shape_pipeline.specs.Shaped.{entered}
 use Rattle.shape_pipeline.proofs.RunLemmas.{prepared_text-cases}
@@ -213,20 +213,23 @@ module _ {S P D F : Type 0} (unicode : UnicodeMeaning) (masks : P → MapMeaning
       → LookupsPreserveClusters (lookups plan.ot_map face) → HookPreservesClusters (rules_of unicode constants hooks faces plan face)
       → RunPreservesClusters this_run
   clusters-by_hook lawful each keep reordering = record {
-    calls = inl (calls-by_hook IsClusterPreserving (λ s. given-order this_run (hooks s plan face) (lawful s) (each s)) keep);
+    calls = calls-by_hook IsClusterPreserving (λ s. given-order this_run (hooks s plan face) (lawful s) (each s)) keep;
     reordering = reordering;
   }
 
   -- the run ends in order, if the plan uses the shaper; if it doesn't there is no hook to ask
   pub clusters-in_the_end : ((s : S) → HookObligations (hooks s plan face)) → ((s : S) → OrderInTheEnd this_run (hooks s plan face))
       → LookupsPreserveClusters (lookups plan.ot_map face) → HookPreservesClusters (rules_of unicode constants hooks faces plan face)
-      → RunPreservesClusters this_run
-  clusters-in_the_end lawful each keep reordering = record { calls = by_shaper plan.shaper refl; reordering = reordering }
+      → RunOrdersClusters this_run
+  clusters-in_the_end lawful each keep reordering = by_shaper plan.shaper refl
     where
-      by_shaper : (shaper : Option S) → plan.shaper ≡ shaper → CallsPreserveClusters this_run ⊎ EndsInOrder this_run
+      by_shaper : (shaper : Option S) → plan.shaper ≡ shaper → RunOrdersClusters this_run
       by_shaper None is = inl (record {
-        lookups = called IsClusterPreserving this_run keep;
-        hooks = λ h some. absurd (let e : None ≡ Some h = ap (option_map (λ s. hooks s plan face)) (sym is) ∙ some in cc);
+        calls = record {
+          lookups = called IsClusterPreserving this_run keep;
+          hooks = λ h some. absurd (let e : None ≡ Some h = ap (option_map (λ s. hooks s plan face)) (sym is) ∙ some in cc);
+        };
+        reordering = reordering;
       })
       by_shaper (Some s) is =
           let order = each s in
@@ -239,6 +242,7 @@ module _ {S P D F : Type 0} (unicode : UnicodeMeaning) (masks : P → MapMeaning
             pause = given-preserves constants.has_pause order.pause;
             given = order.given;
             postprocess = order.postprocess;
+            reordering = reordering;
           })
 
   pub equivalence-by_hook : LawfulUnicode unicode → constants.has_decompose ≡ false → constants.has_compose ≡ false
@@ -260,7 +264,7 @@ module _ {S P D F : Type 0} (unicode : UnicodeMeaning) (masks : P → MapMeaning
       → HookPreservesClusters (rules_of unicode constants hooks faces plan face)
       → RunPreservesClusters this_run
   clusters-not_given not_given keep reordering = record {
-    calls = inl (calls-not_given IsClusterPreserving clusters-left not_given keep);
+    calls = calls-not_given IsClusterPreserving clusters-left not_given keep;
     reordering = reordering;
   }
 
@@ -301,7 +305,7 @@ module _ {S P D F : Type 0} (unicode : UnicodeMeaning) (masks : P → MapMeaning
         → TextPremises (rules_of unicode constants hooks faces plan face) text = λ text plain. record { lawful_hooks = lawful-none; no_selector = plain; no_reordering = unordered } in
         record {
           clusters = record {
-            calls = inl (calls-none IsClusterPreserving clusters-left clusters);
+            calls = calls-none IsClusterPreserving clusters-left clusters;
             reordering = no_reorder-preserves (rules_of unicode constants hooks faces plan face) unordered;
           };
           flags = calls-none IsFlagPreserving flags-left flags;

@@ -21,7 +21,7 @@ use Rattle.shape_common.specs.declared.text_types.Script.{Script}
 use Rattle.shape_buffer.specs.Guess.{direction_or, guessed_direction, guessed_script, script_or, first_script, script_or_ltr}
 use Rattle.shape_buffer.specs.Text.{items_from, text_items, IsFirstByte}
 use Rattle.shape_pipeline.specs.GlyphsOf.{AreGlyphsOf}
-use Rattle.shape_pipeline.specs.Order.{RunPreservesClusters}
+use Rattle.shape_pipeline.specs.Order.{RunOrdersClusters}
 use Rattle.shape_pipeline.specs.Strings.{AreGlyphsOfString, IsPlaceIn, IsTextOf}
 use Rattle.shape_plan.specs.Preservation.{RunPreservesFlags}
 use Rattle.shape_plan.specs.Run.{Run}
@@ -92,7 +92,7 @@ module _ (bytes : List ℕ) (text : Buffer) (is : IsTextOf bytes text) where
       let limit : run_limit (length text.items) ≤ length text.items * 64 = limit-many (length text.items) (omega (arith, many, e)) in
       omega (arith, within, limit, e)
 
-  pub string-glyphs : (run : Run) (glyphs : Buffer) → AreGlyphsOf run text glyphs → RunPreservesClusters run → RunPreservesFlags run
+  pub string-glyphs : (run : Run) (glyphs : Buffer) → AreGlyphsOf run text glyphs → RunOrdersClusters run → RunPreservesFlags run
       → AreGlyphsOfString run.unicode bytes glyphs
   string-glyphs run glyphs are preserves preserves_flags =
       let come = are.clusters preserves string-level is.rising in

@@ -16,6 +16,11 @@ use Rattle.shape_plan.specs.Shaper.{HookMeaning}
 use Rattle.shape_prepare.specs.ClusterPoint.{first_clusters, marked_text}
 use Rattle.shape_pipeline.specs.Shaped.{entered}
 
+-- the cluster premises on lookups and hooks: they preserve clusters
+pub record RunPreservesClusters (run : Run) : Type 0 where
+  pub calls : CallsPreserveClusters run
+  pub reordering : HookPreservesClusters run.rules
+
 -- a run that ends in order: its last hook, `postprocess_glyphs`, puts clusters in the order of the plan's direction. Its pauses
 -- bring no cluster, and may leave clusters out of order; all other calls preserve them
 pub record EndsInOrder (run : Run) : Type 0 where
@@ -27,15 +32,11 @@ pub record EndsInOrder (run : Run) : Type 0 where
   pub pause : run.constants.has_pause ≡ true → EachCalledPause IsBringingNoCluster run hooks
   pub given : run.constants.has_postprocess_glyphs ≡ true
   pub postprocess : IsOrdering (is_backward run.direction) hooks.postprocess
-
--- the cluster premises on lookups and hooks: each call preserves clusters, or the run ends in order
-pub record RunPreservesClusters (run : Run) : Type 0 where
-  pub calls : CallsPreserveClusters run ⊎ EndsInOrder run
   pub reordering : HookPreservesClusters run.rules
 
--- the plan is for this direction; nothing is asked of it if each call preserves clusters
-abbrev pub IsPlannedFor : Run → Direction → Type 0
-IsPlannedFor run target = CallsPreserveClusters run ⊎ (run.direction ≡ target)
+-- a run orders clusters in one of these ways
+abbrev pub RunOrdersClusters : Run → Type 0
+RunOrdersClusters run = RunPreservesClusters run ⊎ EndsInOrder run
 
 -- the clusters of the first characters of a text's graphemes
 abbrev pub grapheme_clusters : Run → Buffer → List ℕ
@@ -49,8 +50,11 @@ pub record ComesInOrder (run : Run) (target : Direction) (text glyphs : Buffer) 
       → (k : ℕ) → Contains (clusters glyphs.items) k → Contains (grapheme_clusters run text) k
   pub ordered : IsOrderedFor (is_backward target) (clusters glyphs.items)
 
--- so it is at the monotone levels, if lookups and hooks preserve clusters and those of the text never fall
+-- so it is at the monotone levels, if the clusters of the text never fall
+abbrev pub OrderIsKept : Run → Direction → Buffer → Buffer → Type 0
+OrderIsKept run target text glyphs =
+    IsMonotoneLevel text.cluster_level → IsNonDecreasing (clusters text.items) → ComesInOrder run target text glyphs
+
+-- and if the run orders clusters
 abbrev pub ClustersComeInOrder : Run → Direction → Buffer → Buffer → Type 0
-ClustersComeInOrder run target text glyphs =
-    RunPreservesClusters run → IsMonotoneLevel text.cluster_level → IsNonDecreasing (clusters text.items)
-    → ComesInOrder run target text glyphs
+ClustersComeInOrder run target text glyphs = RunOrdersClusters run → OrderIsKept run target text glyphs

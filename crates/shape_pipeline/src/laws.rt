@@ -26,7 +26,8 @@ ghost use Rattle.shape_plan.specs.declared.ot_shaper.shapers.hb_default_shaper_t
 ghost use Rattle.shape_pipeline.specs.Headline.{NormalForm, FlagsAreByCluster};
 ghost use Rattle.shape_pipeline.specs.Canonical.{ListIsCanonical, RunPreservesEquivalence};
 ghost use Rattle.shape_pipeline.specs.Canonical.{LeavesText, SpellingsMeet, prepared_characters};
-ghost use Rattle.shape_pipeline.specs.Order.{RunPreservesClusters, ClustersComeInOrder, IsPlannedFor};
+ghost use Rattle.shape_pipeline.specs.Order.{RunPreservesClusters, RunOrdersClusters, EndsInOrder};
+ghost use Rattle.shape_pipeline.specs.Order.{ClustersComeInOrder, OrderIsKept};
 ghost use Rattle.shape_pipeline.specs.Shaped.{run_made};
 ghost use Rattle.shape_pipeline.specs.Premises.{LeavesBuffers, OrderByHook, OrderInTheEnd};
 ghost use Rattle.shape_pipeline.specs.Premises.{FlagsByHook, HasNoObligations};
@@ -105,7 +106,7 @@ where
     ensures { (plan : Plan S M.Map S.Data) (face : F)
         → let run = ⟦<S as Runs<U, F, M>>⟧.run plan face in
         ((shaper : S) → OrderInTheEnd run (S.hooks shaper plan face))
-        → LookupsPreserveClusters run.lookups → HookPreservesClusters run.rules → RunPreservesClusters run }
+        → LookupsPreserveClusters run.lookups → HookPreservesClusters run.rules → RunOrdersClusters run }
 {}
 
 /// A run has no obligations if its shaper's hooks, whichever of them are given, do what is done without them, none
@@ -157,7 +158,7 @@ pub fn glyphs_can_be_cut()
     ensures { (run : Run) (target : Direction) (text glyphs : Buffer) (text_end : ℕ)
         → ClustersComeInOrder run target (guessed run.unicode text) glyphs
         → FlagsAreByCluster run text glyphs
-        → RunPreservesClusters run → RunPreservesFlags run
+        → RunOrdersClusters run → RunPreservesFlags run
         → IsMonotoneLevel text.cluster_level → IsNonDecreasing (clusters text.items)
         → All (λ item. item.cluster < text_end) text.items → CanCut glyphs text_end }
 {}
@@ -165,7 +166,7 @@ pub fn glyphs_can_be_cut()
 /// What is promised of whole runs, for callers of `shape_internal`, whose `ok` says what a run makes: over any
 /// text in a known direction its clusters come in order and its flags by cluster, under their premises; the
 /// normalised list of any buffer has its form, and that of any text is canonical, under its premise. A run that
-/// puts its clusters in order in the end needs a plan for the text's direction. Does nothing.
+/// ends in order does so by a plan for the text's direction. Does nothing.
 pub fn whole_runs_keep_promises<U, F, M, S>(
     plan: &hb_ot_shape_plan_t<'_, S, M::Map, S::Data>,
     face: &F,
@@ -176,8 +177,11 @@ where
     M: hb_ot_layout_t<F>,
     S: hb_ot_shaper_t<U, F, M>,
     ensures clusters { let run = ⟦<S as Runs<U, F, M>>⟧.run plan.now face.now in
-        (text : Buffer) → text.direction ≢ Direction.Invalid → IsPlannedFor run text.direction
-        → ClustersComeInOrder run text.direction text (run_made run text.direction text) }
+        (text : Buffer) → text.direction ≢ Direction.Invalid → RunPreservesClusters run
+        → OrderIsKept run text.direction text (run_made run text.direction text) }
+    ensures ends_in_order { let run = ⟦<S as Runs<U, F, M>>⟧.run plan.now face.now in
+        (text : Buffer) → run.direction ≡ text.direction → EndsInOrder run
+        → OrderIsKept run text.direction text (run_made run text.direction text) }
     ensures flags { let run = ⟦<S as Runs<U, F, M>>⟧.run plan.now face.now in
         (target : Direction) (text : Buffer)
         → FlagsAreByCluster run text (run_made run target text) }

@@ -3,7 +3,7 @@ ghost use Rattle.std.specs.Prelude.{◌≡◌, ◌≤◌, ◌^◌, ◌↔◌, �
 ghost use Rattle.std.specs.Prelude.{Err, IfOk, IfErr, OnOk, OnErr, MatchResult};
 ghost use Rattle.shape_items.specs.Buffer.{Buffer, cleared, new_buffer};
 ghost use Rattle.shape_pipeline.specs.GlyphsOf.{AreGlyphsOf};
-ghost use Rattle.shape_pipeline.specs.Order.{RunPreservesClusters};
+ghost use Rattle.shape_pipeline.specs.Order.{RunOrdersClusters};
 ghost use Rattle.shape_pipeline.specs.Strings.{AreGlyphsOfString, IsTextOf, string_text};
 ghost use Rattle.shape_plan.specs.Preservation.{RunPreservesFlags};
 ghost use Rattle.shape_plan.specs.Run.{Run};
@@ -52,7 +52,7 @@ fn append(buffer: &mut UnicodeBuffer, string: &str) -> Result<(), ShapeError>
 pub fn strings_keep_promises()
     ensures glyphs { (run : Run) (bytes : List ℕ) (text glyphs : Buffer)
         → IsTextOf bytes text → AreGlyphsOf run text glyphs
-        → RunPreservesClusters run → RunPreservesFlags run
+        → RunOrdersClusters run → RunPreservesFlags run
         → AreGlyphsOfString run.unicode bytes glyphs }
     ensures cleared { (bytes : List ℕ) (text : Buffer)
         → IsTextOf bytes text → cleared text ≡ new_buffer }

@@ -61,7 +61,7 @@ pub stand-in_order : {run : Run} {E : Type 0} (text : Buffer) (result : Result B
 stand-in_order {run} text result preserves level rising ok =
     IfOk-weaker result (AreGlyphsOf run text) (StandInOrder run text)
     (λ glyphs are.
-    let come = are.clusters preserves level rising in
+    let come = are.clusters (inl preserves) level rising in
     record {
       of_text = come.from_text;
       of_firsts = come.from_firsts;

@@ -25,7 +25,7 @@ use Rattle.shape_plan.specs.Worked.Plans.{planning_with, constants_of}
 use Rattle.shape_plan.specs.Worked.Requests.{script_of}
 use Rattle.shape_plan.specs.Worked.Texts.{telling_layout, german}
 use Rattle.shape_pipeline.specs.Headline.{FlagsAreByCluster}
-use Rattle.shape_pipeline.specs.Order.{RunPreservesClusters, ClustersComeInOrder}
+use Rattle.shape_pipeline.specs.Order.{RunOrdersClusters, ClustersComeInOrder}
 use Rattle.shape_pipeline.specs.Planned.{planned_for}
 use Rattle.shape_pipeline.specs.Shaped.{entered}
 
@@ -82,7 +82,7 @@ worked_origins = record {
 abbrev pub PromisedIn : Direction → (Buffer → Buffer → Type 0) → Type 0
 PromisedIn direction Fact =
     (run : Run) (text glyphs : Buffer) → ClustersComeInOrder run direction text glyphs
-    → RunPreservesClusters run → IsMonotoneLevel text.cluster_level → IsNonDecreasing (clusters text.items) → Fact text glyphs
+    → RunOrdersClusters run → IsMonotoneLevel text.cluster_level → IsNonDecreasing (clusters text.items) → Fact text glyphs
 
 abbrev pub Rise : Buffer → Buffer → Type 0
 Rise text glyphs = IsNonDecreasing (clusters glyphs.items)

@@ -1,8 +1,8 @@
 use Rattle.shape_pipeline.specs.Canonical.{RunPreservesEquivalence}
-use Rattle.shape_pipeline.specs.Order.{RunPreservesClusters}
+use Rattle.shape_pipeline.specs.Order.{RunOrdersClusters}
 use Rattle.shape_plan.specs.Preservation.{RunPreservesFlags}
 use Rattle.shape_plan.specs.Run.{Run}
-use Rattle.std.proofs.Common.{◌≡◌, refl}
+use Rattle.std.proofs.Common.{◌≡◌, inl, refl}
 use Rattle.font_shaping.proofs.ScriptLemmas.{of_category-has, of_category-preserves}
 use Rattle.font_shaping.proofs.laws.script_runs_preserve.Goals as goal
 
@@ -24,24 +24,24 @@ returns-clause-unicode g c = λ face features text.
 pub returns-clause-clusters : goal.returns-clause-clusters
 returns-clause-clusters g c = λ face features text.
     let lookups = c.opentype_layout_preserves.ensures.clusters in
-    of_category-has RunPreservesClusters _ _ (record {
-      default = c.text_runs_preserve.ensures.clusters (λ plan f. (c.opentype_runs_have_no_obligations.ensures plan f).clusters)
+    of_category-has RunOrdersClusters _ _ (record {
+      default = c.text_runs_preserve.ensures.clusters (λ plan f. inl (c.opentype_runs_have_no_obligations.ensures plan f).clusters)
           face (record {}) features text;
-      arabic = c.text_runs_preserve-2.ensures.clusters (λ plan f. c.arabic_runs_preserve.ensures.clusters plan f (lookups plan.ot_map f))
+      arabic = c.text_runs_preserve-2.ensures.clusters (λ plan f. inl (c.arabic_runs_preserve.ensures.clusters plan f (lookups plan.ot_map f)))
           face (record {}) features text;
-      hangul = c.text_runs_preserve-3.ensures.clusters (λ plan f. c.hangul_runs_preserve.ensures.clusters plan f (lookups plan.ot_map f))
+      hangul = c.text_runs_preserve-3.ensures.clusters (λ plan f. inl (c.hangul_runs_preserve.ensures.clusters plan f (lookups plan.ot_map f)))
           face (record {}) features text;
-      hebrew = c.text_runs_preserve-4.ensures.clusters (λ plan f. c.hebrew_runs_preserve.ensures.clusters plan f (lookups plan.ot_map f))
+      hebrew = c.text_runs_preserve-4.ensures.clusters (λ plan f. inl (c.hebrew_runs_preserve.ensures.clusters plan f (lookups plan.ot_map f)))
           face (record {}) features text;
-      thai = c.text_runs_preserve-5.ensures.clusters (λ plan f. c.thai_runs_preserve.ensures.clusters plan f (lookups plan.ot_map f))
+      thai = c.text_runs_preserve-5.ensures.clusters (λ plan f. inl (c.thai_runs_preserve.ensures.clusters plan f (lookups plan.ot_map f)))
           face (record {}) features text;
-      universal = c.text_runs_preserve-6.ensures.clusters (λ plan f. c.universal_runs_preserve.ensures.clusters plan f (lookups plan.ot_map f))
+      universal = c.text_runs_preserve-6.ensures.clusters (λ plan f. inl (c.universal_runs_preserve.ensures.clusters plan f (lookups plan.ot_map f)))
           face (record {}) features text;
-      khmer = c.text_runs_preserve-7.ensures.clusters (λ plan f. c.khmer_runs_preserve.ensures.clusters plan f (lookups plan.ot_map f))
+      khmer = c.text_runs_preserve-7.ensures.clusters (λ plan f. inl (c.khmer_runs_preserve.ensures.clusters plan f (lookups plan.ot_map f)))
           face (record {}) features text;
-      myanmar = c.text_runs_preserve-8.ensures.clusters (λ plan f. c.myanmar_runs_preserve.ensures.clusters plan f (lookups plan.ot_map f))
+      myanmar = c.text_runs_preserve-8.ensures.clusters (λ plan f. inl (c.myanmar_runs_preserve.ensures.clusters plan f (lookups plan.ot_map f)))
           face (record {}) features text;
-      zawgyi = c.text_runs_preserve-9.ensures.clusters (λ plan f. c.zawgyi_runs_preserve.ensures.clusters plan f (lookups plan.ot_map f))
+      zawgyi = c.text_runs_preserve-9.ensures.clusters (λ plan f. inl (c.zawgyi_runs_preserve.ensures.clusters plan f (lookups plan.ot_map f)))
           face (record {}) features text;
       indic = c.text_runs_preserve-10.ensures.clusters (λ plan f. c.indic_runs_preserve.ensures.clusters plan f (lookups plan.ot_map f))
           face (record {}) features text;

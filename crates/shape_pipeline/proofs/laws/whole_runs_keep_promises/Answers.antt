@@ -2,15 +2,21 @@ use Rattle.std.proofs.Common.{refl}
 use Rattle.shape_normalize.proofs.Hooks.RulesLemmas.{used_reorder-lawful}
 use Rattle.shape_pipeline.proofs.CanonicalLemmas.{list_is_canonical}
 use Rattle.shape_pipeline.proofs.FlagRunLemmas.{flags-run_made}
-use Rattle.shape_pipeline.proofs.ClusterRunLemmas.{clusters-run_made}
+use Rattle.shape_pipeline.proofs.ClusterRunLemmas.{made-by_calls, made-in_the_end}
 use Rattle.shape_pipeline.proofs.RunLemmas.{normal_form}
 use Rattle.shape_pipeline.proofs.laws.whole_runs_keep_promises.Goals as goal
 
 pub returns-clause-clusters : goal.returns-clause-clusters
-returns-clause-clusters g c = λ text known planned.
+returns-clause-clusters g c = λ text known.
     let shaper = g.S.hb_ot_shaper_t in
     let lawful = used_reorder-lawful shaper.hooks g.met.S.hb_ot_shaper_t.lawful_hooks shaper.constants.has_reorder_marks c.args.plan.now c.args.face.now in
-    clusters-run_made _ text.direction known lawful text refl planned
+    made-by_calls _ text.direction known lawful text refl
+
+pub returns-clause-ends_in_order : goal.returns-clause-ends_in_order
+returns-clause-ends_in_order g c = λ text planned.
+    let shaper = g.S.hb_ot_shaper_t in
+    let lawful = used_reorder-lawful shaper.hooks g.met.S.hb_ot_shaper_t.lawful_hooks shaper.constants.has_reorder_marks c.args.plan.now c.args.face.now in
+    made-in_the_end _ text.direction lawful text planned
 
 pub returns-clause-flags : goal.returns-clause-flags
 returns-clause-flags g c = λ target text preserves.

@@ -1,4 +1,4 @@
-use Rattle.std.proofs.Common.{◌≡◌, ◌∙◌, inr, ap, sym, subst, refl}
+use Rattle.std.proofs.Common.{◌≡◌, ◌∙◌, ap, sym, subst, refl}
 use Rattle.shape_items.specs.Buffer.{Buffer}
 use Rattle.shape_buffer.specs.Guess.{guessed, guessed_direction}
 use Rattle.shape_common.specs.declared.text_types.Direction.{Direction}
@@ -40,7 +40,7 @@ returns-in-Ok-clause-ok g c = λ original is.
       canonical = list_is_canonical unicode layout.masks layout.lookups shaper.constants shaper.hooks g.F.hb_font_t.face
           c.args.plan.now c.args.face.now lawful_unicode original;
       clusters = subst (λ (b : Buffer). ClustersComeInOrder run target text b) (sym made)
-          (clusters-run_made run target (target_of-known run original) lawful text refl (inr planned));
+          (clusters-run_made run target (target_of-known run original) lawful text refl planned);
       flags = λ preserves. subst (λ (b : Buffer). HasFlagsByCluster original b) (sym made)
           (flags-run_made run target lawful masks c.masks_are_features.ensures preserves original text refl);
       within = counted.within;

@@ -1,4 +1,4 @@
-use Rattle.std.proofs.Common.{◌∙◌, inr}
+use Rattle.std.proofs.Common.{◌∙◌, inl, inr}
 use Rattle.std.proofs.lemmas.Result.{IfOk-weaker, IfErr-weaker}
 use Rattle.shape_users.proofs.PlainLemmas.{plan_of}
 use Rattle.shape_users.proofs.plain_glyphs.glyphs_of_str.Goals as goal
@@ -15,7 +15,7 @@ returns-in-Ok-clause-of_string g c =
     let obligations = c.plain_runs_have_no_obligations.ensures (plan_of _ _ _ _ _) c.args.face.now in
     IfOk-weaker c.shape.result _ _
     (λ glyphs are. c.strings_keep_promises.ensures.glyphs _ c.args.string.now c.in-Ok.text glyphs c.in-Ok.ensures.ok are
-    obligations.clusters obligations.flags)
+    (inl obligations.clusters) obligations.flags)
     c.shape.ensures.ok
 
 pub returns-in-Ok-clause-refused : goal.returns-in-Ok-clause-refused
