@@ -1,7 +1,9 @@
 -- Steps that may leave clusters out of order: they bring no cluster, and keep flags and the number of items.
-use Rattle.std.proofs.Common.{◌≡◌, ℕ, zero, suc, ◌+◌, ◌-◌, ◌<◌, ◌≤◌, true, false, if◌then◌else◌, List, length, drop, refl, sym, subst, ◌∙◌, arith}
+use Rattle.std.proofs.Common.{◌≡◌, ℕ, zero, suc, ◌+◌, ◌-◌, ◌<◌, ◌≤◌, true, false, if◌then◌else◌, List, length, drop}
+use Rattle.std.proofs.Common.{refl, sym, subst, ◌∙◌, arith}
 use Rattle.std.proofs.lemmas.List.{length-drop}
-use Rattle.std.proofs.lemmas.List.Sorted.{IsPermutation-swap, IsPermutation-map, IsPermutation-sym, Contains-permutation, length_permutation, list_any-IsPermutation}
+use Rattle.std.proofs.lemmas.List.Sorted.{IsPermutation-swap, IsPermutation-map, IsPermutation-sym}
+use Rattle.std.proofs.lemmas.List.Sorted.{Contains-permutation, length_permutation, list_any-IsPermutation}
 use Rattle.std.proofs.lemmas.List.Sums.{prefix_len-le-length}
 use Rattle.std.specs.List.Sorted.{IsPermutation}
 use Rattle.cluster_order.specs.Ordering.{HasNoNewCluster}
@@ -12,7 +14,8 @@ use Rattle.shape_items.specs.Items.{Item}
 use Rattle.shape_items.specs.PreservesFlags.{PreservesFlags, has_flag}
 use Rattle.shape_items.proofs.Flags.FlagLemmas.{PreservesFlags-then, PreservesFlags-items}
 use Rattle.syllabic.specs.Moving.{exchanged, stepped_after}
-use Rattle.syllabic.specs.Walking.{item_at, begins_at, end_of, count_in, syllable_of, is_in, at_syllable, to_syllable, each_syllable, OfSyllable}
+use Rattle.syllabic.specs.Walking.{item_at, begins_at, end_of, count_in, syllable_of, is_in, at_syllable, to_syllable}
+use Rattle.syllabic.specs.Walking.{each_syllable, OfSyllable}
 use Rattle.syllabic.proofs.PreservationLemmas.{Keeps, Keeps-same}
 
 -- no cluster is new at the monotone levels, and flags and the number of items are kept

@@ -7,4 +7,5 @@ pub mod PauseLemmas
 pub mod PlaceLemmas
 pub mod PositionLemmas
 pub mod SettlingLemmas
+mod SortedLemmas
 pub mod WalkLemmas

@@ -1,5 +1,7 @@
 -- The first pauses bring no cluster but those of the text, and no flag; finding syllables keeps order, too.
-use Rattle.std.proofs.Common.{◌≡◌, ℕ, zero, suc, ◌+◌, ◌-◌, ◌<◌, ◌≤◌, ◌==◌, ◌&&◌, ◌||◌, not, min, max, nat_lt, nat_le, Bool, true, false, if◌then◌else◌, List, ◌++◌, length, take, drop, slice_range, bit_and, bit_or, bit_xor, refl, sym, ap, subst, ◌∙◌, inl, inr, arith}
+use Rattle.std.proofs.Common.{◌≡◌, ℕ, zero, suc, ◌+◌, ◌-◌, ◌<◌, ◌≤◌, ◌==◌, ◌&&◌, ◌||◌, not, min, max, nat_lt, nat_le}
+use Rattle.std.proofs.Common.{Bool, true, false, if◌then◌else◌, List, ◌++◌, length, take, drop, slice_range, bit_and}
+use Rattle.std.proofs.Common.{bit_or, bit_xor, refl, sym, ap, subst, ◌∙◌, inl, inr, arith}
 use Rattle.std.specs.Int.Bits.{and_zero_r}
 use Rattle.std.proofs.lemmas.Nat.{and_assoc, and_xor_apart}
 use Rattle.std.proofs.lemmas.Bool.Decides.{nat_tests}
@@ -22,7 +24,8 @@ use Rattle.syllabic.specs.Circles.{with_circles}
 use Rattle.syllabic.specs.Moving.{exchanged}
 use Rattle.syllabic.specs.Walking.{item_at, kind_of_byte, syllable_of, marked}
 use Rattle.syllabic.proofs.CircleLemmas.{Preserved-circles}
-use Rattle.syllabic.proofs.PreservationLemmas.{Keeps, Keeps-same, Keeps-then, Keeps-mapped, Keeps-merge, Keeps-each_syllable, Keeps-marked}
+use Rattle.syllabic.proofs.PreservationLemmas.{Keeps, Keeps-same, Keeps-then, Keeps-mapped, Keeps-merge}
+use Rattle.syllabic.proofs.PreservationLemmas.{Keeps-each_syllable, Keeps-marked}
 use Rattle.syllabic.proofs.ScanningLemmas.{Keeps-syllables}
 use Rattle.indic_shaper.specs.Attaching as attaching
 use Rattle.indic_shaper.specs.Bases.{find_base}
@@ -39,9 +42,12 @@ use Rattle.indic_shaper.specs.declared.config.TheConstants.{KANNADA}
 use Rattle.indic_shaper.specs.declared.cutting.TheConstants.{OTHER}
 use Rattle.indic_shaper.specs.declared.engine.Facts.{Facts}
 use Rattle.indic_shaper.specs.declared.initial.masking.Masked.{Masked}
-use Rattle.indic_shaper.proofs.BringingLemmas.{Brings, Brings-kept, Brings-same, Brings-then, Brings-exchanged, Brings-each_syllable, BringsSyllables, HasNoNewCluster-then}
-use Rattle.indic_shaper.proofs.DrawnLemmas.{Draws, Copies, Copies-same, Brings-drawn, drawn-copy_at, draws-same, draws-then, draws-append, draws-take, draws-drop, draws-set, draws-walked, length-walked}
-use Rattle.indic_shaper.proofs.PositionLemmas.{Makes, Makes-same, Makes-then, Makes-positioned, Makes-arranged}
+use Rattle.indic_shaper.proofs.BringingLemmas.{Brings, Brings-kept, Brings-same, Brings-then, Brings-exchanged}
+use Rattle.indic_shaper.proofs.BringingLemmas.{Brings-each_syllable, BringsSyllables, HasNoNewCluster-then}
+use Rattle.indic_shaper.proofs.DrawnLemmas.{Draws, Copies, Copies-same, Brings-drawn, drawn-copy_at, draws-same}
+use Rattle.indic_shaper.proofs.DrawnLemmas.{draws-then, draws-append, draws-take, draws-drop, draws-set, draws-walked}
+use Rattle.indic_shaper.proofs.DrawnLemmas.{length-walked}
+use Rattle.indic_shaper.proofs.PositionLemmas.{Makes, Makes-same, Makes-then, Makes-positioned, Makes-sorted}
 
 -- ---- masks
 
@@ -52,7 +58,8 @@ copies-with_mask x mask none = record {
 }
 
 -- bits of features that go take no flag with them
-without-flags : (mask bits flag : ℕ) → HasNoDefinedFlag bits → IsDefinedFlag flag → bit_and (bit_xor mask (bit_and mask bits)) flag ≡ bit_and mask flag
+without-flags : (mask bits flag : ℕ) → HasNoDefinedFlag bits → IsDefinedFlag flag
+    → bit_and (bit_xor mask (bit_and mask bits)) flag ≡ bit_and mask flag
 without-flags mask bits flag none defined =
     let gone : bit_and (bit_and mask bits) flag ≡ 0 = and_assoc flag mask bits
     ∙ ap (bit_and mask) (feature_flagless bits flag none defined) ∙ and_zero_r mask in
@@ -109,7 +116,8 @@ module _ (facts : Facts) (none : FactsFlagless facts) where
   Makes-masked_item mask flagless i items inside =
       let y = with_mask (item_at items i) mask in
       record {
-        draws = draws-set items i y items (drawn-copy_at items i y inside (copies-with_mask (item_at items i) mask flagless)) (draws-same items);
+        draws = draws-set items i y items
+            (drawn-copy_at items i y inside (copies-with_mask (item_at items i) mask flagless)) (draws-same items);
         count = length-set items i y;
       }
 
@@ -154,14 +162,34 @@ module _ (facts : Facts) (none : FactsFlagless facts) where
 
   -- ---- a syllable
 
+  copies-placed : (lookups : LookupMeaning) (several : Bool) (x : Item) → Copies x (consonants.placed lookups facts several x)
+  copies-placed lookups several x =
+      let two = with_position x (consonants.consonant_position lookups facts x.glyph_id) in
+      elim (is_new_circle x) as (λ t. Copies x (if t then as_circle x else if several && consonants.is_candidate facts x then two else x)) [
+        | true ↦ record { cluster = refl; flags = λ flag defined has. has }
+        | false ↦ elim (several && consonants.is_candidate facts x) as (λ t. Copies x (if t then two else x)) [
+          | true ↦ record { cluster = refl; flags = λ flag defined has. has }
+          | false ↦ Copies-same x
+        ]
+      ]
+
+  Makes-letters_placed : (lookups : LookupMeaning) (items : List Item) → Makes items (consonants.letters_placed lookups facts items)
+  Makes-letters_placed lookups items = record {
+    draws = draws-walked (consonants.placed_in lookups facts) consonants.several_still (λ several x rest. copies-placed lookups several x)
+        (consonants.has_several items) items;
+    count = length-walked (consonants.placed_in lookups facts) consonants.several_still (consonants.has_several items) items;
+  }
+
   Makes-ordering : (lookups : LookupMeaning) (items : List Item) → Makes items (initial.ordering lookups facts items).items
   Makes-ordering lookups items =
-      let one = attaching.positioned facts (find_base lookups facts items) items in
-      let two = sorting.arranged one (sorting.order one) in
-      Makes-then items one (masking.all_masked lookups facts (sorting.base_in two) two)
-      (Makes-positioned facts (find_base lookups facts items) items)
-      (Makes-then one two (masking.all_masked lookups facts (sorting.base_in two) two) (Makes-arranged one)
-      (Makes-all_masked lookups (sorting.base_in two) two))
+      let placed = consonants.letters_placed lookups facts items in
+      let found = find_base lookups facts placed in
+      let one = attaching.positioned facts found placed in
+      let two = sorting.sorted one in
+      let all = masking.all_masked lookups facts (sorting.base_in two) two in
+      Makes-then items placed all (Makes-letters_placed lookups items)
+      (Makes-then placed one all (Makes-positioned facts found placed)
+      (Makes-then one two all (Makes-sorted one) (Makes-all_masked lookups (sorting.base_in two) two)))
 
   -- a list in place of as many items that it is drawn from
   Brings-put_back : (start end : ℕ) (items : List Item) (b : Buffer) → start ≤ end → end ≤ length b.items
@@ -169,13 +197,15 @@ module _ (facts : Facts) (none : FactsFlagless facts) where
   Brings-put_back start end items b ordered within makes =
       let xs = b.items in
       let slice = slice_range xs start end in
-      let long : length slice ≡ end - start = length-take-le (end - start) (drop start xs) (rw (length-drop start xs) (omega (arith, within))) in
+      let long : length slice ≡ end - start
+      = length-take-le (end - start) (drop start xs) (rw (length-drop start xs) (omega (arith, within))) in
       let few : length items ≡ end - start = makes.count ∙ long in
       let rest = drop (start + length items) xs in
       let front : length (take start xs) ≡ start = length-take-le start xs (omega (arith, ordered, within)) in
       let last : length rest ≡ length xs - (start + length items) = length-drop (start + length items) xs in
       let both : length (items ++ rest) ≡ length items + length rest = length-append items rest in
-      let all : length (take start xs ++ (items ++ rest)) ≡ length (take start xs) + length (items ++ rest) = length-append (take start xs) (items ++ rest) in
+      let all : length (take start xs ++ (items ++ rest)) ≡ length (take start xs) + length (items ++ rest)
+      = length-append (take start xs) (items ++ rest) in
       let drawn : Draws xs slice = draws-take xs (end - start) (drop start xs) (draws-drop xs start xs (draws-same xs)) in
       Brings-drawn b (take start xs ++ (items ++ rest))
       (draws-append xs (take start xs) (items ++ rest) (draws-take xs start xs (draws-same xs))
@@ -197,13 +227,18 @@ module _ (facts : Facts) (none : FactsFlagless facts) where
         | false ↦ Keeps-same c
       ])
 
-  Keeps-joined : (start : ℕ) (o : Ordering) (b : Buffer) → start + length o.items ≤ length b.items → Keeps b (initial.joined facts start o b)
+  Keeps-joined : (start : ℕ) (o : Ordering) (b : Buffer) → start + length o.items ≤ length b.items
+      → Keeps b (initial.joined facts start o b)
   Keeps-joined start o b within =
       let all = merge_clusters (start + o.base) (start + length o.items) b in
       let some = sorting.moved_merged start o.base (length o.items) o.order b in
+      let moving = sorting.merged_to start o.base (length o.items) o.order (length o.items) b in
       elim (facts.is_old || nat_lt 127 (length o.items)) as (λ t. Keeps b (if t then all else some)) [
         | true ↦ Keeps-merge (start + o.base) (start + length o.items) b within
-        | false ↦ Keeps-merged_to start o.base (length o.items) o.order (length o.items) b within
+        | false ↦ elim (length o.order == 0) as (λ t. Keeps b (if t then b else moving)) [
+          | true ↦ Keeps-same b
+          | false ↦ Keeps-merged_to start o.base (length o.items) o.order (length o.items) b within
+        ]
       ]
 
   Brings-ordered_from : (lookups : LookupMeaning) → BringsSyllables (initial.ordered_from lookups facts)
@@ -228,7 +263,8 @@ module _ (facts : Facts) (none : FactsFlagless facts) where
         let c = merge_clusters (start + 1) (start + 1 + 2) b in
         let first = Keeps-merge (start + 1) (start + 1 + 2) b (omega (arith, long, within)) in
         rw is (Brings-then b c (exchanged (start + 1) (start + 1 + 1) c) (Brings-kept b c first)
-        (Brings-exchanged (start + 1) (start + 1 + 1) c (omega (arith, long, within, first.count)) (omega (arith, long, within, first.count))))
+        (Brings-exchanged (start + 1) (start + 1 + 1) c (omega (arith, long, within, first.count))
+        (omega (arith, long, within, first.count))))
     | inr not_is ↦ rw not_is (Brings-same b)
   ]
 
@@ -245,34 +281,8 @@ module _ (facts : Facts) (none : FactsFlagless facts) where
 
   -- ---- all of them
 
-  placed-cluster : (lookups : LookupMeaning) (x : Item) → (consonants.placed lookups facts x).cluster ≡ x.cluster
-  placed-cluster lookups x =
-      let two = with_position x (consonants.consonant_position lookups facts x.glyph_id) in
-      elim (is_new_circle x) as (λ t. (if t then as_circle x else if consonants.is_candidate facts x then two else x).cluster ≡ x.cluster) [
-        | true ↦ refl
-        | false ↦ elim (consonants.is_candidate facts x) as (λ t. (if t then two else x).cluster ≡ x.cluster) [
-          | true ↦ refl
-          | false ↦ refl
-        ]
-      ]
-
-  placed-mask : (lookups : LookupMeaning) (x : Item) → (consonants.placed lookups facts x).mask ≡ x.mask
-  placed-mask lookups x =
-      let two = with_position x (consonants.consonant_position lookups facts x.glyph_id) in
-      elim (is_new_circle x) as (λ t. (if t then as_circle x else if consonants.is_candidate facts x then two else x).mask ≡ x.mask) [
-        | true ↦ refl
-        | false ↦ elim (consonants.is_candidate facts x) as (λ t. (if t then two else x).mask ≡ x.mask) [
-          | true ↦ refl
-          | false ↦ refl
-        ]
-      ]
-
   pub Brings-each_ordered : (lookups : LookupMeaning) (b : Buffer) → Brings b (initial.each_ordered lookups facts b)
-  Brings-each_ordered lookups b =
-      let c = consonants.consonants_placed lookups facts b in
-      Brings-then b c (initial.each_ordered lookups facts b)
-      (Brings-kept b c (Keeps-mapped (consonants.placed lookups facts) (placed-cluster lookups) (placed-mask lookups) b))
-      (Brings-each_syllable (initial.syllable_ordered lookups facts) (Brings-syllable_ordered lookups) c)
+  Brings-each_ordered lookups b = Brings-each_syllable (initial.syllable_ordered lookups facts) (Brings-syllable_ordered lookups) b
 
 -- of the whole pause the number of items isn't kept: broken syllables get circles
 pub record Brought (b c : Buffer) : Type 0 where
@@ -293,7 +303,8 @@ Brought-ordered facts none face lookups b =
           let order = first.order monotone in
           let one : HasNoNewCluster b c
           = record { none_new = order.clusters.none_new; direction = order.direction; flags = order.flags; level = order.level } in
-          HasNoNewCluster-then b c (initial.ordered face lookups facts b) one (later.none (subst IsMonotoneLevel (sym order.level) monotone));
+          HasNoNewCluster-then b c (initial.ordered face lookups facts b) one
+          (later.none (subst IsMonotoneLevel (sym order.level) monotone));
       flags = PreservesFlags-then b c (initial.ordered face lookups facts b) first.flags later.flags;
     }
 

@@ -1,5 +1,6 @@
 -- Final reordering brings no cluster, and keeps flags and the number of items.
-use Rattle.std.proofs.Common.{◌≡◌, ℕ, zero, suc, ◌+◌, ◌-◌, ◌<◌, ◌≤◌, ◌==◌, ◌&&◌, nat_lt, nat_le, Bool, true, false, if◌then◌else◌, List, length, drop, slice_range, set, refl, ap, inl, inr, arith}
+use Rattle.std.proofs.Common.{◌≡◌, ℕ, zero, suc, ◌+◌, ◌-◌, ◌<◌, ◌≤◌, ◌==◌, ◌&&◌, nat_lt, nat_le, Bool, true, false}
+use Rattle.std.proofs.Common.{if◌then◌else◌, List, length, drop, slice_range, set, refl, ap, inl, inr, arith}
 use Rattle.std.specs.List.{prefix_len}
 use Rattle.std.proofs.lemmas.Bool.Decides.{nat_tests}
 use Rattle.std.proofs.lemmas.Bool.{cases_Bool, and_parts}
@@ -12,7 +13,9 @@ use Rattle.shape_buffer.specs.Layout.{HasNoDefinedFlag}
 use Rattle.shape_buffer.proofs.Flags.FeatureBitLemmas.{added_brings_none}
 use Rattle.syllabic.specs.Moving.{sent_after, stepped_after}
 use Rattle.syllabic.specs.Walking.{item_at}
-use Rattle.syllabic.proofs.PreservationLemmas.{Keeps, Keeps-same, Keeps-then, Keeps-set, Keeps-mapped, Keeps-merge, Keeps-sent_after, Keeps-brought_before, Keeps-unsafe_to_break, LeavesBoth, leaves-same_mask}
+use Rattle.syllabic.proofs.PreservationLemmas.{Keeps, Keeps-same, Keeps-then, Keeps-set, Keeps-mapped, Keeps-merge}
+use Rattle.syllabic.proofs.PreservationLemmas.{Keeps-sent_after, Keeps-brought_before, Keeps-unsafe_to_break}
+use Rattle.syllabic.proofs.PreservationLemmas.{LeavesBoth, leaves-same_mask}
 use Rattle.indic_shaper.specs.Glyphs.{position, with_position, with_mask, is_halant, is_joiner, is_ligature, is_matra, is_of}
 use Rattle.indic_shaper.specs.Settling.Bases as bases
 use Rattle.indic_shaper.specs.Settling.Matras as matras
@@ -22,7 +25,8 @@ use Rattle.indic_shaper.specs.Settling.Syllables.{begins_word, beginning_marked,
 use Rattle.indic_shaper.specs.declared.config.TheConstants.{MALAYALAM}
 use Rattle.indic_shaper.specs.declared.engine.Facts.{Facts}
 use Rattle.indic_shaper.specs.declared.settling.base.Spot.{Spot}
-use Rattle.indic_shaper.proofs.BringingLemmas.{Brings, Brings-kept, Brings-same, Brings-then, Brings-stepped_after, Brings-each_syllable, BringsSyllables}
+use Rattle.indic_shaper.proofs.BringingLemmas.{Brings, Brings-kept, Brings-same, Brings-then, Brings-stepped_after}
+use Rattle.indic_shaper.proofs.BringingLemmas.{Brings-each_syllable, BringsSyllables}
 
 -- ---- the base
 
@@ -185,7 +189,8 @@ Brings-put start base end to b inside within =
     let until = matras.base_end base end in
     let few : until ≤ length b.items = omega (arith, within) in
     let i = matras.first_matra b.items start base in
-    elim (matras.may_move b.items start to) as (λ t. Brings b (if t then matras.moved start until to b else matras.merged start until base b)) [
+    elim (matras.may_move b.items start to)
+    as (λ t. Brings b (if t then matras.moved start until to b else matras.merged start until base b)) [
       | true ↦ Brings-moved_to until to (to - start) b (omega arith) inside few
       | false ↦ elim (nat_lt i base) as (λ t. Brings b (if t then merge_clusters i until b else b)) [
         | true ↦ Brings-kept b (merge_clusters i until b) (Keeps-merge i until b few)
@@ -193,7 +198,8 @@ Brings-put start base end to b inside within =
       ]
     ]
 
-pub Brings-matras : (tag start end base : ℕ) (b : Buffer) → base ≤ end → end ≤ length b.items → Brings b (matras.settled tag start end base b)
+pub Brings-matras : (tag start end base : ℕ) (b : Buffer) → base ≤ end → end ≤ length b.items
+    → Brings b (matras.settled tag start end base b)
 Brings-matras tag start end base b ordered within = elim (cases_Bool (matras.has_room start base end)) [
   | inl is ↦
       let both = and_parts (nat_lt start base) (nat_lt (start + 1) end) is in
@@ -210,7 +216,8 @@ slice-most items from end = rw (length-take (end - from) (drop from items)) (ome
 
 prefix-most : (p : Item → Bool) (items : List Item) (from end : ℕ) → prefix_len p (slice_range items from end) ≤ end - from
 prefix-most p items from end =
-    let few : prefix_len p (slice_range items from end) ≤ length (slice_range items from end) = prefix_len-le-length p (slice_range items from end) in
+    let few : prefix_len p (slice_range items from end) ≤ length (slice_range items from end)
+    = prefix_len-le-length p (slice_range items from end) in
     omega (arith, few, slice-most items from end)
 
 before_matras-to : (items : List Item) (base to n : ℕ) → rephs.before_matras items base to n ≤ to
@@ -261,7 +268,8 @@ after_joiner-to items halant base inside = elim (cases_Bool (nat_lt (halant + 1)
   | inr none ↦ rw none inside
 ]
 
-reph_place-to : (reph : ℕ) (items : List Item) (start end base : ℕ) → start < end → base ≤ end → rephs.place reph items start end base < end
+reph_place-to : (reph : ℕ) (items : List Item) (start end base : ℕ) → start < end → base ≤ end
+    → rephs.place reph items start end base < end
 reph_place-to reph items start end base some ordered =
     let halant = rephs.first_halant items start base in
     elim (cases_Bool (nat_lt halant base)) [
@@ -301,7 +309,8 @@ pref_place-to tag items start end base =
       | true ↦ omega arith
       | false ↦ omega arith
     ] in
-    elim (prefs.follows_halant items start to && (nat_lt to end && is_joiner (item_at items to))) as (λ t. (if t then to + 1 else to) ≤ base + 1) [
+    elim (prefs.follows_halant items start to && (nat_lt to end && is_joiner (item_at items to)))
+    as (λ t. (if t then to + 1 else to) ≤ base + 1) [
       | true ↦ omega (arith, signs)
       | false ↦ omega (arith, signs)
     ]

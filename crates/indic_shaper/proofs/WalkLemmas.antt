@@ -19,7 +19,8 @@ back_while-start goes start (suc k) least = let test : nat_lt start (suc k) ≡ 
 -- and where the test fails
 pub back_while-stop : (goes : ℕ → Bool) (start i : ℕ) → goes i ≡ false → back_while goes start i ≡ i
 back_while-stop goes start zero fails = refl
-back_while-stop goes start (suc k) fails = elim (nat_lt start (suc k)) as (λ t. (if t && goes (suc k) then back_while goes start k else suc k) ≡ suc k) [
-  | true ↦ rw fails refl
-  | false ↦ refl
-]
+back_while-stop goes start (suc k) fails = elim (nat_lt start (suc k))
+    as (λ t. (if t && goes (suc k) then back_while goes start k else suc k) ≡ suc k) [
+      | true ↦ rw fails refl
+      | false ↦ refl
+    ]

@@ -1,11 +1,14 @@
 -- Which positions the items of a syllable take from the base and from one another, before they are sorted.
-use Rattle.std.specs.Prelude.{ℕ, zero, suc, ◌+◌, ◌-◌, ◌==◌, ◌&&◌, ◌||◌, not, min, nat_lt, nat_le, Bool, Option, None, Some, List, [], ◌∷◌, length, swap, if◌then◌else◌}
+use Rattle.std.specs.Prelude.{ℕ, zero, suc, ◌+◌, ◌-◌, ◌==◌, ◌&&◌, ◌||◌, not, min, nat_lt, Bool, Option, None, Some}
+use Rattle.std.specs.Prelude.{List, [], ◌∷◌, length, swap, if◌then◌else◌}
 use Rattle.std.specs.List.{suffix_len}
 use Rattle.shape_items.specs.Items.{Item}
 use Rattle.syllabic.specs.Walking.{item_at}
 use Rattle.indic_shaper.specs.Glyphs.{category, position, with_position, is_consonant, is_matra}
 use Rattle.indic_shaper.specs.Places.{walked}
-use Rattle.indic_shaper.specs.declared.categories.TheConstants.{CAT_CM, CAT_H, CAT_MPST, CAT_N, CAT_RS, CAT_SM, CAT_ZWJ, CAT_ZWNJ, POS_BASE_C, POS_PRE_C, POS_PRE_M, POS_RA_TO_BECOME_REPH, POS_SMVD, POS_START}
+use Rattle.indic_shaper.specs.declared.categories.TheConstants.{CAT_CM, CAT_H, CAT_MPST, CAT_N, CAT_RS, CAT_SM, CAT_ZWJ}
+use Rattle.indic_shaper.specs.declared.categories.TheConstants.{CAT_ZWNJ, POS_BASE_C, POS_PRE_C, POS_PRE_M}
+use Rattle.indic_shaper.specs.declared.categories.TheConstants.{POS_RA_TO_BECOME_REPH, POS_SMVD, POS_START}
 use Rattle.indic_shaper.specs.declared.config.TheConstants.{KANNADA}
 use Rattle.indic_shaper.specs.declared.engine.Facts.{Facts}
 use Rattle.indic_shaper.specs.declared.initial.attaching.Last.{Last}

@@ -1,5 +1,6 @@
 -- The base of a syllable, and whether a reph begins it.
-use Rattle.std.specs.Prelude.{ℕ, zero, suc, ◌+◌, ◌-◌, ◌==◌, ◌&&◌, ◌||◌, not, nat_le, nat_lt, Bool, true, false, List, [], ◌∷◌, length, drop, if◌then◌else◌}
+use Rattle.std.specs.Prelude.{ℕ, zero, suc, ◌+◌, ◌-◌, ◌==◌, ◌&&◌, ◌||◌, not, nat_le, nat_lt, Bool, true, false, List}
+use Rattle.std.specs.Prelude.{[], ◌∷◌, length, drop, if◌then◌else◌}
 use Rattle.std.specs.List.{prefix_len}
 use Rattle.shape_buffer.specs.Layout.{LookupMeaning}
 use Rattle.shape_items.specs.Items.{Item}

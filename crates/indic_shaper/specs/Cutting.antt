@@ -1,5 +1,5 @@
 -- Where syllables begin and end, and dotted circles in broken ones.
-use Rattle.std.specs.Prelude.{ℕ, ◌==◌, ◌&&◌, Bool, Some}
+use Rattle.std.specs.Prelude.{◌==◌, ◌&&◌, Bool, Some}
 use Rattle.shape_items.specs.Buffer.{Buffer}
 use Rattle.shape_items.specs.Items.{Item}
 use Rattle.shape_common.specs.declared.general_category.hb_unicode_general_category_t.TheVariants.{Control}

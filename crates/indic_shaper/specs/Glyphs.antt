@@ -2,7 +2,9 @@
 use Rattle.std.specs.Prelude.{ℕ, ◌==◌, ◌&&◌, ◌||◌, not, Bool}
 use Rattle.std.specs.Int.RustNames.{bit_or}
 use Rattle.shape_items.specs.Items.{Item}
-use Rattle.indic_shaper.specs.declared.categories.TheConstants.{CAT_C, CAT_V, CAT_H, CAT_ZWNJ, CAT_ZWJ, CAT_M, CAT_PLACEHOLDER, CAT_DOTTEDCIRCLE, CAT_MPST, CAT_RA, CAT_CM, CAT_CS}
+use Rattle.indic_shaper.specs.declared.categories.TheConstants.{CAT_C, CAT_V, CAT_H, CAT_ZWNJ, CAT_ZWJ, CAT_M}
+use Rattle.indic_shaper.specs.declared.categories.TheConstants.{CAT_PLACEHOLDER, CAT_DOTTEDCIRCLE, CAT_MPST, CAT_RA}
+use Rattle.indic_shaper.specs.declared.categories.TheConstants.{CAT_CM, CAT_CS}
 
 abbrev pub category : Item → ℕ
 category item = item.properties.shaper_category
@@ -23,7 +25,8 @@ is_whole item = not item.properties.ligated
 -- consonants, those with a stacker, Ra, medial ones, vowels, placeholders, the dotted circle
 abbrev pub is_letter : ℕ → Bool
 is_letter c =
-    (c == CAT_C) || ((c == CAT_CS) || ((c == CAT_RA) || ((c == CAT_CM) || ((c == CAT_V) || ((c == CAT_PLACEHOLDER) || (c == CAT_DOTTEDCIRCLE))))))
+    (c == CAT_C) || ((c == CAT_CS) || ((c == CAT_RA) || ((c == CAT_CM) ||
+    ((c == CAT_V) || ((c == CAT_PLACEHOLDER) || (c == CAT_DOTTEDCIRCLE))))))
 
 abbrev pub is_consonant : Item → Bool
 is_consonant item = is_whole item && is_letter (category item)

@@ -1,5 +1,6 @@
 -- The first pause: each syllable in the order that lookups want, with the masks of the forms that its letters may take.
-use Rattle.std.specs.Prelude.{ℕ, ◌+◌, ◌-◌, ◌==◌, ◌&&◌, ◌||◌, nat_le, nat_lt, Bool, List, ◌++◌, length, take, drop, slice_range, if◌then◌else◌}
+use Rattle.std.specs.Prelude.{ℕ, ◌+◌, ◌-◌, ◌==◌, ◌&&◌, ◌||◌, nat_le, nat_lt, Bool, List, ◌++◌, length, take, drop}
+use Rattle.std.specs.Prelude.{slice_range, if◌then◌else◌}
 use Rattle.shape_common.specs.Face.{FaceMeaning}
 use Rattle.shape_buffer.specs.Layout.{LookupMeaning}
 use Rattle.shape_items.specs.Buffer.{Buffer}
@@ -10,11 +11,11 @@ use Rattle.syllabic.specs.Moving.{exchanged}
 use Rattle.syllabic.specs.Walking.{OfSyllable, each_syllable, item_at, kind_of_byte, syllable_of}
 use Rattle.indic_shaper.specs.Attaching.{positioned}
 use Rattle.indic_shaper.specs.Bases.{find_base}
-use Rattle.indic_shaper.specs.Consonants.{consonants_placed}
+use Rattle.indic_shaper.specs.Consonants.{letters_placed}
 use Rattle.indic_shaper.specs.Cutting.{circled}
 use Rattle.indic_shaper.specs.Glyphs.{is_of}
 use Rattle.indic_shaper.specs.Masking.{all_masked}
-use Rattle.indic_shaper.specs.Sorting.{order, arranged, base_in, moved_merged}
+use Rattle.indic_shaper.specs.Sorting.{sorted, moves, base_in, moved_merged}
 use Rattle.indic_shaper.specs.declared.categories.TheConstants.{CAT_H, CAT_RA, CAT_ZWJ}
 use Rattle.indic_shaper.specs.declared.config.TheConstants.{KANNADA}
 use Rattle.indic_shaper.specs.declared.cutting.TheConstants.{CONSONANT, VOWEL, STANDALONE, BROKEN}
@@ -31,13 +32,19 @@ pub record Ordering : Type 0 where
 abbrev pub ordering_of : Arrangement → Ordering
 ordering_of o = record { items = o.items.items; order = o.order.items; base = o.base }
 
+abbrev pub ordering_sorted : (positioned : List Item) → Ordering
+ordering_sorted items = record { items = sorted items; order = moves items; base = base_in (sorted items) }
+
 abbrev pub ordering_by : LookupMeaning → Facts → (positioned : List Item) → Ordering
 ordering_by lookups facts items =
-    let sorted = arranged items (order items) in
-    record { items = all_masked lookups facts (base_in sorted) sorted; order = order items; base = base_in sorted }
+    let o = ordering_sorted items in
+    record { items = all_masked lookups facts o.base o.items; order = o.order; base = o.base }
+
+abbrev pub ordering_placed : LookupMeaning → Facts → (placed : List Item) → Ordering
+ordering_placed lookups facts items = ordering_by lookups facts (positioned facts (find_base lookups facts items) items)
 
 abbrev pub ordering : LookupMeaning → Facts → List Item → Ordering
-ordering lookups facts items = ordering_by lookups facts (positioned facts (find_base lookups facts items) items)
+ordering lookups facts items = ordering_placed lookups facts (letters_placed lookups facts items)
 
 -- ---- in the buffer
 
@@ -82,10 +89,10 @@ syllable_ordered lookups facts b start end =
     then ordered_from lookups facts (joiner_swapped facts b start end) start end
     else b
 
--- ---- all of them, once broken syllables have their circles and consonants their places
+-- ---- all of them, once broken syllables have their circles
 
 abbrev pub each_ordered : LookupMeaning → Facts → Buffer → Buffer
-each_ordered lookups facts b = each_syllable (syllable_ordered lookups facts) (consonants_placed lookups facts b)
+each_ordered lookups facts b = each_syllable (syllable_ordered lookups facts) b
 
 abbrev pub ordered : FaceMeaning → LookupMeaning → Facts → Buffer → Buffer
 ordered face lookups facts b = each_ordered lookups facts (with_circles face circled b)

@@ -19,7 +19,8 @@ unfoldable pub settled_by : {Map : Type 0} → FaceMeaning → LayoutMeaning Map
 settled_by face layout map script b = all_settled (facts_of face layout map script b.language) b
 
 -- by the number of the pause
-abbrev pub made_by_pause : {Map : Type 0} → ℕ → FaceMeaning → LayoutMeaning Map → MapMeaning → LookupMeaning → Option Script → Buffer → Buffer
+abbrev pub made_by_pause : {Map : Type 0} → ℕ → FaceMeaning → LayoutMeaning Map → MapMeaning → LookupMeaning
+    → Option Script → Buffer → Buffer
 made_by_pause n face layout map lookups script =
     if n == SYLLABLES then syllables_found
     else if n == INITIAL then ordered_by face layout map lookups script

@@ -1,10 +1,12 @@
 -- How scripts differ: their virama, how they write a reph, and where a reph goes beside the base and its forms.
-use Rattle.std.specs.Prelude.{ℕ, ◌==◌, Bool, true, false, Option, None, Some, if◌then◌else◌}
+use Rattle.std.specs.Prelude.{ℕ, ◌==◌, true, false, Option, None, Some, if◌then◌else◌}
 use Rattle.shape_common.specs.declared.text_types.Script.{Script}
 use Rattle.indic_shaper.specs.declared.config.Config.{Config}
 use Rattle.indic_shaper.specs.declared.config.RephMode.TheVariants.{Implicit, Explicit, Encoded}
-use Rattle.indic_shaper.specs.declared.config.TheConstants.{DEVANAGARI, BENGALI, GURMUKHI, GUJARATI, ORIYA, TAMIL, TELUGU, KANNADA, MALAYALAM}
-use Rattle.indic_shaper.specs.declared.categories.TheConstants.{POS_AFTER_MAIN, POS_BEFORE_SUB, POS_AFTER_SUB, POS_BEFORE_POST, POS_AFTER_POST}
+use Rattle.indic_shaper.specs.declared.config.TheConstants.{DEVANAGARI, BENGALI, GURMUKHI, GUJARATI, ORIYA, TAMIL}
+use Rattle.indic_shaper.specs.declared.config.TheConstants.{TELUGU, KANNADA, MALAYALAM}
+use Rattle.indic_shaper.specs.declared.categories.TheConstants.{POS_AFTER_MAIN, POS_BEFORE_SUB, POS_AFTER_SUB}
+use Rattle.indic_shaper.specs.declared.categories.TheConstants.{POS_BEFORE_POST, POS_AFTER_POST}
 
 abbrev pub tag_of : Option Script → ℕ
 tag_of None = 0

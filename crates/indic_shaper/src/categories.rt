@@ -1,8 +1,9 @@
-//! The sort of each character: its category, by which a text is cut into syllables, and its position, by which a syllable
-//! is ordered.
+//! The sort of each character: its category, by which a text is cut into syllables, and its
+//! position, by which a syllable is ordered.
 //!
-//! They follow from Unicode's properties `Indic_Syllabic_Category` and `Indic_Positional_Category`. The tables are made by
-//! `tests/indic-categories.py`, which also compares them with Unicode's files.
+//! They follow from Unicode's properties `Indic_Syllabic_Category` and `Indic_Positional_Category`.
+//! The tables are made by `tests/indic-categories.py`, which also compares them with Unicode's
+//! files.
 ghost use Rattle.std.specs.Prelude.{◌≡◌, slice_index_or};
 ghost use Rattle.shape_buffer.specs.Outcome.{Made};
 ghost use Rattle.indic_shaper.specs.Categories.{value_of, sort_of, with_sort, categorized};
@@ -106,7 +107,8 @@ fn entry_of(blocks: &[u16], place: usize) -> u16
     }
 }
 
-/// Position and category of a character in one number: a page is 32 characters, whose numbers are a block.
+/// Position and category of a character in one number: a page is 32 characters, whose numbers are a
+/// block.
 fn value_of(c: char) -> u16
     ensures { result ≡ value_of c }
 {

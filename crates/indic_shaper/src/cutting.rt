@@ -67,7 +67,8 @@ pub fn circle_broken<F: hb_font_t>(
     buffer: &mut hb_buffer_t,
 ) -> Result<(), ShapeError>
     requires { IsWithinLimit buffer.old }
-    ensures { Outcome (step (with_circles (F.face face.now) Cutting.circled)) buffer.old buffer.new result }
+    ensures { Outcome (step (with_circles (F.face face.now) Cutting.circled))
+        buffer.old buffer.new result }
 {
     let circled = Circled {
         kind: BROKEN,

@@ -76,7 +76,8 @@ pub fn facts_of<F: hb_font_t, M: hb_ot_layout_t<F>>(
     script: Option<Script>,
     buffer: &hb_buffer_t,
 ) -> Facts
-    ensures { result ≡ Engine.facts_of (F.face face.now) (M.layout face.now) (M.masks map.now) script buffer.now.language }
+    ensures { result ≡ Engine.facts_of (F.face face.now) (M.layout face.now)
+        (M.masks map.now) script buffer.now.language }
 {
     let tag = tag_of(script);
     let config = config_of(tag);

@@ -1,4 +1,5 @@
-//! What the shaper asks of an item: its category and position, which are in the two bytes of the shaper.
+//! What the shaper asks of an item: its category and position, which are in the two bytes of the
+//! shaper.
 ghost use Rattle.std.specs.Prelude.{◌≡◌};
 ghost use Rattle.syllabic.specs.Walking.{item_at};
 ghost use Rattle.indic_shaper.specs.Glyphs;
@@ -58,7 +59,8 @@ fn is_whole(info: &hb_glyph_info_t) -> bool
     !info._hb_glyph_info_get_ligated()
 }
 
-fn is_letter(c: u8) -> bool
+/// Consonants, vowels, placeholders and the dotted circle.
+pub fn is_letter(c: u8) -> bool
     ensures { result ≡ Glyphs.is_letter c }
 {
     c == CAT_C

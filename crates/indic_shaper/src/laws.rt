@@ -1,6 +1,6 @@
 //! What the pauses do to clusters and flags. Each function has laws as its contract, and nothing
 //! to do.
-ghost use Rattle.std.specs.Prelude.{ℕ, Option, [], ◌∷◌};
+ghost use Rattle.std.specs.Prelude.{◌≡◌, ℕ, List, Option, [], ◌∷◌};
 ghost use Rattle.canonical_form.specs.Equivalent.{ComposesSoundly, IsEquivalent};
 ghost use Rattle.cluster_order.specs.Ordering.{IsBringingNoCluster};
 ghost use Rattle.shape_common.specs.Face.{FaceMeaning};
@@ -9,9 +9,11 @@ ghost use Rattle.shape_common.specs.declared.text_types.Script.{Script as AnyScr
 ghost use Rattle.indic_shaper.specs.Pauses.{made_by_pause};
 ghost use Rattle.indic_shaper.specs.Composing.{composed};
 ghost use Rattle.shape_buffer.specs.Layout.{HasNoDefinedFlag, LookupMeaning};
+ghost use Rattle.shape_items.specs.Items.{Item};
 ghost use Rattle.shape_buffer.specs.Preservation.{IsClusterPreserving, IsFlagPreserving};
 ghost use Rattle.indic_shaper.specs.Cutting.{syllables_found};
 ghost use Rattle.indic_shaper.specs.Initial.{ordered};
+ghost use Rattle.indic_shaper.specs.Sorting.{arranged, order, sorted};
 ghost use Rattle.indic_shaper.specs.Flagless.{FactsFlagless};
 ghost use Rattle.indic_shaper.specs.Settling.Syllables.{all_settled};
 ghost use Rattle.indic_shaper.specs.declared.engine.Facts.{Facts as AnyFacts};
@@ -56,4 +58,10 @@ pub fn pauses_preserve<F: hb_font_t, M: hb_ot_layout_t<F>>()
 pub fn compositions_are_sound<U: hb_unicode_funcs_t>()
     ensures { IsEquivalent (decompositions_of U.unicode) (0x9DF ∷ []) (0x9AF ∷ 0x9BC ∷ [])
         → ComposesSoundly (decompositions_of U.unicode) (composed U.unicode) }
+{}
+
+/// A syllable is sorted by positions, and items of one position keep their order: what is in order
+/// already is left as it is, which is what sorting makes of it.
+pub fn sorting_is_by_positions()
+    ensures { (items : List Item) → sorted items ≡ arranged items (order items) }
 {}

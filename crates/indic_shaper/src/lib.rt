@@ -1,9 +1,10 @@
-//! The script shaper for the scripts of India: Devanagari, Bengali, Gurmukhi, Gujarati, Oriya, Tamil, Telugu, Kannada and
-//! Malayalam.
+//! The script shaper for the scripts of India: Devanagari, Bengali, Gurmukhi, Gujarati, Oriya,
+//! Tamil, Telugu, Kannada and Malayalam.
 //!
-//! A text is cut into syllables by the categories of its characters. At a first pause each is put in the order in which fonts
-//! want it, with the masks of the forms that its letters may take; at a second one, once the forms are made, vowel signs,
-//! rephs and consonants before the base take their places. The shaper gives seven hooks.
+//! A text is cut into syllables by the categories of its characters. At a first pause each is put
+//! in the order in which fonts want it, with the masks of the forms that its letters may take; at a
+//! second one, once the forms are made, vowel signs, rephs and consonants before the base take
+//! their places. The shaper gives seven hooks.
 #![tactic(auto)]
 #![allow(non_camel_case_types)]
 

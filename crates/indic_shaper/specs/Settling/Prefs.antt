@@ -1,6 +1,7 @@
 -- Consonants that a lookup has made a form of that goes before the base.
 --
--- "1. Only reorder a glyph produced by substitution during application of the <pref> feature. 2. Try to find a target position the same way
+-- "1. Only reorder a glyph produced by substitution during application of the <pref> feature. 2. Try to find a target position the
+-- same way
 -- as for pre-base matra. If it is found, reorder pre-base consonant glyph. 3. If position is not found, reorder immediately before main
 -- consonant." (Microsoft, Developing OpenType Fonts for Malayalam Script: Final reordering.)
 --

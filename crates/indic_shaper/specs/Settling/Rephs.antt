@@ -61,8 +61,8 @@ is_last item = position item == 13
 abbrev pub before_last : List Item → (start end : ℕ) → ℕ
 before_last items start end = end - 1 - suffix_len is_last (slice_range items (start + 1) end)
 
--- back by one for each matra between the base and it; Uniscribe doesn't do this. A Halant of a matra stays the last: U+0930 U+094D U+0915
--- U+094B U+094D
+-- back by one for each matra between the base and where it has come to; Uniscribe doesn't do this. A Halant of a matra stays the last:
+-- U+0930 U+094D U+0915 U+094B U+094D
 abbrev pub before_matra : List Item → (i to : ℕ) → ℕ
 before_matra items i to = if nat_lt i to && is_matra (item_at items i) then to - 1 else to
 

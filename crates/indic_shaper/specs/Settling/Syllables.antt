@@ -1,7 +1,17 @@
 -- A syllable once lookups have made the basic forms, and the whole text.
 use Rattle.std.specs.Prelude.{ℕ, ◌+◌, ◌-◌, ◌==◌, ◌||◌, not, nat_lt, Bool, true, false, if◌then◌else◌, set}
 use Rattle.shape_common.specs.declared.general_category.hb_unicode_general_category_t.{hb_unicode_general_category_t}
-use Rattle.shape_common.specs.declared.general_category.hb_unicode_general_category_t.TheVariants.{Format, Unassigned, PrivateUse, Surrogate, LowercaseLetter, ModifierLetter, OtherLetter, TitlecaseLetter, UppercaseLetter, SpacingMark, EnclosingMark, NonspacingMark}
+use Rattle.shape_common.specs.declared.general_category.hb_unicode_general_category_t.TheVariants.{Format, Unassigned}
+use Rattle.shape_common.specs.declared.general_category.hb_unicode_general_category_t.TheVariants.{PrivateUse}
+use Rattle.shape_common.specs.declared.general_category.hb_unicode_general_category_t.TheVariants.{Surrogate}
+use Rattle.shape_common.specs.declared.general_category.hb_unicode_general_category_t.TheVariants.{LowercaseLetter}
+use Rattle.shape_common.specs.declared.general_category.hb_unicode_general_category_t.TheVariants.{ModifierLetter}
+use Rattle.shape_common.specs.declared.general_category.hb_unicode_general_category_t.TheVariants.{OtherLetter}
+use Rattle.shape_common.specs.declared.general_category.hb_unicode_general_category_t.TheVariants.{TitlecaseLetter}
+use Rattle.shape_common.specs.declared.general_category.hb_unicode_general_category_t.TheVariants.{UppercaseLetter}
+use Rattle.shape_common.specs.declared.general_category.hb_unicode_general_category_t.TheVariants.{SpacingMark}
+use Rattle.shape_common.specs.declared.general_category.hb_unicode_general_category_t.TheVariants.{EnclosingMark}
+use Rattle.shape_common.specs.declared.general_category.hb_unicode_general_category_t.TheVariants.{NonspacingMark}
 use Rattle.shape_items.specs.Buffer.{Buffer}
 use Rattle.shape_items.specs.BufferClusters.{unsafe_to_break}
 use Rattle.syllabic.specs.Walking.{item_at, each_syllable, OfSyllable}

@@ -10,7 +10,7 @@ use Rattle.indic_shaper.specs.declared.config.TheConstants.{DEVANAGARI, BENGALI,
 use Rattle.indic_shaper.specs.declared.engine.Facts.{Facts}
 
 -- a font of the new specification, whose masks of pref and init are 8 and 16
-abbrev facts : ℕ → Facts
+abbrev pub facts : ℕ → Facts
 facts tag = record {
   tag = tag;
   config = config_of tag;
@@ -20,51 +20,51 @@ facts tag = record {
 }
 
 -- a character of a syllable by its cluster, category and position
-abbrev at : (c cluster category position : ℕ) → Item
+abbrev pub at : (c cluster category position : ℕ) → Item
 at c cluster category position =
     let new = item c cluster category 0x10 in record new { properties = record new.properties { shaper_auxiliary = position } }
 
 -- what a lookup has made of two items
-abbrev joined : Item → Item
+abbrev pub joined : Item → Item
 joined x = record x { properties = record x.properties { substituted = true; ligated = true } }
 
 -- a letter before the base (3), the base (4), a Halant, a matra before the base (2) and one after it (12)
-abbrev letter : ℕ → Item
+abbrev pub letter : ℕ → Item
 letter cluster = at 0x915 cluster 1 3
 
-abbrev base : ℕ → Item
+abbrev pub base : ℕ → Item
 base cluster = at 0x937 cluster 1 4
 
-abbrev halant : ℕ → Item
+abbrev pub halant : ℕ → Item
 halant cluster = at 0x94D cluster 4 3
 
-abbrev matra : ℕ → Item
+abbrev pub matra : ℕ → Item
 matra cluster = at 0x93F cluster 7 2
 
-abbrev after : ℕ → Item
+abbrev pub after : ℕ → Item
 after cluster = at 0x93E cluster 7 12
 
 -- a reph (1) that the font has made of Ra and Halant, a form below the base (8), a sign that stands last (13)
-abbrev reph : ℕ → Item
+abbrev pub reph : ℕ → Item
 reph cluster = joined (at 0x930 cluster 15 1)
 
-abbrev below : ℕ → Item
+abbrev pub below : ℕ → Item
 below cluster = at 0x92F cluster 1 8
 
-abbrev last : ℕ → Item
+abbrev pub last : ℕ → Item
 last cluster = at 0x902 cluster 8 13
 
 -- a consonant that asked for a form before the base
-abbrev asking : ℕ → Item
+abbrev pub asking : ℕ → Item
 asking cluster = record (at 0xD30 cluster 15 11) { mask = 8 }
 
-abbrev order : ℕ → List Item → List ℕ
+abbrev pub order : ℕ → List Item → List ℕ
 order tag items = chars (all_settled (facts tag) (buffer items)).items
 
-abbrev clusters : ℕ → List Item → List ℕ
+abbrev pub clusters : ℕ → List Item → List ℕ
 clusters tag items = clusters_of (all_settled (facts tag) (buffer items)).items
 
-abbrev masks : ℕ → List Item → List ℕ
+abbrev pub masks : ℕ → List Item → List ℕ
 masks tag items = map (λ (x : Item). x.mask) (all_settled (facts tag) (buffer items)).items
 
 pub record WorkedMatras : Type 0 where

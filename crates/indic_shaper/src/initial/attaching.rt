@@ -1,4 +1,5 @@
-//! Which positions the items of a syllable take from the base and from one another, before they are sorted.
+//! Which positions the items of a syllable take from the base and from one another, before they are
+//! sorted.
 ghost use Rattle.std.specs.Prelude.{◌≡◌, ◌+◌, ◌-◌, ◌<◌, ◌≤◌, length, drop};
 ghost use Rattle.std.specs.List.{suffix_len};
 ghost use Rattle.syllabic.specs.Walking.{item_at};
@@ -165,14 +166,18 @@ fn attached_place(last: Last, info: &hb_glyph_info_t, rest: &[hb_glyph_info_t]) 
 /// The position of the item at a place by what is before it and right after it.
 fn attached_at(last: Last, items: &[hb_glyph_info_t], i: usize) -> u8
     requires { i < length items.now }
-    ensures { result ≡ Attaching.attached_place last (item_at items.now i) (drop (i + 1) items.now) }
+    ensures { result
+        ≡ Attaching.attached_place last (item_at items.now i) (drop (i + 1) items.now) }
 {
     attached_place(last, &items[i], &items[i + 1..])
 }
 
 /// What signs take after an item that goes to a place.
 fn last_after(last: Last, info: &hb_glyph_info_t, place: u8) -> Last
-    ensures { result ≡ record { place = Attaching.last_place last info.now; other = Attaching.other_place last place } }
+    ensures { result ≡ record {
+      place = Attaching.last_place last info.now;
+      other = Attaching.other_place last place;
+    } }
 {
     Last {
         place: if is_attached(info) || position(info) == POS_SMVD {
@@ -203,7 +208,8 @@ fn attach_signs(items: &mut [hb_glyph_info_t])
     }
 }
 
-/// The position of the consonant that comes before any vowel sign, by an item and what is so after it.
+/// The position of the consonant that comes before any vowel sign, by an item and what is so after
+/// it.
 fn owner_at(info: &hb_glyph_info_t, after: Option<u8>) -> Option<u8>
     ensures { result ≡ Attaching.owner_at info.now after }
 {

@@ -33,8 +33,8 @@ fn after_mask(facts: &Facts) -> hb_mask_t
     facts.masks.blwf | facts.masks.abvf | facts.masks.pstf
 }
 
-/// Where the walk that sets masks stands: how many places before the base, or after it, whether only parts of a reph are
-/// before it, and whether Ra of an eyelash is.
+/// Where the walk that sets masks stands: how many places before the base, or after it, whether
+/// only parts of a reph are before it, and whether Ra of an eyelash is.
 #[derive(Clone, Copy, Debug)]
 pub struct Masked {
     pub left: usize,
@@ -61,7 +61,8 @@ fn is_reph(masked: Masked, info: &hb_glyph_info_t) -> bool
     masked.in_reph && position(info) == POS_RA_TO_BECOME_REPH
 }
 
-/// Whether Ra and Halant so many places before the base are a form below it in the older specification.
+/// Whether Ra and Halant so many places before the base are a form below it in the older
+/// specification.
 fn is_eyelash(left: usize, info: &hb_glyph_info_t, rest: &[hb_glyph_info_t]) -> bool
     ensures { result ≡ Masking.is_eyelash left info.now rest.now }
 {
@@ -74,7 +75,8 @@ fn is_eyelash(left: usize, info: &hb_glyph_info_t, rest: &[hb_glyph_info_t]) -> 
 /// Whether an eyelash begins at a place.
 fn begins_eyelash(facts: &Facts, masked: Masked, items: &[hb_glyph_info_t], i: usize) -> bool
     requires { i < length items.now }
-    ensures { result ≡ Masking.begins_eyelash facts.now masked (item_at items.now i) (drop (i + 1) items.now) }
+    ensures { result
+        ≡ Masking.begins_eyelash facts.now masked (item_at items.now i) (drop (i + 1) items.now) }
 {
     facts.is_old && facts.tag == DEVANAGARI && is_eyelash(masked.left, &items[i], &items[i + 1..])
 }
@@ -142,7 +144,8 @@ fn joins_before<F, M: hb_ot_layout_t<F>>(
     i: usize,
 ) -> bool
     requires { i < length items.now }
-    ensures { result ≡ Masking.joins_before (M.lookups map.now face.now) facts.now base i (item_at items.now i) (drop (i + 1) items.now) }
+    ensures { result ≡ Masking.joins_before (M.lookups map.now face.now) facts.now base i
+        (item_at items.now i) (drop (i + 1) items.now) }
 {
     base < i && joins_next::<F, M>(map, face, facts, &items[i], &items[i + 1..])
 }
@@ -184,7 +187,8 @@ fn mask_before_base<F, M: hb_ot_layout_t<F>>(
     base: usize,
     items: &mut [hb_glyph_info_t],
 )
-    ensures { items.new ≡ Masking.pref_masked (M.lookups map.now face.now) facts.now base items.old }
+    ensures { items.new
+        ≡ Masking.pref_masked (M.lookups map.now face.now) facts.now base items.old }
 {
     if facts.masks.pref != 0 {
         let i = pref_from::<F, M>(map, face, facts, base, items);

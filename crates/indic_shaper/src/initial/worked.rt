@@ -1,5 +1,8 @@
 //! Syllables put in order by hand, which the definitions meet.
-ghost use Rattle.indic_shaper.specs.Worked.Initial.{WorkedClusters, WorkedOrders, WorkedRephs, WorkedSorts};
+ghost use Rattle.indic_shaper.specs.Worked.Initial.{WorkedClusters, WorkedOrders, WorkedRephs};
+ghost use Rattle.indic_shaper.specs.Worked.Initial.{WorkedSorts};
+ghost use Rattle.indic_shaper.specs.Worked.Steps.{WorkedAttaching, WorkedBases, WorkedJoins};
+ghost use Rattle.indic_shaper.specs.Worked.Steps.{WorkedMasks};
 
 /// Categories and positions of characters, and where fonts put consonants.
 pub fn sorts_meet_worked_cases()
@@ -19,4 +22,12 @@ pub fn rephs_meet_worked_cases()
 /// The clusters of what changes places.
 pub fn clusters_meet_worked_cases()
     ensures { WorkedClusters }
+{}
+
+/// The steps of initial reordering, one by one.
+pub fn first_steps_meet_worked_cases()
+    ensures bases { WorkedBases }
+    ensures attaching { WorkedAttaching }
+    ensures masks { WorkedMasks }
+    ensures joins { WorkedJoins }
 {}

@@ -11,4 +11,5 @@ returns-clause-made c =
     c.mark_beginning.ensures.made
     ∙ ap (beginning_marked facts.masks.init c.args.start)
     (c.move_all.ensures.made
-    ∙ ap₂ (λ (b : Buffer) (spot : Spot). moved facts c.args.start c.args.end b spot) c.find_base-spot.ensures.made c.find_base-spot.ensures.value)
+    ∙ ap₂ (λ (b : Buffer) (spot : Spot). moved facts c.args.start c.args.end b spot)
+    c.find_base-spot.ensures.made c.find_base-spot.ensures.value)

@@ -1,10 +1,11 @@
-use Rattle.std.proofs.Common.{◌≡◌, ℕ, suc, ◌+◌, ◌-◌, Bool, true, false, List, refl, ap, ap₂, sym, ◌∙◌, arith}
+use Rattle.std.proofs.Common.{◌≡◌, ℕ, suc, ◌-◌, Bool, true, false, List, refl, ap, ap₂, sym, ◌∙◌, arith}
 use Rattle.shape_items.specs.Items.{Item}
 use Rattle.indic_shaper.specs.Bases as bases
 use Rattle.indic_shaper.proofs.initial.base.base_from.Goals as goal
 
 next : (items : List Item) (limit : ℕ) (seen : Bool) (base n : ℕ) → bases.ends_search items limit seen n ≡ false
-    → bases.base_from items limit seen base (suc n) ≡ bases.base_from items limit (bases.seen_at items seen n) (bases.base_at items base n) n
+    → bases.base_from items limit seen base (suc n)
+    ≡ bases.base_from items limit (bases.seen_at items seen n) (bases.base_at items base n) n
 next items limit seen base n e = rw e refl
 
 last : (items : List Item) (limit : ℕ) (seen : Bool) (base n : ℕ) → bases.ends_search items limit seen n ≡ true
