@@ -18,6 +18,16 @@ ARABIC = "يولد جميع الناس أحرارا متساوين في الكر
 POINTED = "بِسْمِ اللَّهِ الرَّحْمَٰنِ الرَّحِيمِ الْحَمْدُ لِلَّهِ رَبِّ الْعَالَمِينَ الرَّحْمَٰنِ الرَّحِيمِ مَالِكِ يَوْمِ الدِّينِ إِيَّاكَ نَعْبُدُ وَإِيَّاكَ نَسْتَعِينُ اهْدِنَا الصِّرَاطَ الْمُسْتَقِيمَ "
 r = random.Random(1)
 LETTERS = "".join(r.choice("ابتثجحخدذرزسشصضطظعغفقكلمنهوي     ") for _ in range(2000))
+# Articles 1 to 3 of the Universal Declaration of Human Rights, in the scripts of India.
+HINDI = "सभी मनुष्यों को गौरव और अधिकारों के मामले में जन्मजात स्वतन्त्रता और समानता प्राप्त है। उन्हें बुद्धि और अन्तरात्मा की देन प्राप्त है और परस्पर उन्हें भाईचारे के भाव से बर्ताव करना चाहिए। सभी को इस घोषणा में सन्निहित सभी अधिकारों और आज़ादियों को प्राप्त करने का हक़ है और इस मामले में जाति, वर्ण, लिंग, भाषा, धर्म, राजनीति या अन्य विचार-प्रणाली, किसी देश या समाज विशेष में जन्म, सम्पत्ति या किसी प्रकार की अन्य मर्यादा आदि के कारण भेदभाव का विचार न किया जाएगा। प्रत्येक व्यक्ति को जीवन, स्वाधीनता और वैयक्तिक सुरक्षा का अधिकार है। "
+BENGALI = "সমস্ত মানুষ স্বাধীনভাবে সমান মর্যাদা এবং অধিকার নিয়ে জন্মগ্রহণ করে। তাঁদের বিবেক এবং বুদ্ধি আছে; সুতরাং সকলেরই একে অপরের প্রতি ভ্রাতৃত্বসুলভ মনোভাব নিয়ে আচরণ করা উচিত। এ ঘোষণায় উল্লেখিত স্বাধীনতা এবং অধিকারসমূহে গোত্র, ধর্ম, বর্ণ, শিক্ষা, ভাষা, রাজনৈতিক বা অন্যবিধ মতামত, জাতীয় বা সামাজিক উৎপত্তি, জন্ম, সম্পত্তি বা অন্য কোন মর্যাদা নির্বিশেষে প্রত্যেকের সমান অধিকার থাকবে। জীবন, স্বাধীনতা এবং দৈহিক নিরাপত্তায় প্রত্যেকের অধিকার আছে। "
+PUNJABI = "ਸਾਰਾ ਮਨੁੱਖੀ ਪਰਿਵਾਰ ਆਪਣੀ ਮਹਿਮਾ, ਸ਼ਾਨ ਅਤੇ ਹੱਕਾਂ ਦੇ ਪੱਖੋਂ ਜਨਮ ਤੋਂ ਹੀ ਆਜ਼ਾਦ ਹੈ ਅਤੇ ਸੁਤੇ ਸਿੱਧ ਸਾਰੇ ਲੋਕ ਬਰਾਬਰ ਹਨ। ਉਨ੍ਹਾਂ ਸਭਨਾ ਨੂੰ ਤਰਕ ਅਤੇ ਜ਼ਮੀਰ ਦੀ ਸੌਗਾਤ ਮਿਲੀ ਹੋਈ ਹੈ ਅਤੇ ਉਨ੍ਹਾਂ ਨੂੰ ਭਰਾਤਰੀਭਾਵ ਦੀ ਭਾਵਨਾ ਰਖਦਿਆਂ ਆਪਸ ਵਿਚ ਵਿਚਰਣਾ ਚਾਹੀਦਾ ਹੈ। ਹਰੇਕ ਵਿਅਕਤੀ ਨੂੰ ਜ਼ਿੰਦਗੀ, ਆਜ਼ਾਦੀ ਅਤੇ ਸੁਰੱਖਿਆ ਦਾ ਅਧਿਕਾਰ ਹੈ। "
+GUJARATI = "પ્રતિષ્ઠા અને અધિકારોની દૃષ્ટિએ સર્વ માનવો જન્મથી સ્વતંત્ર અને સમાન હોય છે. તેમનામાં વિચારશક્તિ અને અંતઃકરણ હોય છે અને તેમણે પરસ્પર બંધુત્વની ભાવનાથી વર્તવું જોઇએ. દરેક વ્યક્તિને જાતિ, રંગ, ભાષા, ધર્મ, રાજકીય કે બીજા અભિપ્રાય, રાષ્ટ્રીય કે સામાજિક ઉત્પત્તિ, મિલકત, જન્મ કે બીજા દરજ્જાના ભેદભાવ વિના આ ઘોષણામાં રજૂ કરેલા સર્વ અધિકારો અને સ્વાતંત્ર્યો ભોગવવાનો હક છે. દરેકને જીવન, સ્વાતંત્ર્ય અને સલામતીનો અધિકાર છે. "
+ODIA = "ସବୁ ମନୁଷ୍ୟ ଜନ୍ମକାଳରୁ ସ୍ୱାଧୀନ। ସେମାନଙ୍କର ମର୍ଯ୍ୟାଦା ଓ ଅଧିକାର ସମାନ। ସେମାନଙ୍କଠାରେ ପ୍ରଜ୍ଞା ଓ ବିବେକ ନିହିତ ଅଛି। ସେମାନଙ୍କୁ ପରସ୍ପର ପ୍ରତି ଭ୍ରାତୃତ୍ୱ ମନୋଭାବ ପୋଷଣ କରି କାର୍ଯ୍ୟ କରିବା ଉଚିତ। ଜାତି, ବର୍ଣ୍ଣ, ଲିଙ୍ଗ, ଭାଷା, ଧର୍ମ, ରାଜନୈତିକ ବା ଅନ୍ୟ ମତବାଦ, ଜାତୀୟ ବା ସାମାଜିକ ଉତ୍ପତ୍ତି, ସମ୍ପତ୍ତି, ଜନ୍ମ ବା ଅନ୍ୟାନ୍ୟ ମର୍ଯ୍ୟାଦା ନିର୍ବିଶେଷରେ ପ୍ରତ୍ୟେକ ବ୍ୟକ୍ତି ଏହି ଘୋଷଣାନାମାର ସମସ୍ତ ଅଧିକାର ଓ ସ୍ୱାଧୀନତାର ଅଧିକାରୀ। "
+TAMIL = "மனிதப் பிறவியினர் சகலரும் சுதந்திரமாகவே பிறக்கின்றனர்; அவர்கள் மதிப்பிலும், உரிமைகளிலும் சமமானவர்கள், அவர்கள் நியாயத்தையும் மனச்சாட்சியையும் இயற்பண்பாகப் பெற்றவர்கள். அவர்கள் ஒருவருடனொருவர் சகோதர உணர்வுப் பாங்கில் நடந்துகொள்ளல் வேண்டும். இனம், நிறம், பால், மொழி, மதம், அரசியல் அல்லது வேறு அபிப்பிராயமுடைமை, தேசிய அல்லது சமூகத் தோற்றம், ஆதனம், பிறப்பு அல்லது பிற அந்தஸ்து என்பன போன்ற எத்தகைய வேறுபாடுமின்றி, இப்பிரகடனத்தில் தரப்பட்டுள்ள எல்லா உரிமைகளுக்கும் சுதந்திரங்களுக்கும் எல்லோரும் உரித்துடையவராவர். "
+TELUGU = "ప్రతిపత్తిస్వత్వముల విషయమున మానవులెల్లరును జన్మతః స్వతంత్రులును సమానులును నగుదురు. వారు వివేచన-అంతఃకరణ సంపన్నులగుటచే పరస్పరము భ్రాతృభావముతో వర్తింపవలయును. జాతి, వర్ణ, స్త్రీ, పురుష వివక్షత, భాష, మత, రాజకీయ లేక ఇతర అభిప్రాయములు, జాతీయ లేక సాంఘిక ఉద్భవము, ఆస్తి, జన్మ లేక మరి ఇతర ప్రతిపత్తి మొదలగు వాటి విషయమున ఎట్టి భేదము లేకుండ ప్రతి వ్యక్తియు ఈ ప్రకటనమునందు పొందుపరచబడిన స్వాతంత్ర్యములకును, స్వత్వములకును పాత్రులగుదురు. "
+KANNADA = "ಎಲ್ಲಾ ಮಾನವರೂ ಸ್ವತಂತ್ರರಾಗಿಯೇ ಜನಿಸಿದ್ದಾರೆ. ಹಾಗೂ ಘನತೆ ಮತ್ತು ಹಕ್ಕುಗಳಲ್ಲಿ ಸಮಾನರಾಗಿದ್ದಾರೆ. ವಿವೇಕ ಮತ್ತು ಅಂತಃಕರಣಗಳನ್ನು ಪಡೆದವರಾದ್ದರಿಂದ ಅವರು ಪರಸ್ಪರ ಸಹೋದರ ಭಾವದಿಂದ ವರ್ತಿಸಬೇಕು. ಜನಾಂಗ, ವರ್ಣ, ಲಿಂಗ, ಭಾಷೆ, ಧರ್ಮ, ರಾಜಕೀಯ ಅಥವಾ ಇತರ ಅಭಿಪ್ರಾಯ, ರಾಷ್ಟ್ರೀಯ ಅಥವಾ ಸಾಮಾಜಿಕ ಮೂಲ, ಆಸ್ತಿ, ಹುಟ್ಟು ಅಥವಾ ಇತರ ಸ್ಥಾನಮಾನಗಳಂತಹ ಯಾವುದೇ ಭೇದಭಾವವಿಲ್ಲದೆ ಈ ಘೋಷಣೆಯಲ್ಲಿ ಹೇಳಲಾದ ಎಲ್ಲ ಹಕ್ಕುಗಳಿಗೂ ಸ್ವಾತಂತ್ರ್ಯಗಳಿಗೂ ಪ್ರತಿಯೊಬ್ಬರೂ ಅರ್ಹರಾಗಿದ್ದಾರೆ. "
+MALAYALAM = "മനുഷ്യരെല്ലാവരും തുല്യാവകാശങ്ങളോടും അന്തസ്സോടും സ്വാതന്ത്ര്യത്തോടുംകൂടി ജനിച്ചവരാണ്. അന്യോന്യം ഭ്രാതൃഭാവത്തോടെ പെരുമാറുവാനാണ് മനുഷ്യന് വിവേകബുദ്ധിയും മനസ്സാക്ഷിയും സിദ്ധമായിരിക്കുന്നത്. ജാതി, മതം, നിറം, ഭാഷ, സ്ത്രീപുരുഷഭേദം, രാഷ്ട്രീയാഭിപ്രായം, സ്വത്ത്, കുലം എന്നിവയൊന്നും കണക്കാക്കാതെ ഈ പ്രഖ്യാപനത്തിൽ പറയുന്ന അവകാശങ്ങൾക്കും സ്വാതന്ത്ര്യത്തിനും സർവ്വജനങ്ങളും അർഹരാണ്. "
 # What the shaper of the script shapes.
 SCRIPTED = {"arabic": ARABIC, "arabic-pointed": POINTED, "arabic-random": LETTERS, "hebrew": D(HEBREW)}
 TIBETAN = "གལ་གནད་ཆུང་རིམ་ནང་ རྟགས་བཀོད་ལག་ལེན་འཐབ། ཡིག་ཆ་དེ་ ཆ་ཤས་ཁ་ཕྱེ་ནིའི་ ངོ་རྟགས་ཅིག་གི་ནང་ན་ རེ་བ་མེད་པར་ རྫོགས་སོ་ནུག ཌའི་ལོག་དེ་གི་ ཨེབ་རྟའི་ལྟག་ལུ་ དབྱེ་བྱེད་ཕྲ་རིང་ཅིག་འདུག མདའ་རྟགས་ཀྱི་མཐའ་སྐོར་ལུ་ གྱིབ་མའི་བྱུང་སྣང་། ལག་ཆས་ཕྲ་རིང་གི་ ཨེབ་རྟའི་མཐའ་སྐོར་ལུ་ སེར་ཁའི་བཟོ་རྣམ། ཌའི་ལོག་གཙོ་བོའི་ མངའ་ཁོངས་མཐའ་སྐོར་གྱི་ མཐའ་མཚམས་རྒྱ་ཚད། "
@@ -35,6 +45,27 @@ SYLLABLES = {
     "khmer": (KHMER, [NOTO + "SansKhmer-Regular.ttf", "/usr/share/fonts/truetype/khmeros/KhmerOS.ttf"]),
     "burmese": (BURMESE, [NOTO + "SansMyanmar-Regular.ttf", "/usr/share/fonts/truetype/padauk/Padauk-Regular.ttf"]),
     "adlam": (ADLAM, [NOTO + "SansAdlam-Regular.ttf"]),
+}
+LOHIT = "/usr/share/fonts/truetype/lohit-"
+# The scripts of India, over fonts of the packages fonts-noto-core, fonts-indic and fonts-deva, -beng, -gujr,
+# -guru, -orya, -taml, -telu and -mlym with -extra.
+SYLLABLES |= {
+    "hindi": (HINDI, [NOTO + "SansDevanagari-Regular.ttf", NOTO + "SerifDevanagari-Regular.ttf", LOHIT + "devanagari/Lohit-Devanagari.ttf",
+                      "/usr/share/fonts/truetype/Gargi/Gargi.ttf", "/usr/share/fonts/truetype/Nakula/nakula.ttf"]),
+    "bengali": (BENGALI, [NOTO + "SansBengali-Regular.ttf", NOTO + "SerifBengali-Regular.ttf", LOHIT + "bengali/Lohit-Bengali.ttf",
+                          "/usr/share/fonts/truetype/fonts-beng-extra/Ani.ttf", "/usr/share/fonts/truetype/fonts-beng-extra/Mukti.ttf"]),
+    "punjabi": (PUNJABI, [NOTO + "SansGurmukhi-Regular.ttf", NOTO + "SerifGurmukhi-Regular.ttf", LOHIT + "punjabi/Lohit-Gurmukhi.ttf",
+                          "/usr/share/fonts/truetype/fonts-guru-extra/Saab.ttf"]),
+    "gujarati": (GUJARATI, [NOTO + "SansGujarati-Regular.ttf", NOTO + "SerifGujarati-Regular.ttf", LOHIT + "gujarati/Lohit-Gujarati.ttf",
+                            "/usr/share/fonts/truetype/fonts-kalapi/Kalapi.ttf"]),
+    "odia": (ODIA, [NOTO + "SansOriya-Regular.ttf", LOHIT + "oriya/Lohit-Odia.ttf", "/usr/share/fonts/truetype/samyak-fonts/Samyak-Oriya.ttf"]),
+    "tamil": (TAMIL, [NOTO + "SansTamil-Regular.ttf", NOTO + "SerifTamil-Regular.ttf", LOHIT + "tamil/Lohit-Tamil.ttf",
+                      "/usr/share/fonts/truetype/samyak-fonts/Samyak-Tamil.ttf"]),
+    "telugu": (TELUGU, [NOTO + "SansTelugu-Regular.ttf", NOTO + "SerifTelugu-Regular.ttf", LOHIT + "telugu/Lohit-Telugu.ttf",
+                        "/usr/share/fonts/truetype/fonts-telu-extra/vemana2000.ttf"]),
+    "kannada": (KANNADA, [NOTO + "SansKannada-Regular.ttf", NOTO + "SerifKannada-Regular.ttf", LOHIT + "kannada/Lohit-Kannada.ttf"]),
+    "malayalam": (MALAYALAM, [NOTO + "SansMalayalam-Regular.ttf", NOTO + "SerifMalayalam-Regular.ttf", LOHIT + "malayalam/Lohit-Malayalam.ttf",
+                              "/usr/share/fonts/truetype/malayalam/Meera-Regular.ttf", "/usr/share/fonts/truetype/malayalam/Rachana-Regular.ttf"]),
 }
 KINDS = {"latin": LATIN, "viet-nfd": D(VIET), "viet-nfc": C(VIET), "greek-nfc": C(GREEK), "greek-nfd": D(GREEK), "cyrillic": CYRILLIC,
          "hebrew": D(HEBREW), "digits": DIGITS, "emoji": EMOJI, "marks33": MARKS}
