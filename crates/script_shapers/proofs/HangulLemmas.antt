@@ -1,6 +1,6 @@
 -- Composing syllables, taking them apart and moving their tone marks preserves the order of clusters and the flags of
 -- glyphs.
-use Rattle.std.proofs.Common.{◌≡◌, ℕ, zero, suc, ◌+◌, ◌-◌, ◌<◌, ◌≤◌, ◌==◌, ◌||◌, not, Bool, true, false, if◌then◌else◌, List, [], ◌∷◌, ◌++◌, Option, None, Some, length, min, drop, refl, ap, sym, subst, ◌∙◌, inl, inr, arith}
+use Rattle.std.proofs.Common.{◌≡◌, ℕ, zero, suc, ◌+◌, ◌-◌, ◌<◌, ◌≤◌, ◌==◌, not, Bool, true, false, if◌then◌else◌, List, [], ◌∷◌, ◌++◌, Option, None, Some, length, min, drop, refl, ap, sym, subst, ◌∙◌, inl, inr, arith}
 use Rattle.std.specs.Prelude.{slice_get}
 use Rattle.std.proofs.Math.Dec.{eqb-suc-zero}
 use Rattle.std.proofs.lemmas.Bool.{or_right, or_cases}
@@ -21,8 +21,7 @@ use Rattle.shape_items.proofs.Order.DrawsInOrder.{DrawsInOrder, DrawsInOrder-sam
 use Rattle.shape_buffer.specs.Preservation.{IsClusterPreserving, IsFlagPreserving}
 use Rattle.shape_buffer.proofs.Steps.PreservationLemmas.{PreservesOrder-then}
 use Rattle.script_shapers.specs.Hangul.{at_graphemes, merged_syllable, joined_syllable, joined_tone, with_tone, is_zero_width, is_nothing, is_tone, if_tone, tone_after, taken_of, syllable_at, marks_of, joined_at, joined_next, joined_to, taken_at}
-use Rattle.script_shapers.specs.Hangul.{glyphs_of, of_kind, with_circle, turned, both_of, glyphs_with, block_at, block_taken, one_more_if, next_skip, built, wants_circle, composed_text}
-use Rattle.script_shapers.specs.declared.hangul.syllables.Size.{Size}
+use Rattle.script_shapers.specs.Hangul.{glyphs_of, of_kind, with_circle, turned, both_of, glyphs_with, block_at, block_taken, one_more_if, built, wants_circle, composed_text}
 use Rattle.script_shapers.specs.declared.hangul.syllables.Size.TheVariants.{Two, Three}
 use Rattle.script_shapers.specs.declared.hangul.syllables.Syllable.{Syllable}
 use Rattle.script_shapers.specs.declared.hangul.syllables.Syllable.TheVariants as is

@@ -7,12 +7,9 @@ use Rattle.std.specs.Option.{option_map, option_or}
 use Rattle.canonical_form.specs.Decompositions.{Decompositions}
 use Rattle.canonical_form.specs.Equivalent.{IsEquivalent, ComposesSoundly}
 use Rattle.canonical_form.specs.SplitsFall.{SplitsFall}
-use Rattle.shape_common.specs.Face.{FaceMeaning}
 use Rattle.shape_common.specs.Unicode.{UnicodeMeaning, LawfulUnicode}
-use Rattle.shape_normalize.specs.CanonicalForm.{HasLawfulHooks}
-use Rattle.shape_plan.specs.Plan.{Plan, hooks_of}
-use Rattle.shape_plan.specs.Rules.{used_decompositions, used_compose, rules_of}
-use Rattle.shape_plan.specs.Shaper.{ShaperConstants, HookMeaning}
+use Rattle.shape_plan.specs.Rules.{used_decompositions, used_compose}
+use Rattle.shape_plan.specs.Shaper.{HookMeaning}
 use Rattle.script_shapers.specs.HebrewForms.{form_unless, FormsAreSound}
 use Rattle.script_shapers.specs.declared.hebrew.forms.TheConstants.{FORMS}
 

@@ -1,15 +1,14 @@
 -- What hooks that merge, mark and put in a new list preserve.
-use Rattle.std.proofs.Common.{◌≡◌, ℕ, zero, suc, ◌+◌, ◌<◌, ◌≤◌, ◌==◌, ◌&&◌, ◌||◌, Bool, true, false, cond, if◌then◌else◌, nat_lt, List, [], ◌∷◌, ◌++◌, Option, None, Some, length, map, refl, ap, sym, subst, ◌∙◌, inl, arith, bit_and}
+use Rattle.std.proofs.Common.{◌≡◌, ℕ, ◌≤◌, Bool, true, false, cond, List, [], ◌∷◌, Option, None, Some, length, refl, ap, ◌∙◌, inl}
 use Rattle.std.proofs.lemmas.Bool.{or_right}
 use Rattle.std.specs.List.{find}
 use Rattle.shape_items.specs.Buffer.{Buffer}
 use Rattle.shape_items.specs.BufferClusters.{merge_clusters, merge_out_clusters, unsafe_to_break}
 use Rattle.shape_items.specs.Clusters.{clusters}
-use Rattle.shape_items.specs.ClusterOrder.{IsMonotoneLevel, PreservesClusters}
 use Rattle.shape_items.specs.Items.{Item}
-use Rattle.shape_items.specs.PreservesFlags.{PreservesFlags, IsDefinedFlag, has_flag, some_has}
+use Rattle.shape_items.specs.PreservesFlags.{PreservesFlags, has_flag, some_has}
 use Rattle.shape_items.proofs.Deletion.DeletePreserves.{merged_preserves, merged_out_preserves}
-use Rattle.shape_items.proofs.Flags.FlagLemmas.{PreservesFlags-same, PreservesFlags-then, PreservesFlags-items, unsafe_to_break_preserves}
+use Rattle.shape_items.proofs.Flags.FlagLemmas.{PreservesFlags-same, PreservesFlags-then, unsafe_to_break_preserves}
 use Rattle.shape_items.proofs.Merging.ClusterLemmas.{merge_out-cases}
 use Rattle.shape_items.proofs.Merging.KeyLemmas.{length-merge_out, length-merge_clusters, length-unsafe_to_break, without_items, without_items-merge_clusters}
 use Rattle.shape_items.proofs.Order.DrawsInOrder.{DrawsInOrder, PreservesClusters-from_draws}

@@ -1,5 +1,5 @@
 -- Forms at private characters preserve clusters, flags and the number of items.
-use Rattle.std.proofs.Common.{◌≡◌, ℕ, zero, suc, ◌≤◌, Bool, true, false, if◌then◌else◌, Option, None, Some, [], ◌∷◌, length, min, drop, refl, ap}
+use Rattle.std.proofs.Common.{ℕ, zero, suc, Bool, true, false, if◌then◌else◌, Option, None, Some, [], ◌∷◌, length, min, drop, refl}
 use Rattle.std.proofs.Math.Seq.{map-set_same}
 use Rattle.std.proofs.lemmas.List.{length-set}
 use Rattle.shape_common.specs.Face.{FaceMeaning}
@@ -13,7 +13,7 @@ use Rattle.shape_buffer.specs.Outcome.{Refused, step}
 use Rattle.shape_buffer.specs.declared.buffer.error.ShapeError.{ShapeError}
 use Rattle.shape_buffer.proofs.Steps.PreservationLemmas.{PreservesClusters-equal, PreservesOrder-then}
 use Rattle.script_shapers.specs.Thai.{sara_am_parted}
-use Rattle.script_shapers.specs.ThaiForms.{item_at, item_formed, char_formed, ends_marks, marks_spanned, mark_formed, action_of, place_of, mark_of, formed_by, formed_to, forms_put, thai_text}
+use Rattle.script_shapers.specs.ThaiForms.{item_at, item_formed, char_formed, ends_marks, marks_spanned, action_of, place_of, mark_of, formed_by, formed_to, forms_put, thai_text}
 use Rattle.script_shapers.specs.declared.thai.forms.Action.{Action}
 use Rattle.script_shapers.specs.declared.thai.forms.Mark.{Mark}
 use Rattle.script_shapers.specs.declared.thai.forms.Walk.{Walk}

@@ -1,5 +1,5 @@
 -- Taking SARA AM apart preserves the order of clusters and the flags of glyphs.
-use Rattle.std.proofs.Common.{◌≡◌, ℕ, zero, suc, ◌+◌, ◌-◌, ◌<◌, ◌≤◌, ◌==◌, ◌&&◌, ◌||◌, nat_lt, Bool, true, false, if◌then◌else◌, List, [], ◌∷◌, ◌++◌, Option, None, Some, length, take, get_or, refl, ap, sym, subst, ◌∙◌, inl, inr, ◌⊎◌, arith}
+use Rattle.std.proofs.Common.{◌≡◌, ℕ, zero, suc, ◌+◌, ◌-◌, ◌<◌, ◌≤◌, ◌==◌, ◌&&◌, ◌||◌, nat_lt, Bool, true, false, if◌then◌else◌, List, [], ◌∷◌, ◌++◌, Option, None, Some, length, take, get_or, refl, ap, sym, subst, ◌∙◌, inl, inr, arith}
 use Rattle.std.proofs.lemmas.Bool.{or_right, or_cases}
 use Rattle.std.proofs.lemmas.Bool.Decides.{nat_tests}
 use Rattle.std.proofs.lemmas.List.{append_assoc, append-nil}
@@ -19,7 +19,7 @@ use Rattle.shape_items.proofs.MergingInOrder.EachSpanLemmas.{AreSpansInOrder-low
 use Rattle.shape_items.proofs.Order.DrawsInOrder.{DrawsInOrder, DrawsInOrder-same, DrawsInOrder-after, DrawsInOrder-again}
 use Rattle.shape_buffer.specs.Preservation.{IsClusterPreserving, IsFlagPreserving}
 use Rattle.shape_buffer.proofs.Steps.PreservationLemmas.{PreservesOrder-then}
-use Rattle.script_shapers.specs.Thai.{is_sara_am, is_base, same, if_sara_am, sara_am_after, nikhahit_before, own_part, is_above_item, brought, both, parted, is_graphemes, merge_start, item_at, span_at, am_spans, merged, sara_am_parted, sara_aa_of}
+use Rattle.script_shapers.specs.Thai.{is_sara_am, is_base, same, if_sara_am, sara_am_after, nikhahit_before, own_part, is_above_item, both, parted, is_graphemes, merge_start, item_at, span_at, am_spans, merged, sara_am_parted, sara_aa_of}
 use Rattle.script_shapers.proofs.PreservationLemmas.{PreservesAll, order-replaced, flags-replaced, BringsNone, found_has, found-in}
 
 -- ---- the spans of SARA AM

@@ -1,7 +1,6 @@
 -- The features of Arabic and their stages, in HarfBuzz's order.
 use Rattle.std.specs.Prelude.{◌≡◌, ℕ, None, Some, List, [], ◌∷◌, ◌++◌, map, refl}
 use Rattle.shape_common.specs.declared.text_types.Script.{Script}
-use Rattle.shape_common.specs.declared.text_types.hb_tag_t.{hb_tag_t}
 use Rattle.shape_buffer.specs.declared.interfaces.map_request.MapRequest.{MapRequest}
 use Rattle.shape_buffer.specs.declared.interfaces.map_request.MapRequest.TheVariants.{Feature, Pause, PauseUnless}
 use Rattle.script_shapers.specs.ArabicRequests.{arabic_requests}

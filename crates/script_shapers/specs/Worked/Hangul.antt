@@ -1,5 +1,5 @@
 -- Syllables of Hangul and their tone marks, worked out by hand (the Unicode Standard, 3.12).
-use Rattle.std.specs.Prelude.{◌≡◌, ℕ, ◌==◌, ◌&&◌, pos, false, Bool, if◌then◌else◌, Option, None, Some, List, [], ◌∷◌, map, refl}
+use Rattle.std.specs.Prelude.{◌≡◌, ℕ, ◌==◌, ◌&&◌, pos, false, if◌then◌else◌, None, Some, List, [], ◌∷◌, map, refl}
 use Rattle.std.specs.List.{list_any}
 use Rattle.shape_common.specs.Face.{FaceMeaning}
 use Rattle.shape_common.specs.PlainUnicode.{plain_unicode}

@@ -1,8 +1,7 @@
 -- Forms of Thai at private characters, worked out by hand from the tables of Windows and Macintosh.
-use Rattle.std.specs.Prelude.{◌≡◌, ℕ, Bool, true, false, Option, None, Some, List, [], ◌∷◌, map, refl}
+use Rattle.std.specs.Prelude.{◌≡◌, ℕ, true, false, Option, None, Some, List, [], ◌∷◌, map, refl}
 use Rattle.shape_common.specs.declared.text_types.hb_tag_t.{hb_tag_t}
 use Rattle.shape_common.specs.declared.text_types.Script.{Script}
-use Rattle.shape_items.specs.Buffer.{Buffer, new_buffer}
 use Rattle.shape_items.specs.Items.{Item}
 use Rattle.script_shapers.specs.ThaiForms.{forms_put, forms_due}
 use Rattle.script_shapers.specs.Worked.Hangul.{face}

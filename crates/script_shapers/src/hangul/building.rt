@@ -2,15 +2,17 @@
 //!
 //! First each syllable is merged where it stands, then a new list is built: so the one call that the limit may refuse
 //! comes last.
-ghost use Rattle.std.specs.Prelude.{◌≡◌, ◌+◌, ◌++◌, OnOk, IfOk, IfErr};
+ghost use Rattle.std.specs.Prelude.{◌≡◌, ◌≤◌, ◌+◌, ◌++◌, true, length, OnOk, IfOk, IfErr};
+ghost use Rattle.shape_items.specs.Buffer.{limit_of};
 ghost use Rattle.shape_buffer.specs.Outcome.{Outcome, step};
 ghost use Rattle.script_shapers.specs.Hangul.{of_kind, nth_kind, listed, trailing_kind, jamo_of};
 ghost use Rattle.script_shapers.specs.Hangul.{parts_as};
 ghost use Rattle.script_shapers.specs.Hangul.{glyphs_of};
 ghost use Rattle.script_shapers.specs.Hangul.{turned, with_circle, both_of, block_at, block_taken};
 ghost use Rattle.script_shapers.specs.Hangul.{next_items};
-ghost use Rattle.script_shapers.specs.Hangul.{next_skip, built, wants_circle, composed_text};
+ghost use Rattle.script_shapers.specs.Hangul.{are_alone, next_skip, built, wants_circle, composed_text};
 
+use crate::hangul::alone::are_alone;
 use crate::hangul::jamo::is_tone;
 use crate::hangul::marking::join_each;
 use crate::hangul::syllables::{
@@ -281,6 +283,14 @@ fn wants_circle<F: hb_font_t>(face: &F, flags: BufferFlags) -> bool
     flags.0 & 32 != 32 && face.has_glyph('\u{25CC}')
 }
 
+/// Whether the items of a text stay as they are, within the limit.
+fn stays<F: hb_font_t>(face: &F, buffer: &hb_buffer_t) -> bool
+    ensures within { result ≡ true → length buffer.now.items ≤ limit_of buffer.now }
+    ensures alone { result ≡ true → are_alone (F.face face.now) buffer.now.items ≡ true }
+{
+    buffer.len() <= buffer.length_limit() && are_alone(face, buffer.infos())
+}
+
 /// Composes and takes apart the syllables of a text.
 pub fn compose_text<U: hb_unicode_funcs_t, F: hb_font_t>(
     alloc: Global,
@@ -289,6 +299,10 @@ pub fn compose_text<U: hb_unicode_funcs_t, F: hb_font_t>(
 ) -> Result<(), ShapeError>
     ensures { Outcome (step (composed_text U.unicode (F.face face.now))) buffer.old buffer.new result }
 {
+    if stays(face, buffer) {
+        buffer.clear_positions();
+        return Ok(());
+    }
     join_each::<U, F>(face, buffer);
     let tones = Tones {
         level: buffer.cluster_level(),

@@ -1,9 +1,15 @@
 use Rattle.std.proofs.Common.{rules, ◌≡◌, length, vec_len, ap, sym, ◌∙◌}
 use Rattle.shape_items.specs.Buffer.{Buffer}
-use Rattle.script_shapers.specs.Hangul.{composed_text, joined_to, built, wants_circle, with_items}
+use Rattle.script_shapers.specs.Hangul.{composed_text, built, wants_circle, with_items}
 use Rattle.shape_buffer.proofs.Steps.ReplaceLemmas.{Outcome-refused}
+use Rattle.script_shapers.proofs.AloneLemmas.{alone_outcome}
 use Rattle.script_shapers.proofs.ReplaceLemmas.{Outcome-replaced}
 use Rattle.script_shapers.proofs.hangul.building.compose_text.Goals as goal
+
+pub returns-then-stays : goal.returns-then-stays
+returns-then-stays g c =
+    alone_outcome g.U.hb_unicode_funcs_t.unicode (g.F.hb_font_t.face c.args.face.now) c.args.buffer.now c.clear_positions.new.self
+    (c.stays.ensures.alone c.if-stays.true) (c.stays.ensures.within c.if-stays.true) c.clear_positions.ensures
 
 pub returns-in_err-items : goal.returns-in_err-items
 returns-in_err-items g c =
