@@ -6,10 +6,14 @@ use crate::early_categories::EARLY_CATEGORIES;
 use shape_buffer::interfaces::hb_unicode_general_category_t;
 use ucd_category::GeneralCategory;
 
-/// General_Category of a character: most text is of those that one read decides.
+/// General_Category of a character: most text is of those that one read decides. ASCII has a branch of its own: where a caller
+/// tests for it too, nothing of this is left but the read.
 pub(crate) fn category_at(c: char) -> hb_unicode_general_category_t
     ensures { result ≡ category_of c }
 {
+    if c < '\u{80}' {
+        return EARLY_CATEGORIES[c as usize];
+    }
     if c < '\u{700}' {
         return EARLY_CATEGORIES[c as usize];
     }
