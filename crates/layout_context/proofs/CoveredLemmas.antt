@@ -8,21 +8,22 @@ use Rattle.shape_items.specs.Items.{Item}
 use Rattle.shape_font.specs.Bytes.{u16_of}
 use Rattle.layout_tables.specs.Lookups.{subtable_count_of, subtable_of}
 use Rattle.layout_tables.specs.declared.lookups.LookupSubtable.{LookupSubtable}
-use Rattle.layout_matching.specs.Found.{extension_kind, is_context, is_context_subtable, is_chained, whole_rule, is_first, number_of, found_whole, found_by_number, found_in_sets, found_in_subtable, found_at_subtable, found_of}
+use Rattle.layout_matching.specs.Found.{extension_kind, is_context, is_context_subtable, is_chained, whole_rule, is_first, number_of, found_at_subtable, found_of}
 use Rattle.layout_matching.specs.Loops.{times, first_some}
 use Rattle.layout_matching.specs.Skipping.{nth, is_on}
 use Rattle.layout_matching.specs.Tried.{untried, whole_reach, number_reach, sets_reach, subtable_reach, reach_at_subtable}
-use Rattle.layout_matching.specs.Work.{subtable_charged, charged_at_subtable, lookup_charged, walk_work}
-use Rattle.layout_matching.proofs.WorkLemmas.{subtable_free, lookup_free}
+use Rattle.layout_matching.specs.Work.{lookup_charged, walk_work}
+use Rattle.layout_matching.specs.Firsts.{begins, IsOut}
+use Rattle.layout_matching.proofs.FirstLemmas.{found_out, charged_out}
+use Rattle.layout_matching.proofs.WorkLemmas.{lookup_free}
+use Rattle.layout_substitution.proofs.OutLemmas.{subtable_out}
 use Rattle.layout_digests.proofs.TriedLemmas.{until_untried_below}
 use Rattle.layout_matching.specs.declared.lookup.Lookup.{Lookup}
 use Rattle.layout_matching.specs.declared.spans.Origin.{Origin}
-use Rattle.layout_substitution.specs.Applied.{unapplied, put_one, single_applied, value_of, is_random, random_put, random_applied, alternate_applied, sequence_put, multiple_applied}
+use Rattle.layout_substitution.specs.Applied.{unapplied}
 use Rattle.layout_substitution.specs.Edits.{item_at, is_inside, is_past, concat_marked}
 use Rattle.layout_substitution.proofs.EditLemmas.{concat_marked_untried}
-use Rattle.layout_substitution.specs.Kinds.{kind_applied, subtable_applied, subtables_applied, or_next, lookup_applied}
-use Rattle.layout_substitution.specs.Ligatures.{set_ligated, ligature_applied}
-use Rattle.layout_substitution.specs.Substitutes.{single_by, set_number, set_of, alternate_in}
+use Rattle.layout_substitution.specs.Kinds.{subtable_applied, subtables_applied, or_next, lookup_applied}
 use Rattle.layout_substitution.specs.declared.apply.Spot.{Spot}
 use Rattle.layout_context.specs.Covered.{context_covers, subtable_covers, IsUncovered, CoversNone}
 use Rattle.layout_context.specs.Nested.{rule_applied, origin_of, tried_marked, first_rule_applied, level_applied, nested_applied}
@@ -49,48 +50,12 @@ if_same false x y z a b = b
 
 -- ---- a subtable of a lookup
 
-set_none : (t : List ℕ) (start glyph : ℕ) → number_of t start glyph ≡ None → set_of t start glyph ≡ None
-set_none t start glyph e = if_same (nat_eq (u16_of t start) 1) _ _ None (and_then_none (set_number t start) _ e) refl
-
-kind-uncovered : (l : Lookup) (spot : Spot) (b : Buffer) (subtable : LookupSubtable)
-    → number_of l.table.now subtable.start (item_at b spot.at).glyph_id ≡ None → kind_applied l spot b subtable ≡ unapplied b
-kind-uncovered l spot b subtable none =
-    let glyph = (item_at b spot.at).glyph_id in
-    let t = l.table.now in
-    let set = set_none t subtable.start glyph none in
-    if_same (nat_eq subtable.kind 1) (single_applied l subtable.start spot b) _ (unapplied b)
-    (map_or_none (put_one l spot b) (unapplied b) _ (and_then_none (single_by t subtable.start glyph) _ none))
-    (if_same (nat_eq subtable.kind 2) (multiple_applied l subtable.start spot b) _ (unapplied b)
-    (map_or_none (sequence_put l spot b) (unapplied b) _ set)
-    (if_same (nat_eq subtable.kind 3) (alternate_applied l subtable.start spot b) _ (unapplied b)
-    (if_same (is_random l (item_at b spot.at)) (random_applied l subtable.start spot b) _ (unapplied b)
-    (map_or_none (random_put l spot b) (unapplied b) _ set)
-    (map_or_none (put_one l spot b) (unapplied b) _ (and_then_none (alternate_in t (value_of l (item_at b spot.at))) _ set)))
-    (if_same (nat_eq subtable.kind 4) (ligature_applied l subtable.start spot b) _ (unapplied b)
-    (map_or_none (set_ligated l spot b) (unapplied b) _ set) refl)))
-
--- a subtable of context has none of the kinds below 5, and not kind 8
-not_kind : (l : Lookup) (subtable : LookupSubtable) (n : ℕ) → l.positioning ≡ false → is_context_subtable l subtable ≡ true → n < 5
-    → nat_eq subtable.kind n ≡ false
-not_kind l subtable n gsub is few =
-    let kinds : (nat_eq subtable.kind 5 || nat_eq subtable.kind 6) ≡ true =
-    subst (λ t. (nat_eq subtable.kind (if t then 7 else 5) || nat_eq subtable.kind (if t then 8 else 6)) ≡ true) gsub is in
-    grind (arith, nat_tests, kinds, few)
-
+-- a subtable of context isn't of kind 8
 not_reverse : (l : Lookup) (subtable : LookupSubtable) → l.positioning ≡ false → is_context_subtable l subtable ≡ true → nat_eq subtable.kind 8 ≡ false
 not_reverse l subtable gsub is =
     let kinds : (nat_eq subtable.kind 5 || nat_eq subtable.kind 6) ≡ true =
     subst (λ t. (nat_eq subtable.kind (if t then 7 else 5) || nat_eq subtable.kind (if t then 8 else 6)) ≡ true) gsub is in
     grind (arith, nat_tests, kinds)
-
-kind-context : (l : Lookup) (spot : Spot) (b : Buffer) (subtable : LookupSubtable) → l.positioning ≡ false → is_context_subtable l subtable ≡ true
-    → kind_applied l spot b subtable ≡ unapplied b
-kind-context l spot b subtable gsub is =
-    let one = not_kind l subtable 1 gsub is (omega arith) in
-    let two = not_kind l subtable 2 gsub is (omega arith) in
-    let three = not_kind l subtable 3 gsub is (omega arith) in
-    let four = not_kind l subtable 4 gsub is (omega arith) in
-    rw one (rw two (rw three (rw four refl)))
 
 number_out : (l : Lookup) (subtable : LookupSubtable) (glyph : ℕ) → is_context_subtable l subtable ≡ false → subtable_covers l subtable glyph ≡ false
     → number_of l.table.now subtable.start glyph ≡ None
@@ -104,20 +69,15 @@ context_out l subtable glyph kind out =
 
 -- ---- lookups of kinds 1 to 4
 
+-- a subtable is out at a glyph that the lookup doesn't cover
+out_at : (l : Lookup) (glyph i : ℕ) → l.positioning ≡ false → IsUncovered l glyph → i < subtable_count_of l.table.now l.place → IsOut l i glyph
+out_at l glyph i gsub out below = subst (λ k. (subtable : LookupSubtable) → subtable_of l.table.now k l.place i ≡ Some subtable
+    → begins l subtable glyph ≡ false) (sym (ap (λ t. if t then 9 else 7) gsub)) (λ subtable. out i subtable below)
+
 subtable-uncovered : (l : Lookup) (i : ℕ) (spot : Spot) (b : Buffer) → l.positioning ≡ false → IsUncovered l (item_at b spot.at).glyph_id
     → i < subtable_count_of l.table.now l.place
     → subtable_applied l i spot b ≡ unapplied b
-subtable-uncovered l i spot b gsub out below = by_subtable (subtable_of l.table.now 7 l.place i) refl
-  where
-    by_kind : (subtable : LookupSubtable) (t : Bool) → is_context_subtable l subtable ≡ t → subtable_covers l subtable (item_at b spot.at).glyph_id ≡ false
-        → kind_applied l spot b subtable ≡ unapplied b
-    by_kind subtable true is none = kind-context l spot b subtable gsub is
-    by_kind subtable false is none = kind-uncovered l spot b subtable (number_out l subtable (item_at b spot.at).glyph_id is none)
-
-    by_subtable : (o : Option LookupSubtable) → subtable_of l.table.now 7 l.place i ≡ o
-        → option_map_or (kind_applied l spot b) o (unapplied b) ≡ unapplied b
-    by_subtable None e = refl
-    by_subtable (Some subtable) e = by_kind subtable (is_context_subtable l subtable) refl (out i subtable below e)
+subtable-uncovered l i spot b gsub out below = subtable_out l i spot b gsub (out_at l (item_at b spot.at).glyph_id i gsub out below)
 
 subtables-uncovered : (l : Lookup) (spot : Spot) (b : Buffer) → l.positioning ≡ false → IsUncovered l (item_at b spot.at).glyph_id
     → (n i : ℕ) → n + i ≤ subtable_count_of l.table.now l.place → subtables_applied l spot n i b ≡ unapplied b
@@ -129,50 +89,10 @@ subtables-uncovered l spot b gsub out (suc n) i within =
 
 -- ---- lookups of context
 
-in_subtable-uncovered : (l : Lookup) (items : List Item) (origin : Origin) (subtable : LookupSubtable)
-    → subtable_covers l subtable (nth items origin.at).glyph_id ≡ false → found_in_subtable l items origin subtable ≡ None
-in_subtable-uncovered l items origin subtable out = by_kind (is_context_subtable l subtable) refl
-  where
-    by_format : (t : Bool) → nat_eq (u16_of l.table.now subtable.start) 3 ≡ t → context_covers l subtable (nth items origin.at).glyph_id ≡ false
-        → (if t then found_whole l items origin subtable else found_in_sets l items origin subtable) ≡ None
-    by_format true is none =
-        let first : is_first l.table.now subtable.start (whole_rule l.table.now (is_chained l subtable) subtable.start)
-        (nth items origin.at).glyph_id ≡ false =
-        subst (λ t. (if t then is_first l.table.now subtable.start (whole_rule l.table.now (is_chained l subtable) subtable.start)
-        (nth items origin.at).glyph_id
-        else is_some (number_of l.table.now subtable.start (nth items origin.at).glyph_id)) ≡ false) is none in
-        rw first refl
-    by_format false is none =
-        let number : is_some (number_of l.table.now subtable.start (nth items origin.at).glyph_id) ≡ false =
-        subst (λ t. (if t then is_first l.table.now subtable.start (whole_rule l.table.now (is_chained l subtable) subtable.start)
-        (nth items origin.at).glyph_id
-        else is_some (number_of l.table.now subtable.start (nth items origin.at).glyph_id)) ≡ false) is none in
-        and_then_none (found_by_number l items origin subtable) _ (none_of _ number)
-
-    by_kind : (t : Bool) → is_context_subtable l subtable ≡ t
-        → (if t then (if nat_eq (u16_of l.table.now subtable.start) 3 then found_whole l items origin subtable
-        else found_in_sets l items origin subtable) else None) ≡ None
-    by_kind true is = by_format (nat_eq (u16_of l.table.now subtable.start) 3) refl (context_out l subtable (nth items origin.at).glyph_id is out)
-    by_kind false is = refl
-
-at_subtable-uncovered : (l : Lookup) (items : List Item) (origin : Origin) (i : ℕ) → l.positioning ≡ false
-    → IsUncovered l (nth items origin.at).glyph_id
-    → i < subtable_count_of l.table.now l.place
-    → found_at_subtable l items origin i ≡ None
-at_subtable-uncovered l items origin i gsub out below =
-    let e : extension_kind l ≡ 7 = ap (λ t. if t then 9 else 7) gsub in
-    ap (λ k. option_and_then (found_in_subtable l items origin) (subtable_of l.table.now k l.place i)) e
-    ∙ by_subtable (subtable_of l.table.now 7 l.place i) refl
-  where
-    by_subtable : (o : Option LookupSubtable) → subtable_of l.table.now 7 l.place i ≡ o
-        → option_and_then (found_in_subtable l items origin) o ≡ None
-    by_subtable None e = refl
-    by_subtable (Some subtable) e = in_subtable-uncovered l items origin subtable (out i subtable below e)
-
 found-uncovered : (l : Lookup) (items : List Item) (origin : Origin) → l.positioning ≡ false → IsUncovered l (nth items origin.at).glyph_id
     → found_of l items origin ≡ None
 found-uncovered l items origin gsub out =
-    first_some_none (found_at_subtable l items origin) (subtable_count_of l.table.now l.place) (λ i below. at_subtable-uncovered l items origin i gsub out below)
+    first_some_none (found_at_subtable l items origin) (subtable_count_of l.table.now l.place) (λ i below. found_out l items origin i (out_at l (nth items origin.at).glyph_id i gsub out below))
     (subtable_count_of l.table.now l.place) 0 (omega arith)
 
 in_subtable-reach : (l : Lookup) (items : List Item) (origin : Origin) (subtable : LookupSubtable)
@@ -245,20 +165,9 @@ walk_same false b x y k m = m
 -- a lookup that doesn't cover the glyph is charged for nothing
 pub charged-uncovered : (l : Lookup) (items : List Item) (at left : ℕ) → l.positioning ≡ false → IsUncovered l (nth items at).glyph_id
     → lookup_charged l items at left ≡ Some left
-charged-uncovered l items at left gsub out = lookup_free l items at left free
-  where
-    by_subtable : (i : ℕ) → i < subtable_count_of l.table.now l.place → (o : Option LookupSubtable)
-        → subtable_of l.table.now 7 l.place i ≡ o → option_map_or (subtable_charged l items at left) o (Some left) ≡ Some left
-    by_subtable i below None e = refl
-    by_subtable i below (Some subtable) e = subtable_free l items at left subtable (out i subtable below e)
+charged-uncovered l items at left gsub out = lookup_free l items at left
+    (λ i below. charged_out l items at i left (out_at l (nth items at).glyph_id i gsub out below))
 
-    free : (i : ℕ) → i < subtable_count_of l.table.now l.place → charged_at_subtable l items at i left ≡ Some left
-    free i below =
-        let e : extension_kind l ≡ 7 = ap (λ t. if t then 9 else 7) gsub in
-        ap (λ k. option_map_or (subtable_charged l items at left) (subtable_of l.table.now k l.place i) (Some left)) e
-        ∙ by_subtable i below (subtable_of l.table.now 7 l.place i) refl
-
--- where it is tried, it goes on to the next item, and nothing is spent
 pub tried-uncovered-at : (levels : ℕ) (l : Lookup) (s : Walk) → l.positioning ≡ false → IsUncovered l (item_at s.buffer s.spot.at).glyph_id
     → tried (nested_applied levels l) l s ≡ passed s
 tried-uncovered-at levels l s gsub out =

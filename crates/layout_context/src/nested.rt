@@ -16,6 +16,7 @@ ghost use Rattle.layout_context.specs.Nested;
 use crate::places::{is_too_long, moved_end, renumber};
 use layout_buffer::GapBuffer;
 use layout_matching::found::{Found, find, is_context};
+use layout_matching::indexed::Indexed;
 use layout_matching::lookup::Lookup;
 use layout_matching::nesting::{Target, places, target_at};
 use layout_matching::reaching::reach_at;
@@ -140,7 +141,13 @@ fn apply_target(
         return Ok(stopped_record(progress));
     };
     let spot = nested_spot(progress.spot, there.place, left);
-    match apply_nested(alloc, level, &there.lookup, buffer, spot) {
+    match apply_nested(
+        alloc,
+        level,
+        &Indexed::unstored(&there.lookup),
+        buffer,
+        spot,
+    ) {
         Err(error) => Err(error),
         Ok(next) => {
             let after = buffer.len();
@@ -305,25 +312,25 @@ fn mark_tried(lookup: &Lookup<'_>, buffer: &mut GapBuffer, spot: Spot)
 fn apply_context(
     alloc: Global,
     level: u32,
-    lookup: &Lookup<'_>,
+    indexed: &Indexed<'_>,
     buffer: &mut GapBuffer,
     spot: Spot,
 ) -> Result<Option<Spot>, ShapeError>
-    requires near { lookup.now.place < 2 ^ 17 }
+    requires near { indexed.now.lookup.now.place < 2 ^ 17 }
     requires inside { spot.at < length buffer.old.items }
     ensures made { OnOk result (buffer.new
-        ≡ (Nested.first_rule_applied (Nested.nested_applied level) lookup.now spot
-        (Nested.tried_marked lookup.now spot buffer.old)).buffer) }
+        ≡ (Nested.first_rule_applied (Nested.nested_applied level) indexed.now.lookup.now spot
+        (Nested.tried_marked indexed.now.lookup.now spot buffer.old)).buffer) }
     ensures next { IfOk result (λ next. next
-        ≡ (Nested.first_rule_applied (Nested.nested_applied level) lookup.now spot
-        (Nested.tried_marked lookup.now spot buffer.old)).next) }
+        ≡ (Nested.first_rule_applied (Nested.nested_applied level) indexed.now.lookup.now spot
+        (Nested.tried_marked indexed.now.lookup.now spot buffer.old)).next) }
     ensures length { IsErrOf result Length
-        → is_past (Nested.first_rule_applied (Nested.nested_applied level) lookup.now spot
-        (Nested.tried_marked lookup.now spot buffer.old)).buffer ≡ true }
+        → is_past (Nested.first_rule_applied (Nested.nested_applied level) indexed.now.lookup.now spot
+        (Nested.tried_marked indexed.now.lookup.now spot buffer.old)).buffer ≡ true }
 {
-    mark_tried(lookup, buffer, spot);
-    match find(lookup, &buffer.items(), origin(spot, buffer)) {
-        Some(found) => apply_rule(alloc, level, lookup, buffer, spot, found),
+    mark_tried(indexed.lookup, buffer, spot);
+    match find(indexed, &buffer.items(), origin(spot, buffer)) {
+        Some(found) => apply_rule(alloc, level, indexed.lookup, buffer, spot, found),
         None => Ok(None),
     }
 }
@@ -335,22 +342,22 @@ fn apply_context(
 pub fn apply_nested(
     alloc: Global,
     level: u32,
-    lookup: &Lookup<'_>,
+    indexed: &Indexed<'_>,
     buffer: &mut GapBuffer,
     spot: Spot,
 ) -> Result<Option<Spot>, ShapeError>
-    requires near { lookup.now.place < 2 ^ 17 }
+    requires near { indexed.now.lookup.now.place < 2 ^ 17 }
     ensures made { OnOk result (buffer.new
-        ≡ (Nested.nested_applied level lookup.now spot buffer.old).buffer) }
+        ≡ (Nested.nested_applied level indexed.now.lookup.now spot buffer.old).buffer) }
     ensures next { IfOk result (λ next. next
-        ≡ (Nested.nested_applied level lookup.now spot buffer.old).next) }
+        ≡ (Nested.nested_applied level indexed.now.lookup.now spot buffer.old).next) }
     ensures length { IsErrOf result Length
-        → is_past (Nested.nested_applied level lookup.now spot buffer.old).buffer ≡ true }
+        → is_past (Nested.nested_applied level indexed.now.lookup.now spot buffer.old).buffer ≡ true }
 {
     if level == 0 || buffer.length_limit() < buffer.len() || buffer.len() <= spot.at {
         return Ok(None);
     }
-    apply_level(alloc, level - 1, lookup, buffer, spot)
+    apply_level(alloc, level - 1, indexed, buffer, spot)
 }
 
 /// The same, where a level is left and the place is inside.
@@ -358,23 +365,23 @@ pub fn apply_nested(
 fn apply_level(
     alloc: Global,
     level: u32,
-    lookup: &Lookup<'_>,
+    indexed: &Indexed<'_>,
     buffer: &mut GapBuffer,
     spot: Spot,
 ) -> Result<Option<Spot>, ShapeError>
-    requires near { lookup.now.place < 2 ^ 17 }
+    requires near { indexed.now.lookup.now.place < 2 ^ 17 }
     requires inside { spot.at < length buffer.old.items }
     requires within { IsWithinLimit buffer.old }
     ensures made { OnOk result (buffer.new
-        ≡ (Nested.level_applied (Nested.nested_applied level) lookup.now spot buffer.old).buffer) }
+        ≡ (Nested.level_applied (Nested.nested_applied level) indexed.now.lookup.now spot buffer.old).buffer) }
     ensures next { IfOk result (λ next. next
-        ≡ (Nested.level_applied (Nested.nested_applied level) lookup.now spot buffer.old).next) }
+        ≡ (Nested.level_applied (Nested.nested_applied level) indexed.now.lookup.now spot buffer.old).next) }
     ensures length { IsErrOf result Length
         → is_past (Nested.level_applied
-        (Nested.nested_applied level) lookup.now spot buffer.old).buffer ≡ true }
+        (Nested.nested_applied level) indexed.now.lookup.now spot buffer.old).buffer ≡ true }
 {
-    if is_context(lookup) {
-        return apply_context(alloc, level, lookup, buffer, spot);
+    if is_context(indexed.lookup) {
+        return apply_context(alloc, level, indexed, buffer, spot);
     }
-    apply_lookup(lookup, buffer, spot)
+    apply_lookup(indexed, buffer, spot)
 }

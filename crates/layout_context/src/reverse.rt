@@ -8,6 +8,7 @@ ghost use Rattle.layout_context.specs.Reverse;
 use crate::reversal_reach::mark_tried;
 use layout_buffer::{GapBuffer, ItemList};
 use layout_matching::found::{extension_kind, first_subtable, number_in};
+use layout_matching::indexed::Indexed;
 use layout_matching::lookup::Lookup;
 use layout_matching::rules::{Row, Rule, Test};
 use layout_matching::skipping::is_on;
@@ -209,7 +210,7 @@ fn reverse_one(lookup: &Lookup<'_>, buffer: &mut GapBuffer, back: Backward) -> B
         return back;
     }
     let at = back.at - 1;
-    match lookup_charged(lookup, &buffer.items(), at, back.left) {
+    match lookup_charged(&Indexed::unstored(lookup), &buffer.items(), at, back.left) {
         Some(left) => {
             reverse_at(lookup, buffer, at);
             Backward { at, left }

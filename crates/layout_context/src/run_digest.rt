@@ -34,18 +34,28 @@ pub(crate) fn first_digest(count: usize, items: &ItemList<'_>) -> Digest
     }
 }
 
-/// A digest of the list for so many lookups that are left, if a lookup has gone over the list since it was made.
+/// A digest of the list for so many lookups that are left.
 #[inline(never)]
+fn made_anew(rest: usize, items: &ItemList<'_>) -> Digest
+    ensures { HoldsGlyphs result items.now }
+{
+    if rest < WORTH_RENEWING {
+        Digest::every()
+    } else {
+        digest_of(items)
+    }
+}
+
+/// The same, if a lookup has gone over the list since one was made. Inlined: after most lookups none has.
+#[inline(always)]
 pub(crate) fn renewed(run: Digest, is_stale: bool, rest: usize, items: &ItemList<'_>) -> Digest
     requires { is_stale ≡ false → HoldsGlyphs run items.now }
     ensures { HoldsGlyphs result items.now }
 {
-    if !is_stale {
-        run
-    } else if rest < WORTH_RENEWING {
-        Digest::every()
+    if is_stale {
+        made_anew(rest, items)
     } else {
-        digest_of(items)
+        run
     }
 }
 

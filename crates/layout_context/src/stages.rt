@@ -16,7 +16,7 @@ use crate::reverse::{is_reverse, reverse};
 use crate::run_digest::{any_shares, first_digest, is_made, renewed};
 use layout_buffer::{GapBuffer, ItemList};
 use layout_digests::{Digest, Digested};
-use layout_matching::lookup::Lookup;
+use layout_matching::indexed::Indexed;
 use layout_matching::work::{lookup_charged, walk_work};
 use layout_substitution::apply::Spot;
 use shape_buffer::{ShapeError, hb_buffer_t};
@@ -43,24 +43,24 @@ fn with_left(spot: Spot, left: usize) -> Spot
 fn try_at(
     alloc: Global,
     levels: u32,
-    lookup: &Lookup<'_>,
+    indexed: &Indexed<'_>,
     buffer: &mut GapBuffer,
     spot: Spot,
 ) -> Result<Spot, ShapeError>
-    requires near { lookup.now.place < 2 ^ 17 }
+    requires near { indexed.now.lookup.now.place < 2 ^ 17 }
     requires inside { spot.at < length buffer.old.items }
     ensures ok { IfOk result (λ next. record { buffer = buffer.new; spot = next }
-        ≡ Stages.tried (nested_applied levels lookup.now) lookup.now
+        ≡ Stages.tried (nested_applied levels indexed.now.lookup.now) indexed.now.lookup.now
         (record { buffer = buffer.old; spot = spot })) }
     ensures length { IsErrOf result Length
-        → is_past (Stages.tried (nested_applied levels lookup.now) lookup.now
+        → is_past (Stages.tried (nested_applied levels indexed.now.lookup.now) indexed.now.lookup.now
         (record { buffer = buffer.old; spot = spot })).buffer ≡ true }
 {
     let next = next_spot(spot, buffer.len());
-    let Some(left) = lookup_charged(lookup, &buffer.items(), spot.at, spot.left) else {
+    let Some(left) = lookup_charged(indexed, &buffer.items(), spot.at, spot.left) else {
         return Ok(with_left(next, 0));
     };
-    match apply_nested(alloc, levels, lookup, buffer, with_left(spot, left)) {
+    match apply_nested(alloc, levels, indexed, buffer, with_left(spot, left)) {
         Err(error) => Err(error),
         Ok(Some(there)) => Ok(there),
         Ok(None) => Ok(with_left(next, left)),
@@ -72,22 +72,22 @@ fn try_at(
 fn step_met(
     alloc: Global,
     levels: u32,
-    lookup: &Lookup<'_>,
+    indexed: &Indexed<'_>,
     buffer: &mut GapBuffer,
     spot: Spot,
 ) -> Result<Spot, ShapeError>
-    requires near { lookup.now.place < 2 ^ 17 }
+    requires near { indexed.now.lookup.now.place < 2 ^ 17 }
     requires within { is_past buffer.old ≡ false }
     requires inside { is_inside spot.at buffer.old ≡ true }
-    requires on { is_on lookup.now (item_at buffer.old spot.at) ≡ true }
+    requires on { is_on indexed.now.lookup.now (item_at buffer.old spot.at) ≡ true }
     ensures ok { IfOk result (λ next. record { buffer = buffer.new; spot = next }
-        ≡ Stages.lookup_step (nested_applied levels lookup.now) lookup.now
+        ≡ Stages.lookup_step (nested_applied levels indexed.now.lookup.now) indexed.now.lookup.now
         (record { buffer = buffer.old; spot = spot })) }
     ensures length { IsErrOf result Length
-        → is_past (Stages.lookup_step (nested_applied levels lookup.now) lookup.now
+        → is_past (Stages.lookup_step (nested_applied levels indexed.now.lookup.now) indexed.now.lookup.now
         (record { buffer = buffer.old; spot = spot })).buffer ≡ true }
 {
-    try_at(alloc, levels, lookup, buffer, spot)
+    try_at(alloc, levels, indexed, buffer, spot)
 }
 
 /// Where a walk stands after some steps, and whether the lookup meets the item there.
@@ -163,7 +163,8 @@ fn walk(
         spot = passed.spot;
         done += passed.steps;
         if passed.is_met {
-            match step_met(alloc, levels, &named.lookup, buffer, spot) {
+            let indexed = Indexed::new(&named.lookup, named.firsts);
+            match step_met(alloc, levels, &indexed, buffer, spot) {
                 Err(error) => return Err(error),
                 Ok(next) => spot = next,
             }

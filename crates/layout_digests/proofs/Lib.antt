@@ -1,4 +1,5 @@
 mod CoverageLemmas
 mod LookupLemmas
+mod StoredLemmas
 pub mod TriedLemmas
 mod WordLemmas

@@ -1,20 +1,15 @@
 -- which list has the glyphs that a subtable begins at
-use Rattle.std.proofs.Common.{◌≡◌, ℕ, Bool, true, false, List, [], ◌∷◌, ◌++◌, length, slice_index_or, Option, Some, None, ◌+◌, ◌-◌, ◌*◌, ◌^◌, ◌<◌, ◌&&◌, ◌||◌, min, nat_eq, is_some, refl, sym, ap, subst, ◌∙◌, arith, if◌then◌else◌}
+use Rattle.std.proofs.Common.{◌≡◌, ℕ, Bool, true, false, List, Option, Some, None, ◌+◌, ◌&&◌, nat_eq, is_some, refl, sym, ap, subst, ◌∙◌, arith, if◌then◌else◌}
 use Rattle.std.proofs.lemmas.Bool.Decides.{nat_tests}
-use Rattle.std.proofs.lemmas.List.{get_or_push, get_or_append_left, length-append}
 use Rattle.std.specs.Option.{option_map_or, option_and_then}
 use Rattle.shape_font.specs.Bytes.{u16_of}
 use Rattle.layout_tables.specs.Coverage.{coverage_index, covers}
 use Rattle.layout_tables.specs.Offsets.{offset16_of}
 use Rattle.layout_tables.specs.declared.lookups.LookupSubtable.{LookupSubtable}
 use Rattle.layout_matching.specs.Found.{whole_rule, first_list, is_first, number_of}
-use Rattle.layout_matching.specs.Rules.{FAR}
 use Rattle.layout_digests.specs.declared.digest.Digest.{Digest}
-use Rattle.layout_digests.specs.Digests.{has, IsWithin}
-use Rattle.layout_digests.specs.Lookups.{is_chained_kind, is_context_kind, begins_at, HasFirst, HasFirsts, IsDigestAt, no_digest, AreDigests}
-
-pub near_values : (values : ℕ) → values < 2 ^ 37 → min values FAR ≡ values
-near_values values near = omega (arith, near)
+use Rattle.layout_digests.specs.Digests.{IsWithin}
+use Rattle.layout_digests.specs.Lookups.{is_chained_kind, is_context_kind, begins_at, HasFirst, HasFirsts}
 
 some_in : (t : List ℕ) (glyph : ℕ) (o : Option ℕ)
     → is_some (option_and_then (λ list. coverage_index t list glyph) o) ≡ option_map_or (λ list. covers t list glyph) o false
@@ -61,17 +56,3 @@ one_more t positioning place d e i before kept new j below = by_last (nat_eq j i
     by_last : (t' : Bool) → nat_eq j i ≡ t' → HasFirst t positioning place j e
     by_last true is = let same : i ≡ j = grind (arith, nat_tests, is) in subst (λ k. HasFirst t positioning place k e) same new
     by_last false is = λ subtable glyph there begins. kept glyph (before j (grind (arith, nat_tests, is, below)) subtable glyph there begins)
-
-pub one_digest : (t : List ℕ) (positioning : Bool) (ds : List Digest) (d : Digest) → AreDigests t positioning ds
-    → IsDigestAt t positioning (length ds) d → AreDigests t positioning (ds ++ d ∷ [])
-one_digest t positioning ds d before new index inside = by_last (nat_eq index (length ds)) refl
-  where
-    by_last : (t' : Bool) → nat_eq index (length ds) ≡ t' → IsDigestAt t positioning index (slice_index_or (ds ++ d ∷ []) index no_digest)
-    by_last true is =
-        let same : length ds ≡ index = grind (arith, nat_tests, is) in
-        let last : slice_index_or (ds ++ d ∷ []) index no_digest ≡ d = get_or_push ds d no_digest index same in
-        subst (IsDigestAt t positioning index) (sym last) (subst (λ k. IsDigestAt t positioning k d) same new)
-    by_last false is =
-        let count : length (ds ++ d ∷ []) ≡ length ds + 1 = length-append ds (d ∷ []) in
-        let below : index < length ds = grind (arith, nat_tests, is, inside, count) in
-        subst (IsDigestAt t positioning index) (sym (get_or_append_left ds (d ∷ []) no_digest index below)) (before index below)

@@ -1,17 +1,14 @@
 -- bits of words, and sets of glyphs in six of them
-use Rattle.std.proofs.Common.{◌≡◌, ℕ, Bool, true, false, ◌+◌, ◌-◌, ◌*◌, ◌/◌, ◌%◌, ◌^◌, ◌≤◌, ◌<◌, ◌&&◌, max, min, nat_eq, nat_le, refl, sym, ap, subst, ◌∙◌, arith, bit_and, bit_or, not}
+use Rattle.std.proofs.Common.{◌≡◌, ℕ, Bool, true, false, ◌+◌, ◌-◌, ◌*◌, ◌/◌, ◌%◌, ◌^◌, ◌≤◌, ◌<◌, ◌&&◌, min, nat_eq, nat_le, refl, sym, ap, ◌∙◌, arith, bit_and, bit_or}
 use Rattle.std.proofs.lemmas.Bool.Decides.{nat_tests}
 use Rattle.std.proofs.lemmas.Nat.{pow_pos, pow-add}
-use Rattle.std.proofs.lemmas.Nat.Bits.{shr_and_one, bit_at_and, bit_at_or, bit_at-zero, bit_at-pow_same, bit_at_ones, bit_at_mask_inside, bit_at-lt}
+use Rattle.std.proofs.lemmas.Nat.Bits.{bit_at_and, bit_at_or, bit_at-zero, bit_at-pow_same, bit_at_ones, bit_at_mask_inside, bit_at-lt}
 use Rattle.std.specs.Int.{bit_at}
 use Rattle.layout_digests.specs.declared.digest.Digest.{Digest}
-use Rattle.layout_digests.specs.Digests.{has_bit, HasBits, KeepsBits, has, HasGlyphs, IsWithin}
+use Rattle.layout_matching.specs.Firsts.{has_bit, may_begin}
+use Rattle.layout_digests.specs.Digests.{HasBits, KeepsBits, has, HasGlyphs, IsWithin}
 
 -- ---- one word
-
-pub tested : (word n : ℕ) → nat_eq (bit_and (word / 2 ^ (n % 64)) 1) 1 ≡ has_bit word n
-unfolding has_bit
-tested word n = ap (λ x. nat_eq x 1) (shr_and_one word (n % 64))
 
 bit_of : (word n : ℕ) → has_bit word n ≡ true → bit_at word (n % 64) ≡ 1
 unfolding has_bit
@@ -166,3 +163,16 @@ apart_middle d e out g is = has_none e g (has e g) refl
 pub apart_coarse : (d e : Digest) → ((n : ℕ) → has_bit d.coarse n ≡ true → has_bit e.coarse n ≡ false) → (g : ℕ) → has d g ≡ true → has e g ≡ false
 apart_coarse d e out g is = has_none e g (has e g) refl
     (λ said. false_true (has_bit e.coarse (g / 512)) (has e g) (out (g / 512) (coarse_of d g is)) (coarse_of e g said))
+
+-- a glyph that isn't in the three words isn't in the six
+pub lacking : (d : Digest) (g : ℕ) → may_begin (record { fine = d.fine; middle = d.middle; coarse = d.coarse }) g ≡ false → has d g ≡ false
+lacking d g out = by_held (has d g) refl
+  where
+    by_held : (t : Bool) → has d g ≡ t → t ≡ false
+    by_held false e = refl
+    by_held true e =
+        let fine = fine_of d g e in
+        let middle = middle_of d g e in
+        let coarse = coarse_of d g e in
+        let held : (has_bit d.fine g && has_bit d.middle (g / 16) && has_bit d.coarse (g / 512)) ≡ true = rw (fine, middle, coarse) refl in
+        sym held ∙ out

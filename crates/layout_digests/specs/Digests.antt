@@ -1,11 +1,7 @@
 -- sets of glyphs in six words
-use Rattle.std.specs.Prelude.{◌≡◌, ℕ, Bool, true, ◌/◌, ◌%◌, ◌≤◌, ◌&&◌, nat_eq}
-use Rattle.std.specs.Int.{bit_at}
+use Rattle.std.specs.Prelude.{◌≡◌, ℕ, Bool, true, ◌/◌, ◌≤◌, ◌&&◌}
+use Rattle.layout_matching.specs.Firsts.{has_bit}
 use Rattle.layout_digests.specs.declared.digest.Digest.{Digest}
-
--- a word has the bit for a number's last six bits
-unfoldable pub has_bit : ℕ → ℕ → Bool
-has_bit word n = nat_eq (bit_at word (n % 64)) 1
 
 abbrev pub HasBits : ℕ → ℕ → ℕ → Type 0
 HasBits word first last = (n : ℕ) → first ≤ n → n ≤ last → has_bit word n ≡ true

@@ -1,4 +1,5 @@
 pub mod Coverages
 pub mod Digests
 pub mod Lookups
+pub mod Stored
 pub mod Worked

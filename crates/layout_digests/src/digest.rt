@@ -3,7 +3,10 @@
 //! Of a long list of glyphs few of the words say little: those of a few glyphs of a block tell neighbours apart, those of many
 //! tell blocks apart.
 ghost use Rattle.std.specs.Prelude.{◌≡◌, ◌≤◌, ◌<◌, ◌%◌, ℕ, true, false};
+ghost use Rattle.layout_matching.specs.Firsts as first_rules;
 ghost use Rattle.layout_digests.specs.Digests;
+
+use layout_matching::firsts::{First, has_bit};
 
 /// A set of glyphs. It may hold glyphs that were not put in.
 #[derive(Clone, Copy, PartialEq, Eq, Debug)]
@@ -16,19 +19,11 @@ pub struct Digest {
     pub coarse: u64,
 }
 
-/// Whether the word has the bit for a number.
-#[tactic(auto, using(crate::proofs::WordLemmas::tested))]
-fn has_bit(word: u64, n: u32) -> bool
-    ensures { result ≡ Digests.has_bit word n }
-{
-    word >> (n % 64) & 1 == 1
-}
-
 /// The bits from this one on.
 #[tactic(auto, using(crate::proofs::WordLemmas::from_on))]
 fn ones_from(k: u32) -> u64
     requires { k < 64 }
-    ensures { (n : ℕ) → k ≤ n % 64 → Digests.has_bit result n ≡ true }
+    ensures { (n : ℕ) → k ≤ n % 64 → first_rules.has_bit result n ≡ true }
 {
     u64::MAX - ((1 << k) - 1)
 }
@@ -37,7 +32,7 @@ fn ones_from(k: u32) -> u64
 #[tactic(auto, using(crate::proofs::WordLemmas::up_to))]
 fn ones_to(k: u32) -> u64
     requires { k < 64 }
-    ensures { (n : ℕ) → n % 64 ≤ k → Digests.has_bit result n ≡ true }
+    ensures { (n : ℕ) → n % 64 ≤ k → first_rules.has_bit result n ≡ true }
 {
     let bit = 1 << k;
     bit - 1 + bit
@@ -71,7 +66,7 @@ fn with_span(word: u64, first: u32, last: u32) -> u64
 /// A word with the bit for a number, and those that it had.
 #[tactic(auto, using(crate::proofs::WordLemmas::set_before, crate::proofs::WordLemmas::bit_set))]
 fn with_bit(word: u64, n: u32) -> u64
-    ensures set { Digests.has_bit result n ≡ true }
+    ensures set { first_rules.has_bit result n ≡ true }
     ensures kept { Digests.KeepsBits word result }
 {
     word | 1 << (n % 64)
@@ -79,7 +74,7 @@ fn with_bit(word: u64, n: u32) -> u64
 
 /// A word with all bits.
 fn filled(word: u64) -> u64
-    ensures set { (n : ℕ) → Digests.has_bit result n ≡ true }
+    ensures set { (n : ℕ) → first_rules.has_bit result n ≡ true }
     ensures kept { Digests.KeepsBits word result }
 {
     word | u64::MAX
@@ -88,8 +83,8 @@ fn filled(word: u64) -> u64
 /// Whether two words share a bit.
 #[tactic(auto, using(crate::proofs::WordLemmas::unshared))]
 fn share(word: u64, other: u64) -> bool
-    ensures { result ≡ false → (n : ℕ) → Digests.has_bit word n ≡ true
-        → Digests.has_bit other n ≡ false }
+    ensures { result ≡ false → (n : ℕ) → first_rules.has_bit word n ≡ true
+        → first_rules.has_bit other n ≡ false }
 {
     word & other != 0
 }
@@ -133,6 +128,19 @@ impl Digest {
             && has_bit(self.middle, glyph / 16)
             && has_bit(self.blocks, glyph / 64)
             && has_bit(self.coarse, glyph / 512)
+    }
+
+    /// The three of its words that are stored for a subtable.
+    #[tactic(auto, using(crate::proofs::WordLemmas::lacking))]
+    pub fn words(&self) -> First
+        ensures { (glyph : ℕ) → first_rules.may_begin result glyph ≡ false
+            → Digests.has self.now glyph ≡ false }
+    {
+        First {
+            fine: self.fine,
+            middle: self.middle,
+            coarse: self.coarse,
+        }
     }
 
     /// The set with the glyphs from one to another. If the last is before the first, there is none.

@@ -2,14 +2,17 @@
 //!
 //! A digest holds more glyphs than were put in, and never fewer: so a lookup whose digest doesn't hold a glyph does
 //! nothing there, and a walk may pass on without a look into the table. [`digest`] has digests, [`coverage`] makes them of
-//! Coverage tables, and [`lookups`] of the lookups of a table, in time in step with its bytes, whatever they are.
+//! Coverage tables, and [`lookups`] of the lookups of a table and of their subtables, in time in step with its bytes, whatever
+//! they are; [`stored`] keeps them.
 #![tactic(auto)]
 
 pub mod coverage;
 pub mod digest;
 pub mod digested;
 pub mod lookups;
+pub mod stored;
 pub mod worked;
 
 pub use digest::Digest;
 pub use digested::Digested;
+pub use stored::{StoredLookup, StoredLookups};

@@ -3,22 +3,19 @@
 //! Lookups may share subtables, and subtables lists, so that lists are read more often than the table has bytes for.
 //! Once as many entries and subtables were read as the table has bytes, a lookup's digest holds every glyph: so it takes
 //! time in step with the bytes, whatever they are.
-ghost use Rattle.std.specs.Prelude.{◌≡◌, ◌<◌, ◌^◌, ℕ, true, false, length, IfOk, IsOkUnless};
+ghost use Rattle.std.specs.Prelude.{◌≡◌, ◌<◌, ◌^◌, ℕ, false};
 ghost use Rattle.std.specs.Option.{IfSome, option_map_or};
 ghost use Rattle.layout_tables.specs.Coverage.{covers};
-ghost use Rattle.layout_tables.specs.Lookups.{lookup_count_of};
-ghost use Rattle.layout_matching.specs.Found.{first_list, whole_rule};
 ghost use Rattle.layout_digests.specs.Coverages.{HasCovered};
 ghost use Rattle.layout_digests.specs.Digests.{IsWithin};
 ghost use Rattle.layout_digests.specs.Lookups as lookup_rules;
 
 use crate::coverage::{entry_count, with_coverage};
 use crate::digest::Digest;
-use layout_tables::lookups::{LookupSubtable, lookup, lookup_count, subtable, subtable_count};
+use layout_matching::formats::first_of_rule;
+use layout_tables::lookups::{LookupSubtable, lookup, subtable, subtable_count};
 use layout_tables::offsets::offset16;
-use shape_buffer::ShapeError;
 use shape_font::bytes::u16_at;
-use std::alloc::Global;
 
 /// A table of lookups: `GSUB`, or `GPOS` if `positioning`.
 #[derive(Clone, Copy)]
@@ -29,9 +26,9 @@ pub struct Lookups<'a> {
 
 /// A digest as far as it is made, and how many entries and subtables may still be read.
 #[derive(Clone, Copy)]
-struct Reading {
-    digest: Digest,
-    left: usize,
+pub(crate) struct Reading {
+    pub digest: Digest,
+    pub left: usize,
 }
 
 fn is_chained_kind(positioning: bool, kind: u16) -> bool
@@ -50,46 +47,6 @@ fn extension_kind(positioning: bool) -> u16
     ensures { result ≡ lookup_rules.extension_kind positioning }
 {
     if positioning { 9 } else { 7 }
-}
-
-/// Where the list of the first glyph of a rule of context of format 3 stands; none if the rule has no glyph.
-#[tactic(auto, using(crate::proofs::LookupLemmas::near_values))]
-fn first_of_plain(table: &[u8], start: usize) -> Option<usize>
-    requires { start < 2 ^ 35 }
-    ensures value { result ≡ first_list table.now start (whole_rule table.now false start) }
-    ensures near { IfSome result (λ list. list < 2 ^ 40) }
-{
-    if u16_at(table, start + 2) == 0 {
-        return None;
-    }
-    offset16(table, start, start + 6)
-}
-
-/// The same of a rule of chained context, after the lists of what stands before.
-#[tactic(auto, using(crate::proofs::LookupLemmas::near_values))]
-fn first_of_chain(table: &[u8], start: usize) -> Option<usize>
-    requires { start < 2 ^ 35 }
-    ensures value { result ≡ first_list table.now start (whole_rule table.now true start) }
-    ensures near { IfSome result (λ list. list < 2 ^ 40) }
-{
-    let middle = start + 4 + 2 * usize::from(u16_at(table, start + 2));
-    if u16_at(table, middle) == 0 {
-        return None;
-    }
-    offset16(table, start, middle + 2)
-}
-
-/// The same of a rule of either kind.
-fn first_of_rule(table: &[u8], is_chain: bool, start: usize) -> Option<usize>
-    requires { start < 2 ^ 35 }
-    ensures value { result ≡ first_list table.now start (whole_rule table.now is_chain start) }
-    ensures near { IfSome result (λ list. list < 2 ^ 40) }
-{
-    if is_chain {
-        first_of_chain(table, start)
-    } else {
-        first_of_plain(table, start)
-    }
 }
 
 /// Where the Coverage table of the glyphs stands that the subtable begins at; none if it begins at none.
@@ -129,7 +86,7 @@ fn with_list(table: &[u8], list: usize, reading: Reading) -> Reading
 }
 
 /// Puts the glyphs in that subtable `i` of the lookup at `place` begins at.
-fn with_subtable(lookups: Lookups<'_>, place: usize, i: u32, reading: Reading) -> Reading
+pub(crate) fn with_subtable(lookups: Lookups<'_>, place: usize, i: u32, reading: Reading) -> Reading
     requires place { place < 2 ^ 17 }
     requires few { i < 2 ^ 16 }
     ensures firsts { lookup_rules.HasFirst lookups.entry.table.now lookups.entry.positioning place
@@ -171,7 +128,7 @@ fn lookup_digest(lookups: Lookups<'_>, place: usize, left: usize) -> Reading
 }
 
 /// The digest of the lookup with this index, of no glyph if the table has no such lookup.
-fn digest_of(lookups: Lookups<'_>, index: u16, left: usize) -> Reading
+pub(crate) fn digest_of(lookups: Lookups<'_>, index: u16, left: usize) -> Reading
     ensures { lookup_rules.IsDigestAt lookups.entry.table.now lookups.entry.positioning index
         result.digest }
 {
@@ -182,24 +139,4 @@ fn digest_of(lookups: Lookups<'_>, index: u16, left: usize) -> Reading
             left,
         },
     }
-}
-
-/// A digest for each lookup of a table, by its index, and no more. Refuses with `Memory` if a growth was refused.
-#[tactic(auto, using(crate::proofs::LookupLemmas::one_digest))]
-pub fn digests(alloc: Global, lookups: Lookups<'_>) -> Result<Vec<Digest>, ShapeError>
-    ensures ok { IfOk result (λ digests. lookup_rules.AreDigests lookups.entry.table.now
-        lookups.entry.positioning digests.items) }
-    ensures count { IfOk result (λ digests. length digests.items
-        ≡ lookup_count_of lookups.entry.table.now) }
-    ensures memory { IsOkUnless result ShapeError.Memory }
-{
-    let count = lookup_count(lookups.table);
-    let mut left = lookups.table.len();
-    let mut digests = Vec::with_capacity(alloc, count as usize)?;
-    for index in 0..count {
-        let reading = digest_of(lookups, index as u16, left);
-        left = reading.left;
-        digests.push(reading.digest)?;
-    }
-    Ok(digests)
 }

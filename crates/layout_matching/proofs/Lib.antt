@@ -2,6 +2,7 @@ pub mod LoopLemmas
 pub mod PlaceLemmas
 pub mod ReachLemmas
 pub mod WorkLemmas
+pub mod FirstLemmas
 pub mod TallyLemmas
 pub mod GlanceLemmas
 pub mod RefusalLemmas

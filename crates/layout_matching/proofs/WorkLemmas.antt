@@ -6,6 +6,7 @@ use Rattle.shape_font.specs.Bytes.{u16_of}
 use Rattle.shape_items.specs.Items.{Item}
 use Rattle.layout_tables.specs.Lookups.{subtable_count_of}
 use Rattle.layout_tables.specs.declared.lookups.LookupSubtable.{LookupSubtable}
+use Rattle.layout_matching.specs.Firsts.{begins}
 use Rattle.layout_matching.specs.Found.{is_chained, is_context_subtable, whole_rule, is_first, number_of}
 use Rattle.layout_matching.specs.Loops.{steps}
 use Rattle.layout_matching.specs.Skipping.{nth}
@@ -18,14 +19,6 @@ steps_still f s zero k each = refl
 steps_still f s (suc n) k each =
     ap (option_and_then (steps f n (suc k))) (each k (omega arith) (omega arith))
     ∙ steps_still f s n (suc k) (λ i from below. each i (omega (arith, from)) (omega (arith, below)))
-
--- whether a subtable begins with a glyph: a rule of format 3 has a list for each glyph, any other subtable one for the first
-abbrev pub begins : Lookup → LookupSubtable → ℕ → Bool
-begins l subtable glyph = if is_context_subtable l subtable
-    then (if nat_eq (u16_of l.table.now subtable.start) 3
-    then is_first l.table.now subtable.start (whole_rule l.table.now (is_chained l subtable) subtable.start) glyph
-    else is_some (number_of l.table.now subtable.start glyph))
-    else is_some (number_of l.table.now subtable.start glyph)
 
 pub subtable_free : (l : Lookup) (items : List Item) (at left : ℕ) (subtable : LookupSubtable)
     → begins l subtable (nth items at).glyph_id ≡ false → subtable_charged l items at left subtable ≡ Some left

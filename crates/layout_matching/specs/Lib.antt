@@ -5,6 +5,7 @@ pub mod Seeking
 pub mod Input
 pub mod Spans
 pub mod Found
+pub mod Firsts
 pub mod Glance
 pub mod Nesting
 pub mod Tried

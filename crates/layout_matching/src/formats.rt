@@ -1,5 +1,5 @@
 //! Rules of context by the formats of their subtables: format 3 has one, formats 1 and 2 have sets of them.
-ghost use Rattle.std.specs.Prelude.{◌≡◌, ◌<◌, ◌+◌, ◌^◌};
+ghost use Rattle.std.specs.Prelude.{◌≡◌, ◌<◌, ◌+◌, ◌^◌, true, false};
 ghost use Rattle.std.specs.Option.{IfSome};
 ghost use Rattle.layout_matching.specs.Found as found_rules;
 ghost use Rattle.layout_matching.specs.Glance as glances;
@@ -34,15 +34,56 @@ pub(crate) fn whole_rule(table: &[u8], is_chain: bool, start: usize) -> Rule
     }
 }
 
-/// Whether the list of the rule's first glyph has the glyph.
-pub(crate) fn is_first(table: &[u8], start: usize, rule: &Rule, glyph: u32) -> bool
+/// Where the list of the first glyph of a rule of context of format 3 stands; none if the rule has no glyph.
+#[tactic(auto, using(crate::proofs::FirstLemmas::near_values))]
+fn first_of_plain(table: &[u8], start: usize) -> Option<usize>
     requires { start < 2 ^ 35 }
-    ensures { result ≡ found_rules.is_first table.now start rule.now glyph }
+    ensures value { result
+        ≡ found_rules.first_list table.now start (found_rules.whole_rule table.now false start) }
+    ensures near { IfSome result (λ list. list < 2 ^ 40) }
 {
-    if rule.input.count == 0 {
-        return false;
+    if u16_at(table, start + 2) == 0 {
+        return None;
     }
-    match offset16(table, start, rule.input.values.min(FAR).saturating_sub(2)) {
+    offset16(table, start, start + 6)
+}
+
+/// The same of a rule of chained context, after the lists of what stands before.
+#[tactic(auto, using(crate::proofs::FirstLemmas::near_values))]
+fn first_of_chain(table: &[u8], start: usize) -> Option<usize>
+    requires { start < 2 ^ 35 }
+    ensures value { result
+        ≡ found_rules.first_list table.now start (found_rules.whole_rule table.now true start) }
+    ensures near { IfSome result (λ list. list < 2 ^ 40) }
+{
+    let middle = start + 4 + 2 * usize::from(u16_at(table, start + 2));
+    if u16_at(table, middle) == 0 {
+        return None;
+    }
+    offset16(table, start, middle + 2)
+}
+
+/// The same of a rule of either kind. The rest of the rule isn't read.
+pub fn first_of_rule(table: &[u8], is_chain: bool, start: usize) -> Option<usize>
+    requires { start < 2 ^ 35 }
+    ensures value { result
+        ≡ found_rules.first_list table.now start (found_rules.whole_rule table.now is_chain start) }
+    ensures near { IfSome result (λ list. list < 2 ^ 40) }
+{
+    if is_chain {
+        first_of_chain(table, start)
+    } else {
+        first_of_plain(table, start)
+    }
+}
+
+/// Whether the one rule of a subtable of format 3 begins with the glyph. It is asked before the rule is read.
+pub(crate) fn begins_whole(table: &[u8], is_chain: bool, start: usize, glyph: u32) -> bool
+    requires { start < 2 ^ 35 }
+    ensures { result ≡ found_rules.is_first table.now start
+        (found_rules.whole_rule table.now is_chain start) glyph }
+{
+    match first_of_rule(table, is_chain, start) {
         Some(list) => covers(table, list, glyph),
         None => false,
     }

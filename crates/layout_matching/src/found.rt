@@ -7,8 +7,9 @@ ghost use Rattle.layout_matching.specs.Found as found_rules;
 ghost use Rattle.layout_matching.specs.Glance as glances;
 
 use crate::around::{GlancedSet, glanced, is_refused_there};
-use crate::formats::{is_first, rule_by, set_for, whole_rule};
+use crate::formats::{begins_whole, rule_by, set_for, whole_rule};
 use crate::glance::Glances;
+use crate::indexed::Indexed;
 use crate::lookup::Lookup;
 use crate::rules::{Rule, begins_inside, is_inside, rule_at};
 use crate::spans::{Origin, Span, span_at};
@@ -87,9 +88,10 @@ fn found_whole(
     ensures value { result ≡ found_rules.found_whole lookup.now items.now origin subtable }
     ensures last { IfSome result (λ f. f.span.last < length items.now) }
 {
-    let rule = whole_rule(lookup.table, is_chained(lookup, subtable), subtable.start);
-    let glyph = items.item(origin.at).glyph_id;
-    if is_first(lookup.table, subtable.start, &rule, glyph) {
+    let is_chain = is_chained(lookup, subtable);
+    let glyph = items.at(origin.at).glyph_id;
+    if begins_whole(lookup.table, is_chain, subtable.start, glyph) {
+        let rule = whole_rule(lookup.table, is_chain, subtable.start);
         found_if(lookup, items, origin, rule)
     } else {
         None
@@ -244,18 +246,24 @@ fn found_in_sets(
 }
 
 /// The rule of subtable `i` that matches.
+#[tactic(auto, using(crate::proofs::FirstLemmas::found_out))]
 fn found_at_subtable(
-    lookup: &Lookup<'_>,
+    indexed: &Indexed<'_>,
     items: &ItemList<'_>,
     origin: Origin,
     i: u32,
 ) -> Option<Found>
-    requires near { lookup.now.place < 2 ^ 17 }
+    requires near { indexed.now.lookup.now.place < 2 ^ 17 }
     requires few { i < 2 ^ 16 }
     requires inside { origin.at < length items.now }
-    ensures value { result ≡ found_rules.found_at_subtable lookup.now items.now origin i }
+    ensures value { result
+        ≡ found_rules.found_at_subtable indexed.now.lookup.now items.now origin i }
     ensures last { IfSome result (λ f. f.span.last < length items.now) }
 {
+    if !indexed.may_begin(i, items.at(origin.at).glyph_id) {
+        return None;
+    }
+    let lookup = indexed.lookup;
     let subtable = subtable(lookup.table, extension_kind(lookup), lookup.place, i)?;
     if !is_context_subtable(lookup, subtable) {
         return None;
@@ -269,14 +277,14 @@ fn found_at_subtable(
 
 /// The first rule of the first subtable that has one which matches at `origin`.
 #[tactic(auto, using(crate::proofs::LoopLemmas::first_some_next, crate::proofs::LoopLemmas::first_some_found, crate::proofs::LoopLemmas::first_some_end))]
-pub fn find(lookup: &Lookup<'_>, items: &ItemList<'_>, origin: Origin) -> Option<Found>
-    requires near { lookup.now.place < 2 ^ 17 }
+pub fn find(indexed: &Indexed<'_>, items: &ItemList<'_>, origin: Origin) -> Option<Found>
+    requires near { indexed.now.lookup.now.place < 2 ^ 17 }
     requires inside { origin.at < length items.now }
-    ensures value { result ≡ found_rules.found_of lookup.now items.now origin }
+    ensures value { result ≡ found_rules.found_of indexed.now.lookup.now items.now origin }
     ensures last { IfSome result (λ f. f.span.last < length items.now) }
 {
-    for i in 0..subtable_count(lookup.table, lookup.place) {
-        if let Some(found) = found_at_subtable(lookup, items, origin, i) {
+    for i in 0..subtable_count(indexed.lookup.table, indexed.lookup.place) {
+        if let Some(found) = found_at_subtable(indexed, items, origin, i) {
             return Some(found);
         }
     }

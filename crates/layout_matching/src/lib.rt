@@ -6,6 +6,7 @@
 //! rule that matches, and [`nesting`] the lookups that it names. [`tried`] and [`reaching`] say how far searches in
 //! vain looked. [`work`] says what a lookup is charged for, by [`sets`] of rules, [`tally`] of each rule and
 //! [`passing`] of glyphs beside a place; [`beside`] charges subtables of positioning, which share those glyphs.
+//! [`firsts`] has the glyphs that subtables may begin at, and [`indexed`] a lookup with those of its own.
 //! [`would`] says whether context would match glyphs that stand alone. All are functions of the bytes of the font and of
 //! the list of items: nothing is changed. Any bytes are taken.
 #![tactic(auto)]
@@ -13,9 +14,11 @@
 
 pub mod around;
 pub mod beside;
+pub mod firsts;
 pub mod formats;
 pub mod found;
 pub mod glance;
+pub mod indexed;
 pub mod input;
 pub mod lookup;
 pub mod nesting;

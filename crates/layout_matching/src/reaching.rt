@@ -5,7 +5,7 @@ ghost use Rattle.std.specs.Prelude.{◌≡◌, ◌<◌, ◌^◌, length};
 ghost use Rattle.layout_matching.specs.Found as found_rules;
 ghost use Rattle.layout_matching.specs.Tried;
 
-use crate::formats::{is_first, rule_by, set_for, whole_rule};
+use crate::formats::{begins_whole, rule_by, set_for, whole_rule};
 use crate::found::{is_chained, is_context_subtable, number_in, subtable_at};
 use crate::input::match_input;
 use crate::lookup::Lookup;
@@ -116,9 +116,9 @@ fn whole_reach(
     ensures { result ≡ Tried.whole_reach lookup.now items.now origin subtable }
 {
     let is_chain = is_chained(lookup, subtable);
-    let rule = whole_rule(lookup.table, is_chain, subtable.start);
-    let glyph = items.item(origin.at).glyph_id;
-    if is_first(lookup.table, subtable.start, &rule, glyph) {
+    let glyph = items.at(origin.at).glyph_id;
+    if begins_whole(lookup.table, is_chain, subtable.start, glyph) {
+        let rule = whole_rule(lookup.table, is_chain, subtable.start);
         rule_reach(lookup, items, origin, is_chain, &rule)
     } else {
         untried(origin.at)

@@ -8,8 +8,9 @@ ghost use Rattle.std.specs.Option.{IfSome};
 ghost use Rattle.layout_tables.specs.Lookups.{subtable_count_of};
 ghost use Rattle.layout_matching.specs.Work;
 
-use crate::formats::{is_first, set_for, whole_rule};
+use crate::formats::{begins_whole, set_for, whole_rule};
 use crate::found::{is_chained, is_context, is_context_subtable, number_in, subtable_at};
+use crate::indexed::Indexed;
 use crate::lookup::Lookup;
 use crate::rules::rules;
 use crate::sets::{passed_charged, rule_charged, set_charged};
@@ -152,11 +153,12 @@ fn whole_charged(
     requires inside { at < length items.now }
     ensures { result ≡ Work.whole_charged lookup.now items.now at subtable left }
 {
-    let rule = whole_rule(lookup.table, is_chained(lookup, subtable), subtable.start);
-    let glyph = items.item(at).glyph_id;
-    if !is_first(lookup.table, subtable.start, &rule, glyph) {
+    let is_chain = is_chained(lookup, subtable);
+    let glyph = items.at(at).glyph_id;
+    if !begins_whole(lookup.table, is_chain, subtable.start, glyph) {
         return Some(left);
     }
+    let rule = whole_rule(lookup.table, is_chain, subtable.start);
     match begun_charged(lookup, items, subtable, left) {
         Some(left) => rule_charged(lookup, items, at, &rule, left),
         None => None,
@@ -266,22 +268,43 @@ fn is_plain(lookup: &Lookup<'_>) -> bool
     }
 }
 
+/// The same, unless it is stored that the subtable doesn't begin with the glyph.
+#[tactic(auto, using(crate::proofs::FirstLemmas::charged_out))]
+#[inline(always)]
+fn charged_if_begun(
+    indexed: &Indexed<'_>,
+    items: &ItemList<'_>,
+    at: usize,
+    i: u32,
+    left: usize,
+) -> Option<usize>
+    requires near { indexed.now.lookup.now.place < 2 ^ 17 }
+    requires few { i < 2 ^ 16 }
+    requires inside { at < length items.now }
+    ensures { result ≡ Work.charged_at_subtable indexed.now.lookup.now items.now at i left }
+{
+    if !indexed.may_begin(i, items.at(at).glyph_id) {
+        return Some(left);
+    }
+    charged_at_subtable(indexed.lookup, items, at, i, left)
+}
+
 /// What is left after all subtables that begin with the glyph at a place.
 #[tactic(auto, using(crate::proofs::LoopLemmas::steps_next, crate::proofs::LoopLemmas::steps_none, crate::proofs::LoopLemmas::steps_end))]
 #[inline(never)]
 fn subtables_charged(
-    lookup: &Lookup<'_>,
+    indexed: &Indexed<'_>,
     items: &ItemList<'_>,
     at: usize,
     left: usize,
 ) -> Option<usize>
-    requires near { lookup.now.place < 2 ^ 17 }
+    requires near { indexed.now.lookup.now.place < 2 ^ 17 }
     requires inside { at < length items.now }
-    ensures { result ≡ Work.subtables_charged lookup.now items.now at left }
+    ensures { result ≡ Work.subtables_charged indexed.now.lookup.now items.now at left }
 {
     let mut left = left;
-    for i in 0..subtable_count(lookup.table, lookup.place) {
-        match charged_at_subtable(lookup, items, at, i, left) {
+    for i in 0..subtable_count(indexed.lookup.table, indexed.lookup.place) {
+        match charged_if_begun(indexed, items, at, i, left) {
             Some(less) => left = less,
             None => return None,
         }
@@ -302,19 +325,19 @@ fn is_paid(lookup: &Lookup<'_>, item: &hb_glyph_info_t) -> bool
 /// One without rules and ligatures is paid by the walk over the list, or where a rule names it.
 #[inline(always)]
 pub fn lookup_charged(
-    lookup: &Lookup<'_>,
+    indexed: &Indexed<'_>,
     items: &ItemList<'_>,
     at: usize,
     left: usize,
 ) -> Option<usize>
-    requires near { lookup.now.place < 2 ^ 17 }
+    requires near { indexed.now.lookup.now.place < 2 ^ 17 }
     requires inside { at < length items.now }
-    ensures { result ≡ Work.lookup_charged lookup.now items.now at left }
+    ensures { result ≡ Work.lookup_charged indexed.now.lookup.now items.now at left }
 {
-    if is_paid(lookup, items.at(at)) {
+    if is_paid(indexed.lookup, items.at(at)) {
         Some(left)
     } else {
-        subtables_charged(lookup, items, at, left)
+        subtables_charged(indexed, items, at, left)
     }
 }
 
@@ -345,7 +368,7 @@ pub fn nested_charged(
     ensures { result ≡ Work.nested_charged lookup.now items.now at left }
 {
     match charged(steps_work(lookup) + NESTED_WORK, left) {
-        Some(left) => subtables_charged(lookup, items, at, left),
+        Some(left) => subtables_charged(&Indexed::unstored(lookup), items, at, left),
         None => None,
     }
 }

@@ -4,7 +4,7 @@ ghost use Rattle.std.specs.Option.{IfSome};
 ghost use Rattle.layout_matching.specs.Rules.{fits_row as fits};
 ghost use Rattle.layout_matching.specs.Would as would_rules;
 
-use crate::formats::{is_first, rule_by, set_for, whole_rule};
+use crate::formats::{begins_whole, rule_by, set_for, whole_rule};
 use crate::found::number_in;
 use crate::rules::{Row, Rule, fits_row, is_inside, rule_at};
 use shape_font::bytes::{records, u16_at};
@@ -139,7 +139,7 @@ pub fn context_begins(table: &[u8], is_chain: bool, start: usize, glyph: u32) ->
 {
     let format = u16_at(table, start);
     if format == 3 {
-        return is_first(table, start, &whole_rule(table, is_chain, start), glyph);
+        return begins_whole(table, is_chain, start, glyph);
     }
     (format == 1 || format == 2) && number_in(table, start, glyph).is_some()
 }

@@ -155,8 +155,12 @@ passed_over ds k x here next made run more said held apart is before =
     applied_on ds k x here next made more before (is ∙ sym (digest-idle (slice_index_or ds k x) here run said held apart))
 
 -- the set of all glyphs serves any lookup
-pub every_said : (d : Digested) → d.lookup.place < 2 ^ 17 → ((glyph : ℕ) → has d.digest glyph ≡ true) → IsDigested d
-every_said d near all = record { near = near; out = λ glyph none. never glyph (has d.digest glyph) (all glyph) none }
+pub every_said : (d : Digested) → d.lookup.place < 2 ^ 17 → ((glyph : ℕ) → has d.digest glyph ≡ true) → d.firsts.count ≡ 0 → IsDigested d
+every_said d near all none = record {
+  near = near;
+  out = λ glyph not. never glyph (has d.digest glyph) (all glyph) not;
+  firsts = λ i glyph below inside out. absurd (omega (arith, below, none));
+}
   where
     never : (glyph : ℕ) (t : Bool) → t ≡ true → t ≡ false → IsOut d.lookup glyph
     never glyph true is not = cc

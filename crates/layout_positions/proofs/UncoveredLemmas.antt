@@ -8,6 +8,7 @@ use Rattle.shape_items.specs.Buffer.{Buffer}
 use Rattle.shape_items.specs.Items.{Item}
 use Rattle.layout_tables.specs.Lookups.{subtable_count_of, subtable_of}
 use Rattle.layout_tables.specs.declared.lookups.LookupSubtable.{LookupSubtable}
+use Rattle.layout_matching.specs.Firsts.{IsOut}
 use Rattle.layout_matching.specs.Found.{extension_kind, is_context, is_context_subtable, is_chained, whole_rule, is_first, found_whole, found_by_number, found_in_sets, found_in_subtable, found_at_subtable, found_of}
 use Rattle.layout_matching.specs.Loops.{times, first_some}
 use Rattle.layout_matching.specs.Skipping.{nth, is_on}
@@ -81,10 +82,9 @@ none_of None e = refl
 none_of (Some x) e = cc
 
 -- a subtable that doesn't list the glyph isn't applied
-subtable-un : (l : Lookup) (b : Buffer) (i : ℕ) → l.positioning ≡ true → IsUnlisted l (nth b.items i).glyph_id
-    → (k : ℕ) (subtable : LookupSubtable) → k < subtable_count_of l.table.now l.place → subtable_of l.table.now 9 l.place k ≡ Some subtable
-    → (base : Option ℕ) → kind_applied l subtable base i b ≡ unapplied b
-subtable-un l b i gpos un k subtable below is base = by_kind (is_context_subtable l subtable) refl (un k subtable below is)
+subtable-un : (l : Lookup) (b : Buffer) (i : ℕ) → l.positioning ≡ true → (subtable : LookupSubtable)
+    → subtable_lists l subtable (nth b.items i).glyph_id ≡ false → (base : Option ℕ) → kind_applied l subtable base i b ≡ unapplied b
+subtable-un l b i gpos subtable un base = by_kind (is_context_subtable l subtable) refl un
   where
     by_kind : (t : Bool) → is_context_subtable l subtable ≡ t
         → (if t then rule_lists l subtable (nth b.items i).glyph_id else is_listed_at l subtable (nth b.items i).glyph_id) ≡ false
@@ -166,16 +166,29 @@ left-un l subtable i b seen left gpos un still = by_kind (nat_eq subtable.kind 3
 abbrev still : ℕ → BaseSeen → Buffer → ℕ → Trial
 still left seen b n = record { buffer = b; next = None; seen = seen; left = left; subtable = n }
 
-tried-un : (l : Lookup) (b : Buffer) (i n left : ℕ) (seen : BaseSeen) → l.positioning ≡ true → IsUnlisted l (nth b.items i).glyph_id
-    → n < subtable_count_of l.table.now l.place → (o : Option LookupSubtable) → subtable_of l.table.now 9 l.place n ≡ o
+tried-un : (l : Lookup) (b : Buffer) (i n left : ℕ) (seen : BaseSeen) → l.positioning ≡ true → (o : Option LookupSubtable)
+    → ((subtable : LookupSubtable) → o ≡ Some subtable → subtable_lists l subtable (nth b.items i).glyph_id ≡ false)
     → option_map_or (subtable_tried l i (still left seen b n)) o (trial_of (still left seen b n) (unplaced left seen b))
     ≡ still left seen b (n + 1)
-tried-un l b i n left seen gpos un below None e = refl
-tried-un l b i n left seen gpos un below (Some subtable) e =
-    let unlisted : subtable_lists l subtable (nth b.items i).glyph_id ≡ false = un n subtable below e in
+tried-un l b i n left seen gpos None un = refl
+tried-un l b i n left seen gpos (Some subtable) un =
+    let unlisted : subtable_lists l subtable (nth b.items i).glyph_id ≡ false = un subtable refl in
     ap (λ (s : Sought). trial_of (still left seen b n) (subtable_placed l subtable i b s)) (seen-un l subtable i b seen left gpos unlisted)
     ∙ ap (trial_of (still left seen b n))
-    (left-un l subtable i b seen left gpos unlisted (subtable-un l b i gpos un n subtable below e seen.place))
+    (left-un l subtable i b seen left gpos unlisted (subtable-un l b i gpos subtable unlisted seen.place))
+
+-- a subtable that doesn't begin at the glyph leaves all as it was
+subtable_out : (l : Lookup) (i n left : ℕ) (seen : BaseSeen) (b : Buffer) → l.positioning ≡ true → IsOut l n (nth b.items i).glyph_id
+    → still left seen b (n + 1) ≡ trial_step l i (still left seen b n)
+subtable_out l i n left seen b gpos out = sym (tried-un l b i n left seen gpos (subtable_of l.table.now 9 l.place n)
+    (λ subtable there. out subtable (ap (λ t. subtable_of l.table.now (if t then 9 else 7) l.place n) gpos ∙ there)))
+
+pub subtable_passed : (l : Lookup) (i n left : ℕ) (seen : BaseSeen) (b : Buffer) (next : Option ℕ) → is_some next ≡ false → l.positioning ≡ true
+    → IsOut l n (nth b.items i).glyph_id
+    → ◌≡◌ {A = Trial} (record { buffer = b; next = next; seen = seen; left = left; subtable = n + 1 })
+    (trial_step l i (record { buffer = b; next = next; seen = seen; left = left; subtable = n }))
+subtable_passed l i n left seen b None none gpos out = subtable_out l i n left seen b gpos out
+subtable_passed l i n left seen b (Some x) none gpos out = cc
 
 times-un : (l : Lookup) (b : Buffer) (i left : ℕ) (seen : BaseSeen) → l.positioning ≡ true → IsUnlisted l (nth b.items i).glyph_id
     → (n : ℕ) → n ≤ subtable_count_of l.table.now l.place → times (trial_step l i) n (still left seen b 0) ≡ still left seen b n
@@ -183,7 +196,7 @@ times-un l b i left seen gpos un zero within = refl
 times-un l b i left seen gpos un (suc n) within =
     let e : n + 1 ≡ suc n = omega arith in
     ap (trial_step l i) (times-un l b i left seen gpos un n (omega (arith, within)))
-    ∙ tried-un l b i n left seen gpos un (omega (arith, within)) (subtable_of l.table.now 9 l.place n) refl
+    ∙ tried-un l b i n left seen gpos (subtable_of l.table.now 9 l.place n) (λ subtable there. un n subtable (omega (arith, within)) there)
     ∙ ap (still left seen b) e
 
 -- ---- rules at a place

@@ -1,6 +1,7 @@
 -- lookups with sets that hold the glyphs that they may begin at
 use Rattle.std.specs.Prelude.{◌≡◌, ℕ, true, false, List, ◌+◌, ◌<◌, ◌^◌, length, map}
 use Rattle.shape_items.specs.Items.{Item}
+use Rattle.layout_matching.specs.Firsts.{AreFirsts}
 use Rattle.layout_matching.specs.Skipping.{nth}
 use Rattle.layout_matching.specs.declared.lookup.Lookup.{Lookup}
 use Rattle.layout_digests.specs.Digests.{has}
@@ -13,10 +14,11 @@ pub record IsOut (l : Lookup) (glyph : ℕ) : Type 0 where
   pub positions : l.positioning ≡ true
   pub unlisted : IsUnlisted l glyph
 
--- the lookup stands near the start of its table, and lists no glyph that the set doesn't hold
+-- the lookup stands near the start of its table, and lists no glyph that the set doesn't hold; so it is with its subtables
 pub record IsDigested (d : Digested) : Type 0 where
   pub near : d.lookup.place < 2 ^ 17
   pub out : (glyph : ℕ) → has d.digest glyph ≡ false → IsOut d.lookup glyph
+  pub firsts : AreFirsts d.lookup d.firsts
 
 -- the set holds the first so many glyphs of a list, or all
 abbrev pub HoldsFirst : Digest → List Item → ℕ → Type 0

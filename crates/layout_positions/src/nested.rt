@@ -13,6 +13,7 @@ use crate::places::after;
 use crate::subtables::{Carried, Outcome, apply_lookup};
 use layout_buffer::ItemList;
 use layout_matching::found::{Found, find, is_context};
+use layout_matching::indexed::Indexed;
 use layout_matching::input::seek_input;
 use layout_matching::lookup::Lookup;
 use layout_matching::nesting::{record_at, with_place};
@@ -118,7 +119,7 @@ fn apply_record(
             match nested_charged(&other, &items, place, rest) {
                 Some(left) => {
                     let fewer = Carried { seen, left };
-                    apply_nested(level, &other, buffer, place, fewer).carried
+                    apply_nested(level, &Indexed::unstored(&other), buffer, place, fewer).carried
                 }
                 None => Carried { seen, left: 0 },
             }
@@ -190,18 +191,18 @@ fn apply_rule(
 #[tactic(auto, using(crate::proofs::NestedLemmas::nested_none, crate::proofs::NestedLemmas::nested_outside, crate::proofs::NestedLemmas::nested_level))]
 pub fn apply_nested(
     level: u32,
-    here: &Lookup<'_>,
+    indexed: &Indexed<'_>,
     buffer: &mut hb_buffer_t,
     at: usize,
     carried: Carried,
 ) -> Outcome
-    requires place { here.now.place < 2 ^ 17 }
+    requires place { indexed.now.lookup.now.place < 2 ^ 17 }
     ensures made { record {
       buffer = buffer.new;
       next = result.next;
       seen = result.carried.seen;
       left = result.carried.left;
-    } ≡ Nested.nested_placed level here.now at carried.left carried.seen buffer.old }
+    } ≡ Nested.nested_placed level indexed.now.lookup.now at carried.left carried.seen buffer.old }
     ensures len { length buffer.new.items ≡ length buffer.old.items }
 {
     if level == 0 || buffer.len() <= at {
@@ -210,7 +211,7 @@ pub fn apply_nested(
             carried,
         };
     }
-    apply_level(level - 1, here, buffer, at, carried)
+    apply_level(level - 1, indexed, buffer, at, carried)
 }
 
 /// A place at which rules are tried.
@@ -245,12 +246,12 @@ fn mark_tried(here: &Lookup<'_>, buffer: &mut hb_buffer_t, at: usize)
 #[cycle(nesting)]
 fn apply_first(
     level: u32,
-    here: &Lookup<'_>,
+    indexed: &Indexed<'_>,
     buffer: &mut hb_buffer_t,
     at: usize,
     carried: Carried,
 ) -> Outcome
-    requires place { here.now.place < 2 ^ 17 }
+    requires place { indexed.now.lookup.now.place < 2 ^ 17 }
     requires inside { at < length buffer.old.items }
     ensures made { record {
       buffer = buffer.new;
@@ -258,11 +259,11 @@ fn apply_first(
       seen = result.carried.seen;
       left = result.carried.left;
     } ≡ Nested.first_rule_placed
-        (Nested.nested_placed level) here.now at carried.left carried.seen buffer.old }
+        (Nested.nested_placed level) indexed.now.lookup.now at carried.left carried.seen buffer.old }
     ensures len { length buffer.new.items ≡ length buffer.old.items }
 {
-    match find(here, &ItemList::of_slice(buffer.infos()), origin_at(at)) {
-        Some(found) => apply_rule(level, here, buffer, at, carried, found),
+    match find(indexed, &ItemList::of_slice(buffer.infos()), origin_at(at)) {
+        Some(found) => apply_rule(level, indexed.lookup, buffer, at, carried, found),
         None => Outcome {
             next: None,
             carried,
@@ -274,25 +275,25 @@ fn apply_first(
 #[cycle(nesting)]
 fn apply_level(
     level: u32,
-    here: &Lookup<'_>,
+    indexed: &Indexed<'_>,
     buffer: &mut hb_buffer_t,
     at: usize,
     carried: Carried,
 ) -> Outcome
-    requires place { here.now.place < 2 ^ 17 }
+    requires place { indexed.now.lookup.now.place < 2 ^ 17 }
     requires inside { at < length buffer.old.items }
     ensures made { record {
       buffer = buffer.new;
       next = result.next;
       seen = result.carried.seen;
       left = result.carried.left;
-    } ≡ Nested.level_placed (Nested.nested_placed level) here.now at carried.left carried.seen
+    } ≡ Nested.level_placed (Nested.nested_placed level) indexed.now.lookup.now at carried.left carried.seen
         buffer.old }
     ensures len { length buffer.new.items ≡ length buffer.old.items }
 {
-    if !is_context(here) {
-        return apply_lookup(here, buffer, at, carried);
+    if !is_context(indexed.lookup) {
+        return apply_lookup(indexed, buffer, at, carried);
     }
-    mark_tried(here, buffer, at);
-    apply_first(level, here, buffer, at, carried)
+    mark_tried(indexed.lookup, buffer, at);
+    apply_first(level, indexed, buffer, at, carried)
 }

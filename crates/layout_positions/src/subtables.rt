@@ -1,6 +1,8 @@
 //! A lookup at a place: its first subtable that applies.
 ghost use Rattle.std.specs.Prelude.{◌≡◌, ◌<◌, ◌≤◌, ◌+◌, ◌-◌, ◌*◌, ◌^◌, ◌||◌, true, false, length, nat_eq, None};
 ghost use Rattle.std.specs.Option.{IfSome};
+ghost use Rattle.layout_matching.specs.Firsts.{IsOut};
+ghost use Rattle.layout_matching.specs.Skipping.{nth};
 ghost use Rattle.layout_positions.specs.Cursive;
 ghost use Rattle.layout_positions.specs.Lookups;
 ghost use Rattle.layout_positions.specs.Subtables;
@@ -9,7 +11,9 @@ use crate::adjustment::{apply_pair, apply_single};
 use crate::bases::BaseSeen;
 use crate::cursive::{Joined, UNJOINED, apply_cursive};
 use crate::listed::try_mark;
+use layout_matching::indexed::Indexed;
 use layout_matching::lookup::Lookup;
+use layout_matching::skipping::item_at;
 use layout_tables::lookups::{LookupSubtable, subtable, subtable_count};
 use shape_buffer::hb_buffer_t;
 use shape_font::bytes::u16_at;
@@ -165,21 +169,32 @@ fn apply_subtable(
     }
 }
 
+/// Whether subtable number `k` may begin at the glyph at place `i`, by what is stored of it.
+#[inline(always)]
+fn may_begin_at(indexed: &Indexed<'_>, buffer: &hb_buffer_t, i: usize, k: u32) -> bool
+    requires { i < length buffer.now.items }
+    ensures { result ≡ false
+        → IsOut indexed.now.lookup.now k (nth buffer.now.items i).glyph_id }
+{
+    let item = item_at(buffer.infos(), i);
+    indexed.may_begin(k, item.glyph_id)
+}
+
 /// Tries subtable number `k` at place `i`, unless one before it applied. `ahead` is the first glyph after the place that isn't
 /// passed over, once it was sought.
 fn try_subtable(
-    lookup: &Lookup<'_>,
+    indexed: &Indexed<'_>,
     buffer: &mut hb_buffer_t,
     i: usize,
     placed: Outcome,
     k: u32,
     ahead: &mut Option<Option<usize>>,
 ) -> Outcome
-    requires place { lookup.now.place < 2 ^ 17 }
+    requires place { indexed.now.lookup.now.place < 2 ^ 17 }
     requires inside { i < length buffer.old.items }
     requires few { k < 2 ^ 16 }
     requires known { IfSome ahead.old
-        (λ stop. stop ≡ Lookups.stop_after lookup.now buffer.old.items i) }
+        (λ stop. stop ≡ Lookups.stop_after indexed.now.lookup.now buffer.old.items i) }
     ensures step { record {
       buffer = buffer.new;
       next = result.next;
@@ -188,7 +203,7 @@ fn try_subtable(
       subtable = k +
           1;
     }
-        ≡ Subtables.trial_step lookup.now i (record {
+        ≡ Subtables.trial_step indexed.now.lookup.now i (record {
           buffer = buffer.old;
           next = placed.next;
           seen = placed.carried.seen;
@@ -196,9 +211,13 @@ fn try_subtable(
           subtable = k;
         }) }
     ensures known { IfSome ahead.new
-        (λ stop. stop ≡ Lookups.stop_after lookup.now buffer.old.items i) }
+        (λ stop. stop ≡ Lookups.stop_after indexed.now.lookup.now buffer.old.items i) }
 {
     if placed.next.is_some() {
+        return placed;
+    }
+    let lookup = indexed.lookup;
+    if lookup.positioning && !may_begin_at(indexed, buffer, i, k) {
         return placed;
     }
     match subtable(lookup.table, 9, lookup.place, k) {
@@ -210,19 +229,19 @@ fn try_subtable(
 /// Applies a lookup that names no other to the glyph at place `i`: its first subtable that applies.
 #[tactic(auto, using(layout_matching::proofs::LoopLemmas::times_step, crate::proofs::SubtableLemmas::length_tried))]
 pub fn apply_lookup(
-    lookup: &Lookup<'_>,
+    indexed: &Indexed<'_>,
     buffer: &mut hb_buffer_t,
     i: usize,
     carried: Carried,
 ) -> Outcome
-    requires place { lookup.now.place < 2 ^ 17 }
+    requires place { indexed.now.lookup.now.place < 2 ^ 17 }
     requires inside { i < length buffer.old.items }
     ensures made { record {
       buffer = buffer.new;
       next = result.next;
       seen = result.carried.seen;
       left = result.carried.left;
-    } ≡ Subtables.lookup_placed lookup.now i carried.left carried.seen buffer.old }
+    } ≡ Subtables.lookup_placed indexed.now.lookup.now i carried.left carried.seen buffer.old }
     ensures len { length buffer.new.items ≡ length buffer.old.items }
 {
     let mut placed = Outcome {
@@ -230,8 +249,8 @@ pub fn apply_lookup(
         carried,
     };
     let mut ahead = None;
-    for k in 0..subtable_count(lookup.table, lookup.place) {
-        placed = try_subtable(lookup, buffer, i, placed, k, &mut ahead);
+    for k in 0..subtable_count(indexed.lookup.table, indexed.lookup.place) {
+        placed = try_subtable(indexed, buffer, i, placed, k, &mut ahead);
     }
     placed
 }

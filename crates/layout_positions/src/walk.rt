@@ -21,6 +21,7 @@ use crate::tolls::{has_rules, walk_toll};
 use layout_buffer::ItemList;
 use layout_digests::{Digest, Digested};
 use layout_matching::beside::plain_charged;
+use layout_matching::indexed::Indexed;
 use layout_matching::lookup::Lookup;
 use layout_matching::skipping::{is_on, is_transparent};
 use layout_matching::work::lookup_charged;
@@ -57,20 +58,21 @@ pub fn position_start(buffer: &mut hb_buffer_t)
 
 /// What is left after a lookup was charged at a place. Whether it is one of context is decided once for a walk.
 fn charge(
-    lookup: &Lookup<'_>,
+    indexed: &Indexed<'_>,
     has_rules: bool,
     buffer: &hb_buffer_t,
     at: usize,
     left: usize,
 ) -> Option<usize>
-    requires near { lookup.now.place < 2 ^ 17 }
-    requires kind { has_rules ≡ found_rules.is_context lookup.now }
+    requires near { indexed.now.lookup.now.place < 2 ^ 17 }
+    requires kind { has_rules ≡ found_rules.is_context indexed.now.lookup.now }
     requires inside { at < length buffer.now.items }
-    ensures { result ≡ Work.lookup_charged lookup.now buffer.now.items at left }
+    ensures { result ≡ Work.lookup_charged indexed.now.lookup.now buffer.now.items at left }
 {
+    let lookup = indexed.lookup;
     let infos = buffer.infos();
     if !lookup.positioning || has_rules {
-        return lookup_charged(lookup, &ItemList::of_slice(infos), at, left);
+        return lookup_charged(indexed, &ItemList::of_slice(infos), at, left);
     }
     if is_transparent(lookup, false, &infos[at]) {
         plain_charged(lookup, &ItemList::of_slice(infos), at, left)
@@ -82,71 +84,71 @@ fn charge(
 /// Applies a lookup at a place.
 #[tactic(auto, using(crate::proofs::NestedLemmas::placed_plainly))]
 fn apply_at(
-    lookup: &Lookup<'_>,
+    indexed: &Indexed<'_>,
     has_rules: bool,
     buffer: &mut hb_buffer_t,
     spot: Spot,
     known: &mut [Known],
     flagged: &mut Flagged,
 ) -> Outcome
-    requires near { lookup.now.place < 2 ^ 17 }
-    requires kind { has_rules ≡ found_rules.is_context lookup.now }
+    requires near { indexed.now.lookup.now.place < 2 ^ 17 }
+    requires kind { has_rules ≡ found_rules.is_context indexed.now.lookup.now }
     requires inside { spot.at < length buffer.old.items }
-    requires known { All (known_marks.IsKnown lookup.now) known.old }
+    requires known { All (known_marks.IsKnown indexed.now.lookup.now) known.old }
     requires flagged { IsFlagged flagged.old buffer.old.items }
     ensures made { record {
       buffer = buffer.new;
       next = result.next;
       seen = result.carried.seen;
       left = result.carried.left;
-    } ≡ Nested.nested_placed Nested.LEVELS lookup.now spot.at spot.carried.left
+    } ≡ Nested.nested_placed Nested.LEVELS indexed.now.lookup.now spot.at spot.carried.left
         spot.carried.seen buffer.old }
-    ensures known { All (known_marks.IsKnown lookup.now) known.new }
+    ensures known { All (known_marks.IsKnown indexed.now.lookup.now) known.new }
     ensures flagged { IsFlagged flagged.new buffer.new.items }
 {
     let Spot { at, carried } = spot;
     if has_rules {
         *flagged = none_flagged();
-        return apply_nested(LEVELS, lookup, buffer, at, carried);
+        return apply_nested(LEVELS, indexed, buffer, at, carried);
     }
     if known.is_empty() {
         *flagged = none_flagged();
-        return apply_lookup(lookup, buffer, at, carried);
+        return apply_lookup(indexed, buffer, at, carried);
     }
-    apply_known(lookup, buffer, at, carried, known, flagged)
+    apply_known(indexed.lookup, buffer, at, carried, known, flagged)
 }
 
 /// Applies a lookup at a place of the walk, if what is left suffices for what it may try there. Else nothing is left.
 fn try_at(
-    lookup: &Lookup<'_>,
+    indexed: &Indexed<'_>,
     has_rules: bool,
     buffer: &mut hb_buffer_t,
     spot: Spot,
     known: &mut [Known],
     flagged: &mut Flagged,
 ) -> Spot
-    requires near { lookup.now.place < 2 ^ 17 }
-    requires kind { has_rules ≡ found_rules.is_context lookup.now }
+    requires near { indexed.now.lookup.now.place < 2 ^ 17 }
+    requires kind { has_rules ≡ found_rules.is_context indexed.now.lookup.now }
     requires inside { spot.at < length buffer.old.items }
-    requires known { All (known_marks.IsKnown lookup.now) known.old }
+    requires known { All (known_marks.IsKnown indexed.now.lookup.now) known.old }
     requires flagged { IsFlagged flagged.old buffer.old.items }
     ensures made { record {
       buffer = buffer.new;
       at = result.at;
       seen = result.carried.seen;
       left = result.carried.left;
-    } ≡ Walk.tried lookup.now (record {
+    } ≡ Walk.tried indexed.now.lookup.now (record {
       buffer = buffer.old;
       at = spot.at;
       seen = spot.carried.seen;
       left = spot.carried.left;
     }) }
-    ensures known { All (known_marks.IsKnown lookup.now) known.new }
+    ensures known { All (known_marks.IsKnown indexed.now.lookup.now) known.new }
     ensures flagged { IsFlagged flagged.new buffer.new.items }
 {
     let next = after(buffer.len(), spot.at);
     let seen = spot.carried.seen;
-    let Some(left) = charge(lookup, has_rules, buffer, spot.at, spot.carried.left) else {
+    let Some(left) = charge(indexed, has_rules, buffer, spot.at, spot.carried.left) else {
         return Spot {
             at: next,
             carried: Carried { seen, left: 0 },
@@ -156,7 +158,7 @@ fn try_at(
         at: spot.at,
         carried: Carried { seen, left },
     };
-    let outcome = apply_at(lookup, has_rules, buffer, here, known, flagged);
+    let outcome = apply_at(indexed, has_rules, buffer, here, known, flagged);
     Spot {
         at: match outcome.next {
             Some(there) => there,
@@ -168,41 +170,41 @@ fn try_at(
 
 /// Applies a lookup at a place of the walk, or goes on to the next glyph.
 fn step_on(
-    lookup: &Lookup<'_>,
+    indexed: &Indexed<'_>,
     has_rules: bool,
     buffer: &mut hb_buffer_t,
     spot: Spot,
     known: &mut [Known],
     flagged: &mut Flagged,
 ) -> Spot
-    requires near { lookup.now.place < 2 ^ 17 }
-    requires kind { has_rules ≡ found_rules.is_context lookup.now }
-    requires known { All (known_marks.IsKnown lookup.now) known.old }
+    requires near { indexed.now.lookup.now.place < 2 ^ 17 }
+    requires kind { has_rules ≡ found_rules.is_context indexed.now.lookup.now }
+    requires known { All (known_marks.IsKnown indexed.now.lookup.now) known.old }
     requires flagged { IsFlagged flagged.old buffer.old.items }
     ensures made { record {
       buffer = buffer.new;
       at = result.at;
       seen = result.carried.seen;
       left = result.carried.left;
-    } ≡ Walk.lookup_step lookup.now (record {
+    } ≡ Walk.lookup_step indexed.now.lookup.now (record {
       buffer = buffer.old;
       at = spot.at;
       seen = spot.carried.seen;
       left = spot.carried.left;
     }) }
-    ensures known { All (known_marks.IsKnown lookup.now) known.new }
+    ensures known { All (known_marks.IsKnown indexed.now.lookup.now) known.new }
     ensures flagged { IsFlagged flagged.new buffer.new.items }
 {
     if buffer.len() <= spot.at {
         return spot;
     }
-    if !is_on(lookup, &buffer.infos()[spot.at]) {
+    if !is_on(indexed.lookup, &buffer.infos()[spot.at]) {
         return Spot {
             at: spot.at + 1,
             carried: spot.carried,
         };
     }
-    try_at(lookup, has_rules, buffer, spot, known, flagged)
+    try_at(indexed, has_rules, buffer, spot, known, flagged)
 }
 
 /// How many glyphs from a place on, of so many, a digest doesn't hold.
@@ -262,6 +264,7 @@ fn go_along(
         place: None,
     };
     let has_rules = has_rules(&named.lookup);
+    let indexed = Indexed::new(&named.lookup, named.firsts);
     let mut spot = Spot {
         at: 0,
         carried: Carried { seen, left },
@@ -274,7 +277,7 @@ fn go_along(
         spot.at += steps;
         done += steps;
         if done < count {
-            spot = step_on(&named.lookup, has_rules, buffer, spot, known, &mut flagged);
+            spot = step_on(&indexed, has_rules, buffer, spot, known, &mut flagged);
             done += 1;
         }
     }

@@ -7,5 +7,6 @@ pub mod AppliedLemmas
 pub mod KindLemmas
 pub mod EditLemmas
 pub mod OffLemmas
+pub mod OutLemmas
 pub mod OffKinds
 pub mod SingleLemmas

@@ -10,6 +10,7 @@ use crate::alternate::apply_alternate;
 use crate::apply::{Spot, apply_ligature, apply_multiple, apply_single};
 use crate::singles::apply_singles;
 use layout_buffer::GapBuffer;
+use layout_matching::indexed::Indexed;
 use layout_matching::lookup::Lookup;
 use layout_tables::lookups::{LookupSubtable, lookup_type, subtable, subtable_count};
 use shape_buffer::ShapeError;
@@ -41,22 +42,27 @@ fn apply_kind(
 }
 
 /// Subtable `i` of the lookup.
+#[tactic(auto, using(crate::proofs::OutLemmas::subtable_out))]
 fn apply_subtable(
-    lookup: &Lookup<'_>,
+    indexed: &Indexed<'_>,
     i: u32,
     buffer: &mut GapBuffer,
     spot: Spot,
 ) -> Result<Option<Spot>, ShapeError>
-    requires near { lookup.now.place < 2 ^ 17 }
+    requires near { indexed.now.lookup.now.place < 2 ^ 17 }
     requires few { i < 2 ^ 16 }
     requires inside { spot.at < length buffer.old.items }
-    ensures made { OnOk result (buffer.new ≡ (subtable_applied lookup.now i spot buffer.old).buffer) }
-    ensures next { IfOk result (λ next. next ≡ (subtable_applied lookup.now i spot buffer.old).next) }
+    ensures made { OnOk result (buffer.new ≡ (subtable_applied indexed.now.lookup.now i spot buffer.old).buffer) }
+    ensures next { IfOk result (λ next. next ≡ (subtable_applied indexed.now.lookup.now i spot buffer.old).next) }
     ensures as_many { IfOk result (λ next. next ≡ None → length buffer.new.items ≡ length buffer.old.items) }
     ensures limit { IfOk result (λ next. next ≡ None → limit_of buffer.new ≡ limit_of buffer.old) }
     ensures length { IsErrOf result Length
-        → is_past (subtable_applied lookup.now i spot buffer.old).buffer ≡ true }
+        → is_past (subtable_applied indexed.now.lookup.now i spot buffer.old).buffer ≡ true }
 {
+    let lookup = indexed.lookup;
+    if !lookup.positioning && !indexed.may_begin(i, buffer.items().at(spot.at).glyph_id) {
+        return Ok(None);
+    }
     match subtable(lookup.table, 7, lookup.place, i) {
         Some(subtable) => apply_kind(lookup, subtable, buffer, spot),
         None => Ok(None),
@@ -67,20 +73,20 @@ fn apply_subtable(
 #[tactic(auto, using(crate::proofs::KindLemmas::subtables_past, crate::proofs::KindLemmas::subtables_end))]
 #[inline(never)]
 fn first_applied(
-    lookup: &Lookup<'_>,
+    indexed: &Indexed<'_>,
     buffer: &mut GapBuffer,
     spot: Spot,
 ) -> Result<Option<Spot>, ShapeError>
-    requires near { lookup.now.place < 2 ^ 17 }
+    requires near { indexed.now.lookup.now.place < 2 ^ 17 }
     requires inside { spot.at < length buffer.old.items }
     requires within { IsWithinLimit buffer.old }
-    ensures made { OnOk result (buffer.new ≡ (lookup_applied lookup.now spot buffer.old).buffer) }
-    ensures next { IfOk result (λ next. next ≡ (lookup_applied lookup.now spot buffer.old).next) }
+    ensures made { OnOk result (buffer.new ≡ (lookup_applied indexed.now.lookup.now spot buffer.old).buffer) }
+    ensures next { IfOk result (λ next. next ≡ (lookup_applied indexed.now.lookup.now spot buffer.old).next) }
     ensures length { IsErrOf result Length
-        → is_past (lookup_applied lookup.now spot buffer.old).buffer ≡ true }
+        → is_past (lookup_applied indexed.now.lookup.now spot buffer.old).buffer ≡ true }
 {
-    for i in 0..subtable_count(lookup.table, lookup.place) {
-        match apply_subtable(lookup, i, buffer, spot) {
+    for i in 0..subtable_count(indexed.lookup.table, indexed.lookup.place) {
+        match apply_subtable(indexed, i, buffer, spot) {
             Err(error) => return Err(error),
             Ok(Some(next)) => return Ok(Some(next)),
             Ok(None) => {}
@@ -93,20 +99,21 @@ fn first_applied(
 #[tactic(auto, using(crate::proofs::SingleLemmas::singles_alone))]
 #[inline(always)]
 pub fn apply_lookup(
-    lookup: &Lookup<'_>,
+    indexed: &Indexed<'_>,
     buffer: &mut GapBuffer,
     spot: Spot,
 ) -> Result<Option<Spot>, ShapeError>
-    requires near { lookup.now.place < 2 ^ 17 }
+    requires near { indexed.now.lookup.now.place < 2 ^ 17 }
     requires inside { spot.at < length buffer.old.items }
     requires within { IsWithinLimit buffer.old }
-    ensures made { OnOk result (buffer.new ≡ (lookup_applied lookup.now spot buffer.old).buffer) }
-    ensures next { IfOk result (λ next. next ≡ (lookup_applied lookup.now spot buffer.old).next) }
+    ensures made { OnOk result (buffer.new ≡ (lookup_applied indexed.now.lookup.now spot buffer.old).buffer) }
+    ensures next { IfOk result (λ next. next ≡ (lookup_applied indexed.now.lookup.now spot buffer.old).next) }
     ensures length { IsErrOf result Length
-        → is_past (lookup_applied lookup.now spot buffer.old).buffer ≡ true }
+        → is_past (lookup_applied indexed.now.lookup.now spot buffer.old).buffer ≡ true }
 {
+    let lookup = indexed.lookup;
     if lookup_type(lookup.table, lookup.place) == 1 {
         return Ok(apply_singles(lookup, buffer, spot));
     }
-    first_applied(lookup, buffer, spot)
+    first_applied(indexed, buffer, spot)
 }

@@ -23,6 +23,7 @@ substitutes-one d said = record {
     uncovered = λ i s below there. out-of (subtable_covers d.lookup s glyph) (has d.digest glyph)
         (λ covers. said.digest i below s glyph there (sym (ap (λ p. begins_at d.lookup.table.now p s glyph) said.kind) ∙ covers)) none;
   };
+  firsts = said.firsts;
 }
 
 pub substitutes : (ds : List Digested) → All (IsSaid false) ds → All substitution.IsDigested ds
@@ -36,6 +37,7 @@ positions-one d said = record {
     unlisted = λ i s below there. out-of (subtable_lists d.lookup s glyph) (has d.digest glyph)
         (λ lists. said.digest i below s glyph there (sym (ap (λ p. begins_at d.lookup.table.now p s glyph) said.kind) ∙ lists)) none;
   };
+  firsts = said.firsts;
 }
 
 pub positioning : (ds : List Digested) → All (IsSaid true) ds → All positions.IsDigested ds

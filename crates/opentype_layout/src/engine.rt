@@ -2,7 +2,7 @@
 ghost use Rattle.std.specs.Prelude.{◌≡◌, true, false, [], MatchResult};
 ghost use Rattle.shape_buffer.specs.Outcome.{IsWithinLimit, Made, Outcome, step};
 ghost use Rattle.layout_context.specs.Stages.{substituted};
-ghost use Rattle.layout_digests.specs.Lookups.{AreDigests};
+ghost use Rattle.layout_digests.specs.Stored.{AreStored};
 ghost use Rattle.opentype_layout.specs.Lookups.{lookups_of, with_lookup};
 ghost use Rattle.layout_map.specs.Map.{OtMap, map_meaning};
 ghost use Rattle.opentype_layout.specs.declared.face.OpenTypeFace.{OpenTypeFace as Face};
@@ -13,11 +13,10 @@ ghost use Rattle.layout_map.proofs.LawfulLemmas.{map_meaning-lawful};
 use crate::chosen::{chosen_for, script_in};
 use crate::classes::{GlyphClasses, begin_glyphs};
 use crate::face::OpenTypeFace;
-use crate::lookups::{LookupTables, lookup_with_digest, lookups};
+use crate::lookups::{LookupTables, Stored, lookup_with_digest, lookups};
 use crate::would::feature_would;
 use kern_table::tables::{kern_table, subtable_count};
 use layout_context::stages::substitute;
-use layout_digests::Digest;
 use layout_map::lookups::LookupMap;
 use layout_map::map::hb_ot_map_t;
 use layout_matching::would::Alone;
@@ -65,24 +64,24 @@ pub(crate) fn gpos_tables<'a>(face: &OpenTypeFace<'a>) -> LookupTables<'a>
     }
 }
 
-/// Applies the lookups of a stage of substitution, with the digests of the table, by their indexes. A call of its own, so that
+/// Applies the lookups of a stage of substitution, with what is stored of the table's. A call of its own, so that
 /// a stage without lookups makes no room for what a walk needs.
 #[inline(never)]
 #[tactic(auto, using(crate::proofs::DigestLemmas::substitutes))]
 fn substitute_some(
     alloc: Global,
     tables: LookupTables<'_>,
-    digests: &[Digest],
+    stored: Stored<'_>,
     maps: &[LookupMap],
     buffer: &mut hb_buffer_t,
 ) -> Result<(), ShapeError>
     requires within { IsWithinLimit buffer.old }
     requires kind { tables.positioning ≡ false }
-    requires stored { AreDigests tables.table.now false digests.now }
+    requires stored { AreStored tables.table.now false stored.firsts.now stored.lookups.now }
     ensures { Outcome (step (substituted (lookups_of tables.entry maps.now)))
         buffer.old buffer.new result }
 {
-    match lookups(alloc, tables, digests, maps) {
+    match lookups(alloc, tables, stored, maps) {
         Ok(lookups) => substitute(alloc, lookups.as_slice(), buffer),
         Err(_) => Err(ShapeError::Memory),
     }
@@ -93,17 +92,17 @@ fn substitute_some(
 fn substitute_one(
     alloc: Global,
     tables: LookupTables<'_>,
-    digests: &[Digest],
+    stored: Stored<'_>,
     map: &LookupMap,
     buffer: &mut hb_buffer_t,
 ) -> Result<(), ShapeError>
     requires within { IsWithinLimit buffer.old }
     requires kind { tables.positioning ≡ false }
-    requires stored { AreDigests tables.table.now false digests.now }
+    requires stored { AreStored tables.table.now false stored.firsts.now stored.lookups.now }
     ensures { Outcome (step (substituted (with_lookup tables.entry [] map.now)))
         buffer.old buffer.new result }
 {
-    match lookup_with_digest(tables, digests, map) {
+    match lookup_with_digest(tables, stored, map) {
         Some(lookup) => substitute(alloc, &[lookup], buffer),
         None => Ok(()),
     }
@@ -113,13 +112,13 @@ fn substitute_one(
 pub(crate) fn substitute_by(
     alloc: Global,
     tables: LookupTables<'_>,
-    digests: &[Digest],
+    stored: Stored<'_>,
     maps: &[LookupMap],
     buffer: &mut hb_buffer_t,
 ) -> Result<(), ShapeError>
     requires within { IsWithinLimit buffer.old }
     requires kind { tables.positioning ≡ false }
-    requires stored { AreDigests tables.table.now false digests.now }
+    requires stored { AreStored tables.table.now false stored.firsts.now stored.lookups.now }
     ensures { Outcome (step (substituted (lookups_of tables.entry maps.now)))
         buffer.old buffer.new result }
 {
@@ -127,27 +126,27 @@ pub(crate) fn substitute_by(
         return Ok(());
     }
     if maps.len() == 1 {
-        return substitute_one(alloc, tables, digests, &maps[0], buffer);
+        return substitute_one(alloc, tables, stored, &maps[0], buffer);
     }
-    substitute_some(alloc, tables, digests, maps, buffer)
+    substitute_some(alloc, tables, stored, maps, buffer)
 }
 
-/// Applies the lookups of positioning, with the digests of the table, by their indexes.
+/// Applies the lookups of positioning, with what is stored of the table's.
 #[tactic(auto, using(crate::proofs::DigestLemmas::positioning), unfolding(crate::specs::Engine::positioned_by))]
 pub(crate) fn position_by(
     alloc: Global,
     tables: LookupTables<'_>,
-    digests: &[Digest],
+    stored: Stored<'_>,
     maps: &[LookupMap],
     buffer: &mut hb_buffer_t,
 ) -> Result<(), ShapeError>
     requires within { IsWithinLimit buffer.old }
     requires kind { tables.positioning ≡ true }
-    requires stored { AreDigests tables.table.now true digests.now }
+    requires stored { AreStored tables.table.now true stored.firsts.now stored.lookups.now }
     ensures { Outcome (step (Engine.positioned_by tables.entry maps.now)) buffer.old buffer.new
         result }
 {
-    match lookups(alloc, tables, digests, maps) {
+    match lookups(alloc, tables, stored, maps) {
         Ok(lookups) => {
             walk::position(lookups.as_slice(), buffer);
             Ok(())
@@ -270,7 +269,16 @@ impl<'a> hb_ot_layout_t<OpenTypeFace<'a>> for OpenTypeLayout {
         face: &OpenTypeFace<'a>,
         buffer: &mut hb_buffer_t,
     ) -> Result<(), ShapeError> {
-        substitute_by(alloc, gsub_tables(face), &[], map.gsub_lookups(i), buffer)
+        substitute_by(
+            alloc,
+            gsub_tables(face),
+            Stored {
+                lookups: &[],
+                firsts: &[],
+            },
+            map.gsub_lookups(i),
+            buffer,
+        )
     }
 
     fn pause_after(map: &hb_ot_map_t, i: usize) -> Option<u32>
@@ -309,7 +317,16 @@ impl<'a> hb_ot_layout_t<OpenTypeFace<'a>> for OpenTypeLayout {
         face: &OpenTypeFace<'a>,
         buffer: &mut hb_buffer_t,
     ) -> Result<(), ShapeError> {
-        position_by(alloc, gpos_tables(face), &[], map.gpos_lookups(), buffer)
+        position_by(
+            alloc,
+            gpos_tables(face),
+            Stored {
+                lookups: &[],
+                firsts: &[],
+            },
+            map.gpos_lookups(),
+            buffer,
+        )
     }
 
     fn position_finish_advances(_face: &OpenTypeFace<'a>, _buffer: &mut hb_buffer_t) {}

@@ -1,14 +1,15 @@
 //! The lookups of a plan, ready to be applied.
 ghost use Rattle.std.specs.Prelude.{◌≡◌, ◌<◌, ◌^◌, All, IfOk, OnOk, IsOkUnless};
 ghost use Rattle.std.specs.Option.{IfSome, option_map};
-ghost use Rattle.layout_digests.specs.Lookups.{AreDigests, IsDigestAt};
+ghost use Rattle.layout_digests.specs.Stored.{AreStored, IsStoredAt};
 ghost use Rattle.layout_digests.specs.declared.digested.Digested.{Digested as DigestedLookup};
 ghost use Rattle.opentype_layout.specs.Digested.{IsSaid, lookups_in};
 ghost use Rattle.layout_tables.specs.Lookups.{lookup_of};
 ghost use Rattle.opentype_layout.specs.Lookups;
 
-use layout_digests::{Digest, Digested};
+use layout_digests::{Digest, Digested, StoredLookup};
 use layout_map::lookups::LookupMap;
+use layout_matching::firsts::{First, Firsts};
 use layout_matching::lookup::Lookup;
 use layout_tables::lookups::{lookup_count, lookup_flag, mark_filtering_set};
 use layout_tables::offsets::{header_offset, offset16};
@@ -21,6 +22,13 @@ pub struct LookupTables<'a> {
     pub table: &'a [u8],
     pub gdef: &'a [u8],
     pub positioning: bool,
+}
+
+/// What is stored of the lookups of a table, and of their subtables. None need be stored.
+#[derive(Clone, Copy)]
+pub struct Stored<'a> {
+    pub lookups: &'a [StoredLookup],
+    pub firsts: &'a [First],
 }
 
 /// The list of lookups of a table, read once for all lookups of a stage: where it stands, and how many it has.
@@ -86,16 +94,22 @@ fn made_ready<'a>(tables: LookupTables<'a>, map: &LookupMap, place: usize) -> Lo
     }
 }
 
-/// The digest of the lookup with this index; one of all glyphs if none is stored for it.
-fn digest_at(tables: LookupTables<'_>, digests: &[Digest], index: u16) -> Digest
-    requires { AreDigests tables.table.now tables.positioning digests.now }
-    ensures { IsDigestAt tables.entry.table.now tables.entry.positioning index result }
+/// What is stored of the lookup with this index; a digest of all glyphs if nothing is.
+fn stored_at(tables: LookupTables<'_>, stored: Stored<'_>, index: u16) -> StoredLookup
+    requires { AreStored tables.table.now tables.positioning stored.firsts.now
+        stored.lookups.now }
+    ensures { IsStoredAt tables.entry.table.now tables.entry.positioning index
+        stored.entry.firsts.now result }
 {
     let i = usize::from(index);
-    if i < digests.len() {
-        digests[i]
+    if i < stored.lookups.len() {
+        stored.lookups[i]
     } else {
-        Digest::every()
+        StoredLookup {
+            digest: Digest::every(),
+            from: 0,
+            count: 0,
+        }
     }
 }
 
@@ -105,35 +119,43 @@ fn digest_at(tables: LookupTables<'_>, digests: &[Digest], index: u16) -> Digest
 fn digested<'a>(
     tables: LookupTables<'a>,
     list: LookupList,
-    digests: &[Digest],
+    stored: Stored<'a>,
     map: &LookupMap,
 ) -> Option<Digested<'a>>
     requires list { Lookups.IsListOf tables.table.now list }
     requires near { IfSome list.place (λ list. list < 2 ^ 16) }
-    requires stored { AreDigests tables.table.now tables.positioning digests.now }
+    requires stored { AreStored tables.table.now tables.positioning stored.firsts.now
+        stored.lookups.now }
     ensures value { option_map (λ (d : DigestedLookup). d.lookup) result
         ≡ Lookups.lookup_of tables.entry map.now }
     ensures said { IfSome result (IsSaid tables.entry.positioning) }
 {
     let place = place_in(tables.table, list, map.index)?;
+    let known = stored_at(tables, stored, map.index);
     Some(Digested {
         lookup: made_ready(tables, map, place),
-        digest: digest_at(tables, digests, map.index),
+        digest: known.digest,
+        firsts: Firsts {
+            all: stored.firsts,
+            from: known.from,
+            count: known.count,
+        },
     })
 }
 
 /// The same for a lookup by itself.
 pub(crate) fn lookup_with_digest<'a>(
     tables: LookupTables<'a>,
-    digests: &[Digest],
+    stored: Stored<'a>,
     map: &LookupMap,
 ) -> Option<Digested<'a>>
-    requires { AreDigests tables.table.now tables.positioning digests.now }
+    requires { AreStored tables.table.now tables.positioning stored.firsts.now
+        stored.lookups.now }
     ensures value { option_map (λ (d : DigestedLookup). d.lookup) result
         ≡ Lookups.lookup_of tables.entry map.now }
     ensures said { IfSome result (IsSaid tables.entry.positioning) }
 {
-    digested(tables, list_of(tables.table), digests, map)
+    digested(tables, list_of(tables.table), stored, map)
 }
 
 /// Appends a lookup with the use that a plan makes of it, if the table has it. Refuses with `Memory` if a growth was
@@ -142,19 +164,20 @@ fn append<'a>(
     lookups: &mut Vec<Digested<'a>>,
     tables: LookupTables<'a>,
     list: LookupList,
-    digests: &[Digest],
+    stored: Stored<'a>,
     map: &LookupMap,
 ) -> Result<(), ShapeError>
     requires list { Lookups.IsListOf tables.table.now list }
     requires near { IfSome list.place (λ list. list < 2 ^ 16) }
-    requires stored { AreDigests tables.table.now tables.positioning digests.now }
+    requires stored { AreStored tables.table.now tables.positioning stored.firsts.now
+        stored.lookups.now }
     requires said { All (IsSaid tables.positioning) lookups.old.items }
     ensures ok { OnOk result (lookups_in lookups.new.items
         ≡ Lookups.with_lookup tables.entry (lookups_in lookups.old.items) map.now) }
     ensures said { OnOk result (All (IsSaid tables.entry.positioning) lookups.new.items) }
     ensures memory { IsOkUnless result ShapeError.Memory }
 {
-    if let Some(lookup) = digested(tables, list, digests, map) {
+    if let Some(lookup) = digested(tables, list, stored, map) {
         lookups.push(lookup)?;
     }
     Ok(())
@@ -165,10 +188,11 @@ fn append<'a>(
 pub fn lookups<'a>(
     alloc: Global,
     tables: LookupTables<'a>,
-    digests: &[Digest],
+    stored: Stored<'a>,
     maps: &[LookupMap],
 ) -> Result<Vec<Digested<'a>>, ShapeError>
-    requires { AreDigests tables.table.now tables.positioning digests.now }
+    requires { AreStored tables.table.now tables.positioning stored.firsts.now
+        stored.lookups.now }
     ensures ok { IfOk result (λ lookups. lookups_in lookups.items
         ≡ Lookups.lookups_of tables.entry maps.now) }
     ensures said { IfOk result (λ lookups. All (IsSaid tables.entry.positioning) lookups.items) }
@@ -177,7 +201,7 @@ pub fn lookups<'a>(
     let mut lookups = Vec::with_capacity(alloc, maps.len())?;
     let list = list_of(tables.table);
     for map in maps {
-        append(&mut lookups, tables, list, digests, map)?;
+        append(&mut lookups, tables, list, stored, map)?;
     }
     Ok(lookups)
 }

@@ -1,29 +1,31 @@
 //! The face that is opened once, for the engine.
 ghost use Rattle.std.specs.Prelude.{◌≡◌, true, false, IfOk, IsOkUnless};
 ghost use Rattle.kern_table.specs.Pairs.{HoldSides};
-ghost use Rattle.layout_digests.specs.Lookups.{AreDigests};
+ghost use Rattle.layout_digests.specs.Stored.{AreStored};
 ghost use Rattle.opentype_layout.specs.Face.{opentype_face};
 
 use crate::classes::{GlyphClasses, props_of};
 use crate::face::OpenTypeFace;
+use crate::lookups::Stored;
 use kern_table::Sides;
-use layout_digests::Digest;
-use layout_digests::lookups::{Lookups, digests};
+use layout_digests::StoredLookups;
+use layout_digests::lookups::Lookups;
+use layout_digests::stored::stored;
 use opened_face::OpenedFace;
 use shape_buffer::{GlyphId, ShapeError, hb_font_t, hb_glyph_extents_t, hb_tables_t};
 use std::alloc::Global;
 use std::marker::Model;
 
 /// A face over the bytes of a font file with tables beside it: those of [`OpenedFace`], for each glyph what `GDEF` says of it, in
-/// 2 bytes, and for each lookup of `GSUB` and `GPOS` a digest of the glyphs that it may begin at, of 48 bytes. It returns what the [`OpenTypeFace`] returns, and
-/// contracts see it as that face.
+/// 2 bytes, for each lookup of `GSUB` and `GPOS` a digest of the glyphs that it may begin at, in 56 bytes with the place of those of
+/// its subtables, and for these 24 each. It returns what the [`OpenTypeFace`] returns, and contracts see it as that face.
 #[derive(Drop)]
 pub struct OpenedOpenTypeFace<'a> {
     face: OpenTypeFace<'a>,
     font: OpenedFace<'a>,
     props: Vec<u16>,
-    substitution: Vec<Digest>,
-    positioning: Vec<Digest>,
+    substitution: StoredLookups,
+    positioning: StoredLookups,
 }
 
 impl<'a> Model for OpenedOpenTypeFace<'a> {
@@ -34,7 +36,7 @@ impl<'a> Model for OpenedOpenTypeFace<'a> {
 
     ghost view = { λ o. o.face };
 
-    ghost invariant = { λ o. IsStored o.font o.face o.props.items o.substitution.items o.positioning.items };
+    ghost invariant = { λ o. IsStored o.font o.face o.props.items o.substitution o.positioning };
 }
 
 impl<'a> OpenedOpenTypeFace<'a> {
@@ -54,8 +56,8 @@ impl<'a> OpenedOpenTypeFace<'a> {
             table: face.gpos(),
             positioning: true,
         };
-        let substitution = digests(alloc, gsub)?;
-        let positioning = digests(alloc, gpos)?;
+        let substitution = stored(alloc, gsub)?;
+        let positioning = stored(alloc, gpos)?;
         Ok(OpenedOpenTypeFace {
             face,
             font,
@@ -86,18 +88,24 @@ impl<'a> OpenedOpenTypeFace<'a> {
         GlyphClasses::new(self.face.gdef(), self.props.as_slice())
     }
 
-    /// The digests of the lookups of `GSUB`.
-    pub(crate) fn gsub_digests(&self) -> &[Digest]
-        ensures { AreDigests self.now.gsub.now false result.now }
+    /// What is stored of the lookups of `GSUB`.
+    pub(crate) fn stored_gsub(&self) -> Stored<'_>
+        ensures { AreStored self.now.gsub.now false result.firsts.now result.lookups.now }
     {
-        self.substitution.as_slice()
+        Stored {
+            lookups: self.substitution.lookups.as_slice(),
+            firsts: self.substitution.firsts.as_slice(),
+        }
     }
 
-    /// The digests of the lookups of `GPOS`.
-    pub(crate) fn gpos_digests(&self) -> &[Digest]
-        ensures { AreDigests self.now.gpos.now true result.now }
+    /// What is stored of the lookups of `GPOS`.
+    pub(crate) fn stored_gpos(&self) -> Stored<'_>
+        ensures { AreStored self.now.gpos.now true result.firsts.now result.lookups.now }
     {
-        self.positioning.as_slice()
+        Stored {
+            lookups: self.positioning.lookups.as_slice(),
+            firsts: self.positioning.firsts.as_slice(),
+        }
     }
 }
 

@@ -127,7 +127,7 @@ impl<'a> hb_ot_layout_t<OpenedOpenTypeFace<'a>> for OpenTypeLayout {
         substitute_by(
             alloc,
             gsub_tables(face.face()),
-            face.gsub_digests(),
+            face.stored_gsub(),
             map.gsub_lookups(i),
             buffer,
         )
@@ -172,7 +172,7 @@ impl<'a> hb_ot_layout_t<OpenedOpenTypeFace<'a>> for OpenTypeLayout {
         position_by(
             alloc,
             gpos_tables(face.face()),
-            face.gpos_digests(),
+            face.stored_gpos(),
             map.gpos_lookups(),
             buffer,
         )

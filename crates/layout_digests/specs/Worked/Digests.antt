@@ -1,15 +1,20 @@
 -- Sets of glyphs, and the glyphs that subtables begin at, worked out by hand.
-use Rattle.std.specs.Prelude.{◌≡◌, ◌^◌, ℕ, Bool, true, false, List, [], ◌∷◌, map, refl}
+use Rattle.std.specs.Prelude.{◌≡◌, ℕ, true, false, List, [], ◌∷◌, map, refl}
 use Rattle.std.proofs.Common.{lit<, arith}
 use Rattle.layout_tables.specs.declared.lookups.LookupSubtable.{LookupSubtable}
+use Rattle.layout_matching.specs.declared.firsts.First.{First}
 use Rattle.layout_digests.specs.Coverages.{listed_count, range_count}
-use Rattle.layout_digests.specs.Digests.{has, has_bit}
+use Rattle.layout_matching.specs.Firsts.{has_bit, may_begin}
+use Rattle.layout_digests.specs.Digests.{has}
 use Rattle.layout_digests.specs.Lookups.{begins_at, extension_kind, is_chained_kind, is_context_kind, AreDigests, IsDigest}
 use Rattle.layout_digests.specs.declared.digest.Digest.{Digest}
 
 -- of the glyph 4660: its bits are 52, 26 (of 2330), 13 (of 1165), 35 (of 291), 8 (of 72) and 9
 abbrev pub of_one : Digest
 of_one = record { fine = 4503599627370496; halves = 67108864; quarters = 8192; middle = 34359738368; blocks = 256; coarse = 512 }
+
+abbrev pub words_of_one : First
+words_of_one = record { fine = of_one.fine; middle = of_one.middle; coarse = of_one.coarse }
 
 pub record WorkedDigests : Type 0 where
   pub bits : map (has_bit 5) (0 ∷ 1 ∷ 2 ∷ 3 ∷ []) ≡ true ∷ false ∷ true ∷ false ∷ []
@@ -28,6 +33,12 @@ pub record WorkedDigests : Type 0 where
   pub not_by_coarse : has (record of_one { coarse = 0 }) 4660 ≡ false
   -- 32768 further on all six come again
   pub not_put_in : has of_one 37428 ≡ true
+  -- the three words that are stored for a subtable
+  pub words_its_glyph : may_begin words_of_one 4660 ≡ true
+  pub words_of_another_number : may_begin words_of_one 4661 ≡ false
+  pub words_of_another_sixteenth : may_begin words_of_one 4724 ≡ false
+  pub words_of_another_512th : may_begin words_of_one 564 ≡ false
+  pub words_not_by_middle : may_begin (record words_of_one { middle = 0 }) 4660 ≡ false
 
 pub worked_digests : WorkedDigests
 unfolding has has_bit
@@ -46,6 +57,11 @@ worked_digests = record {
   not_by_blocks = refl;
   not_by_coarse = refl;
   not_put_in = refl;
+  words_its_glyph = refl;
+  words_of_another_number = refl;
+  words_of_another_sixteenth = refl;
+  words_of_another_512th = refl;
+  words_not_by_middle = refl;
 }
 
 -- a lookup of type 1 with one subtable, at 8, whose Coverage table at 14 has glyph 5

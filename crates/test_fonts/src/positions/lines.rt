@@ -4,6 +4,7 @@
 //! is found is `X,Y,ADVANCE` for each glyph, the advance along the line.
 use crate::positions::tables::{GDEF, Host, bytes_of, gpos_lookup, gpos_of};
 use layout_digests::{Digest, Digested};
+use layout_matching::firsts::Firsts;
 use layout_positions::attachment::finish_offsets;
 use layout_positions::walk::{position, position_start};
 use layout_tables::gdef::glyph_props;
@@ -99,6 +100,11 @@ pub fn positioned(rt: &impl Host, lookups: &str, line: &str) -> String {
     let named = Digested {
         lookup,
         digest: Digest::every(),
+        firsts: Firsts {
+            all: &[],
+            from: 0,
+            count: 0,
+        },
     };
     position(&[named], &mut buffer);
     finish_offsets(&mut buffer);

@@ -1,6 +1,8 @@
-use Rattle.std.proofs.Common.{◌≡◌, ◌+◌, ◌<◌, length, arith}
+use Rattle.std.proofs.Common.{◌≡◌, ◌+◌, ◌<◌, true, length, subst, arith}
 use Rattle.layout_matching.specs.Loops.{times}
+use Rattle.layout_matching.specs.declared.lookup.Lookup.{Lookup}
 use Rattle.layout_matching.proofs.LoopLemmas.{times_step}
+use Rattle.layout_substitution.specs.Edits.{is_past}
 use Rattle.layout_context.specs.Nested.{nested_applied}
 use Rattle.layout_context.specs.Stages.{Walk, first_walk, lookup_step}
 use Rattle.layout_context.proofs.DigestLemmas.{gone_further}
@@ -19,7 +21,8 @@ returns-in-Err-clause-length c =
     c.loop-done.invariant.made (c.pass_over-passed.ensures.passed c.args.levels) in
     let more : c.loop-done.done + c.pass_over-passed.result.steps < n = omega (arith, c.pass_over-passed.ensures.more c.if-passed.true, c.len-count.ensures.items) in
     λ is. past_times (nested_applied c.args.levels l) l n (c.loop-done.done + c.pass_over-passed.result.steps) first there more on
-    (c.in-Err.ensures.length is)
+    (subst (λ (k : Lookup). is_past (lookup_step (nested_applied c.args.levels k) k there).buffer ≡ true) c.new-indexed.ensures
+    (c.in-Err.ensures.length is))
 
 pub loop-done-preserved-then-passed : goal.loop-done-preserved-then-passed
 loop-done-preserved-then-passed c =
@@ -34,7 +37,7 @@ loop-done-preserved-then-passed c =
     record {
       within = omega (arith, c.pass_over-passed.ensures.more c.if-passed.true, c.loop-done-test.true);
       made = times_step (lookup_step (nested_applied c.args.levels l) l) (c.loop-done.done + c.pass_over-passed.result.steps) first there next on
-          c.in-Ok.ensures.ok;
+          (subst (λ (k : Lookup). next ≡ lookup_step (nested_applied c.args.levels k) k there) c.new-indexed.ensures c.in-Ok.ensures.ok);
     }
 
 pub loop-done-preserved : goal.loop-done-preserved

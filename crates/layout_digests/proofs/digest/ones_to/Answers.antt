@@ -1,6 +1,6 @@
 use Rattle.std.proofs.Common.{◌≡◌, ◌-◌, ◌+◌, ◌^◌, ◌≤◌, ◌%◌, true, sym, ap, subst, arith}
 use Rattle.std.proofs.lemmas.Nat.{one_shl}
-use Rattle.layout_digests.specs.Digests.{has_bit}
+use Rattle.layout_matching.specs.Firsts.{has_bit}
 use Rattle.layout_digests.proofs.WordLemmas.{up_to}
 use Rattle.layout_digests.proofs.digest.ones_to.Goals as goal
 

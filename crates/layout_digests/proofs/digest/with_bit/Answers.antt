@@ -1,6 +1,6 @@
 use Rattle.std.proofs.Common.{◌≡◌, ◌%◌, true, sym, subst, bit_or, arith}
 use Rattle.std.proofs.lemmas.Nat.{one_shl}
-use Rattle.layout_digests.specs.Digests.{has_bit}
+use Rattle.layout_matching.specs.Firsts.{has_bit}
 use Rattle.layout_digests.proofs.WordLemmas.{bit_set}
 use Rattle.layout_digests.proofs.digest.with_bit.Goals as goal
 

@@ -6,7 +6,7 @@ use Rattle.layout_matching.proofs.found.find.Goals as goal
 
 pub returns-in-Some-clause-value : goal.returns-in-Some-clause-value
 returns-in-Some-clause-value c =
-    let l = c.args.lookup.now in
+    let l = c.args.indexed.now.lookup.now in
     let n = subtable_count_of l.table.now l.place in
     let more : c.loop-i.i < n = omega (arith, c.loop-i-test.true, c.subtable_count-i-end.ensures.value) in
     sym (c.loop-i.invariant

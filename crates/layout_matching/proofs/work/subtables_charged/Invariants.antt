@@ -7,5 +7,5 @@ use Rattle.layout_matching.proofs.work.subtables_charged.Given as goal
 -- what is left after the subtables from here on is what is left after all
 abbrev pub invariant-loop-i : goal.invariant-loop-i
 invariant-loop-i l =
-    subtables_charged l.lookup l.items l.at l.fn.left
-    ≡ steps (charged_at_subtable l.lookup l.items l.at) (subtable_count_of l.lookup.table.now l.lookup.place - l.i) l.i l.left
+    subtables_charged l.indexed.lookup.now l.items l.at l.fn.left
+    ≡ steps (charged_at_subtable l.indexed.lookup.now l.items l.at) (subtable_count_of l.indexed.lookup.now.table.now l.indexed.lookup.now.place - l.i) l.i l.left

@@ -9,7 +9,7 @@ use Rattle.layout_positions.proofs.subtables.apply_lookup.Goals as goal
 
 pub loop-k-preserved : goal.loop-k-preserved
 loop-k-preserved c =
-    let l = c.args.lookup.now in
+    let l = c.args.indexed.now.lookup.now in
     let i = c.args.i in
     let k = c.loop-k.k in
     let first : Trial = record { buffer = c.args.buffer.now; next = None; seen = c.args.carried.seen; left = c.args.carried.left; subtable = 0 } in

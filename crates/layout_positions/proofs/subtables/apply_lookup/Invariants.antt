@@ -10,7 +10,7 @@ invariant-loop-k l =
     let here : Trial = record { buffer = l.buffer; next = l.placed.next; seen = l.placed.carried.seen; left = l.placed.carried.left; subtable = l.k } in
     let first : Trial = record { buffer = l.fn.buffer; next = None; seen = l.fn.carried.seen; left = l.fn.carried.left; subtable = 0 } in
     record {
-      made : here ≡ times (trial_step l.lookup l.i) l.k first;
+      made : here ≡ times (trial_step l.indexed.lookup.now l.i) l.k first;
       len : length l.buffer.items ≡ length l.fn.buffer.items;
-      known : IfSome l.ahead (λ stop. stop ≡ stop_after l.lookup l.buffer.items l.i);
+      known : IfSome l.ahead (λ stop. stop ≡ stop_after l.indexed.lookup.now l.buffer.items l.i);
     }

@@ -1,9 +1,15 @@
-use Rattle.std.proofs.Common.{◌≡◌, ◌+◌, ap, ◌∙◌, arith}
+use Rattle.std.proofs.Common.{◌≡◌, ◌+◌, All, ap, sym, subst, ◌∙◌, arith}
 use Rattle.layout_matching.specs.Loops.{times}
 use Rattle.layout_matching.proofs.LoopLemmas.{times_step}
+use Rattle.layout_matching.specs.declared.lookup.Lookup.{Lookup}
+use Rattle.layout_positions.specs.Known.{IsKnown}
 use Rattle.layout_positions.specs.Walk.{Walk, Budgeted, lookup_step, first_walk}
 use Rattle.layout_positions.proofs.DigestLemmas.{gone_further}
 use Rattle.layout_positions.proofs.walk.go_along.Goals as goal
+
+pub step_on-spot-requires-clause-known : goal.step_on-spot-requires-clause-known
+step_on-spot-requires-clause-known c =
+    subst (λ (k : Lookup). All (IsKnown k) c.loop-done.known) (sym c.new-indexed.ensures) c.loop-done.invariant.known
 
 pub loop-done-preserved-then-done-count : goal.loop-done-preserved-then-done-count
 loop-done-preserved-then-done-count c =
@@ -25,8 +31,9 @@ loop-done-preserved-then-done-count c =
     (c.steps_over-steps.ensures.passed seen left) in
     record {
       within = omega (arith, c.if-done-count.true);
-      made = times_step step (c.loop-done.done + c.steps_over-steps.result) first there next on c.step_on-spot.ensures.made;
-      known = c.step_on-spot.ensures.known;
+      made = times_step step (c.loop-done.done + c.steps_over-steps.result) first there next on
+          (subst (λ (k : Lookup). next ≡ lookup_step k there) c.new-indexed.ensures c.step_on-spot.ensures.made);
+      known = subst (λ (k : Lookup). All (IsKnown k) c.step_on-spot.new.known) c.new-indexed.ensures c.step_on-spot.ensures.known;
       flagged = c.step_on-spot.ensures.flagged;
     }
 

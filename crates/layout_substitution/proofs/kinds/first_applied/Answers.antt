@@ -10,7 +10,7 @@ use Rattle.layout_substitution.proofs.kinds.first_applied.Goals as goal
 
 pub returns-in-Ok-Some-clause-made : goal.returns-in-Ok-Some-clause-made
 returns-in-Ok-Some-clause-made c =
-    let l = c.args.lookup.now in
+    let l = c.args.indexed.now.lookup.now in
     let spot = c.args.spot in
     let b = c.loop-i.buffer in
     let i = c.loop-i.i in
@@ -25,7 +25,7 @@ returns-in-Ok-Some-clause-made c =
 
 pub returns-in-Ok-Some-clause-next : goal.returns-in-Ok-Some-clause-next
 returns-in-Ok-Some-clause-next c =
-    let l = c.args.lookup.now in
+    let l = c.args.indexed.now.lookup.now in
     let spot = c.args.spot in
     let b = c.loop-i.buffer in
     let i = c.loop-i.i in
@@ -40,7 +40,7 @@ returns-in-Ok-Some-clause-next c =
 
 pub loop-i-preserved : goal.loop-i-preserved
 loop-i-preserved c =
-    let l = c.args.lookup.now in
+    let l = c.args.indexed.now.lookup.now in
     let spot = c.args.spot in
     let b = c.loop-i.buffer in
     let d = c.apply_subtable.new.buffer in

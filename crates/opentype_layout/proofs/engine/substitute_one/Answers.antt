@@ -1,7 +1,12 @@
-use Rattle.std.proofs.Common.{Bool, subst}
+use Rattle.std.proofs.Common.{Bool, sym, subst}
+use Rattle.layout_digests.specs.Stored.{AreStored}
 use Rattle.opentype_layout.specs.Digested.{IsSaid}
 use Rattle.opentype_layout.proofs.StageLemmas.{none_substituted, one_digested}
 use Rattle.opentype_layout.proofs.engine.substitute_one.Goals as goal
+
+pub lookup_with_digest-requires : goal.lookup_with_digest-requires
+lookup_with_digest-requires c = subst (λ (p : Bool). AreStored c.args.tables.table.now p c.args.stored.firsts.now c.args.stored.lookups.now) (sym c.requires.kind)
+    c.requires.stored
 
 pub substitute-requires-clause-said : goal.substitute-requires-clause-said
 substitute-requires-clause-said c =

@@ -1,0 +1,60 @@
+-- a subtable that doesn't begin at the glyph of a place does nothing there, and costs nothing
+use Rattle.std.proofs.Common.{◌≡◌, ℕ, Bool, true, false, List, Option, Some, None, ◌/◌, ◌%◌, ◌^◌, ◌<◌, min, bit_and, is_some, nat_eq, refl, ap, arith, if◌then◌else◌}
+use Rattle.std.proofs.lemmas.Nat.Bits.{shr_and_one}
+use Rattle.std.specs.Option.{option_and_then, option_map_or}
+use Rattle.shape_font.specs.Bytes.{u16_of}
+use Rattle.shape_items.specs.Items.{Item}
+use Rattle.layout_tables.specs.declared.lookups.LookupSubtable.{LookupSubtable}
+use Rattle.layout_matching.specs.Firsts.{has_bit, begins, IsOut}
+use Rattle.layout_matching.specs.Found.{is_chained, is_context_subtable, whole_rule, is_first, number_of, subtable_at, found_by_number, found_in_subtable, found_at_subtable}
+use Rattle.layout_matching.specs.Rules.{FAR}
+use Rattle.layout_matching.specs.Skipping.{nth}
+use Rattle.layout_matching.specs.Work.{subtable_charged, charged_at_subtable}
+use Rattle.layout_matching.specs.declared.found.Found.{Found}
+use Rattle.layout_matching.specs.declared.lookup.Lookup.{Lookup}
+use Rattle.layout_matching.specs.declared.spans.Origin.{Origin}
+use Rattle.layout_matching.proofs.WorkLemmas.{subtable_free}
+
+pub near_values : (values : ℕ) → values < 2 ^ 37 → min values FAR ≡ values
+near_values values near = omega (arith, near)
+
+pub tested : (word n : ℕ) → nat_eq (bit_and (word / 2 ^ (n % 64)) 1) 1 ≡ has_bit word n
+unfolding has_bit
+tested word n = ap (λ x. nat_eq x 1) (shr_and_one word (n % 64))
+
+-- no rule of the subtable is found
+pub found_unbegun : (l : Lookup) (items : List Item) (origin : Origin) (subtable : LookupSubtable)
+    → begins l subtable (nth items origin.at).glyph_id ≡ false → found_in_subtable l items origin subtable ≡ None
+found_unbegun l items origin subtable =
+    by_kind (is_context_subtable l subtable) (nat_eq (u16_of l.table.now subtable.start) 3)
+    (is_first l.table.now subtable.start (whole_rule l.table.now (is_chained l subtable) subtable.start) (nth items origin.at).glyph_id)
+    (number_of l.table.now subtable.start (nth items origin.at).glyph_id) _
+  where
+    by_number : (o : Option ℕ) → is_some o ≡ false → option_and_then (found_by_number l items origin subtable) o ≡ None
+    by_number None none = refl
+    by_number (Some number) none = cc
+
+    by_kind : (t u first : Bool) (o : Option ℕ) (x : Option Found)
+        → (if t then (if u then first else is_some o) else is_some o) ≡ false
+        → (if t then (if u then (if first then x else None) else option_and_then (found_by_number l items origin subtable) o) else None) ≡ None
+    by_kind true true true o x not = cc
+    by_kind true true false o x not = refl
+    by_kind true false first o x not = by_number o not
+    by_kind false u first o x not = refl
+
+pub found_out : (l : Lookup) (items : List Item) (origin : Origin) (i : ℕ) → IsOut l i (nth items origin.at).glyph_id
+    → found_at_subtable l items origin i ≡ None
+found_out l items origin i out = by_subtable (subtable_at l i) refl
+  where
+    by_subtable : (o : Option LookupSubtable) → subtable_at l i ≡ o → option_and_then (found_in_subtable l items origin) o ≡ None
+    by_subtable None e = refl
+    by_subtable (Some subtable) e = found_unbegun l items origin subtable (out subtable e)
+
+-- nothing is charged
+pub charged_out : (l : Lookup) (items : List Item) (at i left : ℕ) → IsOut l i (nth items at).glyph_id
+    → charged_at_subtable l items at i left ≡ Some left
+charged_out l items at i left out = by_subtable (subtable_at l i) refl
+  where
+    by_subtable : (o : Option LookupSubtable) → subtable_at l i ≡ o → option_map_or (subtable_charged l items at left) o (Some left) ≡ Some left
+    by_subtable None e = refl
+    by_subtable (Some subtable) e = subtable_free l items at left subtable (out subtable e)

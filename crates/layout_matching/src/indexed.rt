@@ -1,0 +1,48 @@
+//! A lookup with what is stored of its subtables, so that those are passed over that don't begin at a glyph: nothing of them is
+//! read. What the lookup does is the same.
+ghost use Rattle.std.specs.Prelude.{◌≡◌, false};
+ghost use Rattle.layout_matching.specs.Firsts.{AreFirsts, IsOut};
+
+use crate::firsts::Firsts;
+use crate::lookup::Lookup;
+
+/// A lookup, and the glyphs that its subtables may begin at, as far as these are stored.
+#[derive(Clone, Copy)]
+pub struct Indexed<'a> {
+    pub lookup: &'a Lookup<'a>,
+    firsts: Firsts<'a>,
+    ghost stored: { AreFirsts lookup.now firsts },
+}
+
+impl<'a> Indexed<'a> {
+    /// A lookup with what is stored of its subtables.
+    #[inline(always)]
+    pub fn new(lookup: &'a Lookup<'a>, firsts: Firsts<'a>) -> Indexed<'a>
+        requires { AreFirsts lookup.now firsts }
+        ensures { result.lookup.now ≡ lookup.now }
+    {
+        Indexed { lookup, firsts }
+    }
+
+    /// A lookup of whose subtables nothing is stored.
+    #[inline(always)]
+    pub fn unstored(lookup: &'a Lookup<'a>) -> Indexed<'a>
+        ensures { result.lookup.now ≡ lookup.now }
+    {
+        let firsts = Firsts {
+            all: &[],
+            from: 0,
+            count: 0,
+        };
+        Indexed { lookup, firsts }
+    }
+
+    /// Whether subtable `i` may begin at a glyph. If not, it does nothing there.
+    #[inline(always)]
+    pub fn may_begin(&self, i: u32, glyph: u32) -> bool
+        ensures { result ≡ false → IsOut self.now.lookup.now i glyph }
+    {
+        let at = self.firsts.from as usize + i as usize;
+        self.firsts.count <= i || self.firsts.all.len() <= at || self.firsts.all[at].has(glyph)
+    }
+}

@@ -1,0 +1,17 @@
+use Rattle.std.proofs.Common.{◌≡◌, true, false, rules, ap, subst}
+use Rattle.layout_digests.specs.Stored.{AreStored}
+use Rattle.opentype_layout.proofs.opened.OpenedOpenTypeFace.new.Goals as goal
+
+pub invariant_of-result : goal.invariant_of-result
+invariant_of-result c =
+    let face = c.args.face in
+    let substitution = c.in_ok-substitution.substitution in
+    let positioning = c.in_ok-positioning.positioning in
+    let gsub : c.gsub.result.now ≡ face.gsub.now = ap (λ t. t.now) c.gsub.ensures in
+    let gpos : c.gpos.result.now ≡ face.gpos.now = ap (λ t. t.now) c.gpos.ensures in
+    record {
+      font = search rules;
+      classes = search rules;
+      gsub = subst (λ t. AreStored t false substitution.firsts.items substitution.lookups.items) gsub c.in_ok-substitution.ensures.ok;
+      gpos = subst (λ t. AreStored t true positioning.firsts.items positioning.lookups.items) gpos c.in_ok-positioning.ensures.ok;
+    }
