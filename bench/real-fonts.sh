@@ -4,7 +4,7 @@
 #   bench/real-fonts.sh FOLDER [FONT [WORK]]
 #
 # FOLDER is what sources.sh fetched, FONT is DejaVu Sans if it is left out, WORK keeps what is built, else a folder that is
-# removed. It wants gcc, g++, valgrind and python3, and is run by hand. Where FOLDER has no crates of rustybuzz, or there is no
+# removed. The last table is over fonts of other makers, those of makers.py that are installed. It wants gcc, g++, valgrind and python3, and is run by hand. Where FOLDER has no crates of rustybuzz, or there is no
 # cargo, its columns are empty. Instructions are counted by callgrind, as the difference of two numbers of times, so they are
 # exact. The crate's library is proved and built where it is not yet.
 set -e
@@ -37,3 +37,4 @@ gcc $flags -DRUNS -Wall -I"$source/src" -o "$work/faces" "$here/faces.c" "$work/
 python3 "$here/fonts.py" "$font" "$work/plain.ttf" kern
 python3 "$here/fonts.py" "$font" "$work/kern.ttf"
 python3 "$here/faces.py" "$work" "$font" "$work/plain.ttf" "$work/kern.ttf"
+[ -z "$rustybuzz" ] || python3 "$here/makers.py" "$work"
