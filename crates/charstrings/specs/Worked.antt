@@ -1,0 +1,3 @@
+pub mod Operators
+pub mod Runs
+pub mod Boxes
