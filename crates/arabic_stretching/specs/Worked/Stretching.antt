@@ -1,5 +1,5 @@
 -- Whole texts whose signs are stretched.
-use Rattle.std.specs.Prelude.{◌≡◌, ℕ, ℤ, pos, negsuc, List, [], ◌∷◌, map, reverse, refl}
+use Rattle.std.specs.Prelude.{◌≡◌, ℕ, ℤ, pos, negsuc, Some, List, [], ◌∷◌, map, reverse, refl}
 use Rattle.std.specs.Int.{int_wrap}
 use Rattle.shape_common.specs.Wrapping.{◌+ʷ◌, ◌-ʷ◌, ◌*ʷ◌}
 use Rattle.shape_common.specs.declared.positions.GlyphPosition.{GlyphPosition}
@@ -22,6 +22,10 @@ ltr gs = stretched face (buffer LeftToRight gs)
 
 abbrev pub rtl : List Glyph → Buffer
 rtl gs = stretched face (buffer RightToLeft (reverse gs))
+
+-- in a run that may make so many glyphs
+abbrev pub within : ℕ → List Glyph → Buffer
+within limit gs = stretched face (record (buffer LeftToRight gs) { length_limit = Some limit })
 
 abbrev pub glyphs : Buffer → List ℕ
 glyphs b = map (λ (x : Item). x.glyph_id) b.items
@@ -66,6 +70,10 @@ pub record WorkedStretching : Type 0 where
   pub no_word : offsets (rtl (glyph 1 (pos 7) (noted 2) ∷ [])) ≡ negsuc 149 ∷ []
   pub no_word_ltr : offsets (ltr (glyph 1 (pos 7) (noted 2) ∷ [])) ≡ negsuc 49 ∷ []
   pub no_tile : rtl plain ≡ buffer RightToLeft (reverse plain)
+  -- 11 glyphs, where the run may make 11, and 10: then all stays, and nothing is marked
+  pub just_as_many : glyphs (within 11 sign) ≡ 1 ∷ 2 ∷ 2 ∷ 2 ∷ 2 ∷ 2 ∷ 2 ∷ 2 ∷ 3 ∷ 4 ∷ 5 ∷ []
+  pub too_many : glyphs (within 10 sign) ≡ 1 ∷ 2 ∷ 3 ∷ 4 ∷ 5 ∷ []
+  pub too_many_marks : masks (within 10 sign) ≡ 0 ∷ 0 ∷ 0 ∷ 0 ∷ 0 ∷ []
 
 pub worked_stretching : WorkedStretching
 unfolding ◌+ʷ◌ ◌-ʷ◌ ◌*ʷ◌ int_wrap fit_by fit_over
@@ -82,4 +90,7 @@ worked_stretching = record {
   no_word = refl;
   no_word_ltr = refl;
   no_tile = refl;
+  just_as_many = refl;
+  too_many = refl;
+  too_many_marks = refl;
 }
