@@ -12,3 +12,4 @@ pub mod TextLemmas
 pub mod LineLemmas
 pub mod InverseLemmas
 pub mod LevelLemmas
+pub mod PartLemmas

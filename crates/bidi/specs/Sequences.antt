@@ -119,6 +119,11 @@ appended (first ∷ rest) sequences = sequences ++ (first ∷ rest) ∷ []
 abbrev pub sequences : List Member → List (List Member)
 sequences members = over_sequences appended members []
 
+-- the members of sequences
+abbrev pub members_of_all : List (List Member) → List Member
+members_of_all [] = []
+members_of_all (sequence ∷ sequences) = sequence ++ members_of_all sequences
+
 -- the levels of a paragraph after X1 to X8, resolved
 abbrev pub with_sequences : ℕ → List Member → List ℕ → List ℕ
 with_sequences base members levels = over_sequences (with_sequence base) members levels

@@ -10,6 +10,7 @@ mod bracket_pairs;
 mod brackets;
 mod classes;
 pub mod explicit;
+pub mod laws;
 pub mod levels;
 pub mod lines;
 mod members;
