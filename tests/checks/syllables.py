@@ -123,8 +123,9 @@ def real_lines(script):
 class Syllables:
     """What random texts of a script are made of."""
 
-    def __init__(self, script):
+    def __init__(self, script, count):
         spans = SPANS[script]
+        self.count = count
         self.spans = spans
         chars = [chr(c) for start, end in spans for c in range(start, end)
                  if unicodedata.category(chr(c)) not in ("Cn", "Cc", "Cs")]
@@ -208,8 +209,15 @@ def compare_font(comparison, chance, script, texts, font, args):
     if lines:
         comparison.compare("real", script, font, [asked, level, "--show-flags"], lines)
     for _ in range(args.lists):
-        made = [texts.random(chance) for _ in range(args.texts)]
+        made = [texts.random(chance) for _ in range(texts.count)]
         comparison.compare("random", script, font, [asked] + options_of(chance), made)
+
+
+def texts_of_list(args, fonts):
+    """How many texts a list of options gets, that each script has so many in all: over each font,
+    and over a copy of every second one."""
+    copies = fonts + (fonts + 1) // 2
+    return max(args.texts, -(-args.each // max(1, args.lists * copies)))
 
 
 def add_options(parser):
@@ -219,6 +227,8 @@ def add_options(parser):
                         help="lists of options for each font")
     parser.add_argument("--texts", type=int, default=40, metavar="N",
                         help="texts for each of these")
+    parser.add_argument("--each", type=int, default=0, metavar="N",
+                        help="random texts of each script, at least")
     parser.add_argument("--scripts", default=",".join(SPANS))
     parser.add_argument("--hb", default="", help="hb-shape of HarfBuzz 10.2.0")
     add_common_options(parser, seed=70, examples=20)
@@ -243,7 +253,7 @@ def compare_all(args, beside):
         paths = fonts_of(script, known)
         if not args.all:
             paths = chance.sample(paths, min(args.fonts, len(paths)))
-        texts = Syllables(script)
+        texts = Syllables(script, texts_of_list(args, len(paths)))
         for number, path in enumerate(paths):
             compare_font(comparison, chance, script, texts, path, args)
             if number % 2 == 0:
