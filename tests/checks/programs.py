@@ -1,8 +1,10 @@
 """Where the programs are, how they are built and started, and what must be installed."""
+import contextlib
 import importlib.util
 import os
 import subprocess
 import sys
+import tempfile
 from pathlib import Path
 
 ROOT = Path(__file__).resolve().parents[2]
@@ -75,6 +77,22 @@ def need_harfbuzz(program, wanted):
         raise Skipped(f"{program} is not installed (6.0.0: Debian's libharfbuzz-bin)") from None
     if f" {wanted}" not in done.stdout.decode().split("\n")[0]:
         raise Skipped(f"{program} is of another HarfBuzz than {wanted}")
+
+
+@contextlib.contextmanager
+def harfbuzz_ten(program):
+    """hb-shape of HarfBuzz 10.2.0: `program`, or if that is empty the one of Debian's archive,
+    fetched for as long as it is used. The check is skipped if it can't be had."""
+    if program:
+        need_harfbuzz(program, "10.2.0")
+        yield program
+        return
+    with tempfile.TemporaryDirectory() as folder:
+        done = subprocess.run([TESTS / "harfbuzz-ten.sh", folder], stdout=subprocess.DEVNULL,
+                              stderr=subprocess.PIPE)
+        if done.returncode:
+            raise Skipped("HarfBuzz 10.2.0 can't be fetched from Debian's archive")
+        yield os.path.join(folder, "hb-shape")
 
 
 def lines(command, texts):

@@ -10,12 +10,10 @@ into words) and random ones: letters, marks, joiners, digits, spaces, other scri
 options has one form of lines, mostly with flags, and by chance a cluster level, a direction, a
 script, features, texts before and after.
 
-HarfBuzz is 6.0.0, or with `--hb PROGRAM --ten` 10. Left out is where the two are known to differ:
-U+034F beside 6.0.0, which attaches no mark past it, as 10 does; U+070F beside 6.0.0, where the
-tiles of a sign that stretches take room of their own; flags of glyphs that are unsafe to concat
-beside 6.0.0 (10 has more), and with `kern=0`, where 10 flags all glyphs of a font with the table
-`kern`. Where marks pass one another twice at level 2, `fontshape` may mark more of them as unsafe to break
-(counted as named).
+HarfBuzz 10.2.0 is fetched from Debian's archive, if `--hb` doesn't name its program. Left out is
+where the two are known to differ: flags of glyphs that are unsafe to concat with `kern=0`, where
+HarfBuzz flags all glyphs of a font with the table `kern`. Where marks pass one another twice at
+level 2, `fontshape` may mark more of them as unsafe to break (counted as named).
 """
 import collections
 import random
@@ -27,7 +25,7 @@ from checks.characters import assigned, is_mark
 from checks.comparison import UNSAFE_TO_BREAK, Comparison, add_common_options, without_flag
 from checks.fonts import (AMIRI_FONTS, DEJAVU_FONTS, NOTO_FONTS, SCHEHERAZADE_FONTS, installed,
                           need_dejavu, save_without)
-from checks.programs import TESTS, need_fonttools, need_harfbuzz, need_fontshape
+from checks.programs import TESTS, harfbuzz_ten, need_fonttools, need_fontshape
 from checks.script_fonts import alternates_fonts, hangul_fonts, stretching_fonts
 
 # a font that has glyphs for the forms of Arabic letters
@@ -211,26 +209,19 @@ def compare_font(comparison, chance, texts, path, kinds, args):
                 comparison.compare(kind, script, font, options, texts.some(chance, args.texts))
 
 
-def loose_kinds(ten):
-    """The kinds of fonts in which flags of glyphs that are unsafe to concat aren't compared: all
-    beside 6.0.0."""
-    return () if ten else tuple(DROPPED)
-
-
-def left_out_of(script, ten):
+def left_out_of(script):
     """What no text of a script has; U+0628 has a text without a script taken for Arabic."""
-    return ("" if ten else "\u034f\u070f") + ("" if script == "Arab" else "\u0628")
+    return "" if script == "Arab" else "\u0628"
 
 
 def compare_script(comparison, script, args):
     """Some fonts of a script, or all. Returns how many."""
     chance = random.Random(f"{script} {args.seed}")
-    comparison.loose = loose_kinds(args.ten)
     with tempfile.TemporaryDirectory() as folder:
         paths = fonts_of(script, folder)
         if not args.all:
             paths = chance.sample(paths, min(args.fonts, len(paths)))
-        texts = Texts(script, left_out_of(script, args.ten))
+        texts = Texts(script, left_out_of(script))
         kinds = list(DROPPED) if script in SHAPED else ["whole"]
         for path in paths:
             compare_font(comparison, chance, texts, path, kinds, args)
@@ -246,18 +237,20 @@ def add_options(parser):
     parser.add_argument("--texts", type=int, default=20, metavar="N",
                         help="random texts for each of these")
     parser.add_argument("--scripts", default=",".join(SHAPED + PLAIN))
-    parser.add_argument("--hb", default="hb-shape", help="hb-shape of HarfBuzz 6.0.0")
-    parser.add_argument("--ten", action="store_true",
-                        help="it is of HarfBuzz 10: compare flags UNSAFE_TO_CONCAT, too")
+    parser.add_argument("--hb", default="", help="hb-shape of HarfBuzz 10.2.0")
     add_common_options(parser, seed=7, examples=20)
 
 
 def run(args):
     need_dejavu()
     need_fonttools()
-    need_harfbuzz(args.hb, "10." if args.ten else "6.0.0")
     need_fontshape(args.program)
-    comparison = Comparison(args.program, args.examples, args.hb, known=marks_pass_twice)
+    with harfbuzz_ten(args.hb) as beside:
+        return compare_all(args, beside)
+
+
+def compare_all(args, beside):
+    comparison = Comparison(args.program, args.examples, beside, known=marks_pass_twice)
     fonts = collections.Counter()
     for script in args.scripts.split(","):
         fonts[script] = compare_script(comparison, script, args)

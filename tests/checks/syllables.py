@@ -25,14 +25,13 @@ import itertools
 import os
 import random
 import re
-import subprocess
 import tempfile
 import unicodedata
 from pathlib import Path
 
 from checks.comparison import Comparison, add_common_options
 from checks.fonts import installed, save_without
-from checks.programs import Skipped, TESTS, need_fonttools, need_fontshape, need_harfbuzz
+from checks.programs import harfbuzz_ten, need_fonttools, need_fontshape
 
 FONTS = [f"/usr/share/fonts/truetype/{folder}/*.ttf" for folder in
          ("noto", "lohit-devanagari", "khmeros", "padauk", "sinhala", "tibetan-machine")]
@@ -234,17 +233,7 @@ def add_options(parser):
     add_common_options(parser, seed=70, examples=20)
 
 
-def fetched(folder):
-    """HarfBuzz's program, fetched into a folder."""
-    done = subprocess.run([TESTS / "harfbuzz-ten.sh", folder], stdout=subprocess.DEVNULL,
-                          stderr=subprocess.PIPE)
-    if done.returncode:
-        raise Skipped("HarfBuzz 10.2.0 can't be fetched from Debian's archive")
-    return os.path.join(folder, "hb-shape")
-
-
 def compare_all(args, beside):
-    need_harfbuzz(beside, "10.2.0")
     comparison = Comparison(args.program, args.examples, beside, known=in_order)
     known = characters_of_fonts(ALL_FONTS if args.all else FONTS)
     fonts = collections.Counter()
@@ -274,7 +263,5 @@ def compare_all(args, beside):
 def run(args):
     need_fonttools()
     need_fontshape(args.program)
-    if args.hb:
-        return compare_all(args, args.hb)
-    with tempfile.TemporaryDirectory() as folder:
-        return compare_all(args, fetched(folder))
+    with harfbuzz_ten(args.hb) as beside:
+        return compare_all(args, beside)

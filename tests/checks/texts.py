@@ -7,7 +7,8 @@ both. Each line is compared whole: numbers or names, clusters, offsets, advances
 `--texts N` asks for N texts a script in one form of lines, `--options LISTS` for so many random
 lists of options (levels, directions, features, forms of lines).
 
-After that whole fonts are compared, with all their tables of lookups (`whole_fonts`).
+After that whole fonts are compared, with all their tables of lookups (`whole_fonts`), beside
+HarfBuzz 10.2.0: 6.0.0 loses track of marks on glyphs that a multiple substitution took apart.
 """
 import random
 import tempfile
@@ -16,7 +17,7 @@ from pathlib import Path
 from checks.characters import assigned
 from checks.comparison import Comparison, add_common_options
 from checks.fonts import DEJAVU, LOOKUPS, need_dejavu, save_without
-from checks.programs import need_fonttools, need_harfbuzz, need_fontshape
+from checks.programs import harfbuzz_ten, need_fonttools, need_fontshape, need_harfbuzz
 from checks.whole_fonts import BETWEEN, compare_whole
 
 SCRIPTS = {
@@ -149,6 +150,7 @@ def add_options(parser):
                         help="installed fonts that are compared whole")
     parser.add_argument("--lists", type=int, default=10, metavar="N",
                         help="lists of options for each of these")
+    parser.add_argument("--hb", default="", help="hb-shape of HarfBuzz 10.2.0")
     add_common_options(parser, seed=7, examples=20)
 
 
@@ -164,7 +166,8 @@ def run(args):
         for kind in ("plain", "kern"):
             font, known = copy_of_dejavu(folder, kind)
             compare_font(comparison, random.Random(args.seed), kind, font, known, args)
-    compare_whole(comparison, random.Random(args.seed), args.fonts, args.lists)
+    with harfbuzz_ten(args.hb) as comparison.beside:
+        compare_whole(comparison, random.Random(args.seed), args.fonts, args.lists)
     print_counts(comparison)
     texts, differ = comparison.totals()
     print(f"{texts} texts compared with hb-shape, {differ} differ")
