@@ -1,10 +1,12 @@
 #!/usr/bin/env python3
-"""Checks the pages that list what the sources have, and lists the public items of libraries.
+"""Checks the pages that list what the sources have, and lists public items and must-fail edits.
 
-    tests/pages.py                     ends with status 1 if the table of must-fail edits in
-                                       docs/TESTING.md doesn't name exactly those that there are, if
-                                       docs/SAFE_AND_TOTAL.md lacks a public function that requires
-                                       something, or if a wrong rule of tests/rules can't be planted
+    tests/pages.py                     ends with status 1 if a must-fail edit doesn't say what it
+                                       stands for, if docs/SAFE_AND_TOTAL.md lacks a public function
+                                       that requires something, or if a wrong rule of tests/rules
+                                       can't be planted
+    tests/pages.py --edits [CRATE ..]  prints the must-fail edits of these crates, or of all, and
+                                       what each stands for
     tests/pages.py --index [CRATE ..]  prints the public items of these libraries, or of all, lowest
                                        crate first
 
@@ -18,7 +20,6 @@ import textwrap
 from pathlib import Path
 
 ROOT = Path(__file__).resolve().parent.parent
-TESTING = ROOT / "docs" / "TESTING.md"
 SAFE_AND_TOTAL = ROOT / "docs" / "SAFE_AND_TOTAL.md"
 YARD = re.compile(r"^(test|bench)_|_(tests|bench)$|^test_fixtures$|^unlawful_search$")
 ITEM = re.compile(r"(pub )?(?:const )?(?:unsafe )?"
@@ -205,14 +206,14 @@ def page(wanted):
     return "\n".join(lines).rstrip("\n") + "\n"
 
 
-def edits_of_page():
-    """The must-fail edits that docs/TESTING.md names; a row without a crate goes on with the one
-    above."""
-    named, crate = set(), ""
-    for row in re.finditer(r"^\| (?:`(\w+)` )?\| `(\w+)` \| [^|]* \|$", TESTING.read_text(), re.M):
-        crate = row.group(1) or crate
-        named.add(f"{crate}/{row.group(2)}")
-    return named
+def edits(wanted=()):
+    """The must-fail edits of the crates that are wanted, or of all: crate, name, and what the edit
+    stands for, empty if it doesn't say so."""
+    for file in sorted(ROOT.glob("crates/*/must-fail/*.edit")):
+        crate = file.parent.parent.name
+        if not wanted or crate in wanted:
+            said = re.match(r"stands for: (.+)\n", file.read_text())
+            yield crate, file.stem, said[1] if said else ""
 
 
 # A library that serves a program of trials alone.
@@ -324,12 +325,8 @@ def stale_plants():
 
 def check():
     """What is stale, a line each."""
-    edits = {f"{edit.parent.parent.name}/{edit.stem}"
-             for edit in ROOT.glob("crates/*/must-fail/*.edit")}
-    named = edits_of_page()
-    stale = [f"docs/TESTING.md lacks the edit {edit}" for edit in sorted(edits - named)]
-    stale += [f"docs/TESTING.md names an edit that isn't there: {edit}"
-              for edit in sorted(named - edits)]
+    stale = [f"crates/{crate}/must-fail/{name}.edit begins with no line 'stands for: ..'"
+             for crate, name, said in edits() if not said]
     stale += [f"docs/SAFE_AND_TOTAL.md lacks {line}" for line in lacking_conditions()]
     stale += [f"tests/rules/{name}.plant: its old text doesn't stand once" for name in stale_plants()]
     return stale
@@ -338,6 +335,10 @@ def check():
 def main():
     if sys.argv[1:2] == ["--index"]:
         print(page(sys.argv[2:]), end="")
+        return 0
+    if sys.argv[1:2] == ["--edits"]:
+        for crate, name, said in edits(sys.argv[2:]):
+            print(f"{crate} {name}: {said}")
         return 0
     stale = check()
     print("\n".join(stale) if stale else "pages: up to date")
