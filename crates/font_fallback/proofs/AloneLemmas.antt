@@ -1,7 +1,7 @@
 -- A text that the first font has.
-use Rattle.std.proofs.Common.{◌≡◌, ◌≢◌, ◌⊎◌, ℕ, zero, suc, ◌<◌, ◌≤◌, Bool, true, List, [], ◌∷◌, ◌++◌, length, Some, None, refl, sym, ap, subst, ◌∙◌, arith, inl, inr}
+use Rattle.std.proofs.Common.{◌≡◌, ℕ, ◌<◌, Bool, true, List, [], ◌∷◌, ◌++◌, length, Some, refl, ap, inl}
 use Rattle.std.proofs.lemmas.Bool.{false≢true}
-use Rattle.font_fallback.specs.Choice.{AreSpans, HasFonts, HaveAll, IsSpan, first_with, font_in, font_of, has_by}
+use Rattle.font_fallback.specs.Choice.{AreSpans, HasFonts, HaveAll, first_with, font_in, font_of, has_by}
 use Rattle.font_fallback.specs.Laws.{IsOneSpan, first_row}
 use Rattle.font_fallback.specs.declared.spans.Span.{Span}
 use Rattle.font_fallback.proofs.SpanLemmas.{AreSpans-unique}

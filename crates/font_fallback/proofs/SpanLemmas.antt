@@ -2,7 +2,7 @@
 use Rattle.std.proofs.Common.{◌≡◌, ◌≢◌, ◌⊎◌, ℕ, ◌<◌, ◌≤◌, List, [], ◌∷◌, refl, sym, ap, subst, ◌∙◌, arith, inl, inr}
 use Rattle.std.proofs.lemmas.Bool.{cases_lt}
 use Rattle.font_fallback.specs.Choice.{AreSpans, IsSpan}
-use Rattle.font_fallback.specs.Laws.{Holds, InNone, IsInOne}
+use Rattle.font_fallback.specs.Laws.{InNone, IsInOne}
 use Rattle.font_fallback.specs.declared.spans.Span.{Span}
 
 module _ (font_at : ℕ → ℕ) (end : ℕ) where

@@ -1,5 +1,5 @@
 -- Fonts of clusters in small cases, by hand.
-use Rattle.std.specs.Prelude.{◌≡◌, ℕ, Bool, true, false, List, [], ◌∷◌}
+use Rattle.std.specs.Prelude.{◌≡◌, Bool, true, false, List, [], ◌∷◌}
 use Rattle.font_fallback.specs.Choice.{font_of}
 
 -- the first font has the clusters 0 and 3, the second 1 and 3, the third 1 and 2; nobody has 4

@@ -1,8 +1,8 @@
-use Rattle.std.proofs.Common.{◌≡◌, ℕ, ◌+◌, [], ◌∷◌, ◌++◌, length, get_or, map, None, false, true, sym, ap, subst, ◌∙◌, arith, inl, inr}
+use Rattle.std.proofs.Common.{◌≡◌, ◌+◌, [], ◌∷◌, ◌++◌, length, get_or, map, None, false, true, sym, ap, subst, ◌∙◌, arith, inl, inr}
 use Rattle.std.proofs.lemmas.List.{with_items_is, get_or-map, length-map, map_push}
 use Rattle.std.specs.List.{list_any}
 use Rattle.std.specs.Prelude.{is_none}
-use Rattle.font_fallback.specs.Choice.{AreSpans, AreTries, HasFonts, first_with, font_in, font_of, found_in, has_by, has_of, rows_of}
+use Rattle.font_fallback.specs.Choice.{AreSpans, AreTries, first_with, font_in, font_of, found_in, has_by, has_of, rows_of}
 use Rattle.font_fallback.proofs.ChoiceLemmas.{AreTries-push, HaveAll-none, first_with-push, one_more_needed}
 use Rattle.font_fallback.proofs.SpanLemmas.{AreSpans-along}
 use Rattle.font_fallback.proofs.choosing.choose_fonts.Goals as goal

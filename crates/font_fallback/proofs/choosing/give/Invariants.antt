@@ -1,4 +1,4 @@
-use Rattle.std.proofs.Common.{◌≡◌, ℕ, ◌<◌, ◌≤◌, length, get_or, None}
+use Rattle.std.proofs.Common.{◌≡◌, ℕ, ◌<◌, ◌≤◌, get_or, None}
 use Rattle.font_fallback.specs.Choice.{found_in, has_by}
 use Rattle.font_fallback.proofs.choosing.give.Given as goal
 

@@ -1,4 +1,4 @@
-use Rattle.std.proofs.Common.{◌≡◌, ◌⊎◌, ◌≢◌, ℕ, ◌∷◌, [], ◌++◌, length, slice_index, refl, sym, subst, arith, append_assoc}
+use Rattle.std.proofs.Common.{◌≡◌, ◌∷◌, [], ◌++◌, length, slice_index, refl, sym, subst, arith, append_assoc}
 use Rattle.std.proofs.lemmas.List.{append-nil}
 use Rattle.font_fallback.specs.Choice.{AreSpans, IsSpan}
 use Rattle.font_fallback.specs.declared.spans.Span.{Span}
