@@ -1,0 +1,5 @@
+pub mod RangeLemmas
+pub mod PairLemmas
+pub mod ItemLemmas
+pub mod ClusterLemmas
+pub mod LawLemmas
