@@ -17,3 +17,8 @@ pub mod TollLemmas
 pub mod StopLemmas
 pub mod MadeLemmas
 pub mod FlaggedLemmas
+pub mod NearestLemmas
+pub mod WrapLemmas
+pub mod ForestLemmas
+pub mod PointLemmas
+pub mod LinkLemmas

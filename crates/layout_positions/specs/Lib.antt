@@ -9,6 +9,8 @@ pub mod Lookups
 pub mod Pairs
 pub mod Cursive
 pub mod Marks
+pub mod NearestBase
+pub mod Forest
 pub mod Subtables
 pub mod Known
 pub mod Nested

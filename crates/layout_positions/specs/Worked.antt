@@ -5,5 +5,6 @@ pub mod Pairs
 pub mod Marks
 pub mod Cursive
 pub mod Attachment
+pub mod Forest
 pub mod Walk
 pub mod Types

@@ -5,6 +5,7 @@ ghost use Rattle.layout_positions.specs.Worked.Marks.{WorkedMarks, WorkedBases, 
 ghost use Rattle.layout_positions.specs.Worked.Cursive.{WorkedCursive};
 ghost use Rattle.layout_positions.specs.Worked.Walk.{WorkedBounds, WorkedWalk};
 ghost use Rattle.layout_positions.specs.Worked.Attachment.{WorkedAttachment, WorkedTurning};
+ghost use Rattle.layout_positions.specs.Worked.Forest.{WorkedForest};
 ghost use Rattle.layout_positions.specs.Worked.Types.{WorkedFarMarks, WorkedMarkClasses, WorkedPairsDown, WorkedFlags};
 
 /// Value records, anchors, single and pair adjustment.
@@ -42,4 +43,9 @@ pub fn types_meet_worked_cases()
     ensures mark_classes { WorkedMarkClasses }
     ensures pairs_down { WorkedPairsDown }
     ensures flags { WorkedFlags }
+{}
+
+/// Chains of attached glyphs, and where points of glyphs stand.
+pub fn joins_meet_worked_cases()
+    ensures { WorkedForest }
 {}
