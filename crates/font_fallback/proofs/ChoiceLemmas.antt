@@ -4,7 +4,7 @@ use Rattle.std.proofs.lemmas.Bool.{cases_Bool, false≢true}
 use Rattle.std.proofs.lemmas.List.{same_from_push}
 use Rattle.std.specs.List.{list_any}
 use Rattle.std.specs.Prelude.{is_none}
-use Rattle.font_fallback.specs.Choice.{AreTries, HaveAll, found_in, first_with, has_by}
+use Rattle.font_fallback.specs.Choice.{AreTries, no_tries, one_more, HaveAll, found_in, first_with, has_by}
 
 -- one more font, after those that were tried
 pub first_with-push : (font : ℕ) (rows : List (List Bool)) (row : List Bool) (k : ℕ)
@@ -21,11 +21,13 @@ first_with-push font (first ∷ rows) row k =
       | inr hasnt ↦ rw hasnt (rest ∙ ap (λ n. found_in (first_with (font + 1) rows k) n (has_by row k)) count)
     ]
 
-pub AreTries-push : {T : Type 0} (gives : ℕ → T → Type 0) (font : ℕ) (tried : List T) (one : T) → AreTries gives font tried
-    → gives (font + length tried) one → AreTries gives font (tried ++ one ∷ [])
-AreTries-push gives font [] one tries given = (subst (λ n. gives n one) (omega arith) given, tt)
-AreTries-push gives font (first ∷ tried) one tries given =
-    (tries.0, AreTries-push gives (font + 1) tried one tries.1 (subst (λ n. gives n one) (omega arith) given))
+pub AreTries-push : {C T : Type 0} {gives : C → ℕ → T → C → Type 0} {now then next : C} {font : ℕ} {tried : List T} {one : T} (count : ℕ)
+    → AreTries gives now font tried then → count ≡ font + length tried → gives then count one next
+    → AreTries gives now font (tried ++ one ∷ []) next
+AreTries-push {gives} {then} {next} {font} {one} count no_tries is given =
+    let here : count ≡ font = omega (arith, is) in
+    one_more (subst (λ n. gives then n one next) here given) no_tries
+AreTries-push count (one_more first rest) is given = one_more first (AreTries-push count rest (omega (arith, is)) given)
 
 -- no cluster is without a font, if none of the list is
 none_missed : (fonts : List (Option ℕ)) → list_any is_none fonts ≡ false → (k : ℕ) → k < length fonts → get_or fonts k None ≢ None

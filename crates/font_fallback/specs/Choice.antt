@@ -56,7 +56,9 @@ pub record HasFonts (rows : List (List Bool)) (fonts clusters : ℕ) (spans : Li
   pub enough : (length rows ≡ fonts) ⊎ HaveAll rows clusters
   pub no_more : (fewer : List (List Bool)) (last : List Bool) → rows ≡ fewer ++ last ∷ [] → HaveAll fewer clusters → ⊥
 
--- what was tried is what each font gave, from a font on
-abbrev pub AreTries : {T : Type 0} → (ℕ → T → Type 0) → ℕ → List T → Type 0
-AreTries gives font [] = ⊤
-AreTries gives font (one ∷ tried) = gives font one × AreTries gives (font + 1) tried
+-- what was tried is what calls gave, one after another, each with the next font: from one state of the function that tries up to
+-- another
+pub data AreTries {C T : Type 0} (gives : C → ℕ → T → C → Type 0) : C → ℕ → List T → C → Type 0 where
+  no_tries : {now : C} {font : ℕ} → AreTries gives now font [] now
+  one_more : {now next last : C} {font : ℕ} {one : T} {tried : List T} → gives now font one next
+      → AreTries gives next (font + 1) tried last → AreTries gives now font (one ∷ tried) last

@@ -113,18 +113,19 @@ pub fn choose_fonts<T, E, C>(
     alloc: Global,
     fonts: usize,
     clusters: usize,
-    try_font: C,
+    mut try_font: C,
 ) -> Result<Chosen<T>, FallbackError<E>>
 where
     T: Drop,
     E: Drop,
-    C: Fn(usize) -> Result<Tried<T>, E> + Drop,
+    C: FnMut(usize) -> Result<Tried<T>, E> + Drop,
     requires { C.IsAlwaysCallable try_font }
     ensures no_fonts { (result ≡ Err FallbackError.NoFonts) ↔ (fonts ≡ 0) }
     ensures refused { IfErr result (λ error. (e : E) → error ≡ FallbackError.Refused e
-        → (font : ℕ) × (font < fonts) × C.post try_font font (Err e)) }
-    ensures tried { IfOk result (λ chosen. AreTries (λ font one. C.post try_font font (Ok one)) 0
-        chosen.tried.items) }
+        → (font : ℕ) × (font < fonts)
+        × ((now next : C) × C.step now font (Err e) next)) }
+    ensures tried { IfOk result (λ chosen. (last : C)
+        × AreTries (λ now font one next. C.step now font (Ok one) next) try_font 0 chosen.tried.items last) }
     ensures enough { IfOk result
         (λ chosen. HasFonts (rows_of chosen.tried.items) fonts clusters chosen.spans.items) }
 {

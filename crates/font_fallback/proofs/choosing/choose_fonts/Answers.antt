@@ -1,12 +1,26 @@
-use Rattle.std.proofs.Common.{◌≡◌, ◌+◌, [], ◌∷◌, ◌++◌, length, get_or, map, None, false, true, sym, ap, subst, ◌∙◌, arith, inl, inr}
-use Rattle.std.proofs.lemmas.List.{with_items_is, get_or-map, length-map, map_push}
+use Rattle.std.proofs.Common.{◌≡◌, ◌+◌, [], ◌∷◌, ◌++◌, length, get_or, map, None, false, true, sym, ap, subst, ◌∙◌, arith, of_calls, rules, inl, inr}
+use Rattle.std.proofs.lemmas.Grind.{common_steps}
+use Rattle.std.proofs.lemmas.List.{with_items_is, get_or-replicate, get_or-map, length-map, length_push, map_push}
 use Rattle.std.specs.List.{list_any}
 use Rattle.std.specs.Prelude.{is_none}
-use Rattle.font_fallback.specs.Choice.{AreSpans, AreTries, first_with, font_in, font_of, found_in, has_by, has_of, rows_of}
+use Rattle.font_fallback.specs.Choice.{AreSpans, no_tries, first_with, font_in, font_of, found_in, has_by, has_of, rows_of}
 use Rattle.font_fallback.proofs.ChoiceLemmas.{AreTries-push, HaveAll-none, first_with-push, one_more_needed}
 use Rattle.font_fallback.proofs.SpanLemmas.{AreSpans-along}
 use Rattle.font_fallback.proofs.choosing.choose_fonts.Goals as goal
 use Rattle.font_fallback.proofs.choosing.choose_fonts.Goals.{then-loop-found-test+else-is_missed, else-loop-found-test}
+
+pub loop-found-init : goal.loop-found-init
+loop-found-init g c = record {
+  each = grind (arith, common_steps);
+  found_first = λ k lt. grind (arith, common_steps, get_or-replicate);
+  within = search rules;
+  callable = search rules;
+  tries = rw c.new-tried.ensures.items no_tries;
+  no_more = λ fewer last e all.
+      let empty : length (rows_of c.new-tried.result.items) ≡ 0 =
+      length-map c.new-tried.result.items has_of ∙ ap length c.new-tried.ensures.items in
+      absurd (omega (arith, empty, length_push fewer last, ap length e));
+}
 
 pub loop-found-preserved : goal.loop-found-preserved
 loop-found-preserved g c =
@@ -38,10 +52,8 @@ loop-found-preserved g c =
           ∙ sym (first_with-push 0 rows row k)
           ∙ ap (λ r. first_with 0 r k) (sym pushed);
       within = omega (arith, c.in_ok-push.ensures.len, c.len.ensures, c.loop-found-test.true);
-      tries =
-          subst (AreTries _ 0) (sym c.in_ok-push.ensures.items)
-          (AreTries-push _ 0 tried c.in-Ok.one before.tries
-          (let called : font ≡ 0 + length tried = omega (arith, count) in rw called at c.in-Ok.ensures));
+      callable = search of_calls;
+      tries = rw c.in_ok-push.ensures.items (AreTries-push font before.tries (omega (arith, count)) c.in-Ok.ensures);
       no_more = λ fewer last e all.
           one_more_needed v.items rows c.args.clusters before.each before.found_first missed row fewer last (sym pushed ∙ e) all;
     }

@@ -10,6 +10,7 @@ invariant-loop-found g l = record {
   each : length l.found.items ≡ l.clusters;
   found_first : (k : ℕ) → k < l.clusters → get_or l.found.items k None ≡ first_with 0 (rows_of l.tried.items) k;
   within : vec_len l.tried ≤ l.fonts;
-  tries : AreTries (λ font one. goal.C-post g l.try_font font (Ok one)) 0 l.tried.items;
+  callable : goal.C-IsAlwaysCallable g l.try_font;
+  tries : AreTries (λ now font one next. goal.C-step g now font (Ok one) next) l.fn.try_font 0 l.tried.items l.try_font;
   no_more : (fewer : List (List Bool)) (last : List Bool) → rows_of l.tried.items ≡ fewer ++ last ∷ [] → HaveAll fewer l.clusters → ⊥;
 }
