@@ -19,6 +19,12 @@ pub mod MadeLemmas
 pub mod FlaggedLemmas
 pub mod NearestLemmas
 pub mod WrapLemmas
+pub mod FollowLemmas
 pub mod ForestLemmas
 pub mod PointLemmas
 pub mod LinkLemmas
+pub mod ChargeLemmas
+pub mod LeftLemmas
+pub mod SightLemmas
+pub mod TrialLemmas
+pub mod StageLemmas

@@ -21,7 +21,7 @@ use Rattle.layout_positions.specs.Marks.{mark_position, mark_put}
 use Rattle.layout_positions.specs.Turning.{offset_across, across, linked, Turn, turn_next, turn_at, turn_step, first_turn, turned, follows, parent_freed, link_put, attached}
 use Rattle.layout_positions.specs.declared.anchors.Anchor.{Anchor}
 use Rattle.layout_positions.proofs.CountLemmas.{length_broken}
-use Rattle.layout_positions.proofs.ForestLemmas.{IsPut, put-is, put-then, put-here, put-other}
+use Rattle.layout_positions.proofs.FollowLemmas.{IsPut, put-is, put-then, put-here, put-other}
 
 -- ---- a distance leads where it was measured to
 

@@ -7,4 +7,5 @@ pub mod Cursive
 pub mod Attachment
 pub mod Forest
 pub mod Walk
+pub mod Stage
 pub mod Types

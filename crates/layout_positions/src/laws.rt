@@ -14,6 +14,7 @@ ghost use Rattle.layout_positions.specs.Forest.{IsForest, IsMarkOn, IsJoinedTo, 
 ghost use Rattle.layout_positions.specs.Marks.{nearest_base, base_of, mark_put};
 ghost use Rattle.layout_positions.specs.NearestBase.{IsBaseOf};
 ghost use Rattle.layout_positions.specs.Preserves.{Kept};
+ghost use Rattle.layout_positions.specs.Stage.{LeavesFlags, HasNoLaterComponents, stage_applied};
 ghost use Rattle.layout_positions.specs.Uncovered.{IsUncovered};
 ghost use Rattle.layout_positions.specs.Turning.{attached};
 ghost use Rattle.layout_positions.specs.Walk.{started, positioned};
@@ -93,4 +94,15 @@ pub fn anchors_meet()
     ensures joined { (i j : ℕ) (own other : AnchorOf) (b : Buffer) → length b.positions ≡ length b.items
         → (i ≡ j → ⊥) → i < length b.items → j < length b.items → i - j ≤ 32767 → j - i ≤ 32767
         → IsJoinedTo (attached i j (gap_across (is_horizontal b.direction) other own) b) i j own other }
+{}
+
+/// A run that ends with some of its work left is the stage that counts nothing and remembers
+/// nothing: each lookup in order, at each glyph the first subtable that applies. What is left never
+/// rises.
+pub fn lookups_with_work_left_are_the_stage()
+    ensures stage { (lookups : List LookupOf) → All LeavesFlags lookups → (b : Buffer)
+        → HasNoLaterComponents b.items → 0 < (positioned lookups b).max_ops
+        → positioned lookups b
+        ≡ record (stage_applied lookups b) { max_ops = (positioned lookups b).max_ops } }
+    ensures work { (lookups : List LookupOf) (b : Buffer) → (positioned lookups b).max_ops ≤ b.max_ops }
 {}

@@ -6,6 +6,7 @@ ghost use Rattle.layout_positions.specs.Worked.Cursive.{WorkedCursive};
 ghost use Rattle.layout_positions.specs.Worked.Walk.{WorkedBounds, WorkedWalk};
 ghost use Rattle.layout_positions.specs.Worked.Attachment.{WorkedAttachment, WorkedTurning};
 ghost use Rattle.layout_positions.specs.Worked.Forest.{WorkedForest};
+ghost use Rattle.layout_positions.specs.Worked.Stage.{WorkedStage};
 ghost use Rattle.layout_positions.specs.Worked.Types.{WorkedFarMarks, WorkedMarkClasses, WorkedPairsDown, WorkedFlags};
 
 /// Value records, anchors, single and pair adjustment.
@@ -45,7 +46,8 @@ pub fn types_meet_worked_cases()
     ensures flags { WorkedFlags }
 {}
 
-/// Chains of attached glyphs, and where points of glyphs stand.
+/// Chains of attached glyphs, and where points of glyphs stand; a stage that counts nothing.
 pub fn joins_meet_worked_cases()
-    ensures { WorkedForest }
+    ensures forest { WorkedForest }
+    ensures stage { WorkedStage }
 {}

@@ -22,11 +22,11 @@ use Rattle.layout_positions.specs.Worked.Pairs.{single_one, single_two, pairs_on
 abbrev pub one_subtable : ℕ → List ℕ → List ℕ
 one_subtable kind subtable = 0 ∷ kind ∷ 0 ∷ 0 ∷ 0 ∷ 1 ∷ 0 ∷ 8 ∷ subtable
 
-abbrev two_subtables : List ℕ
+abbrev pub two_subtables : List ℕ
 two_subtables = 0 ∷ 1 ∷ 0 ∷ 0 ∷ 0 ∷ 2 ∷ 0 ∷ 10 ∷ 0 ∷ 28 ∷ (single_one ++ single_two)
 
 -- a subtable far away
-abbrev far : List ℕ
+abbrev pub far : List ℕ
 far = one_subtable 9 (0 ∷ 1 ∷ 0 ∷ 1 ∷ 0 ∷ 0 ∷ 0 ∷ 8 ∷ single_one)
 
 -- a table with two lookups: by the rule of the first one, at 16, lookup 1 is applied to a glyph of some glyphs 2 or 3
@@ -35,7 +35,7 @@ two_lookups second rule = 0 ∷ 1 ∷ 0 ∷ 0 ∷ 0 ∷ 0 ∷ 0 ∷ 0 ∷ 0 ∷ 
     ∷ one_subtable 7 (rule ++ 0 ∷ 1 ∷ 0 ∷ 2 ∷ 0 ∷ 2 ∷ 0 ∷ 3 ∷ one_subtable 1 single_one)
 
 -- to the second of two of them, to the first, and to the third of three
-abbrev in_context : List ℕ
+abbrev pub in_context : List ℕ
 in_context = two_lookups 36 (0 ∷ 3 ∷ 0 ∷ 2 ∷ 0 ∷ 1 ∷ 0 ∷ 14 ∷ 0 ∷ 14 ∷ 0 ∷ 1 ∷ 0 ∷ 1 ∷ [])
 
 abbrev first_in_context : List ℕ
@@ -45,10 +45,10 @@ abbrev third_in_context : List ℕ
 third_in_context = two_lookups 38 (0 ∷ 3 ∷ 0 ∷ 3 ∷ 0 ∷ 1 ∷ 0 ∷ 16 ∷ 0 ∷ 16 ∷ 0 ∷ 16 ∷ 0 ∷ 2 ∷ 0 ∷ 1 ∷ [])
 
 -- to both of two, and to a third that the rule doesn't have
-abbrev each_in_context : List ℕ
+abbrev pub each_in_context : List ℕ
 each_in_context = two_lookups 40 (0 ∷ 3 ∷ 0 ∷ 2 ∷ 0 ∷ 2 ∷ 0 ∷ 18 ∷ 0 ∷ 18 ∷ 0 ∷ 0 ∷ 0 ∷ 1 ∷ 0 ∷ 1 ∷ 0 ∷ 1 ∷ [])
 
-abbrev past_context : List ℕ
+abbrev pub past_context : List ℕ
 past_context = two_lookups 36 (0 ∷ 3 ∷ 0 ∷ 2 ∷ 0 ∷ 1 ∷ 0 ∷ 14 ∷ 0 ∷ 14 ∷ 0 ∷ 2 ∷ 0 ∷ 1 ∷ [])
 
 abbrev pub over : Lookup → List Item → Buffer
@@ -59,7 +59,7 @@ abbrev asking : List Item → Buffer
 asking items = record (line LeftToRight items) { flags = record { 0 = 64 } }
 
 -- the same glyph, for which the lookup is off
-abbrev off : ℕ → ℕ → Item
+abbrev pub off : ℕ → ℕ → Item
 off glyph cluster = record (base glyph cluster) { mask = 8 }
 
 abbrev pub still : ℤ × ℤ

@@ -1,4 +1,4 @@
-use Rattle.layout_positions.proofs.ForestLemmas.{backward-forest, low-forest}
+use Rattle.layout_positions.proofs.FollowLemmas.{backward-forest, low-forest}
 use Rattle.layout_positions.proofs.laws.attached_glyphs_make_a_forest.Goals as goal
 
 pub returns-clause-backward : goal.returns-clause-backward
