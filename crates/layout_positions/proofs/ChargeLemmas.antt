@@ -120,6 +120,7 @@ parts_charged-lessens l items at subtable number left rest is = by_kind (is_back
         → rest ≤ left
     by_parts None e = charged-lessens _ left rest e
     by_parts (Some set) e = set_charged-lessens l items at subtable set left rest e
+
     by_kind : (t : Bool) → (if t then rule_charged l items at (backward_rule l.table.now subtable.start) left
         else option_map_or (set_charged l items at subtable left) (parts_for l subtable (nth items at).glyph_id number)
         (passed_charged l false items at (beside left))) ≡ Some rest → rest ≤ left
@@ -146,6 +147,7 @@ whole_charged-lessens l items at subtable left rest is =
   where
     rule : Rule
     rule = whole_rule l.table.now (is_chained l subtable) subtable.start
+
     by_first : (t : Bool) → (if t then option_and_then (rule_charged l items at rule) (begun_charged l items subtable left) else Some left)
         ≡ Some rest → rest ≤ left
     by_first true e =
@@ -160,6 +162,7 @@ subtable_charged-lessens l items at subtable left rest is = by_whole (is_whole l
     by_number : (o : Option ℕ) → option_map_or (numbered_charged l items at subtable left) o (Some left) ≡ Some rest → rest ≤ left
     by_number None e = stays left rest e
     by_number (Some number) e = numbered_charged-lessens l items at subtable number left rest e
+
     by_whole : (t : Bool) → (if t then whole_charged l items at subtable left
         else option_map_or (numbered_charged l items at subtable left) (number_of l.table.now subtable.start (nth items at).glyph_id)
         (Some left)) ≡ Some rest → rest ≤ left

@@ -1,8 +1,8 @@
 -- what putting a position changes, which glyph a glyph follows, and what makes a forest
-use Rattle.std.proofs.Common.{◌≡◌, ℕ, ℤ, pos, ◌<◌, ◌+◌, ◌-◌, ◌||◌, Bool, true, false, Option, Some, None, length, nat_eq, nat_lt, nat_le, slice_set, refl, sym, ap, ◌∙◌, arith, inl, inr, if◌then◌else◌, suc, ◌≤◌, subst}
-use Rattle.std.specs.Prelude.{int_lt, unsigned_abs, ◌⊎◌, not, is_some}
+use Rattle.std.proofs.Common.{◌≡◌, ℕ, ℤ, pos, ◌<◌, ◌+◌, ◌-◌, ◌||◌, Bool, true, false, Option, Some, None, length, nat_eq, nat_lt, nat_le, slice_set, refl, sym, ap, ◌∙◌, arith, inl, inr, if◌then◌else◌, suc, ◌≤◌}
+use Rattle.std.specs.Prelude.{int_lt, unsigned_abs, not, is_some}
 use Rattle.std.specs.Option.{option_map_or}
-use Rattle.std.proofs.lemmas.Bool.{cases_lt, cases_eq}
+use Rattle.std.proofs.lemmas.Bool.{cases_lt}
 use Rattle.std.proofs.lemmas.Bool.Decides.{nat_tests}
 use Rattle.std.proofs.lemmas.List.{get_or-set_same, get_or-set_other, get_or_past, length-set}
 use Rattle.shape_common.specs.Direction.{is_horizontal, is_forward}
@@ -10,15 +10,13 @@ use Rattle.shape_common.specs.Positions.{zero_position}
 use Rattle.shape_common.specs.declared.positions.GlyphPosition.{GlyphPosition}
 use Rattle.shape_common.specs.declared.text_types.Direction.{Direction}
 use Rattle.shape_items.specs.Buffer.{Buffer}
-use Rattle.layout_positions.specs.Attachment.{CURSIVE_ATTACHED, place_at, parent_of, freed, hung, carried, followed, MOST_LINKS, settled, each, offsets_finished}
+use Rattle.layout_positions.specs.Attachment.{CURSIVE_ATTACHED, place_at, parent_of, freed, hung, carried, followed, MOST_LINKS}
 use Rattle.layout_positions.specs.Edits.{position_at, position_put}
 use Rattle.layout_positions.specs.Ways.{way, way_between}
 use Rattle.layout_positions.specs.declared.ways.Measured.{Measured}
 use Rattle.layout_positions.proofs.WayLemmas.{measured_freed, measured_carried, measured_hung}
 use Prim.Native.Nat.{zero}
-use Rattle.layout_positions.specs.Forest.{IsForest, ends_within, loose, moved_with}
-use Rattle.layout_positions.specs.declared.ways.Pen.{Pen}
-use Rattle.layout_positions.proofs.SettleLemmas.{settled_free}
+use Rattle.layout_positions.specs.Forest.{IsForest, ends_within}
 
 -- ---- a position that is put
 

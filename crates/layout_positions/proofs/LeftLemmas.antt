@@ -39,9 +39,11 @@ sought-lessens l subtable i b seen left rest is = by_looks (looks_for_base l sub
     by_none false e =
         let same : left - links_of l subtable i b * 2 ≡ rest = ap (λ (o : Option ℕ). option_map_or (λ n. n) o 0) e in
         omega (arith, same)
+
     by_kind : (t : Bool) → (if t then links_charged l subtable i b left else Some left) ≡ Some rest → rest ≤ left
     by_kind true e = by_none (nat_eq left 0) e
     by_kind false e = let same : left ≡ rest = ap (λ (o : Option ℕ). option_map_or (λ n. n) o 0) e in omega (arith, same)
+
     by_looks : (t : Bool)
         → (if t then sought_from l subtable b.items i seen left (base_seen l subtable b.items i seen)
         else record { seen = seen; left = unsought l subtable i b left }).left ≡ Some rest → rest ≤ left
@@ -65,6 +67,7 @@ trial-less l i s = by_next (is_some s.next)
     by_subtable : (o : Option LookupSubtable) → (option_map_or (subtable_tried l i s) o (trial_of s (unplaced s.left s.seen s.buffer))).left ≤ s.left
     by_subtable None = omega arith
     by_subtable (Some subtable) = placed-less l subtable i s.buffer s.seen s.left
+
     by_next : (t : Bool) → (if t then record s { subtable = s.subtable + 1 } else next_tried l i s).left ≤ s.left
     by_next true = omega arith
     by_next false = by_subtable (subtable_of l.table.now 9 l.place s.subtable)
@@ -96,15 +99,18 @@ record-less next deeper l at rule s = by_left (nat_eq s.left 0)
         let first = low rest refl in
         let made = deeper other place rest s.seen s.buffer in
         omega (arith, first, made)
+
     by_place : (other : Lookup) (o : Option ℕ)
         → (option_map_or (record_at_place next (place_charged l rule s) other) o (skipped s)).left ≤ s.left
     by_place other None = omega arith
     by_place other (Some place) =
         by_charge other place (nested_charged other s.buffer.items place (s.left - named_index l rule s.r * 8))
         (λ rest. nested_charged-lessens other s.buffer.items place (s.left - named_index l rule s.r * 8) rest)
+
     by_lookup : (o : Option Lookup) → (option_map_or (record_for next l at rule s) o (skipped s)).left ≤ s.left
     by_lookup None = omega arith
     by_lookup (Some other) = by_place other (named_place l s.buffer.items at rule s.r)
+
     by_left : (t : Bool)
         → (if t then skipped s else option_map_or (record_for next l at rule s) (named_lookup l rule s.r) (skipped s)).left ≤ s.left
     by_left true = omega arith
@@ -118,6 +124,7 @@ level-less next deeper l i left seen b = by_kind (is_context l)
     by_found c (Some found) =
         times-less (λ (t : Nest). t.left) (record_step next l i found.rule) (record-less next deeper l i found.rule) found.rule.count
         (record { buffer = broken found.span.start found.span.end c; seen = seen; left = left; r = 0 })
+
     by_kind : (t : Bool)
         → (if t then first_rule_placed next l i left seen (tried_concat_marked l i b) else lookup_placed l i left seen b).left ≤ left
     by_kind true =
@@ -165,9 +172,11 @@ walk-less l s = by_inside (nat_lt s.at (length s.buffer.items))
         let first = low rest refl in
         let made = nested-less LEVELS l s.at rest s.seen s.buffer in
         omega (arith, first, made)
+
     by_on : (t : Bool) → (if t then tried l s else record s { at = s.at + 1 }).left ≤ s.left
     by_on true = by_charge (lookup_charged l s.buffer.items s.at s.left) (λ rest. lookup_charged-lessens l s.buffer.items s.at s.left rest)
     by_on false = omega arith
+
     by_inside : (t : Bool) → (if t then (if is_on l (nth s.buffer.items s.at) then tried l s else record s { at = s.at + 1 }) else s).left ≤ s.left
     by_inside true = by_on (is_on l (nth s.buffer.items s.at))
     by_inside false = omega arith

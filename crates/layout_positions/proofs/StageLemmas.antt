@@ -83,6 +83,7 @@ module _ (l : Lookup) (leaves : LeavesFlags l) where
       where
         place_index : ℕ
         place_index = u16_of other.table.now (record_at rule s.r + 2)
+
         by_charge : (named place : ℕ) → 0 < s.left → (o : Option ℕ)
             → 0 < (option_map_or (record_within next (place_charged other rule s) (lookup_with other named) place) o
             (spent (place_charged other rule s))).left
@@ -92,6 +93,7 @@ module _ (l : Lookup) (leaves : LeavesFlags l) where
         by_charge named place first (Some rest) some =
             let made = deeper (lookup_with other named) sees place rest s.seen s.buffer ready some in
             record { buffer = made.buffer; number = refl; ready = made.ready; some = first }
+
         by_place : (named : ℕ) (o : Option ℕ) → 0 < s.left
             → 0 < (option_map_or (record_at_place next (place_charged other rule s) (lookup_with other named)) o (skipped s)).left
             → NestAgrees s.left (s.r + 1) (option_map_or (record_at_place next (place_charged other rule s) (lookup_with other named)) o (skipped s))
@@ -99,12 +101,14 @@ module _ (l : Lookup) (leaves : LeavesFlags l) where
         by_place named None first some = record { buffer = refl; number = refl; ready = ready; some = first }
         by_place named (Some place) first some =
             by_charge named place first (nested_charged (lookup_with other named) s.buffer.items place (s.left - named_index other rule s.r * 8)) some
+
         by_lookup_of : (o : Option ℕ) → 0 < s.left
             → 0 < (option_map_or (record_for next other at rule s) (option_map (lookup_with other) o) (skipped s)).left
             → NestAgrees s.left (s.r + 1) (option_map_or (record_for next other at rule s) (option_map (lookup_with other) o) (skipped s))
             (option_map_or (by_named plain other at rule s.r s.buffer) (option_map (lookup_with other) o) s.buffer)
         by_lookup_of None first some = record { buffer = refl; number = refl; ready = ready; some = first }
         by_lookup_of (Some named) first some = by_place named (named_place other s.buffer.items at rule s.r) first some
+
         by_left : (t : Bool) → nat_eq s.left 0 ≡ t
             → 0 < (if t then skipped s else option_map_or (record_for next other at rule s) (named_lookup other rule s.r) (skipped s)).left
             → NestAgrees s.left (s.r + 1)
@@ -158,8 +162,10 @@ module _ (l : Lookup) (leaves : LeavesFlags l) where
     where
       reach_from : ℕ
       reach_from = (reach_of other b.items (origin_at i)).from
+
       reach_to : ℕ
       reach_to = (reach_of other b.items (origin_at i)).to
+
       by_reach : (t : Bool) → Ready (if t then concat_marked reach_from reach_to b else b) seen
       by_reach true = ready-marked l leaves reach_from reach_to b seen ready
       by_reach false = ready
@@ -218,17 +224,20 @@ module _ (l : Lookup) (leaves : LeavesFlags l) where
     where
       here : Going
       here = record { buffer = s.buffer; at = s.at }
+
       by_charge : (o : Option ℕ) → 0 < (option_map_or (tried_within l s) o (record s { at = s.at + 1; left = 0 })).left
           → WalkAgrees (option_map_or (tried_within l s) o (record s { at = s.at + 1; left = 0 })) (going_on s.at (by_lookup LEVELS l s.at s.buffer))
       by_charge None more = nothing-left more
       by_charge (Some rest) more =
           let made = nested-agrees LEVELS l (λ item. refl) s.at rest s.seen s.buffer ready more in
           record { buffer = made.buffer; at = ap (λ o. option_map_or (λ next. next) o (s.at + 1)) made.next; ready = made.ready }
+
       by_on : (t : Bool) → 0 < (if t then tried l s else record s { at = s.at + 1 }).left
           → WalkAgrees (if t then tried l s else record s { at = s.at + 1 })
           (if t then going_on s.at (by_lookup LEVELS l s.at s.buffer) else record here { at = s.at + 1 })
       by_on true more = by_charge (lookup_charged l s.buffer.items s.at s.left) more
       by_on false more = record { buffer = refl; at = refl; ready = ready }
+
       by_inside : (t : Bool)
           → 0 < (if t then (if is_on l (nth s.buffer.items s.at) then tried l s else record s { at = s.at + 1 }) else s).left
           → WalkAgrees (if t then (if is_on l (nth s.buffer.items s.at) then tried l s else record s { at = s.at + 1 }) else s)
@@ -243,6 +252,7 @@ module _ (l : Lookup) (leaves : LeavesFlags l) where
     where
       going : Buffer → ℕ → Going
       going b at = record { buffer = b; at = at }
+
       same : record { buffer = t.buffer; at = t.at } ≡ g
       same = ap (λ b. going b t.at) before.buffer ∙ ap (going g.buffer) before.at
 
@@ -271,6 +281,7 @@ module _ (l : Lookup) (leaves : LeavesFlags l) where
     where
       work : ℕ
       work = walk_work l (length s.buffer.items)
+
       by_work : (t : Bool) → nat_lt s.left work ≡ t → 0 < (if t then walk_charged s l else gone_over (walk_charged s l) l).left
           → ((if t then walk_charged s l else gone_over (walk_charged s l) l).buffer ≡ over_line s.buffer l)
           × HasNoLaterComponents (if t then walk_charged s l else gone_over (walk_charged s l) l).buffer.items

@@ -117,6 +117,7 @@ module _ (l : Lookup) (leaves : LeavesFlags l) where
           λ j. sym (sees (nth b.items j)) ∙ base-at-seen other subtable b.items ready.components j in
           nearest-same p (λ j. is_base_seen l (nth b.items j)) (λ j. sym (same j)) i (base_of other subtable b.items i seen)
           (nearest-kept p seen.until seen.place i (nearest-same (λ j. is_base_seen l (nth b.items j)) p same seen.until seen.place ready.sight))
+
       by_looks : (t : Bool) → Ready b (if t then sought_from other subtable b.items i seen left (base_seen other subtable b.items i seen)
           else record { seen = seen; left = unsought other subtable i b left }).seen
       by_looks true = record { components = ready.components; sight = found }
@@ -149,10 +150,12 @@ module _ (l : Lookup) (leaves : LeavesFlags l) where
           (unplaced 0 (sought other subtable i s.buffer s.seen s.left).seen s.buffer)).seen
       by_charge subtable None = ready-sought other sees subtable i s.buffer s.seen s.left ready
       by_charge subtable (Some rest) = ready-sought other sees subtable i s.buffer s.seen s.left ready
+
       by_subtable : (o : Option LookupSubtable)
           → Ready s.buffer (option_map_or (subtable_tried other i s) o (trial_of s (unplaced s.left s.seen s.buffer))).seen
       by_subtable None = ready
       by_subtable (Some subtable) = by_charge subtable (sought other subtable i s.buffer s.seen s.left).left
+
       by_next : (t : Bool) → Ready s.buffer (if t then record s { subtable = s.subtable + 1 } else next_tried other i s).seen
       by_next true = ready
       by_next false = by_subtable (subtable_of other.table.now 9 other.place s.subtable)
@@ -181,17 +184,21 @@ module _ (l : Lookup) (leaves : LeavesFlags l) where
       by_charge subtable (Some rest) more =
           let same = sought-applies other sees subtable i s.buffer s.seen s.left agrees.ready in
           record { buffer = ap (λ (x : Applied). x.buffer) same; next = ap (λ (x : Applied). x.next) same }
+
       by_subtables_of : s.next ≡ None → (o : Option LookupSubtable)
           → 0 < (option_map_or (subtable_tried other i s) o (trial_of s (unplaced s.left s.seen s.buffer))).left
           → StepAgrees (option_map_or (subtable_tried other i s) o (trial_of s (unplaced s.left s.seen s.buffer)))
           (option_map_or (by_subtable other i s.buffer) o (unapplied s.buffer))
       by_subtables_of none None more = record { buffer = refl; next = refl }
       by_subtables_of none (Some subtable) more = by_charge subtable (sought other subtable i s.buffer s.seen s.left).left more
+
       none-of : (o : Option ℕ) → is_some o ≡ false → o ≡ None
       none-of None e = refl
       none-of (Some n) e = absurd (let bad : true ≡ false = e in cc)
+
       same-test : is_some a.next ≡ is_some s.next
       same-test = ap is_some (sym agrees.next)
+
       by_next : (t : Bool) → is_some s.next ≡ t → 0 < (if t then record s { subtable = s.subtable + 1 } else next_tried other i s).left
           → StepAgrees (if t then record s { subtable = s.subtable + 1 } else next_tried other i s) (unless_applied other i s.subtable a)
       by_next true is more =
@@ -215,10 +222,12 @@ module _ (l : Lookup) (leaves : LeavesFlags l) where
           → (trial_of s (option_map_or (kind_placed other subtable i s.buffer (sought other subtable i s.buffer s.seen s.left).seen) o
           (unplaced 0 (sought other subtable i s.buffer s.seen s.left).seen s.buffer))).subtable ≡ s.subtable + 1
       by_charge subtable o = refl
+
       by_subtable_of : (o : Option LookupSubtable)
           → (option_map_or (subtable_tried other i s) o (trial_of s (unplaced s.left s.seen s.buffer))).subtable ≡ s.subtable + 1
       by_subtable_of None = refl
       by_subtable_of (Some subtable) = by_charge subtable (sought other subtable i s.buffer s.seen s.left).left
+
       by_next : (t : Bool) → (if t then record s { subtable = s.subtable + 1 } else next_tried other i s).subtable ≡ s.subtable + 1
       by_next true = refl
       by_next false = by_subtable_of (subtable_of other.table.now 9 other.place s.subtable)

@@ -25,6 +25,10 @@ staged l items = stage_applied (l ∷ []) (poor items)
 abbrev at_first : ℕ → Lookup → List Item → Applied
 at_first levels l items = by_lookup levels l 0 (poor items)
 
+-- glyph 0 is moved to the right
+abbrev single_zero : List ℕ
+single_zero = 0 ∷ 1 ∷ 0 ∷ 8 ∷ 0 ∷ 1 ∷ 0 ∷ 10 ∷ 0 ∷ 1 ∷ 0 ∷ 1 ∷ 0 ∷ 0 ∷ []
+
 pub record WorkedStage : Type 0 where
   pub each_glyph : Over (one_subtable 1 single_one) 0 0
       (λ l. offsets (staged l (base 2 0 ∷ base 7 1 ∷ base 3 2 ∷ [])) ≡ (pos 10, pos 0) ∷ still ∷ (pos 10, pos 0) ∷ [])
@@ -42,6 +46,8 @@ pub record WorkedStage : Type 0 where
       (λ l. advances (staged l (base 2 0 ∷ base 3 1 ∷ base 3 2 ∷ [])) ≡ (pos 550, pos 0) ∷ (pos 530, pos 0) ∷ (pos 600, pos 0) ∷ [])
   pub marks_on_one_base : Over (one_subtable 4 on_bases) 0 0
       (λ l. chains (staged l (base 3 0 ∷ base 2 0 ∷ mark 8 0 ∷ mark 8 0 ∷ [])) ≡ pos 0 ∷ pos 0 ∷ negsuc 0 ∷ negsuc 1 ∷ [])
+  pub mark_on_the_first : Over (one_subtable 4 on_bases) 0 0
+      (λ l. chains (staged l (base 2 0 ∷ mark 8 0 ∷ [])) ≡ pos 0 ∷ negsuc 0 ∷ [])
   pub no_base : Over (one_subtable 4 on_bases) 0 0 (λ l. chains (staged l (mark 8 0 ∷ base 2 0 ∷ [])) ≡ pos 0 ∷ pos 0 ∷ [])
   pub named_glyph_alone : Over in_context 0 16
       (λ l. offsets (staged l (base 2 0 ∷ base 3 1 ∷ base 7 2 ∷ [])) ≡ still ∷ (pos 10, pos 0) ∷ still ∷ [])
@@ -56,7 +62,8 @@ pub record WorkedStage : Type 0 where
       ≡ still ∷ (pos 10, pos 0) ∷ still ∷ (pos 10, pos 0) ∷ [])
   pub goes_on_after_the_rule : Over in_context 0 16 (λ l. (at_first 2 l (base 2 0 ∷ base 3 1 ∷ [])).next ≡ Some 2)
   pub too_deep : Over in_context 0 16 (λ l. offsets (at_first 1 l (base 2 0 ∷ base 3 1 ∷ [])).buffer ≡ still ∷ still ∷ [])
-  pub past_the_end : Over (one_subtable 1 single_one) 0 0 (λ l. (at_first 2 l []).next ≡ None)
+  pub glyph_0 : Over (one_subtable 1 single_zero) 0 0 (λ l. (at_first 2 l (base 0 0 ∷ [])).next ≡ Some 1)
+  pub past_the_end : Over (one_subtable 1 single_zero) 0 0 (λ l. (at_first 2 l []).next ≡ None)
 
 pub worked_stage : WorkedStage
 unfolding i16_of ◌+ʷ◌ ◌-ʷ◌ neg_w int_wrap ones
@@ -70,6 +77,7 @@ worked_stage = record {
   far_away = λ l. refl;
   pair_after_pair = λ l. refl;
   marks_on_one_base = λ l. refl;
+  mark_on_the_first = λ l. refl;
   no_base = λ l. refl;
   named_glyph_alone = λ l. refl;
   each_is_named = λ l. refl;
@@ -79,5 +87,6 @@ worked_stage = record {
   rule_after_rule = λ l. refl;
   goes_on_after_the_rule = λ l. refl;
   too_deep = λ l. refl;
+  glyph_0 = λ l. refl;
   past_the_end = λ l. refl;
 }
