@@ -7,8 +7,8 @@ closing one is on level 0 if the two are a pair, and else on level 1.
 
 Where FriBidi differs, ICU decides, place by place: FriBidi 1.0.8 resolves some brackets wrongly
 where marks or controls stand between. Both are known to go another way at two places: a mark after a
-bracket that N0 sets takes its direction, and a PDI that matches nothing takes that of an override
-(X6a: "in all cases"). ICU puts a text that is left to right as a whole on one level, whatever its
+bracket that N0 sets takes its direction, and in an override a PDI that matches nothing takes that of
+the override (X6a: "in all cases"). ICU puts a text that is left to right as a whole on one level, whatever its
 controls say, and so is asked only then.
 """
 import ctypes
@@ -198,11 +198,28 @@ def is_same(wrote, theirs):
             == [place for place in theirs[2] if levels[place] != "x"])
 
 
+def is_stray(text, place):
+    """Whether the PDI at a place matches nothing, and stands in an override. No text is so long that
+    an embedding overflows."""
+    opened = []
+    for c in text[:place]:
+        if c in (0x202A, 0x202B, 0x202D, 0x202E):
+            opened.append("override" if c >= 0x202D else "embedding")
+        elif c in (0x2066, 0x2067, 0x2068):
+            opened.append("isolate")
+        elif c == 0x202C and opened and opened[-1] != "isolate":
+            opened.pop()
+        elif c == 0x2069 and "isolate" in opened:
+            while opened.pop() != "isolate":
+                pass
+    return "isolate" not in opened and bool(opened) and opened[-1] == "override"
+
+
 def is_known(text, place):
     """Whether both other libraries are known to go another way at this place of a text: at a mark
-    after a bracket, and at a PDI."""
+    after a bracket, and at a PDI that matches nothing in an override."""
     if text[place] == 0x2069:
-        return True
+        return is_stray(text, place)
     before = [c for c in text[:place] if c not in REMOVED and c not in MARKS]
     return text[place] in MARKS and bool(before) and before[-1] in PAIRED
 

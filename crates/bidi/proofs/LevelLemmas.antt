@@ -125,7 +125,7 @@ text_within base text = All-from_recursion (λ x. x ≤ 126) (text_levels base t
 
 -- ---- a level for each character
 
-length_filled : (before : ℕ) (cs : List BidiClass) (levels : List ℕ) → length levels ≡ length cs → length (filled before cs levels) ≡ length cs
+pub length_filled : (before : ℕ) (cs : List BidiClass) (levels : List ℕ) → length levels ≡ length cs → length (filled before cs levels) ≡ length cs
 length_filled before [] levels e = e
 length_filled before (c ∷ cs) [] e = e
 length_filled before (c ∷ cs) (x ∷ levels) e = ap suc (length_filled (filled_level before c x) cs levels (omega (arith, e)))

@@ -13,3 +13,6 @@ pub mod LineLemmas
 pub mod InverseLemmas
 pub mod LevelLemmas
 pub mod PartLemmas
+pub mod LeftClassLemmas
+pub mod LeftLemmas
+pub mod LeftTextLemmas

@@ -5,6 +5,7 @@ pub mod Explicit
 pub mod Members
 pub mod Brackets
 pub mod Sequences
+pub mod Left
 pub mod Levels
 pub mod Text
 pub mod Lines

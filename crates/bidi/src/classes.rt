@@ -1,6 +1,7 @@
 //! Groups of bidirectional classes.
 ghost use Rattle.std.specs.Prelude.{◌≡◌};
 ghost use Rattle.bidi.specs.Classes;
+ghost use Rattle.bidi.specs.Left.{is_left};
 
 use ucd_bidi::BidiClass;
 
@@ -35,6 +36,27 @@ pub(crate) fn is_isolate(class: BidiClass) -> bool
     ensures { result ≡ Classes.is_isolate class }
 {
     is_initiator(class) || is(class, BidiClass::PopDirectionalIsolate)
+}
+
+/// Whether a class is one of texts in which nothing is right to left: none of R, AL and AN, and none of
+/// the characters that embed, override or isolate.
+pub(crate) fn is_left(class: BidiClass) -> bool
+    ensures { result ≡ is_left class }
+{
+    match class {
+        BidiClass::LeftToRight
+        | BidiClass::EuropeanNumber
+        | BidiClass::EuropeanSeparator
+        | BidiClass::EuropeanTerminator
+        | BidiClass::CommonSeparator
+        | BidiClass::NonspacingMark
+        | BidiClass::BoundaryNeutral
+        | BidiClass::ParagraphSeparator
+        | BidiClass::SegmentSeparator
+        | BidiClass::WhiteSpace
+        | BidiClass::OtherNeutral => true,
+        _ => false,
+    }
 }
 
 /// X9: whether characters of a class are removed.

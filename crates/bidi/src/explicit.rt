@@ -294,7 +294,7 @@ pub fn explicit(alloc: Global, classes: &[BidiClass], base: u8) -> Result<Vec<Pl
 fn place_all(alloc: Global, classes: &[BidiClass], base: u8) -> Result<Vec<Placed>, AllocError>
     ensures { IfOk result (λ placed. placed.items ≡ Explicit.explicit base classes.now) }
 {
-    let mut all = Vec::new(alloc);
+    let mut all = Vec::with_capacity(alloc, classes.len())?;
     let mut stack = Stack::new(alloc, base);
     for i in 0..classes.len() {
         let class = classes[i];

@@ -53,7 +53,7 @@ pub(crate) fn members(
     ensures { IfOk result (λ members. members.items
         ≡ Members.members base text.now classes.now placed.now) }
 {
-    let mut members = Vec::new(alloc);
+    let mut members = Vec::with_capacity(alloc, text.len())?;
     let mut before = base;
     for i in 0..text.len() {
         if is_removed(classes[i]) {

@@ -1,9 +1,11 @@
 //! The levels of a whole text: P1, and the rules up to I2 for each of its paragraphs.
 ghost use Rattle.std.specs.Prelude.{◌≡◌, ◌+◌, ◌-◌, ◌<◌, ◌≤◌, ◌∷◌, drop, take, length, map, slice_index_or, All, IfOk};
+ghost use Rattle.std.specs.List.{list_all};
+ghost use Rattle.bidi.specs.Left.{is_left};
 ghost use Rattle.bidi.specs.Levels;
 ghost use Rattle.bidi.specs.Text;
 
-use crate::classes::{is, is_removed};
+use crate::classes::{is, is_left, is_removed};
 use crate::explicit::{Placed, explicit};
 use crate::levels::{Direction, classes_of, paragraph_level};
 use crate::members::members;
@@ -57,8 +59,33 @@ fn explicit_levels(alloc: Global, placed: &[Placed]) -> Result<Vec<u8>, AllocErr
     placed.iter().map(|placed| placed.level).collect(alloc)
 }
 
-/// The levels of a paragraph of a level.
+/// Whether nothing in a paragraph is right to left.
+fn are_left(classes: &[BidiClass]) -> bool
+    ensures { result ≡ list_all is_left classes.now }
+{
+    classes.iter().all(|class| is_left(*class))
+}
+
+/// The levels of a paragraph of a level. One in which nothing is right to left has one level.
 fn levels_in(
+    alloc: Global,
+    base: u8,
+    text: &[char],
+    classes: &[BidiClass],
+) -> Result<Vec<u8>, AllocError>
+    requires same { length classes.now ≡ length text.now }
+    requires base { base ≤ 1 }
+    ensures { IfOk result (λ levels. levels.items ≡ Text.levels_in base text.now classes.now) }
+{
+    if base == 0 && are_left(classes) {
+        let levels = vec![in alloc; 0; text.len()]?;
+        return Ok(levels);
+    }
+    resolved_levels(alloc, base, text, classes)
+}
+
+/// The levels of a paragraph of a level, by the rules X1 to I2.
+fn resolved_levels(
     alloc: Global,
     base: u8,
     text: &[char],
