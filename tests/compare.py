@@ -8,7 +8,7 @@ models print, and libraries with Unicode's test files (Debian's package `unicode
 Status 0: no difference. 1: there are some, which are shown. 77: something is not installed.
 """
 from checks import (
-    bidi, cuts, line_breaks, normalising, normalization, options, paragraphs, random_fonts,
+    bidi, cuts, items, line_breaks, normalising, normalization, options, paragraphs, random_fonts,
     scripts, suite, syllables, texts,
 )
 from checks.command import run_kind
@@ -26,6 +26,7 @@ KINDS = {
     "normalization": normalization,
     "line-breaks": line_breaks,
     "bidi": bidi,
+    "items": items,
 }
 
 if __name__ == "__main__":

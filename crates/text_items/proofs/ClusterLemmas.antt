@@ -1,6 +1,7 @@
 -- The clusters of a text, one piece on.
 use Rattle.std.proofs.Common.{◌≡◌, ℕ, ◌+◌, List, [], ◌∷◌, ◌++◌, length, drop, ap, ap₂, sym, ◌∙◌, append_assoc}
 use Rattle.std.specs.Str.{chars}
+use Rattle.ucd_script.specs.declared.Script.TheVariants.{Common}
 use Rattle.text_items.specs.Clusters.{cluster_by, clusters_from, first_of, first_level}
 use Rattle.text_items.specs.Presentations.{of_cluster}
 use Rattle.text_items.specs.Ranges.{number_at}
@@ -17,6 +18,7 @@ same_numbers levels languages langs features feats start end letters same_langua
       end = end;
       first = first_of letters;
       script = own_script letters;
+      next = Common;
       level = first_level levels;
       presentation = of_cluster letters;
       language = l;

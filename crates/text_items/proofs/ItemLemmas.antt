@@ -11,7 +11,7 @@ use Rattle.text_items.specs.declared.presentation.Presentation.TheVariants.{Text
 
 -- what is read past the end of a list
 abbrev pub no_cluster : Cluster
-no_cluster = record { start = 0; end = 0; first = 0; script = Adlam; level = 0; presentation = Text; language = 0; features = 0 }
+no_cluster = record { start = 0; end = 0; first = 0; script = Adlam; next = Adlam; level = 0; presentation = Text; language = 0; features = 0 }
 
 module _ (n : ℕ) (clusters : List Cluster) (none : Cluster) (context after : Context) (item next : Item) (lt : n < length clusters)
     (is_after : after ≡ stepped (get_or clusters n none) context) (is_next : next ≡ single (get_or clusters n none) after) where

@@ -11,7 +11,7 @@ use Rattle.unicode_segmentation.proofs.SegmentsLemmas.{AllPieces, concat-segment
 use Rattle.text_items.specs.Clusters.{cluster_by, clusters_from, clusters_of}
 use Rattle.text_items.specs.Items.{is_same, items_of, joined, joined_from, single, singles, singles_from}
 use Rattle.text_items.specs.Laws.{AreApart, BeginsCluster, Covers}
-use Rattle.text_items.specs.Scripts.{Context, context_of, first_script, stepped}
+use Rattle.text_items.specs.Scripts.{Context, context_of, first_script, stepped, with_next}
 use Rattle.text_items.specs.declared.items.Item.{Item}
 use Rattle.text_items.specs.declared.ranges.NumberedRange.{NumberedRange}
 
@@ -19,12 +19,13 @@ use Rattle.text_items.specs.declared.ranges.NumberedRange.{NumberedRange}
 
 singles_cover : (levels : List ℕ) (languages features : List NumberedRange) (start : ℕ) (pieces : List (List ℕ)) (context : Context) (to : ℕ)
     → start + length (concat pieces) ≡ to → AllPieces (λ p. 0 < length p) pieces
-    → Covers start (singles_from context (clusters_from levels languages features start pieces)) to
+    → Covers start (singles_from context (with_next (clusters_from levels languages features start pieces))) to
 singles_cover levels languages features start [] context to sum some = omega arith
 singles_cover levels languages features start (piece ∷ pieces) context to sum some =
     let long = length-append piece (concat pieces) in
     let filled = some.0 in
-    let cluster = cluster_by levels languages features start (start + length piece) (chars piece) in
+    let others = clusters_from (drop (length (chars piece)) levels) languages features (start + length piece) pieces in
+    let cluster = record (cluster_by levels languages features start (start + length piece) (chars piece)) { next = first_script others } in
     (refl, omega arith, singles_cover (drop (length (chars piece)) levels) languages features (start + length piece) pieces (stepped cluster context) to (omega arith) some.1)
 
 -- ---- joining runs keeps that they cover
@@ -49,7 +50,7 @@ pub items_cover : (levels : List ℕ) (languages features : List NumberedRange) 
     → Covers 0 (items_of levels languages features text) (length text)
 items_cover levels languages features text u =
     let pieces = graphemes true text in
-    let clusters = clusters_from levels languages features 0 pieces in
+    let clusters = with_next (clusters_from levels languages features 0 pieces) in
     let whole = ap length (concat-segments (is_grapheme_break true) text u) in
     all_joined_cover (singles clusters) 0 (length text)
     (singles_cover levels languages features 0 pieces (context_of (first_script clusters)) (length text) (omega arith) (segments_nonempty (is_grapheme_break true) text))
@@ -71,14 +72,15 @@ abbrev BeginsAmong : List (ℕ × List ℕ) → ℕ → Type 0
 BeginsAmong pieces start = begins_among pieces start ≡ true
 
 singles_begin : (levels : List ℕ) (languages features : List NumberedRange) (start : ℕ) (pieces : List (List ℕ)) (context : Context)
-    → All (λ (i : Item). BeginsAmong (with_offsets start pieces) i.start) (singles_from context (clusters_from levels languages features start pieces))
+    → All (λ (i : Item). BeginsAmong (with_offsets start pieces) i.start) (singles_from context (with_next (clusters_from levels languages features start pieces)))
 unfolding with_offsets
 singles_begin levels languages features start [] context = All-nil _
 singles_begin levels languages features start (piece ∷ pieces) context =
     let end = start + length piece in
-    let cluster = cluster_by levels languages features start end (chars piece) in
+    let clusters = clusters_from (drop (length (chars piece)) levels) languages features end pieces in
+    let cluster = record (cluster_by levels languages features start end (chars piece)) { next = first_script clusters } in
     let after = stepped cluster context in
-    let others = singles_from after (clusters_from (drop (length (chars piece)) levels) languages features end pieces) in
+    let others = singles_from after (with_next clusters) in
     All-cons (λ (i : Item). BeginsAmong ((start, piece) ∷ with_offsets end pieces) i.start) (single cluster after) others
     (or_first (start == start) (begins_among (with_offsets end pieces) start) (eq-eqb start start refl))
     (All-weaker (λ (i : Item). BeginsAmong (with_offsets end pieces) i.start) (λ (i : Item). BeginsAmong ((start, piece) ∷ with_offsets end pieces) i.start)
@@ -106,7 +108,7 @@ pub items_begin : (levels : List ℕ) (languages features : List NumberedRange) 
     → All (BeginsCluster text) (items_of levels languages features text)
 items_begin levels languages features text =
     let pieces = graphemes true text in
-    let clusters = clusters_from levels languages features 0 pieces in
+    let clusters = with_next (clusters_from levels languages features 0 pieces) in
     all_joined_begin (BeginsAmong (with_offsets 0 pieces)) (singles clusters)
     (singles_begin levels languages features 0 pieces (context_of (first_script clusters)))
 

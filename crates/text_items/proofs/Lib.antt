@@ -3,3 +3,5 @@ pub mod PairLemmas
 pub mod ItemLemmas
 pub mod ClusterLemmas
 pub mod LawLemmas
+pub mod AheadLemmas
+pub mod ExtensionLemmas

@@ -1,10 +1,11 @@
 -- A text as grapheme clusters, each with what decides its run.
 use Rattle.std.specs.Prelude.{ℕ, ◌+◌, true, List, [], ◌∷◌, drop, length}
 use Rattle.std.specs.Str.{chars}
+use Rattle.ucd_script.specs.declared.Script.TheVariants.{Common}
 use Rattle.unicode_segmentation.specs.Grapheme.{graphemes}
 use Rattle.text_items.specs.Presentations.{of_cluster}
 use Rattle.text_items.specs.Ranges.{number_at}
-use Rattle.text_items.specs.Scripts.{own_script}
+use Rattle.text_items.specs.Scripts.{own_script, with_next}
 use Rattle.text_items.specs.declared.clusters.Cluster.{Cluster}
 use Rattle.text_items.specs.declared.ranges.NumberedRange.{NumberedRange}
 
@@ -25,6 +26,7 @@ cluster_by levels languages features start end letters = record {
   end = end;
   first = first_of letters;
   script = own_script letters;
+  next = Common;
   level = first_level levels;
   presentation = of_cluster letters;
   language = number_at languages start;
@@ -40,4 +42,4 @@ clusters_from levels languages features start (piece ∷ pieces) =
 
 -- the extended grapheme clusters of a text
 abbrev pub clusters_of : List ℕ → List NumberedRange → List NumberedRange → List ℕ → List Cluster
-clusters_of levels languages features text = clusters_from levels languages features 0 (graphemes true text)
+clusters_of levels languages features text = with_next (clusters_from levels languages features 0 (graphemes true text))

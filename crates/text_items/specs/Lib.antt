@@ -1,7 +1,9 @@
 pub mod Clusters
+pub mod Extensions
 pub mod Items
 pub mod Laws
 pub mod Pairs
 pub mod Presentations
 pub mod Ranges
 pub mod Scripts
+pub mod Worked

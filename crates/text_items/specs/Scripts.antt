@@ -3,6 +3,7 @@ use Rattle.std.specs.Prelude.{ℕ, ◌||◌, not, nat_lt, Bool, List, [], ◌∷
 use Rattle.ucd_script.specs.Script.{script, script_eq}
 use Rattle.ucd_script.specs.declared.Script.{Script}
 use Rattle.ucd_script.specs.declared.Script.TheVariants.{Common, Inherited}
+use Rattle.text_items.specs.Extensions.{is_listed}
 use Rattle.text_items.specs.Pairs.{side_of, from_match}
 use Rattle.text_items.specs.declared.clusters.Cluster.{Cluster}
 use Rattle.text_items.specs.declared.pairs.Open.{Open}
@@ -23,6 +24,11 @@ own_script (c ∷ cs) = if is_explicit (script c) then script c else own_script 
 abbrev pub first_script : List Cluster → Script
 first_script [] = Common
 first_script (cluster ∷ clusters) = if is_explicit cluster.script then cluster.script else first_script clusters
+
+-- each cluster with the first script after it
+abbrev pub with_next : List Cluster → List Cluster
+with_next [] = []
+with_next (cluster ∷ clusters) = record cluster { next = first_script clusters } ∷ with_next clusters
 
 -- the script of the text before a place, and the brackets that are open there, the last one first
 pub record Context : Type 0 where
@@ -52,8 +58,17 @@ paired (Opens closing) context = opened closing context
 paired (Closes closing) context = closed closing context
 paired Neither context = context
 
--- one cluster further on: 5.1, a Common or Inherited one has the script of the text before it
+-- 2.9: a character that is used with several scripts has that of the text before it, if it is one of them; 5.1: one that has a script by
+-- itself has that; a Common or Inherited one that of the text before it, if it isn't used with the next script alone
+abbrev pub settled : Cluster → Script → Script
+settled cluster current =
+    if is_listed current cluster.first then current
+    else if is_explicit cluster.script then cluster.script
+    else if is_listed cluster.next cluster.first then cluster.next
+    else current
+
+-- one cluster further on: the script that the text then has is that of the cluster
 abbrev pub stepped : Cluster → Context → Context
 stepped cluster context =
-    if is_explicit cluster.script then record context { current = cluster.script }
-    else paired (side_of cluster.first) context
+    let at = record context { current = settled cluster context.current } in
+    if is_explicit cluster.script then at else paired (side_of cluster.first) at

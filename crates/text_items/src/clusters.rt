@@ -1,12 +1,14 @@
 //! A text as grapheme clusters, each with what decides its run.
-ghost use Rattle.std.specs.Prelude.{◌≡◌, ℕ, ◌≤◌, drop, length, IfOk, OnOk};
+ghost use Rattle.std.specs.Prelude.{◌≡◌, true, drop, IfOk, OnOk};
 ghost use Rattle.std.specs.Str.{chars};
+ghost use Rattle.unicode_segmentation.specs.Grapheme.{graphemes};
 ghost use Rattle.text_items.specs.Clusters;
+ghost use Rattle.text_items.specs.Scripts.{with_next};
 
 use crate::items::ItemOptions;
 use crate::presentation::{Presentation, presentation_of};
 use crate::ranges::{number_by, past_ended};
-use crate::scripts::own_script;
+use crate::scripts::{is_explicit, own_script};
 use std::alloc::{AllocError, Global};
 use ucd_script::Script;
 use unicode_segmentation::UnicodeSegmentation;
@@ -37,6 +39,8 @@ pub(crate) struct Cluster {
     pub first: char,
     /// The script that it has by itself, or Common.
     pub script: Script,
+    /// The first script after it, or Common.
+    pub next: Script,
     /// The level of its first character.
     pub level: u8,
     /// How it is shown.
@@ -103,6 +107,7 @@ fn cluster_at(options: &ItemOptions, place: Place, letters: &[char], end: usize)
         end,
         first: first_of(letters),
         script: own_script(letters),
+        next: Script::Common,
         level: level_at(options.levels, place.levels),
         presentation: presentation_of(letters),
         language: number_by(options.languages, place.languages, place.offset),
@@ -118,14 +123,14 @@ fn read(letters: &mut Vec<char>, text: &str) -> Result<(), AllocError>
     letters.extend(text.chars())
 }
 
-/// The clusters of a text.
-pub(crate) fn clusters(
+/// The clusters of a text, without the scripts after them.
+fn read_clusters(
     alloc: Global,
     text: &str,
     options: &ItemOptions,
 ) -> Result<Vec<Cluster>, AllocError>
-    ensures { IfOk result (λ clusters. clusters.items ≡ Clusters.clusters_of options.now.levels.now
-        options.now.languages.now options.now.features.now text.now) }
+    ensures { IfOk result (λ clusters. clusters.items ≡ Clusters.clusters_from options.now.levels.now
+        options.now.languages.now options.now.features.now 0 (graphemes true text.now)) }
 {
     let mut clusters = Vec::new(alloc);
     let mut letters = Vec::new(alloc);
@@ -146,5 +151,35 @@ pub(crate) fn clusters(
             features: past_ended(options.features, place.features, end),
         };
     }
+    Ok(clusters)
+}
+
+/// Gives each cluster the first script after it.
+fn look_ahead(clusters: &mut [Cluster])
+    ensures { clusters.new ≡ with_next clusters.old }
+{
+    let mut next = Script::Common;
+    let mut count = clusters.len();
+    while count > 0 {
+        count -= 1;
+        let script = clusters[count].script;
+        clusters[count].next = next;
+        if is_explicit(script) {
+            next = script;
+        }
+    }
+}
+
+/// The clusters of a text.
+pub(crate) fn clusters(
+    alloc: Global,
+    text: &str,
+    options: &ItemOptions,
+) -> Result<Vec<Cluster>, AllocError>
+    ensures { IfOk result (λ clusters. clusters.items ≡ Clusters.clusters_of options.now.levels.now
+        options.now.languages.now options.now.features.now text.now) }
+{
+    let mut clusters = read_clusters(alloc, text, options)?;
+    look_ahead(&mut clusters);
     Ok(clusters)
 }

@@ -5,6 +5,7 @@ ghost use Rattle.text_items.specs.Scripts;
 ghost use Rattle.text_items.specs.Scripts.{Context as ContextValue};
 
 use crate::clusters::Cluster;
+use crate::extensions::{is_among, listed};
 use crate::pairs::{MAX_OPEN, Open, Side, side_of};
 use std::alloc::{AllocError, Global};
 use std::marker::Model;
@@ -41,6 +42,25 @@ pub(crate) fn first_script(clusters: &[Cluster]) -> Script
         }
     }
     Script::Common
+}
+
+/// The script of a cluster, given that of the text before it: one that is used with that script has it, too;
+/// else it has its own, if it has one; else that of the text after it, if it is used with that one.
+fn settled(cluster: &Cluster, current: Script) -> Script
+    ensures { result ≡ Scripts.settled cluster.now current }
+{
+    let listed = listed(cluster.first);
+    if is_among(current, cluster.first, listed) {
+        return current;
+    }
+    if is_explicit(cluster.script) {
+        return cluster.script;
+    }
+    if is_among(cluster.next, cluster.first, listed) {
+        cluster.next
+    } else {
+        current
+    }
 }
 
 /// The script that a text has at a place, and the brackets that are open there.
@@ -122,8 +142,8 @@ impl Context {
     pub(crate) fn step(&mut self, cluster: &Cluster) -> Result<(), AllocError>
         ensures { OnOk result (self.new ≡ Scripts.stepped cluster.now self.old) }
     {
+        self.current = settled(cluster, self.current);
         if is_explicit(cluster.script) {
-            self.current = cluster.script;
             return Ok(());
         }
         match side_of(cluster.first) {

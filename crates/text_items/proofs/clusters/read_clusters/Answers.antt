@@ -5,7 +5,7 @@ use Rattle.unicode_segmentation.specs.Iter.{graphemes_left}
 use Rattle.unicode_segmentation.proofs.SegmentsLemmas.{concat-segments}
 use Rattle.text_items.specs.Clusters.{cluster_by}
 use Rattle.text_items.proofs.ClusterLemmas.{cluster_on}
-use Rattle.text_items.proofs.clusters.clusters.Goals as goal
+use Rattle.text_items.proofs.clusters.read_clusters.Goals as goal
 
 pub loop-piece-init : goal.loop-piece-init
 loop-piece-init c =
