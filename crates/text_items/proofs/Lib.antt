@@ -5,3 +5,5 @@ pub mod ClusterLemmas
 pub mod LawLemmas
 pub mod AheadLemmas
 pub mod ExtensionLemmas
+pub mod AsciiLemmas
+pub mod SettledLemmas

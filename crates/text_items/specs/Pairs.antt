@@ -1,6 +1,6 @@
 -- Brackets and quotation marks that pair. UAX 24, 5.1: "opening and closing elements of a pair resolve to the same Script property
 -- values, where possible".
-use Rattle.std.specs.Prelude.{ℕ, ◌==◌, Bool, List, [], ◌∷◌, Option, None, Some, option_map, if◌then◌else◌}
+use Rattle.std.specs.Prelude.{ℕ, ◌==◌, ◌||◌, Bool, List, [], ◌∷◌, Option, None, Some, option_map, if◌then◌else◌}
 use Rattle.std.specs.List.{find, list_any}
 use Rattle.bidi.specs.Brackets.{opening_bracket, closing_bracket}
 use Rattle.text_items.specs.declared.pairs.TheConstants.{MARK_PAIRS}
@@ -20,6 +20,10 @@ mark_side c = elim (closing_mark c) [
   | Some closing ↦ Opens closing
   | None ↦ if closes_mark c then Closes c else Neither
 ]
+
+-- the characters of ASCII that are of pairs
+abbrev pub is_ascii_pair : ℕ → Bool
+is_ascii_pair c = (c == 0x28) || ((c == 0x29) || ((c == 0x3C) || ((c == 0x3E) || ((c == 0x5B) || ((c == 0x5D) || ((c == 0x7B) || (c == 0x7D)))))))
 
 -- what a character is to the pairing: brackets are those of UAX 9 (BD14, BD15), canonical equivalents one
 abbrev pub side_of : ℕ → Side

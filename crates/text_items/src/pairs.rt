@@ -65,8 +65,25 @@ fn mark_side(c: char) -> Side
     Side::Neither
 }
 
-/// What a character is to the pairing.
+/// Whether a character of ASCII is one of a pair.
+fn is_ascii_pair(c: char) -> bool
+    ensures { result ≡ Pairs.is_ascii_pair c }
+{
+    c == '(' || c == ')' || c == '<' || c == '>' || c == '[' || c == ']' || c == '{' || c == '}'
+}
+
+/// What a character is to the pairing. No table is searched for most of ASCII.
 pub(crate) fn side_of(c: char) -> Side
+    ensures { result ≡ Pairs.side_of c }
+{
+    if c < '\u{80}' && !is_ascii_pair(c) {
+        return Side::Neither;
+    }
+    side_by_tables(c)
+}
+
+/// What a character is to the pairing, by the tables.
+fn side_by_tables(c: char) -> Side
     ensures { result ≡ Pairs.side_of c }
 {
     if let Some(closing) = bidi::opening_bracket(c) {

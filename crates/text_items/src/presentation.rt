@@ -22,10 +22,16 @@ impl Presentation {
     }
 }
 
+/// The first character that is an emoji by default.
+const FIRST: char = '\u{231A}';
+
 /// ED-6, ED-7: the presentation of a character by itself.
 fn by_default(c: char) -> Presentation
     ensures { result ≡ Presentations.by_default c }
 {
+    if c < FIRST {
+        return Presentation::Text;
+    }
     if ucd_emoji::is_emoji_presentation(c) {
         Presentation::Emoji
     } else {

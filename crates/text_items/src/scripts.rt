@@ -1,5 +1,6 @@
 //! The scripts of clusters: UAX 24.
 ghost use Rattle.std.specs.Prelude.{◌≡◌, ◌≤◌, length, reverse, take, OnOk};
+ghost use Rattle.ucd_script.specs.Script.{script_eq};
 ghost use Rattle.text_items.specs.Pairs as pair_rules;
 ghost use Rattle.text_items.specs.Scripts;
 ghost use Rattle.text_items.specs.Scripts.{Context as ContextValue};
@@ -44,11 +45,21 @@ pub(crate) fn first_script(clusters: &[Cluster]) -> Script
     Script::Common
 }
 
+/// Whether two scripts are the same.
+fn is_same_script(script: Script, other: Script) -> bool
+    ensures { result ≡ script_eq script other }
+{
+    script.number() == other.number()
+}
+
 /// The script of a cluster, given that of the text before it: one that is used with that script has it, too;
 /// else it has its own, if it has one; else that of the text after it, if it is used with that one.
 fn settled(cluster: &Cluster, current: Script) -> Script
     ensures { result ≡ Scripts.settled cluster.now current }
 {
+    if is_explicit(cluster.script) && is_same_script(cluster.script, current) {
+        return current;
+    }
     let listed = listed(cluster.first);
     if is_among(current, cluster.first, listed) {
         return current;
