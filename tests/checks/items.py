@@ -15,6 +15,7 @@ text. Then where the two differ, it is by one of these rules, and the check coun
   Common, and so is what closes it.
 """
 import random
+import shutil
 import subprocess
 import tempfile
 from pathlib import Path
@@ -205,6 +206,9 @@ def by_character(line, tags, offsets):
 
 def raqm_runs(folder):
     """The program that writes raqm's runs, built."""
+    for needed in ("gcc", "pkg-config"):
+        if not shutil.which(needed):
+            raise Skipped(f"no {needed} to build with (Debian's {needed})")
     program = Path(folder) / "raqm-runs"
     flags = subprocess.run(["pkg-config", "--cflags", "--libs", "raqm", "harfbuzz", "freetype2"],
                            capture_output=True)
