@@ -82,10 +82,10 @@ def build(work, over_ci):
     if over_ci or not ARCHIVE.exists():
         build_archive(over_ci)
     run(["make", "-C", C])
-    gcc = ["gcc", "-std=gnu99", "-O1", "-Wall", "-Wextra", "-Werror", "-Wl,--wrap=malloc,--wrap=realloc,--wrap=free"]
+    gcc = ["gcc", "-std=gnu99", "-O1", "-Wall", "-Wextra", "-Werror", "-pthread", "-Wl,--wrap=malloc,--wrap=realloc,--wrap=free"]
     run(gcc + ["-o", os.path.join(work, "calls"), os.path.join(HERE, "calls.c"), os.path.join(C, "libluthgarn.a")])
     valgrind = VALGRIND if shutil.which("valgrind") else []
-    programs = {"C": valgrind + [os.path.join(C, "shape")], "Python": python_program(work)}
+    programs = {"C": valgrind + [os.path.join(C, "shape")], "C, installed": installed_program(work), "Python": python_program(work)}
     if shutil.which("cargo"):
         programs["Rust"] = rust_program(work)
     else:
@@ -93,6 +93,16 @@ def build(work, over_ci):
     if not valgrind:
         print("bindings: the program in C runs without valgrind, which isn't installed")
     return programs
+
+
+def installed_program(work):
+    """The example in C over the shared library, both installed below a folder."""
+    folder, program = os.path.join(work, "installed"), os.path.join(work, "shape")
+    run(["make", "-C", C, "install", "PREFIX=" + folder])
+    library = os.path.join(folder, "lib")
+    words = ["-I" + os.path.join(folder, "include"), "-L" + library, "-Wl,-rpath," + library, "-lluthgarn"]
+    run(["gcc", "-o", program, os.path.join(C, "shape.c")] + words)
+    return [program]
 
 
 def python_program(work):

@@ -3,11 +3,13 @@
  *   calls FONT CALLS [SEED]
  *
  * Every array that a call is given ends where a page begins that can't be read, so that an element past its end ends the
- * program by a signal. Memory that the library takes is counted: each call has to give all of it back. Every third call
- * is refused one of its blocks. The program is linked with --wrap for malloc, realloc and free. */
+ * program by a signal. Memory that the library takes is counted: each call has to give all of it back, but for what fonts
+ * that are kept have. Every third call is refused one of its blocks. A font that is kept has to give what `luthgarn_shape`
+ * gives, and four threads share one. The program is linked with --wrap for malloc, realloc and free. */
 #include "../bindings/c/luthgarn.h"
 
 #define _GNU_SOURCE
+#include <pthread.h>
 #include <stdio.h>
 #include <stdlib.h>
 #include <string.h>
@@ -17,7 +19,13 @@ void *__real_malloc(size_t);
 void *__real_realloc(void *, size_t);
 void __real_free(void *);
 
-static long held, refuse_in = -1;
+static long held, refuse_in = -1; /* (no block is refused while there are threads) */
+
+static void
+count_blocks(long more)
+{
+  __atomic_add_fetch(&held, more, __ATOMIC_SEQ_CST);
+}
 
 static int
 is_refused(void)
@@ -29,7 +37,7 @@ void *
 __wrap_malloc(size_t n)
 {
   void *block = is_refused() ? NULL : __real_malloc(n);
-  held += block != NULL;
+  count_blocks(block != NULL);
   return block;
 }
 
@@ -37,14 +45,14 @@ void *
 __wrap_realloc(void *old, size_t n)
 {
   void *block = is_refused() ? NULL : __real_realloc(old, n);
-  held += !old && block;
+  count_blocks(!old && block);
   return block;
 }
 
 void
 __wrap_free(void *old)
 {
-  held -= old != NULL;
+  count_blocks(-(old != NULL));
   __real_free(old);
 }
 
@@ -88,7 +96,7 @@ fenced(struct room room, const void *from, size_t size)
   return room.end - size;
 }
 
-static struct room font_room, text_room, feature_room, run_room, glyph_room;
+static struct room font_room, text_room, feature_room, run_room, glyph_room, name_room;
 static uint8_t *whole_font;
 static size_t whole_size;
 
@@ -152,6 +160,46 @@ judge(luthgarn_outcome o, const luthgarn_run *runs, size_t run_count, const luth
   if (held) wrong("blocks that weren't given back", (size_t) held);
 }
 
+/* What a call is given. */
+struct input {
+  const uint8_t *font;
+  size_t font_size;
+  uint32_t index;
+  const luthgarn_feature *features;
+  size_t feature_count;
+  const uint8_t *text;
+  size_t text_size;
+  luthgarn_run runs[8];
+  size_t run_count, glyph_count;
+};
+
+/* Whether a font that is kept, or one that shares it, gives what `luthgarn_shape` gave. */
+static void
+kept_call(const struct input *in, luthgarn_outcome wanted, const luthgarn_run *runs, const luthgarn_glyph *glyphs, size_t call)
+{
+  luthgarn_font font = {0}, copy = {0};
+  uint32_t code = luthgarn_font_new(in->font, in->font_size, in->index, &font);
+  if ((code == LUTHGARN_FONT) != (wanted.code == LUTHGARN_FONT)) wrong("a font that is and isn't", call);
+  if (code == LUTHGARN_FONT) return;
+  if (code || luthgarn_font_share(&font, &copy)) wrong("a font that isn't kept", call);
+  if (luthgarn_font_units_per_em(&copy) != luthgarn_units_per_em(in->font, in->font_size, in->index)) wrong("units", call);
+  uint8_t *name = fenced(name_room, "nnn", 3);
+  if (luthgarn_font_glyph_name(&copy, any(), name, 3) > 3 && memcmp(name, "nnn", 3)) wrong("a name without room", call);
+  if (below(2)) luthgarn_font_free(&font);
+  luthgarn_run *own = fenced(run_room, in->runs, in->run_count * sizeof *own);
+  luthgarn_glyph *found = fenced(glyph_room, NULL, in->glyph_count * sizeof *found);
+  for (size_t k = 0; k < in->glyph_count; k++) found[k] = (luthgarn_glyph) {.cluster = 0xBBBB};
+  luthgarn_outcome o = luthgarn_shape_font(below(2) && font.is_open ? &font : &copy, in->features, in->feature_count, in->text,
+                                           in->text_size, own, in->run_count, found, in->glyph_count);
+  if (o.code != wanted.code || o.runs != wanted.runs || o.glyphs != wanted.glyphs || o.needed != wanted.needed)
+    wrong("another outcome of a kept font", call);
+  if (memcmp(own, runs, in->run_count * sizeof *own)) wrong("other runs of a kept font", call);
+  if (memcmp(found, glyphs, in->glyph_count * sizeof *found)) wrong("other glyphs of a kept font", call);
+  luthgarn_font_free(&copy);
+  luthgarn_font_free(&font);
+  if (held || font.is_open || copy.is_open) wrong("a font that isn't freed", call);
+}
+
 static void
 random_call(size_t call)
 {
@@ -174,15 +222,23 @@ random_call(size_t call)
     luthgarn_parse_feature((const uint8_t *) word, strlen(word), &feature);
     features[k] = feature;
   }
-  luthgarn_run *runs = fenced(run_room, NULL, run_count * sizeof *runs);
-  for (size_t k = 0; k < run_count; k++) runs[k] = any_run((uint32_t) text_size);
+  struct input in = {font, font_size, below(16) ? 0 : any(), features, feature_count, own, text_size, {{0}}, run_count,
+                     glyph_count};
+  for (size_t k = 0; k < run_count; k++) in.runs[k] = any_run((uint32_t) text_size);
+  luthgarn_run *runs = fenced(run_room, in.runs, run_count * sizeof *runs);
   luthgarn_glyph *glyphs = fenced(glyph_room, NULL, glyph_count * sizeof *glyphs);
-  for (size_t k = 0; k < glyph_count; k++) glyphs[k].cluster = 0xBBBB;
+  for (size_t k = 0; k < glyph_count; k++) glyphs[k] = (luthgarn_glyph) {.cluster = 0xBBBB};
   refuse_in = call % 3 ? -1 : (long) below(60);
-  luthgarn_outcome outcome = luthgarn_shape(font, font_size, below(16) ? 0 : any(), features, feature_count, own, text_size,
-                                            runs, run_count, glyphs, glyph_count);
+  luthgarn_outcome outcome = luthgarn_shape(font, font_size, in.index, features, feature_count, own, text_size, runs,
+                                            run_count, glyphs, glyph_count);
   refuse_in = -1;
   judge(outcome, runs, run_count, glyphs, glyph_count, call);
+  if (outcome.code == LUTHGARN_MEMORY) return;
+  luthgarn_run wanted_runs[8];
+  luthgarn_glyph wanted[300];
+  memcpy(wanted_runs, runs, run_count * sizeof *runs);
+  memcpy(wanted, glyphs, glyph_count * sizeof *glyphs);
+  kept_call(&in, outcome, wanted_runs, wanted, call);
 }
 
 static const luthgarn_feature *
@@ -250,6 +306,113 @@ refusals_of_others(void)
   IS("a run over no font", outcome.code == LUTHGARN_FONT && outcome.runs == 0 && outcome.glyphs == 0);
 }
 
+/* Fonts that are kept: none, one, one in place of another, one of two that share. */
+static void
+kept_fonts(void)
+{
+  luthgarn_font font = {0}, copy = {0}, none = {0};
+  luthgarn_run run = run_of(0, 2);
+  luthgarn_glyph glyphs[2];
+  uint8_t *name = fenced(name_room, "nnn", 3);
+  IS("a version", luthgarn_version()
+     == LUTHGARN_VERSION_MAJOR * 65536 + LUTHGARN_VERSION_MINOR * 256 + LUTHGARN_VERSION_PATCH);
+  IS("names of codes", !strcmp(luthgarn_error_name(LUTHGARN_FONT), "no such font") && luthgarn_error_name(7));
+  IS("no font to open", luthgarn_font_new(whole_font, 11, 0, &font) == LUTHGARN_FONT && !font.is_open);
+  IS("no font to share", luthgarn_font_share(&none, &copy) == LUTHGARN_FONT && !copy.is_open);
+  IS("no units", luthgarn_font_units_per_em(&none) == 0);
+  IS("no name", luthgarn_font_glyph_name(&none, 36, name, 3) == 0 && !memcmp(name, "nnn", 3));
+  luthgarn_outcome outcome = luthgarn_shape_font(&none, no_features(), 0, (const uint8_t *) "AV", 2, &run, 1, glyphs, 2);
+  IS("a run over no font", outcome.code == LUTHGARN_FONT && outcome.runs == 0 && outcome.glyphs == 0 && run.glyphs == 0xAAAA);
+  luthgarn_font_free(&none);
+  IS("a font", luthgarn_font_new(whole_font, whole_size, 0, &font) == LUTHGARN_DONE && font.is_open);
+  long one_font = held;
+  IS("its units", luthgarn_font_units_per_em(&font) == 2048);
+  IS("the name A", luthgarn_font_glyph_name(&font, 36, name, 3) == 1 && !memcmp(name, "Ann", 3));
+  IS("a longer name", luthgarn_font_glyph_name(&font, 3, name, 3) == 5 && !memcmp(name, "Ann", 3));
+  IS("no glyph", luthgarn_font_glyph_name(&font, 0xFFFFFFFF, name, 3) == 0);
+  IS("a font in its place", luthgarn_font_new(whole_font, whole_size, 0, &font) == LUTHGARN_DONE && held == one_font);
+  IS("no font leaves it", luthgarn_font_new(whole_font, whole_size, 9, &font) == LUTHGARN_FONT && font.is_open);
+  IS("a shared font", luthgarn_font_share(&font, &copy) == LUTHGARN_DONE && copy.is_open);
+  IS("shared again", luthgarn_font_share(&font, &copy) == LUTHGARN_DONE && held == one_font + 1);
+  luthgarn_font_free(&font);
+  luthgarn_font_free(&font);
+  outcome = luthgarn_shape_font(&copy, no_features(), 0, (const uint8_t *) "AV", 2, &run, 1, glyphs, 2);
+  IS("a font that outlives another", outcome.code == LUTHGARN_DONE && outcome.glyphs == 2 && glyphs[0].glyph == 36);
+  luthgarn_font_free(&copy);
+  IS("all is freed", held == 0);
+}
+
+/* Each block of a font refused in turn: it stays as it was. */
+static void
+refused_fonts(void)
+{
+  for (long n = 0; n < 1000; n++) {
+    luthgarn_font font = {0}, copy = {0};
+    refuse_in = n;
+    uint32_t opened = luthgarn_font_new(whole_font, whole_size, 0, &font);
+    uint32_t shared = opened ? LUTHGARN_MEMORY : luthgarn_font_share(&font, &copy);
+    int whole = refuse_in >= 0;
+    refuse_in = -1;
+    IS("a refused font", opened == (font.is_open ? LUTHGARN_DONE : LUTHGARN_MEMORY));
+    IS("a refused copy", shared == (copy.is_open ? LUTHGARN_DONE : LUTHGARN_MEMORY));
+    luthgarn_font_free(&font);
+    luthgarn_font_free(&copy);
+    IS("all is freed", held == 0);
+    if (whole) { printf("calls: each of %ld blocks of a font refused\n", n); return; }
+  }
+  wrong("no font is whole", 1000);
+}
+
+static int32_t sums[2];
+
+/* How long AVATAR is without or with kerning; -1 if it isn't shaped. */
+static int32_t
+length_of(luthgarn_font *font, uint32_t kerned)
+{
+  luthgarn_glyph glyphs[6];
+  luthgarn_run run = run_of(0, 6);
+  luthgarn_feature kern = {0x6B65726E, kerned, 0, 0xFFFFFFFF};
+  luthgarn_outcome o = luthgarn_shape_font(font, &kern, 1, (const uint8_t *) "AVATAR", 6, &run, 1, glyphs, 6);
+  int32_t sum = 0;
+  for (size_t k = 0; k < o.glyphs; k++) sum += glyphs[k].x_advance;
+  return o.code ? -1 : sum;
+}
+
+/* One of the threads that share a font: it shares its own again and again, frees it, and shapes with what is left. */
+static void *
+thread_with(void *given)
+{
+  luthgarn_font font = *(luthgarn_font *) given;
+  for (unsigned k = 0; k < 50; k++) {
+    luthgarn_font other = {0};
+    if (luthgarn_font_share(&font, &other)) return "a font that isn't shared";
+    luthgarn_font_free(&font);
+    font = other;
+    if (length_of(&font, k % 2) != sums[k % 2]) return "other glyphs in a thread";
+  }
+  luthgarn_font_free(&font);
+  return NULL;
+}
+
+static void
+threads(void)
+{
+  pthread_t started[4];
+  luthgarn_font font = {0}, fonts[4] = {{0}};
+  IS("a font", luthgarn_font_new(whole_font, whole_size, 0, &font) == LUTHGARN_DONE);
+  for (uint32_t k = 0; k < 2; k++) sums[k] = length_of(&font, k);
+  IS("kerning", 0 < sums[1] && sums[1] < sums[0]);
+  for (size_t k = 0; k < 4; k++) IS("a copy", luthgarn_font_share(&font, fonts + k) == LUTHGARN_DONE);
+  for (size_t k = 0; k < 4; k++) IS("a thread", pthread_create(started + k, NULL, thread_with, fonts + k) == 0);
+  luthgarn_font_free(&font);
+  for (size_t k = 0; k < 4; k++) {
+    void *what = NULL;
+    pthread_join(started[k], &what);
+    if (what) wrong(what, k);
+  }
+  IS("all is freed", held == 0);
+}
+
 /* Each block of a call refused in turn. */
 static void
 refused_blocks(void)
@@ -283,9 +446,13 @@ main(int argc, char **argv)
   feature_room = room_for(64);
   run_room = room_for(8 * sizeof(luthgarn_run));
   glyph_room = room_for(300 * sizeof(luthgarn_glyph));
+  name_room = room_for(8);
   refusals_of_a_run();
   refusals_of_others();
+  kept_fonts();
   refused_blocks();
+  refused_fonts();
+  threads();
   size_t calls = strtoull(argv[2], NULL, 10);
   for (size_t k = 0; k < calls; k++) random_call(k);
   printf("calls: %zu random calls\n", calls);

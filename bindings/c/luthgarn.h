@@ -1,18 +1,21 @@
 /* Text shaping with a font file, for C. Library: libluthgarn.a or libluthgarn.so, which `make -C bindings/c` builds of
  * the archive of crates/luthgarn_c.
  *
- * A call reads arrays of the caller's, writes into arrays of the caller's, and returns. The library keeps no pointer
- * between calls and hands none out: there are no handles, nothing has to be freed, and nothing is global. Memory that
- * a call takes by malloc it frees before it returns.
+ * A call reads arrays of the caller's, writes into arrays of the caller's, and returns. It frees the memory that it takes
+ * by malloc before it returns, but for what a `luthgarn_font` keeps up to `luthgarn_font_free`. Nothing is global.
  *
  * A font and a text may hold any bytes: a hostile one changes which glyphs come out, or is refused.
  *
  * What the caller owes, which nothing checks:
  *   - A pointer and its count name as many elements, which the call may read, and write where they aren't const. With
  *     count 0 the pointer isn't read, but it must not be NULL.
- *   - What a call writes (`runs`, `glyphs`, `feature`) overlaps nothing else that the call is given.
- *   - While a call runs, no other thread writes what it reads, or touches what it writes. Calls that share nothing of
- *     this kind may run at the same time.
+ *   - What a call writes (`font`, `copy`, `runs`, `glyphs`, `feature`) overlaps nothing else that the call is given.
+ *   - A `luthgarn_font` begins as zeros, and is written by these calls alone. It may be moved in memory; of two copies one
+ *     is used.
+ *   - The bytes of a font stay where and as they are until the last font that was opened of them, or shares it, is freed.
+ *   - While a call runs, no other thread writes what it reads, or touches what it writes: a `luthgarn_font` is for one
+ *     thread at a time. Each further thread gets one of its own, by `luthgarn_font_share`; such fonts are used and freed
+ *     at the same time. Calls that share nothing of this kind may run at the same time.
  *   - malloc, realloc and free are of one allocator, and aligned to 16 bytes. No call is made from a signal handler.
  *   - The stack has 1 MiB for a call. */
 #ifndef LUTHGARN_H
@@ -20,6 +23,10 @@
 
 #include <stddef.h>
 #include <stdint.h>
+
+#define LUTHGARN_VERSION_MAJOR 0
+#define LUTHGARN_VERSION_MINOR 2
+#define LUTHGARN_VERSION_PATCH 0
 
 #ifdef __cplusplus
 extern "C" {
@@ -30,11 +37,20 @@ enum {
   LUTHGARN_DONE = 0,
   LUTHGARN_MEMORY = 1, /* malloc or realloc returned NULL */
   LUTHGARN_LENGTH = 2, /* a list would have passed the run's limit: 64 glyphs a character, or 16384 */
-  LUTHGARN_FONT = 3,   /* the bytes have no font with this number */
+  LUTHGARN_FONT = 3,   /* the bytes have no font with this number; or no font is kept */
   LUTHGARN_TEXT = 4,   /* the text of a run, or what stands beside it, isn't UTF-8; or a text is no feature */
   LUTHGARN_RUN = 5,    /* a run's places aren't in order or not in the text, or it has no such direction or level */
   LUTHGARN_ROOM = 6    /* the array of glyphs is too short */
 };
+
+/* A code in words. */
+static inline const char *
+luthgarn_error_name(uint32_t code)
+{
+  static const char *const names[] = {
+    "done", "no memory", "too many glyphs", "no such font", "not UTF-8, or no feature", "no such run", "no room for glyphs"};
+  return code <= LUTHGARN_ROOM ? names[code] : "no such code";
+}
 
 /* Directions, by HarfBuzz's numbers. 0 asks for a guess, by the script. */
 enum { LUTHGARN_GUESS = 0, LUTHGARN_LTR = 4, LUTHGARN_RTL = 5, LUTHGARN_TTB = 6, LUTHGARN_BTT = 7 };
@@ -62,12 +78,12 @@ typedef struct {
  * up to `start`, and from `end` up to `after`, are looked at (five characters at most) and not shaped; for a text of
  * its own before = start and end = after. Each of these places stands between two characters.
  * `direction` and `script` 0 ask for a guess. `level` is 0, 1 or 2: how far clusters are merged. `language` is a name
- * of BCP 47 of at most 16 bytes, filled up with zeros; all zeros name none. A call writes `glyphs`: how many glyphs
- * there are up to the end of this run. */
+ * of BCP 47, filled up with zeros; all zeros name none. A call writes `glyphs`: how many glyphs there are up to the end
+ * of this run. */
 typedef struct {
   uint32_t before, start, end, after;
   uint32_t direction, script, flags, level;
-  uint8_t language[16];
+  uint8_t language[64];
   size_t glyphs;
 } luthgarn_run;
 
@@ -85,6 +101,15 @@ typedef struct {
   size_t runs, glyphs, needed;
 } luthgarn_outcome;
 
+/* A font that is kept open, or none: all zeros keep none. */
+typedef struct {
+  void *kept;
+  uint32_t is_open;
+} luthgarn_font;
+
+/* The version of the library, as 65536 * major + 256 * minor + patch. */
+uint32_t luthgarn_version(void);
+
 /* How many units the em square has of the font with this number in the file (0, if it isn't a collection); 0 if the
  * bytes have no such font. */
 uint32_t luthgarn_units_per_em(const uint8_t *font, size_t font_size, uint32_t index);
@@ -101,15 +126,40 @@ uint32_t luthgarn_parse_script(const uint8_t *text, size_t size);
 
 /* Shapes the runs of a text, by the shaper of each script, with the tables GDEF, GSUB, GPOS and kern of the font. The
  * glyphs of run k are glyphs[k ? runs[k - 1].glyphs : 0] up to glyphs[runs[k].glyphs - 1], from left to right or from top
- * to bottom. A call opens the font, in time in step with its tables, and runs of one direction, script and language share
- * a plan: so many runs in one call cost less than as many calls. The call stops at the first run that is refused; it
- * writes nothing past the glyphs of the runs before that, and no other run. A caller may go on from there, with more
- * room, by a call for the runs that are left: `glyphs` of these then counts from the first of them. */
+ * to bottom. A call opens the font, in time in step with its tables (luthgarn_shape_font opens nothing), and runs of one
+ * direction, script and language share a plan: so many runs in one call cost less than as many calls. The call stops at
+ * the first run that is refused; it writes nothing past the glyphs of the runs before that, and no other run. A caller
+ * may go on from there, with more room, by a call for the runs that are left: `glyphs` of these then counts from the
+ * first of them. */
 luthgarn_outcome luthgarn_shape(const uint8_t *font, size_t font_size, uint32_t index,
                                 const luthgarn_feature *features, size_t feature_count,
                                 const uint8_t *text, size_t text_size,
                                 luthgarn_run *runs, size_t run_count,
                                 luthgarn_glyph *glyphs, size_t glyph_count);
+
+/* Opens the font with this number in the file (0, if it isn't a collection), in time in step with its tables. Returns
+ * LUTHGARN_DONE, and `font` keeps it, in place of what it kept; else LUTHGARN_FONT or LUTHGARN_MEMORY, and leaves `font`. */
+uint32_t luthgarn_font_new(const uint8_t *bytes, size_t size, uint32_t index, luthgarn_font *font);
+
+/* Makes `copy` keep the same font, in place of what it kept. Both share what was opened, and each is freed by itself.
+ * Returns LUTHGARN_DONE; else LUTHGARN_FONT, if `font` keeps none, or LUTHGARN_MEMORY, and leaves `copy`. */
+uint32_t luthgarn_font_share(luthgarn_font *font, luthgarn_font *copy);
+
+/* Frees what `font` keeps, if anything. It keeps none then. */
+void luthgarn_font_free(luthgarn_font *font);
+
+/* As luthgarn_units_per_em, of the font that is kept; 0 if none is. */
+uint32_t luthgarn_font_units_per_em(luthgarn_font *font);
+
+/* How many bytes the name of a glyph has by the table `post`; 0 if it has none, or no font is kept. Writes the name if
+ * `size` is enough; else `name` stays as it is. No zero ends it. */
+size_t luthgarn_font_glyph_name(luthgarn_font *font, uint32_t glyph, uint8_t *name, size_t size);
+
+/* As luthgarn_shape, with the font that is kept; LUTHGARN_FONT if none is. */
+luthgarn_outcome luthgarn_shape_font(luthgarn_font *font, const luthgarn_feature *features, size_t feature_count,
+                                     const uint8_t *text, size_t text_size,
+                                     luthgarn_run *runs, size_t run_count,
+                                     luthgarn_glyph *glyphs, size_t glyph_count);
 
 #ifdef __cplusplus
 }

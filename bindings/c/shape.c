@@ -8,8 +8,6 @@
 #include <stdlib.h>
 #include <string.h>
 
-static const char *const reasons[] = {"done", "no memory", "too long", "no font", "not UTF-8", "no such run", "no room"};
-
 static void
 fail(const char *what)
 {
@@ -62,21 +60,21 @@ lines_of(const uint8_t *text, size_t size, luthgarn_run like, size_t *count)
 
 /* Shapes all runs: where the array of glyphs is too short, it is made longer, and the rest of the runs follow. */
 static luthgarn_glyph *
-shaped(const uint8_t *font, size_t font_size, const luthgarn_feature *features, size_t feature_count, const uint8_t *text,
-       size_t text_size, luthgarn_run *runs, size_t run_count)
+shaped(luthgarn_font *font, const luthgarn_feature *features, size_t feature_count, const uint8_t *text, size_t text_size,
+       luthgarn_run *runs, size_t run_count)
 {
   size_t room = text_size + 64, used = 0, done = 0;
   luthgarn_glyph *glyphs = grown(NULL, room * sizeof *glyphs);
   for (;;) {
-    luthgarn_outcome outcome = luthgarn_shape(font, font_size, 0, features, feature_count, text, text_size, runs + done,
-                                              run_count - done, glyphs + used, room - used);
+    luthgarn_outcome outcome = luthgarn_shape_font(font, features, feature_count, text, text_size, runs + done,
+                                                   run_count - done, glyphs + used, room - used);
     for (size_t k = done; k < done + outcome.runs; k++) runs[k].glyphs += used;
     done += outcome.runs;
     used += outcome.glyphs;
     if (outcome.code == LUTHGARN_DONE) return glyphs;
     if (outcome.code != LUTHGARN_ROOM) {
       fprintf(stderr, "shape: line %zu: ", done + 1);
-      fail(reasons[outcome.code]);
+      fail(luthgarn_error_name(outcome.code));
     }
     room = 2 * room + outcome.needed;
     glyphs = grown(glyphs, room * sizeof *glyphs);
@@ -114,22 +112,26 @@ main(int argc, char **argv)
       break;
     case 'd': like.direction = luthgarn_parse_direction(word, size); break;
     case 's': like.script = luthgarn_parse_script(word, size); break;
-    case 'l': memcpy(like.language, word, size < 16 ? size : 16); break;
+    case 'l': memcpy(like.language, word, size < sizeof like.language ? size : sizeof like.language); break;
     default: fail("no such option");
     }
   }
   FILE *file = fopen(argv[1], "rb");
   if (!file) fail("the font can't be opened");
-  uint8_t *font = slurp(file, &font_size);
+  uint8_t *bytes = slurp(file, &font_size);
   fclose(file);
+  luthgarn_font font = {0};
+  uint32_t code = luthgarn_font_new(bytes, font_size, 0, &font);
+  if (code != LUTHGARN_DONE) fail(luthgarn_error_name(code));
   uint8_t *text = slurp(stdin, &text_size);
   luthgarn_run *runs = lines_of(text, text_size, like, &run_count);
-  luthgarn_glyph *glyphs = shaped(font, font_size, features, feature_count, text, text_size, runs, run_count);
+  luthgarn_glyph *glyphs = shaped(&font, features, feature_count, text, text_size, runs, run_count);
   for (size_t k = 0, from = 0; k < run_count; from = runs[k++].glyphs)
     write_line(glyphs + from, runs[k].glyphs - from);
+  luthgarn_font_free(&font);
   free(glyphs);
   free(runs);
   free(text);
-  free(font);
+  free(bytes);
   return 0;
 }

@@ -13,7 +13,7 @@ import zipfile
 from pathlib import Path
 
 HERE = Path(__file__).resolve().parent
-NAME, VERSION = "luthgarn", "0.1.0"
+NAME, VERSION = "luthgarn", "0.2.0"
 INFO = f"{NAME}-{VERSION}.dist-info"
 
 

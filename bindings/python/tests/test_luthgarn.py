@@ -53,11 +53,28 @@ def test_texts_of_one_call(font):
 
 
 def test_a_buffer_as_in_uharfbuzz(font):
-    buffer = luthgarn.Buffer()
+    buffer = luthgarn.Buffer.create()
     buffer.add_str("AV")
     buffer.guess_segment_properties()
-    assert buffer.shape(font) == luthgarn.shape(font, "AV")
-    assert [glyph.codepoint for glyph in buffer.shape(font)] == [36, 57]
+    luthgarn.shape(font, buffer, {"kern": False})
+    assert [info.codepoint for info in buffer.glyph_infos] == [36, 57]
+    assert [info.cluster for info in buffer.glyph_infos] == [0, 1]
+    assert [place.x_advance for place in buffer.glyph_positions] == advances(luthgarn.shape(font, "AV", {"kern": False}))
+    assert buffer.glyph_positions[0].position == (0, 0, buffer.glyph_positions[0].x_advance, 0)
+    assert len(buffer) == 2 and luthgarn.Face(font.face.data).upem == 2048
+
+
+def test_names_of_glyphs(font):
+    assert [glyph.name for glyph in luthgarn.shape(font, "Č a")] == ["Ccaron", "space", "a"]
+    assert font.glyph_name(36) == font.glyph_to_string(36) == "A" and font.glyph_name(99999) == "gid99999"
+
+
+def test_a_font_of_a_face_is_freed_with_its_bytes():
+    face = luthgarn.Face(DEJAVU.read_bytes())
+    for _ in range(3):
+        font = luthgarn.Font(face)
+        assert len(luthgarn.shape(font, "AV")) == 2
+        del font
 
 
 def test_arrays(font):
@@ -71,13 +88,13 @@ def test_refusals_have_names(font):
     with pytest.raises(luthgarn.BadFont):
         luthgarn.Font(b"no font")
     with pytest.raises(luthgarn.BadFont):
-        luthgarn.Font(font.data, index=9)
+        luthgarn.Font(font.face.data, index=9)
     with pytest.raises(luthgarn.BadFeature):
         luthgarn.shape(font, "a", features=["kern="])
     with pytest.raises(luthgarn.UnknownName):
         luthgarn.shape(font, "a", direction="sideways")
     with pytest.raises(luthgarn.UnknownName):
-        luthgarn.shape(font, "a", language="a-language-of-no-country")
+        luthgarn.shape(font, "a", language="x-" + "a" * 63)
     with pytest.raises(luthgarn.BadText) as refused:
         luthgarn.shape_all(font, ["a", "\ud800"])
     assert refused.value.line == 1
@@ -85,7 +102,12 @@ def test_refusals_have_names(font):
 
 def test_threads_share_a_font(font):
     wanted, found = luthgarn.shape(font, "AVATAR"), []
-    threads = [threading.Thread(target=lambda: found.append(luthgarn.shape(font, "AVATAR"))) for _ in range(8)]
+
+    def work():
+        assert all(luthgarn.shape(font, "AVATAR") == wanted for _ in range(20))
+        found.append(luthgarn.shape(font, "AVATAR"))
+
+    threads = [threading.Thread(target=work) for _ in range(8)]
     for thread in threads:
         thread.start()
     for thread in threads:

@@ -18,7 +18,7 @@ fn direction_of(word: &str) -> Option<Direction> {
 fn main() -> Result<(), Box<dyn Error>> {
     let words: Vec<String> = std::env::args().collect();
     let bytes = std::fs::read(words.get(1).ok_or("a font is wanted")?)?;
-    let font = Font::new(&bytes, 0)?;
+    let font = Font::new(bytes, 0)?;
     let mut buffer = Buffer::new("");
     for pair in words[2..].chunks_exact(2) {
         buffer = match pair[0].as_str() {

@@ -2,20 +2,33 @@
 //!
 //! ```no_run
 //! let bytes = std::fs::read("DejaVuSans.ttf")?;
-//! let font = luthgarn::Font::new(&bytes, 0)?;
+//! let font = luthgarn::Font::new(bytes, 0)?;
 //! for glyph in luthgarn::Buffer::new("Čau").shape(&font)? {
 //!     println!("{} {} {}", glyph.glyph, glyph.cluster, glyph.x_advance);
 //! }
 //! # Ok::<(), Box<dyn std::error::Error>>(())
 //! ```
 //!
-//! A font may hold any bytes: a hostile one changes which glyphs come out, or is refused. The library keeps nothing between
-//! calls, so a [`Font`] may be used by several threads at once.
+//! A font may hold any bytes: a hostile one changes which glyphs come out, or is refused. It is opened once, and a [`Font`] may be
+//! used by several threads at once:
+//!
+//! ```no_run
+//! # let font = luthgarn::Font::new(Vec::new(), 0)?;
+//! std::thread::scope(|scope| {
+//!     for word in ["one", "two"] {
+//!         scope.spawn(|| luthgarn::Buffer::new(word).shape(&font));
+//!     }
+//! });
+//! # Ok::<(), luthgarn::Error>(())
+//! ```
 #![warn(missing_docs)]
 
+mod font;
 mod native;
 
-use native::{DONE, ROOM};
+pub use font::Font;
+
+use native::{DONE, LONGEST_LANGUAGE, ROOM};
 use std::fmt;
 use std::str::FromStr;
 
@@ -30,7 +43,7 @@ pub enum Error {
     Font,
     /// No feature has this text.
     Feature,
-    /// A script has four letters; a language has at most 16 bytes.
+    /// A script has four letters; a language has at most 64 bytes.
     Name,
     /// A text of 4 GiB or more.
     Text,
@@ -61,31 +74,6 @@ impl fmt::Display for Error {
 }
 
 impl std::error::Error for Error {}
-
-/// A font of a file's bytes.
-#[derive(Clone, Copy, Debug)]
-pub struct Font<'a> {
-    bytes: &'a [u8],
-    index: u32,
-    units_per_em: u32,
-}
-
-impl<'a> Font<'a> {
-    /// The font with this number: 0, if the file isn't a collection.
-    pub fn new(bytes: &'a [u8], index: u32) -> Result<Font<'a>, Error> {
-        // SAFETY: the pointer and the count are those of `bytes`.
-        let units_per_em = unsafe { native::luthgarn_units_per_em(bytes.as_ptr(), bytes.len(), index) };
-        if units_per_em == 0 {
-            return Err(Error::Font);
-        }
-        Ok(Font { bytes, index, units_per_em })
-    }
-
-    /// How many units the em square has.
-    pub fn units_per_em(&self) -> u32 {
-        self.units_per_em
-    }
-}
 
 /// Which way a line runs.
 #[derive(Clone, Copy, Debug, PartialEq, Eq)]
@@ -173,7 +161,7 @@ pub struct Buffer<'t> {
 impl<'t> Buffer<'t> {
     /// A text without settings.
     pub fn new(text: &'t str) -> Buffer<'t> {
-        Buffer { text, features: Vec::new(), run: native::Run::default() }
+        Buffer { text, features: Vec::new(), run: native::Run::EMPTY }
     }
 
     /// Asks for features, after those that were asked for.
@@ -204,21 +192,21 @@ impl<'t> Buffer<'t> {
         Ok(self)
     }
 
-    /// Sets the language by a name of BCP 47, of at most 16 bytes.
+    /// Sets the language by a name of BCP 47, of at most 64 bytes.
     pub fn language(mut self, name: &str) -> Result<Buffer<'t>, Error> {
-        let room = self.run.language.get_mut(..name.len()).ok_or(Error::Name)?;
-        room.copy_from_slice(name.as_bytes());
+        let mut language = [0; LONGEST_LANGUAGE];
+        language.get_mut(..name.len()).ok_or(Error::Name)?.copy_from_slice(name.as_bytes());
+        self.run.language = language;
         Ok(self)
     }
 
     /// The glyphs of the text.
-    pub fn shape(&self, font: &Font) -> Result<Vec<Glyph>, Error> {
+    pub fn shape(&self, font: &Font<'_>) -> Result<Vec<Glyph>, Error> {
         self.shape_lines(font, &[self.text]).map(|mut lines| lines.remove(0))
     }
 
-    /// The glyphs of each line, with these settings, by one call, which opens the font once. The buffer's own text isn't
-    /// read.
-    pub fn shape_lines(&self, font: &Font, lines: &[&str]) -> Result<Vec<Vec<Glyph>>, Error> {
+    /// The glyphs of each line, with these settings, by one call. The buffer's own text isn't read.
+    pub fn shape_lines(&self, font: &Font<'_>, lines: &[&str]) -> Result<Vec<Vec<Glyph>>, Error> {
         let text = lines.concat();
         u32::try_from(text.len()).map_err(|_| Error::Text)?;
         let mut start = 0;
@@ -239,16 +227,15 @@ impl<'t> Buffer<'t> {
     }
 
     /// The glyphs of all runs.
-    fn glyphs(&self, font: &Font, text: &str, runs: &mut [native::Run]) -> Result<Vec<native::Glyph>, Error> {
+    fn glyphs(&self, font: &Font<'_>, text: &str, runs: &mut [native::Run]) -> Result<Vec<native::Glyph>, Error> {
         let features: Vec<native::Feature> = self.features.iter().map(|feature| feature.0).collect();
         let mut glyphs = vec![native::Glyph::default(); text.len() + 64];
         loop {
-            // SAFETY: each pointer and count are those of one slice, and the two that are written are borrowed by us alone.
-            let outcome = unsafe {
-                native::luthgarn_shape(
-                    font.bytes.as_ptr(),
-                    font.bytes.len(),
-                    font.index,
+            // SAFETY: `font` is a kept font; each pointer and count are those of one slice, and what is written is borrowed
+            // by us alone.
+            let outcome = font.lend(|font| unsafe {
+                native::luthgarn_shape_font(
+                    font,
                     features.as_ptr(),
                     features.len(),
                     text.as_ptr(),
@@ -258,7 +245,7 @@ impl<'t> Buffer<'t> {
                     glyphs.as_mut_ptr(),
                     glyphs.len(),
                 )
-            };
+            })?;
             match outcome.code {
                 DONE => return Ok(glyphs),
                 ROOM => glyphs = vec![native::Glyph::default(); 2 * glyphs.len() + outcome.needed],
@@ -266,6 +253,12 @@ impl<'t> Buffer<'t> {
             }
         }
     }
+}
+
+/// The version of the library, as 65536 * major + 256 * minor + patch.
+pub fn version() -> u32 {
+    // SAFETY: it takes nothing.
+    unsafe { native::luthgarn_version() }
 }
 
 impl Glyph {

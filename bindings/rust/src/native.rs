@@ -10,7 +10,7 @@ pub struct Feature {
 }
 
 #[repr(C)]
-#[derive(Clone, Copy, Default)]
+#[derive(Clone, Copy)]
 pub struct Run {
     pub before: u32,
     pub start: u32,
@@ -20,8 +20,24 @@ pub struct Run {
     pub script: u32,
     pub flags: u32,
     pub level: u32,
-    pub language: [u8; 16],
+    pub language: [u8; LONGEST_LANGUAGE],
     pub glyphs: usize,
+}
+
+impl Run {
+    /// No text, and nothing asked for.
+    pub const EMPTY: Run = Run {
+        before: 0,
+        start: 0,
+        end: 0,
+        after: 0,
+        direction: 0,
+        script: 0,
+        flags: 0,
+        level: 0,
+        language: [0; LONGEST_LANGUAGE],
+        glyphs: 0,
+    };
 }
 
 #[repr(C)]
@@ -44,17 +60,34 @@ pub struct Outcome {
     pub needed: usize,
 }
 
+/// A font that is kept. Not `Copy`: of two copies one may be used.
+#[repr(C)]
+#[derive(Debug)]
+pub struct Font {
+    kept: *mut std::ffi::c_void,
+    is_open: u32,
+}
+
+impl Font {
+    /// No font.
+    pub const NONE: Font = Font { kept: std::ptr::null_mut(), is_open: 0 };
+}
+
 pub const DONE: u32 = 0;
 pub const ROOM: u32 = 6;
+pub const LONGEST_LANGUAGE: usize = 64;
 
 extern "C" {
-    pub fn luthgarn_units_per_em(font: *const u8, font_size: usize, index: u32) -> u32;
     pub fn luthgarn_parse_feature(text: *const u8, size: usize, feature: *mut Feature) -> u32;
     pub fn luthgarn_parse_script(text: *const u8, size: usize) -> u32;
-    pub fn luthgarn_shape(
-        font: *const u8,
-        font_size: usize,
-        index: u32,
+    pub fn luthgarn_version() -> u32;
+    pub fn luthgarn_font_new(bytes: *const u8, size: usize, index: u32, font: *mut Font) -> u32;
+    pub fn luthgarn_font_share(font: *mut Font, copy: *mut Font) -> u32;
+    pub fn luthgarn_font_free(font: *mut Font);
+    pub fn luthgarn_font_units_per_em(font: *mut Font) -> u32;
+    pub fn luthgarn_font_glyph_name(font: *mut Font, glyph: u32, name: *mut u8, size: usize) -> usize;
+    pub fn luthgarn_shape_font(
+        font: *mut Font,
         features: *const Feature,
         feature_count: usize,
         text: *const u8,

@@ -1,5 +1,8 @@
+pub mod AsBox
 pub mod ListLemmas
+pub mod OptionLemmas
 pub mod OutcomeLemmas
+pub mod PartsValues
 pub mod PlanLemmas
 pub mod RefusalLemmas
 pub mod RunLemmas

@@ -1,6 +1,8 @@
 pub mod Glyphs
 pub mod Numbers
+pub mod Opened
 pub mod Outcomes
+pub mod Owned
 pub mod Plans
 pub mod Refusals
 pub mod Texts

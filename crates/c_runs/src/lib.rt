@@ -1,13 +1,17 @@
 //! What the library for C is made of: runs of a text shaped with a font file into an array, in structs and numbers that
 //! cross to C and back. `luthgarn_c` exports it.
 //!
-//! No pointer is kept: a call reads slices, writes into slices, and returns. [`plain`] has the structs that cross, [`texts`]
-//! makes a text of a run, [`shaper`] shapes it by one of the [`plans`] that the runs of a call share, [`written`] writes its
-//! glyphs, [`runs`] goes over the runs, [`fonts`] opens a font, and [`refusal`] has the reasons that come back as numbers.
+//! A call reads slices, writes into slices, and returns. [`plain`] has the structs that cross, [`texts`] makes a text of a
+//! run, [`shaper`] shapes it by one of the [`plans`] that the runs of a call share, [`written`] writes its glyphs, [`runs`]
+//! goes over the runs, [`fonts`] opens a font, [`kept`] is one that stays open, which C has behind a [`handle`], and
+//! [`refusal`] has the reasons that come back as numbers.
 #![tactic(auto)]
 #![allow(non_camel_case_types)]
 
 pub mod fonts;
+pub mod handle;
+pub mod kept;
+mod parts;
 pub mod plain;
 mod plans;
 pub mod refusal;
@@ -47,9 +51,28 @@ pub fn shape_opened(
     ensures same { IfErr result (λ _. (runs.new ≡ runs.old) × (glyphs.new ≡ glyphs.old)) }
 {
     let opened = OpenedOpenTypeFace::new(alloc, face)?;
+    shape_with(alloc, &opened, features, text, runs, glyphs)
+}
+
+/// Shapes runs of a text with an opened face. Refuses with `Memory` alone.
+fn shape_with(
+    alloc: Global,
+    face: &OpenedOpenTypeFace<'_>,
+    features: &[luthgarn_feature],
+    text: &[u8],
+    runs: &mut [luthgarn_run],
+    glyphs: &mut [luthgarn_glyph],
+) -> Result<luthgarn_outcome, Refusal>
+    ensures ok { IfOk result (λ outcome. ServesBy
+        ⟦<by_script as ScriptRuns<UnicodeDatabase, OpenedOpenTypeFace<'static>, OpenTypeLayout>>⟧.text_run
+        (λ f. f ≡ face.now) (map feature_of_c features.now)
+        text.now runs.old runs.new glyphs.old glyphs.new outcome) }
+    ensures memory { IfErr result (λ e. e ≡ Refusal.Memory) }
+    ensures same { IfErr result (λ _. (runs.new ≡ runs.old) × (glyphs.new ≡ glyphs.old)) }
+{
     let features = features_of(alloc, features)?;
     let mut shaper = FontShaper {
-        face: &opened,
+        face,
         features: features.as_slice(),
         plans: Vec::new(alloc),
     };

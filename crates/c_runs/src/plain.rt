@@ -35,7 +35,7 @@ pub struct luthgarn_run {
     pub script: u32,
     pub flags: u32,
     pub level: u32,
-    pub language: [u8; 16],
+    pub language: [u8; 64],
     pub glyphs: usize,
 }
 

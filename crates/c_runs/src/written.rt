@@ -1,5 +1,5 @@
-//! Glyphs into the array of the caller.
-ghost use Rattle.std.specs.Prelude.{◌≡◌, ◌≤◌, ◌+◌, ◌++◌, length, take, drop};
+//! Glyphs and names into the arrays of the caller.
+ghost use Rattle.std.specs.Prelude.{◌≡◌, ◌≤◌, ◌<◌, ◌+◌, ◌++◌, length, take, drop};
 ghost use Rattle.c_runs.specs.Glyphs.{glyphs_of};
 
 use crate::plain::luthgarn_glyph;
@@ -23,5 +23,16 @@ pub fn write(glyphs: &GlyphBuffer, room: &mut [luthgarn_glyph], start: usize)
     let (infos, positions) = (glyphs.glyph_infos(), glyphs.glyph_positions());
     for k in 0..infos.len() {
         room[start + k] = luthgarn_glyph::of(&infos[k], &positions[k]);
+    }
+}
+
+/// Writes bytes to the first places, if there is room for all.
+pub fn put_bytes(bytes: &[u8], room: &mut [u8])
+    ensures fits { length bytes.now ≤ length room.old
+        → room.new ≡ bytes.now ++ drop (length bytes.now) room.old }
+    ensures none { length room.old < length bytes.now → room.new ≡ room.old }
+{
+    if bytes.len() <= room.len() {
+        room[..bytes.len()].copy_from_slice(bytes);
     }
 }

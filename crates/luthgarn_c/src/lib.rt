@@ -1,10 +1,12 @@
 //! The library for C: texts shaped with a font file, into arrays that the caller owns. `bindings/c/luthgarn.h` declares
 //! what is exported here.
 //!
-//! No pointer of this library reaches C, and none of C's is kept: a call reads slices, writes into slices, and returns.
-//! So there is nothing to free, no handle to misuse, and nothing global. `c_runs` has all but the exports.
+//! A call reads slices, writes into slices, and returns; nothing is global. A font that is kept is C's own: a pointer that
+//! [`kept`] hands out and takes back. `c_runs` has all but the exports.
 #![tactic(auto)]
 #![allow(non_camel_case_types)]
+
+mod kept;
 
 ghost use Rattle.std.specs.Prelude.{◌≡◌, ◌↔◌, ◌≤◌, Some, None, length, map};
 ghost use Rattle.std.specs.Str.{IsUtf8};
@@ -26,6 +28,17 @@ use shape_text_forms::{direction_from_string, feature_from_string, script_from_s
 use shape_unicode::UnicodeDatabase;
 use shaper_choice::choice::{ScriptRuns, by_script};
 use std::alloc::Global;
+
+/// The version of the library: 65536 times the first number, 256 times the second, and the third.
+const VERSION: u32 = 0x00_02_00;
+
+/// The version of the library, as the header has it.
+#[unsafe(no_mangle)]
+pub extern "C" fn luthgarn_version() -> u32
+    ensures { result ≡ 512 }
+{
+    VERSION
+}
 
 /// How many units the em square has of the font with this number; 0 exactly if the bytes have no such font.
 #[unsafe(no_mangle)]

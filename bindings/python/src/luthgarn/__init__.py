@@ -4,22 +4,25 @@
 
     font = luthgarn.Font.open("DejaVuSans.ttf")
     for glyph in luthgarn.shape(font, "Čau", features={"kern": False}):
-        print(glyph.glyph, glyph.cluster, glyph.x_advance)
+        print(glyph.name, glyph.cluster, glyph.x_advance)
 
 A font and a text may hold anything: a hostile font changes which glyphs come out, or is refused. Advances and offsets
 count in units of the font, `Font.units_per_em` to the em square.
+
+What uharfbuzz calls Face, Font, Buffer, shape, glyph_infos and glyph_positions has these names here.
 """
 import ctypes
 import enum
+import weakref
 from collections.abc import Sequence
-from dataclasses import dataclass
+from dataclasses import dataclass, field
 from typing import Iterable, Iterator, List, Mapping, NamedTuple, Optional, Tuple, Union, overload
 
 from luthgarn import _native
 
 __all__ = [
-    "BadFeature", "BadFont", "BadText", "Buffer", "ClusterLevel", "Font", "Flags", "Glyph", "Glyphs", "OutOfMemory",
-    "ShapingError", "TooLong", "UnknownName", "shape", "shape_all",
+    "BadFeature", "BadFont", "BadText", "Buffer", "ClusterLevel", "Face", "Flags", "Font", "Glyph", "GlyphInfo",
+    "GlyphPosition", "Glyphs", "OutOfMemory", "ShapingError", "TooLong", "UnknownName", "shape", "shape_all",
 ]
 
 # a feature's value, or values for spans of clusters, as in uharfbuzz
@@ -94,6 +97,7 @@ class Glyph(NamedTuple):
     y_advance: int
     x_offset: int
     y_offset: int
+    name: str = ""
 
     @property
     def codepoint(self) -> int:
@@ -104,6 +108,28 @@ class Glyph(NamedTuple):
     def position(self) -> Tuple[int, int, int, int]:
         """Offsets and advances, in uharfbuzz's order."""
         return self.x_offset, self.y_offset, self.x_advance, self.y_advance
+
+
+class GlyphInfo(NamedTuple):
+    """A glyph's number, its cluster and its flags, by uharfbuzz's names."""
+
+    codepoint: int
+    cluster: int
+    flags: Flags
+
+
+class GlyphPosition(NamedTuple):
+    """A glyph's place, by uharfbuzz's names."""
+
+    x_offset: int
+    y_offset: int
+    x_advance: int
+    y_advance: int
+
+    @property
+    def position(self) -> Tuple[int, int, int, int]:
+        """Offsets and advances."""
+        return tuple(self)
 
 
 class Glyphs(Sequence):
@@ -140,9 +166,9 @@ class Glyphs(Sequence):
     def arrays(self):
         """numpy arrays of 32 bits by name: glyph, cluster, flags, x_advance, y_advance, x_offset, y_offset."""
         import numpy
-        rows = numpy.array(self._found, dtype=numpy.int64).reshape(len(self), len(Glyph._fields))
         kinds = [numpy.uint32] * 3 + [numpy.int32] * 4
-        return {name: rows[:, i].astype(kind) for i, (name, kind) in enumerate(zip(Glyph._fields, kinds))}
+        return {name: numpy.fromiter((glyph[i] for glyph in self._found), kind, len(self))
+                for i, (name, kind) in enumerate(zip(Glyph._fields, kinds))}
 
 
 def written(glyph: Glyph) -> str:
@@ -152,17 +178,34 @@ def written(glyph: Glyph) -> str:
     return f"{glyph.glyph}={glyph.cluster}{offset}{advance}"
 
 
-@dataclass(frozen=True)
-class Font:
+class Face:
     """The bytes of a font file, and the number of a font in them."""
 
-    data: bytes
-    index: int = 0
-
-    def __post_init__(self) -> None:
-        object.__setattr__(self, "data", bytes(self.data))
-        if not 0 <= self.index <= _native.ALL or not self.units_per_em:
+    def __init__(self, data: bytes, index: int = 0) -> None:
+        self.data, self.index = bytes(data), index
+        if not 0 <= index <= _native.ALL or not self.upem:
             raise BadFont("no such font")
+
+    @property
+    def upem(self) -> int:
+        """How many units the em square has."""
+        return _native.LIBRARY.luthgarn_units_per_em(self.data, len(self.data), self.index)
+
+
+class Font:
+    """A font of a file, opened once: of a `Face`, or of bytes and the number of a font in them.
+
+    Any number of threads may shape with it at the same time.
+    """
+
+    def __init__(self, data: Union[Face, bytes], index: int = 0) -> None:
+        self.face = data if isinstance(data, Face) else Face(data, index)
+        self._kept = _native.Kept(self.face.data, self.face.index)
+        if self._kept.code != _native.DONE:
+            kind, said = REFUSED[self._kept.code]
+            raise kind(said)
+        self._names = {}
+        weakref.finalize(self, self._kept.close)
 
     @classmethod
     def open(cls, path, index: int = 0) -> "Font":
@@ -173,21 +216,42 @@ class Font:
     @property
     def units_per_em(self) -> int:
         """How many units the em square has."""
-        return _native.LIBRARY.luthgarn_units_per_em(self.data, len(self.data), self.index)
+        return self.face.upem
+
+    def glyph_name(self, glyph: int) -> str:
+        """The name of a glyph by the font, `gid` and its number if it has none."""
+        name = self._names.get(glyph)
+        if name is None:
+            name = self._names[glyph] = self._read_name(glyph) or f"gid{glyph}"
+        return name
+
+    glyph_to_string = glyph_name
+
+    def _read_name(self, glyph: int) -> str:
+        room = ctypes.create_string_buffer(256)
+        with self._kept.lent() as font:
+            size = _native.LIBRARY.luthgarn_font_glyph_name(font, glyph, room, len(room))
+        return room.raw[:size].decode(errors="replace") if size <= len(room) else ""
 
     def __repr__(self) -> str:
-        return f"Font({len(self.data)} bytes, index={self.index})"
+        return f"Font({len(self.face.data)} bytes, index={self.face.index})"
 
 
 @dataclass
 class Buffer:
-    """A text with its settings, by the names of uharfbuzz; `shape` gives its glyphs."""
+    """A text with its settings, by the names of uharfbuzz. Once it is shaped it has the glyphs, too."""
 
     text: str = ""
     direction: str = ""
     script: str = ""
     language: str = ""
     cluster_level: ClusterLevel = ClusterLevel.MONOTONE_GRAPHEMES
+    glyphs: Glyphs = field(default_factory=lambda: Glyphs([]), compare=False)
+
+    @classmethod
+    def create(cls) -> "Buffer":
+        """An empty one."""
+        return cls()
 
     def add_str(self, text: str) -> None:
         """Appends characters."""
@@ -197,9 +261,23 @@ class Buffer:
         """What isn't set is guessed by `shape` in any case."""
 
     def shape(self, font: Font, features: Features = None) -> Glyphs:
-        """The glyphs of the text."""
-        return shape(font, self.text, features=features, direction=self.direction, script=self.script,
-                     language=self.language, cluster_level=self.cluster_level)
+        """The glyphs of the text, which are kept."""
+        self.glyphs = shape(font, self.text, features, direction=self.direction, script=self.script,
+                            language=self.language, cluster_level=self.cluster_level)
+        return self.glyphs
+
+    @property
+    def glyph_infos(self) -> List[GlyphInfo]:
+        """The numbers, clusters and flags of the glyphs."""
+        return [GlyphInfo(glyph.glyph, glyph.cluster, glyph.flags) for glyph in self.glyphs]
+
+    @property
+    def glyph_positions(self) -> List[GlyphPosition]:
+        """The places of the glyphs."""
+        return [GlyphPosition(*glyph.position) for glyph in self.glyphs]
+
+    def __len__(self) -> int:
+        return len(self.glyphs) or len(self.text)
 
 
 def parsed(word: str) -> _native.Feature:
@@ -252,9 +330,9 @@ def run_like(direction: str, script: str, language: str, cluster_level: int) -> 
         raise UnknownName(f"no direction: {direction!r}")
     run.script = _native.LIBRARY.luthgarn_parse_script(name, len(name))
     tag = language.encode()
-    if len(tag) > 16:
-        raise UnknownName(f"a language of over 16 bytes: {language!r}")
-    run.language[:] = tag.ljust(16, b"\0")
+    if len(tag) > _native.LONGEST_LANGUAGE:
+        raise UnknownName(f"a language of over {_native.LONGEST_LANGUAGE} bytes: {language!r}")
+    run.language[:] = tag.ljust(_native.LONGEST_LANGUAGE, b"\0")
     return run
 
 
@@ -267,26 +345,28 @@ def encoded(text: str, line: int) -> bytes:
 
 def shape_all(font: Font, texts: Iterable[str], *, features: Features = None, direction: str = "", script: str = "",
               language: str = "", cluster_level: int = ClusterLevel.MONOTONE_GRAPHEMES) -> List[Glyphs]:
-    """The glyphs of each text. Texts whose features are for no spans are shaped by one call of the library, which opens
-    the font once. The settings are those of `shape`."""
+    """The glyphs of each text. Texts whose features are for no spans are shaped by one call of the library. The settings
+    are those of `shape`."""
     texts = list(texts)
     lines = [encoded(text, number) for number, text in enumerate(texts)]
     wanted, like = asked(features), run_like(direction, script, language, cluster_level)
     if all(map(is_for_all, wanted)):
-        return placed(texts, shaped(font, lines, wanted, like))
+        return placed(font, texts, shaped(font, lines, wanted, like))
     # (a character has another place in the bytes of each text)
     lists = [shaped(font, [line], in_bytes(wanted, text), like)[0] for text, line in zip(texts, lines)]
-    return placed(texts, lists)
+    return placed(font, texts, lists)
 
 
-def shape(font: Font, text: str, *, features: Features = None, direction: str = "", script: str = "",
+def shape(font: Font, text: Union[str, Buffer], features: Features = None, *, direction: str = "", script: str = "",
           language: str = "", cluster_level: int = ClusterLevel.MONOTONE_GRAPHEMES) -> Glyphs:
-    """The glyphs of a text.
+    """The glyphs of a text; those of a `Buffer`, which has its own settings, it keeps, too.
 
     `features` are texts as `kern=0` and `aalt[3:5]=2`, or values by tag, as `{"kern": False, "aalt": [(3, 5, 2)]}`; spans
-    count characters. `direction` (ltr, rtl, ttb, btt), `script` (ISO 15924) and `language` (BCP 47, at most 16 bytes) are
+    count characters. `direction` (ltr, rtl, ttb, btt), `script` (ISO 15924) and `language` (BCP 47, at most 64 bytes) are
     guessed if they are empty.
     """
+    if isinstance(text, Buffer):
+        return text.shape(font, features)
     return shape_all(font, [text], features=features, direction=direction, script=script, language=language,
                      cluster_level=cluster_level)[0]
 
@@ -303,8 +383,9 @@ def shaped(font: Font, lines: List[bytes], features: List[_native.Feature], like
     room = len(text) + 64
     while True:
         glyphs = (_native.Glyph * room)()
-        outcome = _native.LIBRARY.luthgarn_shape(font.data, len(font.data), font.index, given, len(features), text, len(text),
-                                                 runs, len(lines), glyphs, room)
+        with font._kept.lent() as kept:
+            outcome = _native.LIBRARY.luthgarn_shape_font(kept, given, len(features), text, len(text), runs, len(lines),
+                                                          glyphs, room)
         if outcome.code != _native.ROOM:
             break
         room = 2 * room + outcome.needed
@@ -315,7 +396,7 @@ def shaped(font: Font, lines: List[bytes], features: List[_native.Feature], like
     return [glyphs[a:b] for a, b in zip(ends, ends[1:])]
 
 
-def placed(texts: List[str], lists: List[list]) -> List[Glyphs]:
+def placed(font: Font, texts: List[str], lists: List[list]) -> List[Glyphs]:
     """Glyphs whose clusters count characters of their texts."""
     found = []
     for text, glyphs in zip(texts, lists):
@@ -324,5 +405,5 @@ def placed(texts: List[str], lists: List[list]) -> List[Glyphs]:
             number[at] = index
             at += len(c.encode())
         found.append(Glyphs([Glyph(it.glyph, number[it.cluster], Flags(it.flags), it.x_advance, it.y_advance,
-                                   it.x_offset, it.y_offset) for it in glyphs]))
+                                   it.x_offset, it.y_offset, font.glyph_name(it.glyph)) for it in glyphs]))
     return found

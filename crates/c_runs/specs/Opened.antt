@@ -1,0 +1,33 @@
+-- Fonts that are kept.
+use Rattle.std.specs.Prelude.{◌≡◌, ◌≤◌, ◌<◌, ◌++◌, ℕ, List, [], Option, Some, None, length, drop}
+use Rattle.opentype_layout.specs.Fonts.{IsFaceOf}
+use Rattle.opentype_layout.specs.declared.face.OpenTypeFace.{OpenTypeFace}
+use Rattle.shape_font.specs.Names.{glyph_name}
+
+-- what is kept is the face of these bytes
+abbrev pub IsOpened : List ℕ → ℕ → Option OpenTypeFace → Type 0
+IsOpened bytes index None = ⊥
+IsOpened bytes index (Some face) = IsFaceOf bytes index face
+
+-- the units of the em square, 0 of no font
+abbrev pub units_kept : Option OpenTypeFace → ℕ
+units_kept None = 0
+units_kept (Some face) = face.font.units_per_em
+
+-- the bytes of a glyph's name, none if it has none; the first list has the names that `post` leaves out
+abbrev pub name_or_none : Option (List ℕ) → List ℕ
+name_or_none None = []
+name_or_none (Some name) = name
+
+abbrev pub name_bytes : List ℕ → OpenTypeFace → ℕ → List ℕ
+name_bytes standard face glyph = name_or_none (glyph_name standard face.font.post.now glyph)
+
+abbrev pub name_kept : List ℕ → Option OpenTypeFace → ℕ → List ℕ
+name_kept standard None glyph = []
+name_kept standard (Some face) glyph = name_bytes standard face glyph
+
+-- the name is counted, and stands in the first places if there is room for it
+pub record IsNamed (name old new : List ℕ) (count : ℕ) : Type 0 where
+  pub count_is : count ≡ length name
+  pub fits : length name ≤ length old → new ≡ name ++ drop (length name) old
+  pub else_same : length old < length name → new ≡ old

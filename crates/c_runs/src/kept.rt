@@ -1,0 +1,94 @@
+//! A font that is opened once.
+ghost use Rattle.std.specs.Prelude.{◌≡◌, map, IfOk, IfErr};
+ghost use Rattle.c_runs.specs.Numbers.{feature_of_c};
+ghost use Rattle.c_runs.specs.Opened.{IsNamed, name_bytes};
+ghost use Rattle.c_runs.specs.Outcomes.{ServesBy};
+ghost use Rattle.shape_font.specs.declared.names.TheConstants.{STANDARD};
+
+use crate::plain::{luthgarn_feature, luthgarn_glyph, luthgarn_outcome, luthgarn_run};
+use crate::refusal::Refusal;
+use crate::shape_with;
+use crate::written::put_bytes;
+use opentype_layout::{OpenTypeFace, OpenTypeLayout, OpenedOpenTypeFace};
+use shape_buffer::GlyphId;
+use shape_buffer::interfaces::hb_font_t;
+use shape_unicode::UnicodeDatabase;
+use shaper_choice::choice::{ScriptRuns, by_script};
+use std::alloc::Global;
+use std::marker::Model;
+use std::sync::Arc;
+
+/// An opened font. Contracts see it as its face. Copies share what was opened.
+#[derive(Drop)]
+pub struct KeptFont {
+    face: Arc<OpenedOpenTypeFace<'static>, Global>,
+}
+
+impl Model for KeptFont {
+    ghost use Rattle.std.specs.Arc.{arc_value};
+    ghost use Rattle.opentype_layout.specs.declared.face.OpenTypeFace.{OpenTypeFace};
+
+    ghost Value = { OpenTypeFace };
+
+    ghost view = { λ k. arc_value k.face };
+}
+
+impl KeptFont {
+    /// Opens a face. Refuses with `Memory` alone.
+    pub fn open(alloc: Global, face: OpenTypeFace<'static>) -> Result<KeptFont, Refusal>
+        ensures ok { IfOk result (λ kept. kept ≡ face.entry) }
+        ensures memory { IfErr result (λ e. e ≡ Refusal.Memory) }
+    {
+        let opened = OpenedOpenTypeFace::new(alloc, face)?;
+        let face = Arc::new(alloc, opened)?;
+        Ok(KeptFont { face })
+    }
+
+    /// A font that shares what was opened. Refuses with `Memory` alone.
+    pub fn share(&self) -> Result<KeptFont, Refusal>
+        ensures ok { IfOk result (λ kept. kept ≡ self.now) }
+        ensures memory { IfErr result (λ e. e ≡ Refusal.Memory) }
+    {
+        let face = Arc::try_clone(&self.face)?;
+        Ok(KeptFont { face })
+    }
+
+    /// How many units the em square has.
+    pub fn units_per_em(&self) -> u16
+        ensures { result ≡ self.now.font.units_per_em }
+    {
+        self.face.units_per_em()
+    }
+
+    /// Writes the name of a glyph by `post`, if there is room for it, and gives how many bytes it has; 0 if it has none.
+    pub fn write_name(&self, glyph: u32, room: &mut [u8]) -> usize
+        ensures { IsNamed (name_bytes STANDARD.now self.now glyph) room.old room.new result }
+    {
+        match self.face.face().font().glyph_name(GlyphId(glyph)) {
+            Some(name) => {
+                put_bytes(name, room);
+                name.len()
+            }
+            None => 0,
+        }
+    }
+
+    /// Shapes runs of a text. Refuses with `Memory` alone.
+    pub fn shape(
+        &self,
+        alloc: Global,
+        features: &[luthgarn_feature],
+        text: &[u8],
+        runs: &mut [luthgarn_run],
+        glyphs: &mut [luthgarn_glyph],
+    ) -> Result<luthgarn_outcome, Refusal>
+        ensures ok { IfOk result (λ outcome. ServesBy
+            ⟦<by_script as ScriptRuns<UnicodeDatabase, OpenedOpenTypeFace<'static>, OpenTypeLayout>>⟧.text_run
+            (λ f. f ≡ self.now) (map feature_of_c features.now)
+            text.now runs.old runs.new glyphs.old glyphs.new outcome) }
+        ensures memory { IfErr result (λ e. e ≡ Refusal.Memory) }
+        ensures same { IfErr result (λ _. (runs.new ≡ runs.old) × (glyphs.new ≡ glyphs.old)) }
+    {
+        shape_with(alloc, &self.face, features, text, runs, glyphs)
+    }
+}
