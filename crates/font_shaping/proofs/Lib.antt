@@ -1,1 +1,2 @@
 mod ScriptLemmas
+mod PlanLemmas

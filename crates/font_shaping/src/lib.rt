@@ -7,6 +7,7 @@
 #![tactic(auto)]
 #![allow(non_camel_case_types)]
 
+pub mod kept_plans;
 pub mod laws;
 pub mod shaping;
 pub mod strings;

@@ -1,5 +1,4 @@
 use Rattle.shape_pipeline.specs.Planned.{planned_for}
-use Rattle.shape_plan.specs.Planner.{Planning}
 use Rattle.font_shaping.proofs.laws.text_runs_preserve.Goals as goal
 
 pub returns-clause-clusters : goal.returns-clause-clusters
