@@ -1,16 +1,19 @@
 -- a lookup preserves the number of items, and what subtables of marks on bases and ligatures come to
-use Rattle.std.proofs.Common.{◌≡◌, ℕ, ◌∙◌, ◌&&◌, ◌||◌, Bool, true, false, Option, Some, None, is_some, length, nat_eq, refl, sym, ap, subst, arith, ◌-◌, ◌*◌, if◌then◌else◌}
+use Prim.Native.Nat.{zero}
+use Rattle.std.proofs.Common.{◌≡◌, ℕ, suc, ◌+◌, ◌<◌, ◌∙◌, ◌&&◌, ◌||◌, Bool, true, false, Option, Some, None, is_some, length, nat_eq, refl, sym, ap, subst, arith, ◌-◌, ◌*◌, if◌then◌else◌}
 use Rattle.std.proofs.lemmas.Bool.Decides.{nat_tests}
 use Rattle.std.specs.Option.{option_map_or}
 use Rattle.shape_font.specs.Bytes.{u16_of}
 use Rattle.shape_items.specs.Buffer.{Buffer}
 use Rattle.layout_tables.specs.declared.lookups.LookupSubtable.{LookupSubtable}
+use Rattle.layout_matching.specs.Loops.{times}
 use Rattle.layout_matching.specs.declared.lookup.Lookup.{Lookup}
+use Rattle.layout_matching.proofs.LoopLemmas.{times_step, times_after}
 use Rattle.layout_positions.specs.Cursive.{cursive_applied}
 use Rattle.layout_positions.specs.Lookups.{Applied, unapplied}
 use Rattle.layout_positions.specs.Marks.{base_seen, mark_number, mark_base_at, mark_base_applied, mark_ligature_at, mark_ligature_applied, mark_mark_at, mark_mark_applied}
 use Rattle.layout_positions.specs.Pairs.{single_applied, pair_applied}
-use Rattle.layout_positions.specs.Subtables.{if_first_format, kind_applied, LINK_WORK, links_of, links_charged, sought_from, sought, unplaced, kind_placed, subtable_placed, Trial, trial_step}
+use Rattle.layout_positions.specs.Subtables.{if_first_format, kind_applied, LINK_WORK, links_of, links_charged, sought_from, sought, unplaced, kind_placed, subtable_placed, Trial, trial_step, next_tried, placed_by}
 use Rattle.layout_positions.specs.declared.bases.BaseSeen.{BaseSeen}
 use Rattle.layout_positions.specs.declared.subtables.Sought.{Sought}
 use Rattle.layout_positions.proofs.CountLemmas.{length_broken, length_concat_marked, length_put}
@@ -19,6 +22,28 @@ use Rattle.layout_positions.proofs.StepLemmas.{step-trial}
 pub length_tried : (l : Lookup) (i : ℕ) (s : Trial) → length (trial_step l i s).buffer.items ≡ length s.buffer.items
 length_tried = step-trial (λ b c. length c.items ≡ length b.items) (λ b. refl) (λ a b c first later. later ∙ first)
     length_broken length_concat_marked length_put
+
+-- ---- the first subtable that applies ends the trial
+
+step_stays : (l : Lookup) (i : ℕ) (s : Trial) → is_some s.next ≡ true → placed_by (trial_step l i s) ≡ placed_by s
+step_stays l i s is = ap (λ b. placed_by (if b then record s { subtable = s.subtable + 1 } else next_tried l i s)) is
+
+rest_stays : (l : Lookup) (i n : ℕ) (s : Trial) → is_some s.next ≡ true → placed_by (times (trial_step l i) n s) ≡ placed_by s
+rest_stays l i zero s is = refl
+rest_stays l i (suc n) s is =
+    let before = rest_stays l i n s is in
+    step_stays l i (times (trial_step l i) n s) (ap (λ p. is_some p.next) before ∙ is) ∙ before
+
+pub tried_until : (l : Lookup) (i n k : ℕ) (first here there : Trial) → k < n → here ≡ times (trial_step l i) k first
+    → there ≡ trial_step l i here → is_some there.next ≡ true → placed_by there ≡ placed_by (times (trial_step l i) n first)
+tried_until l i n k first here there below made next is =
+    let f = trial_step l i in
+    let rest = n - (k + 1) in
+    let whole : rest + (k + 1) ≡ n = omega (arith, below) in
+    sym (rest_stays l i rest there is)
+    ∙ ap (λ (s : Trial). placed_by (times f rest s)) (times_step f k first here there made next)
+    ∙ ap placed_by (sym (times_after f rest (k + 1) first))
+    ∙ ap (λ m. placed_by (times f m first)) whole
 
 -- ---- marks on bases and on ligatures
 
@@ -120,6 +145,21 @@ sought-mark l subtable i b seen left number on is =
     let format = nat_eq (u16_of l.table.now subtable.start) 1 in
     let o = mark_number l subtable.start i b in
     sought-if (nat_eq subtable.kind 4 || nat_eq subtable.kind 5) format (is_some o) _ _ on (listed-format format o number is)
+
+sought-neither : (x y z : Bool) (found none : Sought) → x ≡ false → (if x && y && z then found else none) ≡ none
+sought-neither true y z found none is = cc
+sought-neither false y z found none is = refl
+
+-- a subtable of values seeks nothing, and costs nothing
+pub kind_alone : (l : Lookup) (subtable : LookupSubtable) (i : ℕ) (b : Buffer) (seen : BaseSeen) (left : ℕ) → nat_eq subtable.kind 3 ≡ false
+    → (nat_eq subtable.kind 4 || nat_eq subtable.kind 5) ≡ false
+    → kind_placed l subtable i b seen left ≡ subtable_placed l subtable i b (sought l subtable i b seen left)
+kind_alone l subtable i b seen left third neither =
+    let none : sought l subtable i b seen left ≡ record { seen = seen; left = Some left } =
+    sought-neither (nat_eq subtable.kind 4 || nat_eq subtable.kind 5) (nat_eq (u16_of l.table.now subtable.start) 1)
+    (is_some (mark_number l subtable.start i b)) _ _ neither
+    ∙ ap (λ t. record { seen = seen; left = if t then links_charged l subtable i b left else Some left }) third in
+    ap (subtable_placed l subtable i b) (sym none)
 
 -- a mark of the subtable, if what is left suffices for the search
 pub mark_placed : (l : Lookup) (subtable : LookupSubtable) (i : ℕ) (b c : Buffer) (seen : BaseSeen) (left number after : ℕ) (s : Sought)

@@ -292,7 +292,9 @@ fn apply_level(
     ensures len { length buffer.new.items ≡ length buffer.old.items }
 {
     if !is_context(indexed.lookup) {
-        return apply_lookup(indexed, buffer, at, carried);
+        let mut carried = carried;
+        let next = apply_lookup(indexed, buffer, at, &mut carried);
+        return Outcome { next, carried };
     }
     mark_tried(indexed.lookup, buffer, at);
     apply_first(level, indexed, buffer, at, carried)

@@ -1,5 +1,5 @@
 //! A lookup at a place: its first subtable that applies.
-ghost use Rattle.std.specs.Prelude.{◌≡◌, ◌<◌, ◌≤◌, ◌+◌, ◌-◌, ◌*◌, ◌^◌, ◌||◌, true, false, length, nat_eq, None};
+ghost use Rattle.std.specs.Prelude.{◌≡◌, ℕ, ◌<◌, ◌≤◌, ◌+◌, ◌-◌, ◌*◌, ◌^◌, ◌||◌, true, false, length, nat_eq, None};
 ghost use Rattle.std.specs.Option.{IfSome};
 ghost use Rattle.layout_matching.specs.Firsts.{IsOut};
 ghost use Rattle.layout_matching.specs.Skipping.{nth};
@@ -13,7 +13,6 @@ use crate::cursive::{Joined, UNJOINED, apply_cursive};
 use crate::listed::try_mark;
 use layout_matching::indexed::Indexed;
 use layout_matching::lookup::Lookup;
-use layout_matching::skipping::item_at;
 use layout_tables::lookups::{LookupSubtable, subtable, subtable_count};
 use shape_buffer::hb_buffer_t;
 use shape_font::bytes::u16_at;
@@ -105,15 +104,15 @@ pub(crate) fn place_cursive(
 }
 
 /// Applies a subtable by its type to the glyph at place `i`, but none of cursive attachment, and none
-/// that attaches marks.
+/// that attaches marks. Returns where the lookup goes on.
+#[inline(always)]
 fn apply_kind(
     lookup: &Lookup<'_>,
     subtable: LookupSubtable,
     buffer: &mut hb_buffer_t,
     i: usize,
-    carried: Carried,
     ahead: &mut Option<Option<usize>>,
-) -> Outcome
+) -> Option<usize>
     requires near { subtable.start < 2 ^ 34 }
     requires inside { i < length buffer.old.items }
     requires lone { nat_eq subtable.kind 3 ≡ false }
@@ -121,51 +120,70 @@ fn apply_kind(
     requires markless { nat_eq subtable.kind 6 ≡ false }
     requires known { IfSome ahead.old
         (λ stop. stop ≡ Lookups.stop_after lookup.now buffer.old.items i) }
-    ensures placed { record {
+    ensures placed { (seen : BaseSeen) (left : ℕ) → record {
       buffer = buffer.new;
-      next = result.next;
-      seen = result.carried.seen;
-      left = result.carried.left;
-    } ≡ Subtables.kind_placed lookup.now subtable i buffer.old carried.seen carried.left }
+      next = result;
+      seen = seen;
+      left = left;
+    } ≡ Subtables.kind_placed lookup.now subtable i buffer.old seen left }
     ensures known { IfSome ahead.new
         (λ stop. stop ≡ Lookups.stop_after lookup.now buffer.old.items i) }
 {
-    let next = match subtable.kind {
+    match subtable.kind {
         1 => apply_single(lookup, subtable.start, buffer, i),
         2 => apply_pair(lookup, subtable.start, buffer, i, ahead),
         _ => None,
-    };
-    Outcome { next, carried }
+    }
+}
+
+/// Where a lookup goes on that has changed what is carried on.
+#[inline(always)]
+fn carried_on(outcome: Outcome, carried: &mut Carried) -> Option<usize>
+    ensures next { result ≡ outcome.next }
+    ensures carried { carried.new ≡ outcome.carried }
+{
+    *carried = outcome.carried;
+    outcome.next
 }
 
 /// Applies a subtable to the glyph at place `i`.
+#[inline(always)]
 fn apply_subtable(
     lookup: &Lookup<'_>,
     subtable: LookupSubtable,
     buffer: &mut hb_buffer_t,
     i: usize,
-    placed: Outcome,
+    carried: &mut Carried,
     ahead: &mut Option<Option<usize>>,
-) -> Outcome
+) -> Option<usize>
     requires near { subtable.start < 2 ^ 34 }
     requires inside { i < length buffer.old.items }
-    requires unplaced { placed.next ≡ None }
     requires known { IfSome ahead.old
         (λ stop. stop ≡ Lookups.stop_after lookup.now buffer.old.items i) }
     ensures placed { record {
       buffer = buffer.new;
-      next = result.next;
-      seen = result.carried.seen;
-      left = result.carried.left;
+      next = result;
+      seen = carried.new.seen;
+      left = carried.new.left;
     } ≡ Subtables.subtable_placed lookup.now subtable i buffer.old
-        (Subtables.sought lookup.now subtable i buffer.old placed.carried.seen placed.carried.left) }
+        (Subtables.sought lookup.now subtable i buffer.old carried.old.seen carried.old.left) }
     ensures known { IfSome ahead.new
         (λ stop. stop ≡ Lookups.stop_after lookup.now buffer.old.items i) }
 {
     match subtable.kind {
-        3 => place_cursive(lookup, subtable, buffer, i, placed.carried),
-        4 | 5 | 6 => try_mark(lookup, subtable, buffer, i, placed),
-        _ => apply_kind(lookup, subtable, buffer, i, placed.carried, ahead),
+        3 => {
+            let outcome = place_cursive(lookup, subtable, buffer, i, *carried);
+            carried_on(outcome, carried)
+        }
+        4 | 5 | 6 => {
+            let unplaced = Outcome {
+                next: None,
+                carried: *carried,
+            };
+            let outcome = try_mark(lookup, subtable, buffer, i, unplaced);
+            carried_on(outcome, carried)
+        }
+        _ => apply_kind(lookup, subtable, buffer, i, ahead),
     }
 }
 
@@ -176,20 +194,20 @@ fn may_begin_at(indexed: &Indexed<'_>, buffer: &hb_buffer_t, i: usize, k: u32) -
     ensures { result ≡ false
         → IsOut indexed.now.lookup.now k (nth buffer.now.items i).glyph_id }
 {
-    let item = item_at(buffer.infos(), i);
-    indexed.may_begin(k, item.glyph_id)
+    indexed.may_begin(k, buffer.infos()[i].glyph_id)
 }
 
-/// Tries subtable number `k` at place `i`, unless one before it applied. `ahead` is the first glyph after the place that isn't
-/// passed over, once it was sought.
+/// Tries subtable number `k` at place `i`. `ahead` is the first glyph after the place that isn't passed over, once it was
+/// sought. Returns where the lookup goes on.
+#[inline(always)]
 fn try_subtable(
     indexed: &Indexed<'_>,
     buffer: &mut hb_buffer_t,
     i: usize,
-    placed: Outcome,
+    carried: &mut Carried,
     k: u32,
     ahead: &mut Option<Option<usize>>,
-) -> Outcome
+) -> Option<usize>
     requires place { indexed.now.lookup.now.place < 2 ^ 17 }
     requires inside { i < length buffer.old.items }
     requires few { k < 2 ^ 16 }
@@ -197,60 +215,55 @@ fn try_subtable(
         (λ stop. stop ≡ Lookups.stop_after indexed.now.lookup.now buffer.old.items i) }
     ensures step { record {
       buffer = buffer.new;
-      next = result.next;
-      seen = result.carried.seen;
-      left = result.carried.left;
-      subtable = k +
-          1;
+      next = result;
+      seen = carried.new.seen;
+      left = carried.new.left;
+      subtable = k + 1;
     }
         ≡ Subtables.trial_step indexed.now.lookup.now i (record {
           buffer = buffer.old;
-          next = placed.next;
-          seen = placed.carried.seen;
-          left = placed.carried.left;
+          next = None;
+          seen = carried.old.seen;
+          left = carried.old.left;
           subtable = k;
         }) }
     ensures known { IfSome ahead.new
         (λ stop. stop ≡ Lookups.stop_after indexed.now.lookup.now buffer.old.items i) }
 {
-    if placed.next.is_some() {
-        return placed;
-    }
     let lookup = indexed.lookup;
     if lookup.positioning && !may_begin_at(indexed, buffer, i, k) {
-        return placed;
+        return None;
     }
     match subtable(lookup.table, 9, lookup.place, k) {
-        Some(subtable) => apply_subtable(lookup, subtable, buffer, i, placed, ahead),
-        None => placed,
+        Some(subtable) => apply_subtable(lookup, subtable, buffer, i, carried, ahead),
+        None => None,
     }
 }
 
-/// Applies a lookup that names no other to the glyph at place `i`: its first subtable that applies.
+/// Applies a lookup that names no other to the glyph at place `i`: its first subtable that applies. Returns where it goes on.
 #[tactic(auto, using(layout_matching::proofs::LoopLemmas::times_step, crate::proofs::SubtableLemmas::length_tried))]
 pub fn apply_lookup(
     indexed: &Indexed<'_>,
     buffer: &mut hb_buffer_t,
     i: usize,
-    carried: Carried,
-) -> Outcome
+    carried: &mut Carried,
+) -> Option<usize>
     requires place { indexed.now.lookup.now.place < 2 ^ 17 }
     requires inside { i < length buffer.old.items }
     ensures made { record {
       buffer = buffer.new;
-      next = result.next;
-      seen = result.carried.seen;
-      left = result.carried.left;
-    } ≡ Subtables.lookup_placed indexed.now.lookup.now i carried.left carried.seen buffer.old }
+      next = result;
+      seen = carried.new.seen;
+      left = carried.new.left;
+    } ≡ Subtables.lookup_placed indexed.now.lookup.now i carried.old.left carried.old.seen buffer.old }
     ensures len { length buffer.new.items ≡ length buffer.old.items }
 {
-    let mut placed = Outcome {
-        next: None,
-        carried,
-    };
     let mut ahead = None;
     for k in 0..subtable_count(indexed.lookup.table, indexed.lookup.place) {
-        placed = try_subtable(indexed, buffer, i, placed, k, &mut ahead);
+        match try_subtable(indexed, buffer, i, carried, k, &mut ahead) {
+            Some(next) => return Some(next),
+            None => {}
+        }
     }
-    placed
+    None
 }

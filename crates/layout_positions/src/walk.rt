@@ -113,7 +113,9 @@ fn apply_at(
     }
     if known.is_empty() {
         *flagged = none_flagged();
-        return apply_lookup(indexed, buffer, at, carried);
+        let mut carried = carried;
+        let next = apply_lookup(indexed, buffer, at, &mut carried);
+        return Outcome { next, carried };
     }
     apply_known(indexed.lookup, buffer, at, carried, known, flagged)
 }

@@ -7,7 +7,7 @@ use Rattle.layout_positions.proofs.subtables.apply_lookup.Given as goal
 -- the subtables so far have been tried
 abbrev pub invariant-loop-k : goal.invariant-loop-k
 invariant-loop-k l =
-    let here : Trial = record { buffer = l.buffer; next = l.placed.next; seen = l.placed.carried.seen; left = l.placed.carried.left; subtable = l.k } in
+    let here : Trial = record { buffer = l.buffer; next = None; seen = l.carried.seen; left = l.carried.left; subtable = l.k } in
     let first : Trial = record { buffer = l.fn.buffer; next = None; seen = l.fn.carried.seen; left = l.fn.carried.left; subtable = 0 } in
     record {
       made : here ≡ times (trial_step l.indexed.lookup.now l.i) l.k first;
