@@ -10,3 +10,4 @@ pub mod PassingLemmas
 pub mod BesideLemmas
 pub mod PastLemmas
 pub mod KindLemmas
+pub mod SoughtLemmas

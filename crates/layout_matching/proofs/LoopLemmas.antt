@@ -73,6 +73,42 @@ first_some_end f n i over =
     let e : n - i ≡ 0 = omega (arith, over) in
     rw e refl
 
+-- past some that give nothing
+first_some_past : {X : Type 0} (f : ℕ → Option X) (n i m : ℕ) → i + m ≤ n → ((k : ℕ) → i ≤ k → k < i + m → f k ≡ None)
+    → first_some f (n - i) i ≡ first_some f (n - (i + m)) (i + m)
+first_some_past f n i zero within none =
+    let e : i ≡ i + 0 = omega arith in ap (λ j. first_some f (n - j) j) e
+first_some_past f n i (suc m) within none =
+    let e : i + m + 1 ≡ i + suc m = omega arith in
+    first_some_past f n i m (omega (arith, within)) (λ k from below. none k from (omega (arith, below)))
+    ∙ first_some_next f n (i + m) (omega (arith, within)) (none (i + m) (omega arith) (omega arith))
+    ∙ ap (λ j. first_some f (n - j) j) e
+
+pub first_some_to : {X : Type 0} (f : ℕ → Option X) (n i j : ℕ) → i ≤ j → j ≤ n → ((k : ℕ) → i ≤ k → k < j → f k ≡ None)
+    → first_some f (n - i) i ≡ first_some f (n - j) j
+first_some_to f n i j from within none =
+    let e : i + (j - i) ≡ j = omega (arith, from) in
+    first_some_past f n i (j - i) (omega (arith, e, within)) (λ k low below. none k low (omega (arith, below, e)))
+    ∙ ap (λ k. first_some f (n - k) k) e
+
+-- past some that change nothing
+steps_past : {S : Type 0} (f : ℕ → S → Option S) (n i m : ℕ) (s : S) → i + m ≤ n → ((k : ℕ) → i ≤ k → k < i + m → f k s ≡ Some s)
+    → steps f (n - i) i s ≡ steps f (n - (i + m)) (i + m) s
+steps_past f n i zero s within still =
+    let e : i ≡ i + 0 = omega arith in ap (λ j. steps f (n - j) j s) e
+steps_past f n i (suc m) s within still =
+    let e : i + m + 1 ≡ i + suc m = omega arith in
+    steps_past f n i m s (omega (arith, within)) (λ k from below. still k from (omega (arith, below)))
+    ∙ steps_next f n (i + m) s s (omega (arith, within)) (still (i + m) (omega arith) (omega arith))
+    ∙ ap (λ j. steps f (n - j) j s) e
+
+pub steps_to : {S : Type 0} (f : ℕ → S → Option S) (n i j : ℕ) (s : S) → i ≤ j → j ≤ n → ((k : ℕ) → i ≤ k → k < j → f k s ≡ Some s)
+    → steps f (n - i) i s ≡ steps f (n - j) j s
+steps_to f n i j s from within still =
+    let e : i + (j - i) ≡ j = omega (arith, from) in
+    steps_past f n i (j - i) s (omega (arith, e, within)) (λ k low below. still k low (omega (arith, below, e)))
+    ∙ ap (λ k. steps f (n - k) k s) e
+
 -- where steps stop
 pub stopped_next : {S : Type 0} (f : ℕ → S → Option S) (at : ℕ → S → ℕ) (n k : ℕ) (s t : S) → k < n → f k s ≡ Some t
     → stopped f at (n - k) k s ≡ stopped f at (n - (k + 1)) (k + 1) t

@@ -1,5 +1,5 @@
 -- the glyphs that a subtable begins at, and what is stored of them for each subtable of a lookup
-use Rattle.std.specs.Prelude.{◌≡◌, ℕ, Bool, false, Some, is_some, ◌<◌, ◌+◌, ◌/◌, ◌%◌, ◌&&◌, nat_eq, length, slice_index_or, if◌then◌else◌}
+use Rattle.std.specs.Prelude.{◌≡◌, ℕ, Bool, false, Some, is_some, ◌<◌, ◌≤◌, ◌+◌, ◌/◌, ◌%◌, ◌&&◌, nat_eq, length, slice_index_or, if◌then◌else◌}
 use Rattle.std.specs.Int.{bit_at}
 use Rattle.shape_font.specs.Bytes.{u16_of}
 use Rattle.layout_tables.specs.declared.lookups.LookupSubtable.{LookupSubtable}
@@ -27,6 +27,10 @@ begins l subtable glyph = if is_context_subtable l subtable
 -- subtable `i` doesn't begin at a glyph
 abbrev pub IsOut : Lookup → ℕ → ℕ → Type 0
 IsOut l i glyph = (subtable : LookupSubtable) → subtable_at l i ≡ Some subtable → begins l subtable glyph ≡ false
+
+-- nor do those from number `i` on, up to number `j`
+abbrev pub AreOut : Lookup → ℕ → ℕ → ℕ → Type 0
+AreOut l i j glyph = (k : ℕ) → i ≤ k → k < j → IsOut l k glyph
 
 abbrev pub no_first : First
 no_first = record { fine = 0; middle = 0; coarse = 0 }

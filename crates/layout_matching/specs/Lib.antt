@@ -10,5 +10,6 @@ pub mod Glance
 pub mod Nesting
 pub mod Tried
 pub mod Work
+pub mod Sought
 pub mod Would
 pub mod Worked

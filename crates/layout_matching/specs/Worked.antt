@@ -3,6 +3,7 @@ pub mod Work
 pub mod Passing
 pub mod Glance
 pub mod Would
+pub mod Sought
 use Rattle.std.specs.Prelude.{◌≡◌, ℕ, ◌+◌, Bool, List, [], ◌∷◌, Some, None, true, false, refl}
 use Rattle.shape_font.specs.Worked.Glyphs.{words}
 use Rattle.shape_items.specs.Items.{Item}

@@ -63,7 +63,12 @@ pub(crate) fn is_context_subtable(lookup: &Lookup<'_>, subtable: LookupSubtable)
 }
 
 /// The rule, if the table has all of its bytes, and it matches.
-fn found_if(lookup: &Lookup<'_>, items: &ItemList<'_>, origin: Origin, rule: Rule) -> Option<Found>
+pub(crate) fn found_if(
+    lookup: &Lookup<'_>,
+    items: &ItemList<'_>,
+    origin: Origin,
+    rule: Rule,
+) -> Option<Found>
     requires { origin.at < length items.now }
     ensures value { result ≡ found_rules.found_if lookup.now items.now origin rule }
     ensures last { IfSome result (λ f. f.span.last < length items.now) }
@@ -100,7 +105,7 @@ fn found_whole(
 
 /// The rule at a place of the table, if it matches.
 #[inline(never)]
-fn found_at(
+pub(crate) fn found_at(
     lookup: &Lookup<'_>,
     items: &ItemList<'_>,
     origin: Origin,
@@ -246,24 +251,19 @@ fn found_in_sets(
 }
 
 /// The rule of subtable `i` that matches.
-#[tactic(auto, using(crate::proofs::FirstLemmas::found_out))]
 fn found_at_subtable(
-    indexed: &Indexed<'_>,
+    lookup: &Lookup<'_>,
     items: &ItemList<'_>,
     origin: Origin,
     i: u32,
 ) -> Option<Found>
-    requires near { indexed.now.lookup.now.place < 2 ^ 17 }
+    requires near { lookup.now.place < 2 ^ 17 }
     requires few { i < 2 ^ 16 }
     requires inside { origin.at < length items.now }
     ensures value { result
-        ≡ found_rules.found_at_subtable indexed.now.lookup.now items.now origin i }
+        ≡ found_rules.found_at_subtable lookup.now items.now origin i }
     ensures last { IfSome result (λ f. f.span.last < length items.now) }
 {
-    if !indexed.may_begin(i, items.at(origin.at).glyph_id) {
-        return None;
-    }
-    let lookup = indexed.lookup;
     let subtable = subtable(lookup.table, extension_kind(lookup), lookup.place, i)?;
     if !is_context_subtable(lookup, subtable) {
         return None;
@@ -276,17 +276,21 @@ fn found_at_subtable(
 }
 
 /// The first rule of the first subtable that has one which matches at `origin`.
-#[tactic(auto, using(crate::proofs::LoopLemmas::first_some_next, crate::proofs::LoopLemmas::first_some_found, crate::proofs::LoopLemmas::first_some_end))]
+#[tactic(auto, using(crate::proofs::LoopLemmas::first_some_end))]
 pub fn find(indexed: &Indexed<'_>, items: &ItemList<'_>, origin: Origin) -> Option<Found>
     requires near { indexed.now.lookup.now.place < 2 ^ 17 }
     requires inside { origin.at < length items.now }
     ensures value { result ≡ found_rules.found_of indexed.now.lookup.now items.now origin }
     ensures last { IfSome result (λ f. f.span.last < length items.now) }
 {
-    for i in 0..subtable_count(indexed.lookup.table, indexed.lookup.place) {
-        if let Some(found) = found_at_subtable(indexed, items, origin, i) {
+    let glyph = items.at(origin.at).glyph_id;
+    let count = subtable_count(indexed.lookup.table, indexed.lookup.place);
+    let mut i = indexed.next_begun(0, count, glyph);
+    while i < count {
+        if let Some(found) = found_at_subtable(indexed.lookup, items, origin, i) {
             return Some(found);
         }
+        i = indexed.next_begun(i + 1, count, glyph);
     }
     None
 }

@@ -1,7 +1,7 @@
 //! A lookup with what is stored of its subtables, so that those are passed over that don't begin at a glyph: nothing of them is
 //! read. What the lookup does is the same.
-ghost use Rattle.std.specs.Prelude.{◌≡◌, false};
-ghost use Rattle.layout_matching.specs.Firsts.{AreFirsts, IsOut};
+ghost use Rattle.std.specs.Prelude.{◌≡◌, ◌≤◌, false};
+ghost use Rattle.layout_matching.specs.Firsts.{AreFirsts, AreOut, IsOut};
 
 use crate::firsts::Firsts;
 use crate::lookup::Lookup;
@@ -35,6 +35,22 @@ impl<'a> Indexed<'a> {
             count: 0,
         };
         Indexed { lookup, firsts }
+    }
+
+    /// The next of so many subtables, from number `i` on, that may begin at a glyph; their count, if none may. Those before it do
+    /// nothing there.
+    pub(crate) fn next_begun(&self, i: u32, count: u32, glyph: u32) -> u32
+        requires { i ≤ count }
+        ensures from { i ≤ result }
+        ensures few { result ≤ count }
+        ensures out { AreOut self.now.lookup.now i result glyph }
+    {
+        for k in i..count {
+            if self.may_begin(k, glyph) {
+                return k;
+            }
+        }
+        count
     }
 
     /// Whether subtable `i` may begin at a glyph. If not, it does nothing there.

@@ -5,7 +5,8 @@
 //! context, [`glance`] refuses most of them at once ([`around`] looks as far as a rule asks), [`found`] has the first
 //! rule that matches, and [`nesting`] the lookups that it names. [`tried`] and [`reaching`] say how far searches in
 //! vain looked. [`work`] says what a lookup is charged for, by [`sets`] of rules, [`tally`] of each rule and
-//! [`passing`] of glyphs beside a place; [`beside`] charges subtables of positioning, which share those glyphs.
+//! [`passing`] of glyphs beside a place; [`beside`] charges subtables of positioning, which share those glyphs, and
+//! [`sought`] a lookup of context while it looks for the rule that applies.
 //! [`firsts`] has the glyphs that subtables may begin at, and [`indexed`] a lookup with those of its own.
 //! [`would`] says whether context would match glyphs that stand alone. All are functions of the bytes of the font and of
 //! the list of items: nothing is changed. Any bytes are taken.
@@ -28,6 +29,7 @@ pub mod rules;
 pub mod seeking;
 pub mod sets;
 pub mod skipping;
+pub mod sought;
 pub mod spans;
 pub mod tally;
 pub mod tried;

@@ -260,7 +260,7 @@ fn set_tries(
 
 /// Whether the rules of the subtable name glyphs by their classes.
 #[inline(always)]
-fn has_classes(lookup: &Lookup<'_>, subtable: LookupSubtable) -> bool
+pub(crate) fn has_classes(lookup: &Lookup<'_>, subtable: LookupSubtable) -> bool
     requires { subtable.start < 2 ^ 35 }
     ensures { result ≡ Work.has_classes lookup.now subtable }
 {

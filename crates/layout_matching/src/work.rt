@@ -3,7 +3,7 @@
 //! Parts of a table may be shared, so that a small font names very many. Each subtable that begins with the glyph is charged for,
 //! with the rules or ligatures of its set: one for each glyph that they name, and for each that is passed over beside the place.
 //! A lookup is tried only if what is left of a count suffices for all of them; nothing is read that isn't paid for.
-ghost use Rattle.std.specs.Prelude.{◌≡◌, ◌<◌, ◌*◌, ◌^◌, length};
+ghost use Rattle.std.specs.Prelude.{◌≡◌, ◌<◌, ◌+◌, ◌*◌, ◌^◌, length};
 ghost use Rattle.std.specs.Option.{IfSome};
 ghost use Rattle.layout_tables.specs.Lookups.{subtable_count_of};
 ghost use Rattle.layout_matching.specs.Work;
@@ -268,29 +268,8 @@ fn is_plain(lookup: &Lookup<'_>) -> bool
     }
 }
 
-/// The same, unless it is stored that the subtable doesn't begin with the glyph.
-#[tactic(auto, using(crate::proofs::FirstLemmas::charged_out))]
-#[inline(always)]
-fn charged_if_begun(
-    indexed: &Indexed<'_>,
-    items: &ItemList<'_>,
-    at: usize,
-    i: u32,
-    left: usize,
-) -> Option<usize>
-    requires near { indexed.now.lookup.now.place < 2 ^ 17 }
-    requires few { i < 2 ^ 16 }
-    requires inside { at < length items.now }
-    ensures { result ≡ Work.charged_at_subtable indexed.now.lookup.now items.now at i left }
-{
-    if !indexed.may_begin(i, items.at(at).glyph_id) {
-        return Some(left);
-    }
-    charged_at_subtable(indexed.lookup, items, at, i, left)
-}
-
 /// What is left after all subtables that begin with the glyph at a place.
-#[tactic(auto, using(crate::proofs::LoopLemmas::steps_next, crate::proofs::LoopLemmas::steps_none, crate::proofs::LoopLemmas::steps_end))]
+#[tactic(auto, using(crate::proofs::LoopLemmas::steps_none, crate::proofs::LoopLemmas::steps_end))]
 #[inline(never)]
 fn subtables_charged(
     indexed: &Indexed<'_>,
@@ -302,12 +281,16 @@ fn subtables_charged(
     requires inside { at < length items.now }
     ensures { result ≡ Work.subtables_charged indexed.now.lookup.now items.now at left }
 {
+    let glyph = items.at(at).glyph_id;
+    let count = subtable_count(indexed.lookup.table, indexed.lookup.place);
     let mut left = left;
-    for i in 0..subtable_count(indexed.lookup.table, indexed.lookup.place) {
-        match charged_if_begun(indexed, items, at, i, left) {
+    let mut i = indexed.next_begun(0, count, glyph);
+    while i < count {
+        match charged_at_subtable(indexed.lookup, items, at, i, left) {
             Some(less) => left = less,
             None => return None,
         }
+        i = indexed.next_begun(i + 1, count, glyph);
     }
     Some(left)
 }
@@ -356,6 +339,14 @@ fn steps_work(lookup: &Lookup<'_>) -> usize
     }
 }
 
+/// What is left after a lookup that a rule names was charged for all of its subtables.
+pub fn named_paid(lookup: &Lookup<'_>, left: usize) -> Option<usize>
+    requires { lookup.now.place < 2 ^ 17 }
+    ensures { result ≡ Work.charged (Work.steps_work lookup.now + Work.NESTED_WORK) left }
+{
+    charged(steps_work(lookup) + NESTED_WORK, left)
+}
+
 /// What is left after a lookup that a rule names was charged for all of its subtables, and for those that begin with the glyph.
 pub fn nested_charged(
     lookup: &Lookup<'_>,
@@ -367,7 +358,7 @@ pub fn nested_charged(
     requires inside { at < length items.now }
     ensures { result ≡ Work.nested_charged lookup.now items.now at left }
 {
-    match charged(steps_work(lookup) + NESTED_WORK, left) {
+    match named_paid(lookup, left) {
         Some(left) => subtables_charged(&Indexed::unstored(lookup), items, at, left),
         None => None,
     }

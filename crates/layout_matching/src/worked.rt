@@ -2,6 +2,7 @@
 ghost use Rattle.layout_matching.specs.Worked.{WorkedNullClasses, WorkedEnds, WorkedTypes};
 ghost use Rattle.layout_matching.specs.Worked.Glance.{WorkedGlance};
 ghost use Rattle.layout_matching.specs.Worked.Passing.{WorkedPassing};
+ghost use Rattle.layout_matching.specs.Worked.Sought.{WorkedSought};
 ghost use Rattle.layout_matching.specs.Worked.Work.{WorkedWork};
 ghost use Rattle.layout_matching.specs.Worked.Would.{WorkedWould};
 
@@ -19,6 +20,11 @@ pub fn types_meet_worked_cases()
 /// What lookups are charged for at a place, by rule, ligature and subtable, and what is passed over beside it.
 pub fn work_meets_worked_cases()
     ensures { WorkedWork }
+{}
+
+/// What looking for a rule of context costs, up to the one that applies.
+pub fn seeking_meets_worked_cases()
+    ensures { WorkedSought }
 {}
 
 /// What lookups are charged for where they pass over glyphs that lists are searched for.
