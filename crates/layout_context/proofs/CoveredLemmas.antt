@@ -2,7 +2,7 @@
 use Prim.Native.Nat.{zero}
 use Rattle.std.proofs.Common.{◌≡◌, ℕ, suc, ◌+◌, ◌-◌, ◌≤◌, ◌<◌, Bool, true, false, List, Option, Some, None, is_some, length, nat_eq, nat_lt, refl, sym, ap, ◌∙◌, subst, arith, if◌then◌else◌, ◌&&◌, ◌||◌}
 use Rattle.std.proofs.lemmas.Bool.Decides.{nat_tests}
-use Rattle.std.specs.Option.{option_and_then, option_map_or}
+use Rattle.std.specs.Option.{option_and_then, option_map, option_map_or}
 use Rattle.shape_items.specs.Buffer.{Buffer}
 use Rattle.shape_items.specs.Items.{Item}
 use Rattle.shape_font.specs.Bytes.{u16_of}
@@ -15,10 +15,12 @@ use Rattle.layout_matching.specs.Tried.{untried, whole_reach, number_reach, sets
 use Rattle.layout_matching.specs.Work.{lookup_charged, walk_work}
 use Rattle.layout_matching.specs.Firsts.{begins, IsOut}
 use Rattle.layout_matching.proofs.FirstLemmas.{found_out, charged_out}
+use Rattle.layout_matching.proofs.SoughtLemmas.{sought_free}
 use Rattle.layout_matching.proofs.WorkLemmas.{lookup_free}
 use Rattle.layout_substitution.proofs.OutLemmas.{subtable_out}
 use Rattle.layout_digests.proofs.TriedLemmas.{until_untried_below}
 use Rattle.layout_matching.specs.declared.lookup.Lookup.{Lookup}
+use Rattle.layout_matching.specs.declared.sought.Sought.{Sought}
 use Rattle.layout_matching.specs.declared.spans.Origin.{Origin}
 use Rattle.layout_substitution.specs.Applied.{unapplied}
 use Rattle.layout_substitution.specs.Edits.{item_at, is_inside, is_past, concat_marked}
@@ -26,7 +28,7 @@ use Rattle.layout_substitution.proofs.EditLemmas.{concat_marked_untried}
 use Rattle.layout_substitution.specs.Kinds.{subtable_applied, subtables_applied, or_next, lookup_applied}
 use Rattle.layout_substitution.specs.declared.apply.Spot.{Spot}
 use Rattle.layout_context.specs.Covered.{context_covers, subtable_covers, IsUncovered, CoversNone}
-use Rattle.layout_context.specs.Nested.{rule_applied, origin_of, tried_marked, first_rule_applied, level_applied, nested_applied}
+use Rattle.layout_context.specs.Nested.{rule_applied, origin_of, sought_left, place_charged, tried_marked, first_rule_applied, level_applied, nested_applied}
 use Rattle.layout_context.specs.Reverse.{reversal_of, reversal_by, reversal_in, reversal_reach_of, reversal_reach_by, reversal_reach_in, reversal_reach, reversed_by, first_reversed, reversed_at, Backwards, reversed_within, reverse_step, reversed, is_reverse}
 use Rattle.layout_context.specs.Stages.{Walk, passed, gone_on, with_left, tried_within, tried, lookup_step, first_walk, walked, gone_back, gone_over, walk_charged, looked_up}
 
@@ -168,11 +170,19 @@ pub charged-uncovered : (l : Lookup) (items : List Item) (at left : ℕ) → l.p
 charged-uncovered l items at left gsub out = lookup_free l items at left
     (λ i below. charged_out l items at i left (out_at l (nth items at).glyph_id i gsub out below))
 
+place-uncovered : (l : Lookup) (items : List Item) (origin : Origin) (left : ℕ) → l.positioning ≡ false
+    → IsUncovered l (nth items origin.at).glyph_id → place_charged l items origin left ≡ Some left
+place-uncovered l items origin left gsub out =
+    if_same (is_context l) (sought_left l items origin left) (lookup_charged l items origin.at left) (Some left)
+    (ap (option_map (λ (s : Sought). s.left))
+    (sought_free l items origin left (λ i below. out_at l (nth items origin.at).glyph_id i gsub out below)))
+    (charged-uncovered l items origin.at left gsub out)
+
 pub tried-uncovered-at : (levels : ℕ) (l : Lookup) (s : Walk) → l.positioning ≡ false → IsUncovered l (item_at s.buffer s.spot.at).glyph_id
     → tried (nested_applied levels l) l s ≡ passed s
 tried-uncovered-at levels l s gsub out =
     ap (λ o. option_map_or (tried_within (nested_applied levels l) s) o (passed (with_left 0 s)))
-    (charged-uncovered l s.buffer.items s.spot.at s.spot.left gsub out)
+    (place-uncovered l s.buffer.items (origin_of s.spot s.buffer) s.spot.left gsub out)
     ∙ ap (gone_on s) (nested-uncovered levels l s.spot s.buffer gsub out)
 
 step-uncovered : (levels : ℕ) (l : Lookup) (s : Walk) → l.positioning ≡ false → CoversNone l s.buffer.items

@@ -1,5 +1,6 @@
 pub mod PlaceLemmas
 pub mod NestedLemmas
+pub mod AttemptLemmas
 pub mod ReverseLemmas
 pub mod StageLemmas
 pub mod CoveredLemmas

@@ -7,7 +7,6 @@ use Rattle.layout_matching.specs.Found.{is_context, found_of}
 use Rattle.layout_matching.specs.Loops.{times}
 use Rattle.layout_matching.specs.Nesting.{target_of}
 use Rattle.layout_matching.specs.Tried.{reach_of}
-use Rattle.layout_matching.specs.Work.{nested_charged}
 use Rattle.layout_matching.specs.declared.found.Found.{Found}
 use Rattle.layout_matching.specs.declared.lookup.Lookup.{Lookup}
 use Rattle.layout_matching.specs.declared.nesting.Target.{Target}
@@ -18,7 +17,7 @@ use Rattle.layout_substitution.specs.declared.apply.Spot.{Spot}
 use Rattle.layout_substitution.proofs.AppliedLemmas.{or_unapplied, applied-if}
 use Rattle.layout_substitution.proofs.KindLemmas.{lookup-preserves}
 use Rattle.layout_substitution.proofs.PreservedLemmas.{Preserves, Preserves-same, Preserves-then, Preserves-times, Preserves-broken, Preserves-concat_marked}
-use Rattle.layout_context.specs.Nested.{Nest, nested_spot, passed_record, stopped_record, target_within, target_applied, target_done, record_step, first_nest, records_made, rule_applied, origin_of, tried_marked, first_rule_applied, level_applied, nested_applied}
+use Rattle.layout_context.specs.Nested.{Nest, nested_spot, passed_record, stopped_record, target_within, target_charged, target_applied, target_done, record_step, first_nest, records_made, rule_applied, origin_of, tried_marked, first_rule_applied, level_applied, nested_applied}
 use Rattle.layout_context.specs.declared.nested.LookupRule.{LookupRule}
 
 -- ---- what is applied next preserves
@@ -34,7 +33,7 @@ target-preserves : (next : Lookup → Spot → Buffer → Applied) → Preserves
     → Preserves s.buffer (target_applied next s t).buffer
 target-preserves next each s t =
     nest-if (not (is_inside t.place s.buffer)) s.buffer (record s { progress = passed_record s.progress }) _ (Preserves-same s.buffer)
-    (by_charge (nested_charged t.lookup s.buffer.items t.place s.progress.spot.left))
+    (by_charge (target_charged s t))
   where
     by_charge : (o : Option ℕ)
         → Preserves s.buffer (option_map_or (target_within next s t) o (record s { progress = stopped_record s.progress })).buffer
@@ -123,7 +122,7 @@ step-past level named s past =
     by_target None = past
     by_target (Some t) =
         past-if (not (is_inside t.place s.buffer)) (record s { progress = passed_record s.progress }) _ past
-        (by_charge t (nested_charged t.lookup s.buffer.items t.place s.progress.spot.left))
+        (by_charge t (target_charged s t))
 
 times-past : (level : ℕ) (named : LookupRule) (n : ℕ) (s : Nest) → is_past s.buffer ≡ true
     → is_past (times (record_step (nested_applied level) named) n s).buffer ≡ true

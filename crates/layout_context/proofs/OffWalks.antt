@@ -17,7 +17,7 @@ use Rattle.layout_substitution.specs.declared.apply.Spot.{Spot}
 use Rattle.layout_substitution.proofs.AppliedLemmas.{like-replaced}
 use Rattle.layout_substitution.proofs.OffKinds.{lookup-off}
 use Rattle.layout_substitution.proofs.OffLemmas.{same-broken, same-concat_marked, on_at, same-off, same-on, put-off}
-use Rattle.layout_context.specs.Nested.{tried_marked, first_rule_applied, level_applied, nested_applied}
+use Rattle.layout_context.specs.Nested.{origin_of, place_charged, tried_marked, first_rule_applied, level_applied, nested_applied}
 use Rattle.layout_context.specs.Reverse.{Backwards, reversal_found, reversal_reach, reversed_by, first_reversed, reversed_at, reversed_within, reverse_step, reversed, is_reverse}
 use Rattle.layout_context.specs.Stages.{Walk, passed, with_left, tried_within, tried, lookup_step, first_walk, walked, gone_back, gone_over, walk_charged, looked_up}
 use Rattle.layout_context.specs.declared.reverse.Reversal.{Reversal}
@@ -49,7 +49,7 @@ walk-off l b false x y k m = m
 
 tried-off : (levels : ℕ) (l : Lookup) (s : Walk) → is_context l ≡ false → HasNoFlag l → on_at l s.buffer s.spot.at ≡ true
     → off_glyphs l (tried (nested_applied levels l) l s).buffer.items ≡ off_glyphs l s.buffer.items
-tried-off levels l s kind pure on = by_charge (lookup_charged l s.buffer.items s.spot.at s.spot.left)
+tried-off levels l s kind pure on = by_charge (place_charged l s.buffer.items (origin_of s.spot s.buffer) s.spot.left)
   where
     by_charge : (o : Option ℕ)
         → off_glyphs l (option_map_or (tried_within (nested_applied levels l) s) o (passed (with_left 0 s))).buffer.items

@@ -13,7 +13,7 @@ use Rattle.shape_buffer.specs.declared.buffer.error.ShapeError.{ShapeError}
 use Rattle.shape_buffer.specs.declared.buffer.error.ShapeError.TheVariants.{Memory, Length}
 use Rattle.layout_matching.specs.Loops.{times}
 use Rattle.layout_matching.specs.Skipping.{is_on}
-use Rattle.layout_matching.specs.Work.{lookup_charged, walk_work}
+use Rattle.layout_matching.specs.Work.{walk_work}
 use Rattle.layout_matching.specs.declared.lookup.Lookup.{Lookup}
 use Rattle.layout_matching.proofs.LoopLemmas.{times_still, times_stays}
 use Rattle.layout_substitution.specs.Applied.{Applied}
@@ -21,7 +21,7 @@ use Rattle.layout_substitution.specs.Edits.{item_at, is_inside, is_past}
 use Rattle.layout_substitution.specs.declared.apply.Spot.{Spot}
 use Rattle.layout_substitution.proofs.KindLemmas.{limit-preserves}
 use Rattle.layout_substitution.proofs.PreservedLemmas.{Preserves, Preserves-same, Preserves-then, Preserves-times}
-use Rattle.layout_context.specs.Nested.{nested_applied}
+use Rattle.layout_context.specs.Nested.{nested_applied, origin_of, place_charged}
 use Rattle.layout_context.specs.Reverse.{is_reverse, reversed}
 use Rattle.layout_context.specs.Stages.{Walk, passed, with_left, tried_within, tried, lookup_step, first_walk, walked, gone_back, gone_over, walk_charged, looked_up, all_looked_up, stage_begun, stage_made, substituted}
 use Rattle.layout_context.proofs.NestedLemmas.{nested-preserves}
@@ -88,7 +88,7 @@ walk-if true a x y k m = k
 walk-if false a x y k m = m
 
 tried-preserves : (levels : ℕ) (l : Lookup) (s : Walk) → Preserves s.buffer (tried (nested_applied levels l) l s).buffer
-tried-preserves levels l s = by_charge (lookup_charged l s.buffer.items s.spot.at s.spot.left)
+tried-preserves levels l s = by_charge (place_charged l s.buffer.items (origin_of s.spot s.buffer) s.spot.left)
   where
     by_charge : (o : Option ℕ)
         → Preserves s.buffer (option_map_or (tried_within (nested_applied levels l) s) o (passed (with_left 0 s))).buffer

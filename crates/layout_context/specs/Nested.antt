@@ -1,16 +1,19 @@
 -- Lookups that apply others, by the levels that are left (kinds 5 and 6).
 use Prim.Native.Nat.{zero}
 use Rattle.std.specs.Prelude.{ℕ, suc, true, false, List, Option, Some, None, ◌+◌, not, length, nat_eq, if◌then◌else◌}
-use Rattle.std.specs.Option.{option_map_or, unwrap_or}
+use Rattle.std.specs.Option.{option_and_then, option_map, option_map_or, unwrap_or}
 use Rattle.shape_items.specs.Buffer.{Buffer}
+use Rattle.shape_items.specs.Items.{Item}
 use Rattle.layout_matching.specs.Found.{is_context, found_of}
 use Rattle.layout_matching.specs.Loops.{times}
 use Rattle.layout_matching.specs.Nesting.{target_of, places_of}
 use Rattle.layout_matching.specs.Tried.{reach_of}
-use Rattle.layout_matching.specs.Work.{nested_charged}
+use Rattle.layout_matching.specs.Sought.{sought}
+use Rattle.layout_matching.specs.Work.{charged, nested_charged, lookup_charged, steps_work, NESTED_WORK}
 use Rattle.layout_matching.specs.declared.found.Found.{Found}
 use Rattle.layout_matching.specs.declared.lookup.Lookup.{Lookup}
 use Rattle.layout_matching.specs.declared.nesting.Target.{Target}
+use Rattle.layout_matching.specs.declared.sought.Sought.{Sought}
 use Rattle.layout_matching.specs.declared.spans.Origin.{Origin}
 use Rattle.layout_substitution.specs.Applied.{Applied, unapplied}
 use Rattle.layout_substitution.specs.Edits.{is_inside, is_past, broken, concat_marked}
@@ -19,6 +22,25 @@ use Rattle.layout_substitution.specs.declared.apply.Spot.{Spot}
 use Rattle.layout_context.specs.Places.{renumbered, moved_end, is_too_long}
 use Rattle.layout_context.specs.declared.nested.LookupRule.{LookupRule}
 use Rattle.layout_context.specs.declared.nested.Progress.{Progress}
+use Rattle.layout_context.specs.declared.nested.Tried.{Tried}
+
+abbrev pub origin_of : Spot → Buffer → Origin
+origin_of spot b = record { at = spot.at; is_steady = nat_eq (length b.items) spot.whole }
+
+-- ---- what a lookup costs at a place
+
+abbrev pub sought_left : Lookup → List Item → Origin → ℕ → Option ℕ
+sought_left l items origin left = option_map (λ (s : Sought). s.left) (sought l items origin left)
+
+-- a lookup of context is charged for as its rule is sought, any other one before it is tried
+abbrev pub place_charged : Lookup → List Item → Origin → ℕ → Option ℕ
+place_charged l items origin left = if is_context l then sought_left l items origin left else lookup_charged l items origin.at left
+
+-- one that a rule names costs more
+abbrev pub named_charged : Lookup → List Item → Origin → ℕ → Option ℕ
+named_charged l items origin left = if is_context l
+    then option_and_then (sought_left l items origin) (charged (steps_work l + NESTED_WORK) left)
+    else nested_charged l items origin.at left
 
 -- ---- records
 
@@ -57,10 +79,13 @@ abbrev pub target_within : (Lookup → Spot → Buffer → Applied) → Nest →
 target_within next s t left = let spot = nested_spot s.progress.spot t.place left in nest_after s t spot (next t.lookup spot s.buffer)
 
 -- a nested lookup is charged for, whether it applies or not
+abbrev pub target_charged : Nest → Target → Option ℕ
+target_charged s t = let spot = nested_spot s.progress.spot t.place s.progress.spot.left in
+    named_charged t.lookup s.buffer.items (origin_of spot s.buffer) spot.left
+
 abbrev pub target_applied : (Lookup → Spot → Buffer → Applied) → Nest → Target → Nest
 target_applied next s t = if not (is_inside t.place s.buffer) then record s { progress = passed_record s.progress }
-    else option_map_or (target_within next s t) (nested_charged t.lookup s.buffer.items t.place s.progress.spot.left)
-    (record s { progress = stopped_record s.progress })
+    else option_map_or (target_within next s t) (target_charged s t) (record s { progress = stopped_record s.progress })
 
 abbrev pub target_done : (Lookup → Spot → Buffer → Applied) → Nest → Option Target → Nest
 target_done next s None = record s { progress = passed_record s.progress }
@@ -88,9 +113,6 @@ rule_applied next l spot b found = let s = records_made next l spot b found in
 
 -- ---- levels
 
-abbrev pub origin_of : Spot → Buffer → Origin
-origin_of spot b = record { at = spot.at; is_steady = nat_eq (length b.items) spot.whole }
-
 -- what the rules looked at in vain that were tried before the one that matches
 abbrev pub tried_marked : Lookup → Spot → Buffer → Buffer
 tried_marked l spot b = concat_marked (reach_of l b.items (origin_of spot b)) b
@@ -109,3 +131,27 @@ nested_applied zero l spot b = unapplied b
 nested_applied (suc level) l spot b =
     if is_past b then unapplied b
     else (if is_inside spot.at b then level_applied (nested_applied level) l spot b else unapplied b)
+
+-- ---- lookups that are charged for at a place
+
+-- what is left after the charge, and where the lookup goes on if it applied; none if what is left doesn't suffice
+pub record Attempt : Type 0 where
+  pub buffer : Buffer
+  pub tried : Option Tried
+
+abbrev pub attempt_within : ℕ → Lookup → Spot → Buffer → ℕ → Attempt
+attempt_within level l spot b left = let made = nested_applied level l (record spot { left = left }) b in
+    record { buffer = made.buffer; tried = Some (record { left = left; next = made.next }) }
+
+abbrev pub attempt_by : ℕ → Lookup → Spot → Buffer → Option ℕ → Attempt
+attempt_by level l spot b charge = option_map_or (attempt_within level l spot b) charge (record { buffer = b; tried = None })
+
+abbrev pub attempt : ℕ → Lookup → Spot → Buffer → Attempt
+attempt level l spot b = attempt_by level l spot b (sought_left l b.items (origin_of spot b) spot.left)
+
+-- at a place of a walk, and where a rule names the lookup
+abbrev pub place_attempt : ℕ → Lookup → Spot → Buffer → Attempt
+place_attempt level l spot b = attempt_by level l spot b (place_charged l b.items (origin_of spot b) spot.left)
+
+abbrev pub named_attempt : ℕ → Lookup → Spot → Buffer → Attempt
+named_attempt level l spot b = attempt_by level l spot b (named_charged l b.items (origin_of spot b) spot.left)

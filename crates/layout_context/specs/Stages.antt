@@ -4,12 +4,12 @@ use Rattle.std.specs.Option.{unwrap_or, option_map_or}
 use Rattle.shape_items.specs.Buffer.{Buffer}
 use Rattle.layout_matching.specs.Loops.{times}
 use Rattle.layout_matching.specs.Skipping.{is_on}
-use Rattle.layout_matching.specs.Work.{lookup_charged, walk_work}
+use Rattle.layout_matching.specs.Work.{walk_work}
 use Rattle.layout_matching.specs.declared.lookup.Lookup.{Lookup}
 use Rattle.layout_substitution.specs.Applied.{Applied}
 use Rattle.layout_substitution.specs.Edits.{item_at, is_inside, is_past}
 use Rattle.layout_substitution.specs.declared.apply.Spot.{Spot}
-use Rattle.layout_context.specs.Nested.{nested_applied}
+use Rattle.layout_context.specs.Nested.{nested_applied, origin_of, place_charged}
 use Rattle.layout_context.specs.Reverse.{Backwards, is_reverse, reversed}
 
 -- a buffer, and where a lookup stands in it
@@ -36,7 +36,8 @@ tried_within applied s left = let t = with_left left s in gone_on t (applied t.s
 
 abbrev pub tried : (Spot → Buffer → Applied) → Lookup → Walk → Walk
 tried applied l s =
-    option_map_or (tried_within applied s) (lookup_charged l s.buffer.items s.spot.at s.spot.left) (passed (with_left 0 s))
+    option_map_or (tried_within applied s) (place_charged l s.buffer.items (origin_of s.spot s.buffer) s.spot.left)
+    (passed (with_left 0 s))
 
 -- at each place the lookup applies or goes on to the next item; past the limit of the run nothing is done any more
 abbrev pub lookup_step : (Spot → Buffer → Applied) → Lookup → Walk → Walk

@@ -4,10 +4,11 @@
 //! on, move along. A rule goes no further when it would hold more than 64 glyphs, when what is left doesn't suffice for a nested
 //! lookup, or when the list passes the limit of the run.
 ghost use Rattle.std.specs.Prelude.{◌≡◌, ◌<◌, ◌≤◌, ◌-◌, ◌^◌, ◌+◌, length, true, false, map, OnOk, IfOk, IsErrOf, IsOkUnless};
-ghost use Rattle.std.specs.Option.{unwrap_or};
+ghost use Rattle.std.specs.Option.{IfSome, unwrap_or};
 ghost use Rattle.shape_items.specs.Buffer.{limit_of};
 ghost use Rattle.shape_buffer.specs.Outcome.{IsWithinLimit};
 ghost use Rattle.shape_buffer.specs.declared.buffer.error.ShapeError.TheVariants.{Length};
+ghost use Rattle.layout_matching.specs.Found as found_rules;
 ghost use Rattle.layout_matching.specs.Loops.{times};
 ghost use Rattle.layout_substitution.specs.Edits.{is_past};
 ghost use Rattle.layout_context.specs.Places;
@@ -21,8 +22,9 @@ use layout_matching::lookup::Lookup;
 use layout_matching::nesting::{Target, places, target_at};
 use layout_matching::reaching::reach_at;
 use layout_matching::rules::Rule;
+use layout_matching::sought::seek_rule;
 use layout_matching::spans::Origin;
-use layout_matching::work::nested_charged;
+use layout_matching::work::{lookup_charged, named_paid, nested_charged};
 use layout_substitution::apply::Spot;
 use layout_substitution::edits::{asks_for_concat, break_span, concat_span, next_place};
 use layout_substitution::kinds::apply_lookup;
@@ -75,6 +77,24 @@ fn nested_spot(spot: Spot, place: usize, left: usize) -> Spot
     next
 }
 
+/// What is left after a lookup was charged for at a place, and where it goes on if it was applied.
+#[derive(Clone, Copy, PartialEq, Eq, Debug)]
+pub struct Tried {
+    pub left: usize,
+    pub next: Option<Spot>,
+}
+
+pub(crate) fn with_left(spot: Spot, left: usize) -> Spot
+    ensures { result ≡ record spot { left = left } }
+{
+    Spot {
+        at: spot.at,
+        random: spot.random,
+        left,
+        whole: spot.whole,
+    }
+}
+
 /// After a lookup that was applied at a glyph, or wasn't. Refuses with `Memory` alone.
 fn settle(
     there: &Target<'_>,
@@ -106,8 +126,42 @@ fn settle(
     Ok(next)
 }
 
+/// Applies a lookup that a rule names, if what is left suffices for what it may try.
+#[cycle(nesting)]
+#[tactic(auto, using(crate::proofs::AttemptLemmas::named_context, crate::proofs::AttemptLemmas::named_unpaid, crate::proofs::AttemptLemmas::named_plain))]
+fn apply_named(
+    alloc: Global,
+    level: u32,
+    lookup: &Lookup<'_>,
+    buffer: &mut GapBuffer,
+    spot: Spot,
+) -> Result<Option<Tried>, ShapeError>
+    requires near { lookup.now.place < 2 ^ 17 }
+    requires inside { spot.at < length buffer.old.items }
+    ensures ok { IfOk result (λ t. record { buffer = buffer.new; tried = t }
+        ≡ Nested.named_attempt level lookup.now spot buffer.old) }
+    ensures length { IsErrOf result Length
+        → is_past (Nested.named_attempt level lookup.now spot buffer.old).buffer ≡ true }
+{
+    let indexed = Indexed::unstored(&*lookup);
+    if is_context(lookup) {
+        return match named_paid(lookup, spot.left) {
+            Some(left) => apply_sought(alloc, level, &indexed, buffer, with_left(spot, left)),
+            None => Ok(None),
+        };
+    }
+    let Some(left) = nested_charged(lookup, &buffer.items(), spot.at, spot.left) else {
+        return Ok(None);
+    };
+    match apply_nested(alloc, level, &indexed, buffer, with_left(spot, left)) {
+        Err(error) => Err(error),
+        Ok(next) => Ok(Some(Tried { left, next })),
+    }
+}
+
 /// Applies the lookup that a record names, if what is left suffices for what it may try.
 #[cycle(nesting)]
+#[tactic(auto, using(crate::proofs::AttemptLemmas::target_tried))]
 fn apply_target(
     alloc: Global,
     level: u32,
@@ -136,22 +190,14 @@ fn apply_target(
     if before <= there.place {
         return Ok(passed_record(progress));
     }
-    let has = progress.spot.left;
-    let Some(left) = nested_charged(&there.lookup, &buffer.items(), there.place, has) else {
-        return Ok(stopped_record(progress));
-    };
-    let spot = nested_spot(progress.spot, there.place, left);
-    match apply_nested(
-        alloc,
-        level,
-        &Indexed::unstored(&there.lookup),
-        buffer,
-        spot,
-    ) {
+    let spot = nested_spot(progress.spot, there.place, progress.spot.left);
+    match apply_named(alloc, level, &there.lookup, buffer, spot) {
         Err(error) => Err(error),
-        Ok(next) => {
+        Ok(None) => Ok(stopped_record(progress)),
+        Ok(Some(tried)) => {
             let after = buffer.len();
-            settle(there, before, after, places, next.unwrap_or(spot), progress)
+            let next = tried.next.unwrap_or(with_left(spot, tried.left));
+            settle(there, before, after, places, next, progress)
         }
     }
 }
@@ -332,6 +378,104 @@ fn apply_context(
     match find(indexed, &buffer.items(), origin(spot, buffer)) {
         Some(found) => apply_rule(alloc, level, indexed.lookup, buffer, spot, found),
         None => Ok(None),
+    }
+}
+
+/// Applies the rule that is found at a place, if there is one. Where the buffer asks what is unsafe to concat, what was looked at
+/// before is marked first.
+#[cycle(nesting)]
+#[tactic(auto, using(crate::proofs::AttemptLemmas::found_applied))]
+fn apply_found(
+    alloc: Global,
+    level: u32,
+    indexed: &Indexed<'_>,
+    buffer: &mut GapBuffer,
+    spot: Spot,
+    found: Option<Found>,
+) -> Result<Option<Spot>, ShapeError>
+    requires near { indexed.now.lookup.now.place < 2 ^ 17 }
+    requires inside { spot.at < length buffer.old.items }
+    requires context { found_rules.is_context indexed.now.lookup.now ≡ true }
+    requires found { found ≡ found_rules.found_of indexed.now.lookup.now buffer.old.items
+        (Nested.origin_of spot buffer.old) }
+    requires last { IfSome found (λ f. f.span.last < length buffer.old.items) }
+    ensures made { OnOk result (buffer.new
+        ≡ (Nested.nested_applied level indexed.now.lookup.now spot buffer.old).buffer) }
+    ensures next { IfOk result (λ next. next
+        ≡ (Nested.nested_applied level indexed.now.lookup.now spot buffer.old).next) }
+    ensures length { IsErrOf result Length
+        → is_past (Nested.nested_applied level indexed.now.lookup.now spot buffer.old).buffer ≡ true }
+{
+    if level == 0 || asks_for_concat(buffer) || buffer.length_limit() < buffer.len() {
+        return apply_nested(alloc, level, indexed, buffer, spot);
+    }
+    match found {
+        Some(found) => apply_rule(alloc, level - 1, indexed.lookup, buffer, spot, found),
+        None => Ok(None),
+    }
+}
+
+/// Applies a lookup of context at a place, if what is left suffices for what is looked at. Its rule is sought once.
+#[cycle(nesting)]
+#[inline(never)]
+#[tactic(auto, using(crate::proofs::AttemptLemmas::sought_some, crate::proofs::AttemptLemmas::sought_none))]
+fn apply_sought(
+    alloc: Global,
+    level: u32,
+    indexed: &Indexed<'_>,
+    buffer: &mut GapBuffer,
+    spot: Spot,
+) -> Result<Option<Tried>, ShapeError>
+    requires near { indexed.now.lookup.now.place < 2 ^ 17 }
+    requires inside { spot.at < length buffer.old.items }
+    requires context { found_rules.is_context indexed.now.lookup.now ≡ true }
+    ensures ok { IfOk result (λ t. record { buffer = buffer.new; tried = t }
+        ≡ Nested.attempt level indexed.now.lookup.now spot buffer.old) }
+    ensures length { IsErrOf result Length
+        → is_past (Nested.attempt level indexed.now.lookup.now spot buffer.old).buffer ≡ true }
+{
+    let Some(sought) = seek_rule(indexed, &buffer.items(), origin(spot, buffer), spot.left) else {
+        return Ok(None);
+    };
+    let left = sought.left;
+    match apply_found(
+        alloc,
+        level,
+        indexed,
+        buffer,
+        with_left(spot, left),
+        sought.found,
+    ) {
+        Err(error) => Err(error),
+        Ok(next) => Ok(Some(Tried { left, next })),
+    }
+}
+
+/// Applies a lookup at a place of its walk, if what is left suffices for what it may try there.
+#[tactic(auto, using(crate::proofs::AttemptLemmas::place_context, crate::proofs::AttemptLemmas::place_plain))]
+pub fn apply_charged(
+    alloc: Global,
+    level: u32,
+    indexed: &Indexed<'_>,
+    buffer: &mut GapBuffer,
+    spot: Spot,
+) -> Result<Option<Tried>, ShapeError>
+    requires near { indexed.now.lookup.now.place < 2 ^ 17 }
+    requires inside { spot.at < length buffer.old.items }
+    ensures ok { IfOk result (λ t. record { buffer = buffer.new; tried = t }
+        ≡ Nested.place_attempt level indexed.now.lookup.now spot buffer.old) }
+    ensures length { IsErrOf result Length
+        → is_past (Nested.place_attempt level indexed.now.lookup.now spot buffer.old).buffer ≡ true }
+{
+    if is_context(indexed.lookup) {
+        return apply_sought(alloc, level, indexed, buffer, spot);
+    }
+    let Some(left) = lookup_charged(indexed, &buffer.items(), spot.at, spot.left) else {
+        return Ok(None);
+    };
+    match apply_nested(alloc, level, indexed, buffer, with_left(spot, left)) {
+        Err(error) => Err(error),
+        Ok(next) => Ok(Some(Tried { left, next })),
     }
 }
 

@@ -11,13 +11,13 @@ ghost use Rattle.layout_context.specs.Stages;
 ghost use Rattle.layout_context.specs.Digested.{IsDigested, HoldsGlyphs, lookups_in};
 
 use crate::meeting::{is_unmet, unmet};
-use crate::nested::apply_nested;
+use crate::nested::{apply_charged, with_left};
 use crate::reverse::{is_reverse, reverse};
 use crate::run_digest::{any_shares, first_digest, is_made, renewed};
 use layout_buffer::{GapBuffer, ItemList};
 use layout_digests::{Digest, Digested};
 use layout_matching::indexed::Indexed;
-use layout_matching::work::{lookup_charged, walk_work};
+use layout_matching::work::walk_work;
 use layout_substitution::apply::Spot;
 use shape_buffer::{ShapeError, hb_buffer_t};
 use std::alloc::Global;
@@ -31,15 +31,8 @@ fn next_spot(spot: Spot, count: usize) -> Spot
     next
 }
 
-fn with_left(spot: Spot, left: usize) -> Spot
-    ensures { result ≡ record spot { left = left } }
-{
-    let mut next = spot;
-    next.left = left;
-    next
-}
-
 /// Applies the lookup at one place, if what is left suffices for what it may try there. Else nothing is left.
+#[tactic(auto, using(crate::proofs::AttemptLemmas::walk_tried))]
 fn try_at(
     alloc: Global,
     levels: u32,
@@ -57,13 +50,10 @@ fn try_at(
         (record { buffer = buffer.old; spot = spot })).buffer ≡ true }
 {
     let next = next_spot(spot, buffer.len());
-    let Some(left) = lookup_charged(indexed, &buffer.items(), spot.at, spot.left) else {
-        return Ok(with_left(next, 0));
-    };
-    match apply_nested(alloc, levels, indexed, buffer, with_left(spot, left)) {
+    match apply_charged(alloc, levels, indexed, buffer, spot) {
         Err(error) => Err(error),
-        Ok(Some(there)) => Ok(there),
-        Ok(None) => Ok(with_left(next, left)),
+        Ok(None) => Ok(with_left(next, 0)),
+        Ok(Some(tried)) => Ok(tried.next.unwrap_or(with_left(next, tried.left))),
     }
 }
 
