@@ -6,7 +6,7 @@
 
 Status 0: each run ended as it should. 1: some did not. 77: something is not installed.
 """
-from checks import bombs, broken_bytes, broken_tables, search
+from checks import bombs, broken_bytes, broken_tables, cff, search
 from checks.command import run_kind
 
 KINDS = {
@@ -14,6 +14,7 @@ KINDS = {
     "search": search,
     "tables": broken_tables,
     "bytes": broken_bytes,
+    "cff": cff,
 }
 
 if __name__ == "__main__":

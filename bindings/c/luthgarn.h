@@ -151,7 +151,7 @@ void luthgarn_font_free(luthgarn_font *font);
 /* As luthgarn_units_per_em, of the font that is kept; 0 if none is. */
 uint32_t luthgarn_font_units_per_em(luthgarn_font *font);
 
-/* How many bytes the name of a glyph has by the table `post`; 0 if it has none, or no font is kept. Writes the name if
+/* How many bytes the name of a glyph has by the table `post` or `CFF `; 0 if it has none, or no font is kept. Writes the name if
  * `size` is enough; else `name` stays as it is. No zero ends it. */
 size_t luthgarn_font_glyph_name(luthgarn_font *font, uint32_t glyph, uint8_t *name, size_t size);
 

@@ -21,7 +21,7 @@ TEXT = ("AVATo \u00c5\u0308\u0301e\u0323\u0302 fi\u00df \u05e9\u05c1\u05b8\u05dc
 # the tables that are broken, and what `fontshape` says where there is no font
 READ = [b"GDEF", b"GSUB", b"GPOS", b"cmap", b"head", b"hhea", b"hmtx", b"maxp", b"loca", b"glyf",
         b"post", b"kern", b"OS/2"]
-NO_FONT = (b": not a font file\n", b": no outlines to draw, since it has no table glyf\n")
+NO_FONT = (b": not a font file\n", b": no outlines to draw, since it has no table glyf, CFF or CFF2\n")
 KEPT = "/tmp/hostile.ttf"
 
 

@@ -2,7 +2,7 @@
 use Rattle.std.specs.Prelude.{◌≡◌, ◌≤◌, ◌<◌, ◌++◌, ℕ, List, [], Option, Some, None, length, drop}
 use Rattle.opentype_layout.specs.Fonts.{IsFaceOf}
 use Rattle.opentype_layout.specs.declared.face.OpenTypeFace.{OpenTypeFace}
-use Rattle.shape_font.specs.Names.{glyph_name}
+use Rattle.shape_font.specs.Face.{name_of_glyph}
 
 -- what is kept is the face of these bytes
 abbrev pub IsOpened : List ℕ → ℕ → Option OpenTypeFace → Type 0
@@ -14,17 +14,17 @@ abbrev pub units_kept : Option OpenTypeFace → ℕ
 units_kept None = 0
 units_kept (Some face) = face.font.units_per_em
 
--- the bytes of a glyph's name, none if it has none; the first list has the names that `post` leaves out
+-- the bytes of a glyph's name, by `post` or else by the charset of `CFF `; none if it has none
 abbrev pub name_or_none : Option (List ℕ) → List ℕ
 name_or_none None = []
 name_or_none (Some name) = name
 
-abbrev pub name_bytes : List ℕ → OpenTypeFace → ℕ → List ℕ
-name_bytes standard face glyph = name_or_none (glyph_name standard face.font.post.now glyph)
+abbrev pub name_bytes : OpenTypeFace → ℕ → List ℕ
+name_bytes face glyph = name_or_none (name_of_glyph face.font glyph)
 
-abbrev pub name_kept : List ℕ → Option OpenTypeFace → ℕ → List ℕ
-name_kept standard None glyph = []
-name_kept standard (Some face) glyph = name_bytes standard face glyph
+abbrev pub name_kept : Option OpenTypeFace → ℕ → List ℕ
+name_kept None glyph = []
+name_kept (Some face) glyph = name_bytes face glyph
 
 -- the name is counted, and stands in the first places if there is room for it
 pub record IsNamed (name old new : List ℕ) (count : ℕ) : Type 0 where

@@ -3,7 +3,6 @@ ghost use Rattle.std.specs.Prelude.{◌≡◌, map, IfOk, IfErr};
 ghost use Rattle.c_runs.specs.Numbers.{feature_of_c};
 ghost use Rattle.c_runs.specs.Opened.{IsNamed, name_bytes};
 ghost use Rattle.c_runs.specs.Outcomes.{ServesBy};
-ghost use Rattle.shape_font.specs.declared.names.TheConstants.{STANDARD};
 
 use crate::plain::{luthgarn_feature, luthgarn_glyph, luthgarn_outcome, luthgarn_run};
 use crate::refusal::Refusal;
@@ -60,9 +59,9 @@ impl KeptFont {
         self.face.units_per_em()
     }
 
-    /// Writes the name of a glyph by `post`, if there is room for it, and gives how many bytes it has; 0 if it has none.
+    /// Writes the name of a glyph by `post` or the charset of `CFF `, if there is room for it, and gives how many bytes it has; 0 if it has none.
     pub fn write_name(&self, glyph: u32, room: &mut [u8]) -> usize
-        ensures { IsNamed (name_bytes STANDARD.now self.now glyph) room.old room.new result }
+        ensures { IsNamed (name_bytes self.now glyph) room.old room.new result }
     {
         match self.face.face().font().glyph_name(GlyphId(glyph)) {
             Some(name) => {

@@ -1,6 +1,6 @@
 -- the strokes that a charstring draws, their box, and how a glyph is composed (Adobe Technical Note 5177; appendix C for endchar)
 use Prim.Native.Nat.{zero}
-use Rattle.std.specs.Prelude.{ℕ, suc, ℤ, List, [], ◌∷◌, Bool, Option, Some, None, pos, ◌+◌, ◌-ℤ◌, ◌*ℤ◌, ◌||◌, ◌&&◌, nat_eq, nat_lt, int_lt, int_le, not, unsigned_abs, if◌then◌else◌}
+use Rattle.std.specs.Prelude.{ℕ, suc, ℤ, List, [], ◌∷◌, Bool, Option, Some, None, pos, ◌+◌, ◌/◌, ◌-ℤ◌, ◌*ℤ◌, ◌||◌, ◌&&◌, nat_eq, nat_lt, int_lt, int_le, not, unsigned_abs, if◌then◌else◌}
 use Rattle.std.specs.Option.{option_and_then, option_map}
 use Rattle.cff_tables.specs.Index.{range_of}
 use Rattle.cff_tables.specs.Font.{glyph_local, glyph_variation}
@@ -102,6 +102,10 @@ offset b dx dy = if is_empty b then b else record { low = offset_place b.low dx 
 unfoldable pub most_events : ℕ
 most_events = 600000
 
+-- the most steps of a glyph that has a box
+unfoldable pub most_box_steps : ℕ
+most_box_steps = 10000
+
 abbrev pub first_variation : List ℕ → Layout → ℕ → ℕ
 first_variation t l glyph = if l.wide then glyph_variation t l glyph else 0
 
@@ -134,11 +138,11 @@ joined b a None second = None
 joined b a (Some first) None = None
 joined b a (Some first) (Some second) = Some (together b first second a.dx a.dy)
 
--- both are glyphs by themselves
+-- both are glyphs by themselves, and take a quarter of the steps each
 abbrev pub composed_bounds : ℕ → List ℕ → Layout → Bounds → Accent → Option Bounds
 composed_bounds n t l b a = if nat_eq (code_glyph t l a.base) 0 then None
     else (if nat_eq (code_glyph t l a.accent) 0 then None
-    else joined b a (part_bounds n t l (code_glyph t l a.base)) (part_bounds n t l (code_glyph t l a.accent)))
+    else joined b a (part_bounds (n / 4) t l (code_glyph t l a.base)) (part_bounds (n / 4) t l (code_glyph t l a.accent)))
 
 abbrev pub whole_bounds : ℕ → List ℕ → Layout → Inked → Option Bounds
 whole_bounds n t l i = elim i.accent [ None ↦ Some i.bounds | Some a ↦ composed_bounds n t l i.bounds a ]
@@ -148,4 +152,4 @@ bounds_within n t l glyph = option_and_then (whole_bounds n t l) (glyph_inked n 
 
 -- the box of a glyph
 abbrev pub bounds_of : List ℕ → Layout → ℕ → Option Bounds
-bounds_of t l glyph = bounds_within most_events t l glyph
+bounds_of t l glyph = bounds_within most_box_steps t l glyph

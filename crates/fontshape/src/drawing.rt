@@ -134,6 +134,11 @@ impl Drawing {
                 self.point('Q', round, pen)?;
                 self.point(' ', point, pen)
             }
+            Segment::Cubic(first, second, point) => {
+                self.point('C', first, pen)?;
+                self.point(' ', second, pen)?;
+                self.point(' ', point, pen)
+            }
             Segment::Close => self.out.push('Z'),
         }
     }

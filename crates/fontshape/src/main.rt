@@ -204,7 +204,7 @@ fn drawn<'a>(
         None => Err(Failure::file(
             alloc,
             options.font(),
-            "no outlines to draw, since it has no table glyf",
+            "no outlines to draw, since it has no table glyf, CFF or CFF2",
         )),
     }
 }
@@ -216,7 +216,7 @@ const COLOURED: [u32; 3] = [0x7362_6978, 0x4342_4454, 0x434F_4C52];
 fn missing_boxes(options: &Options, bytes: &[u8]) -> Option<&'static str> {
     let index = options.face_index();
     if Outlines::from_slice(bytes, index).is_none() {
-        return Some("no boxes, since it has no table glyf");
+        return Some("no boxes, since it has no table glyf, CFF or CFF2");
     }
     let font = Directory::of(bytes, index);
     if COLOURED.iter().any(|tag| font.has(*tag)) {

@@ -8,6 +8,7 @@
 #![tactic(auto)]
 
 mod contours;
+mod cubic;
 mod frame;
 pub mod outlines;
 pub mod segments;

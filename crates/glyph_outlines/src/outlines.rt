@@ -2,18 +2,23 @@
 ghost use Rattle.std.specs.Prelude.{◌≡◌, ◌≤◌, length, nat_lt, is_some, IfOk};
 ghost use Rattle.std.specs.Option.{IfSome};
 ghost use Rattle.shape_font.specs.Bytes.{u16_of};
-ghost use Rattle.shape_font.specs.Directory.{bytes_of, has_table};
-ghost use Rattle.glyph_outlines.specs.Places.{outline_bytes};
+ghost use Rattle.shape_font.specs.Directory.{bytes_of};
+ghost use Rattle.glyph_outlines.specs.Places.{outline_bytes, has_outlines};
 
 use crate::contours::{append_contours, fraction, natural, number, signed_byte};
+use crate::cubic::append_glyph;
 use crate::frame::Frame;
 use crate::segments::{Path, Segment};
+use cff_tables::CffFont;
 use shape_font::bytes::u16_at;
-use shape_font::directory::{table, table_or_empty};
+use shape_font::cff::cff_font;
+use shape_font::directory::Directory;
 use shape_font::metrics::place;
 use std::alloc::{AllocError, Global};
 
 const HEAD: u32 = 0x6865_6164;
+
+const MAXP: u32 = 0x6d61_7870;
 
 const LOCA: u32 = 0x6c6f_6361;
 
@@ -32,6 +37,7 @@ pub struct Outlines<'a> {
     glyf: &'a [u8],
     loca: &'a [u8],
     long: bool,
+    cff: Option<CffFont<'a>>,
 }
 
 /// A component of a glyph that is still to be drawn.
@@ -66,22 +72,29 @@ impl Outline {
 
 impl<'a> Outlines<'a> {
     /// The outlines of the font with this number in a collection, or number 0, the one of a file of one font. None if
-    /// it has no table `glyf`, as a font whose outlines stand in `CFF`.
+    /// it has neither a table `glyf` nor a font in `CFF2` or `CFF `. A font that has both is drawn by `glyf`.
     #[tactic(auto, unfolding(shape_font::specs::Directory::has_table))]
     pub fn from_slice(bytes: &'a [u8], index: u32) -> Option<Outlines<'a>>
-        ensures found { is_some result ≡ has_table bytes.now index GLYF }
+        ensures found { is_some result ≡ has_outlines bytes.now index }
         ensures glyf { IfSome result (λ o. o.glyf.now ≡ bytes_of bytes.now index GLYF) }
         ensures loca { IfSome result (λ o. o.loca.now ≡ bytes_of bytes.now index LOCA) }
         ensures long { IfSome result (λ o. o.long
             ≡ nat_lt 0 (u16_of (bytes_of bytes.now index HEAD) 50)) }
     {
-        if table(bytes, index, GLYF).is_none() {
+        let font = Directory::of(bytes, index);
+        let cff = if font.has(GLYF) {
+            None
+        } else {
+            cff_font(&font, u16_at(font.table_or_empty(MAXP), 4))
+        };
+        if !font.has(GLYF) && cff.is_none() {
             return None;
         }
         Some(Outlines {
-            glyf: table_or_empty(bytes, index, GLYF),
-            loca: table_or_empty(bytes, index, LOCA),
-            long: u16_at(table_or_empty(bytes, index, HEAD), 50) != 0,
+            glyf: font.table_or_empty(GLYF),
+            loca: font.table_or_empty(LOCA),
+            long: u16_at(font.table_or_empty(HEAD), 50) != 0,
+            cff,
         })
     }
 
@@ -107,7 +120,10 @@ impl<'a> Outlines<'a> {
             segments: Vec::new(alloc),
             most,
         };
-        let points = self.append(alloc, &mut path, glyph)?;
+        let points = match self.cff {
+            Some(font) => append_glyph(&mut path, &font, glyph)?,
+            None => self.append(alloc, &mut path, glyph)?,
+        };
         path.segments.truncate(most);
         Ok(Outline {
             segments: path.segments,

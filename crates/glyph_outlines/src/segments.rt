@@ -11,6 +11,8 @@ pub enum Segment {
     Line(Point),
     /// Along a curve (of the second degree) round the first point to the second.
     Curve(Point, Point),
+    /// Along a curve (of the third degree) round the first two points to the third.
+    Cubic(Point, Point, Point),
     /// Along a line to the start of the contour, which ends there.
     Close,
 }
@@ -24,7 +26,7 @@ pub(crate) struct Path {
 
 impl Path {
     /// Appends a segment, nothing if there are enough.
-    fn push(&mut self, segment: Segment) -> Result<(), AllocError> {
+    pub(crate) fn push(&mut self, segment: Segment) -> Result<(), AllocError> {
         if self.segments.len() < self.most {
             self.segments.push(segment)?;
         }

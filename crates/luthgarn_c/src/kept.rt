@@ -3,7 +3,6 @@ ghost use Rattle.std.specs.Prelude.{◌≡◌, ◌↔◌, ◌≤◌, Some, None,
 ghost use Rattle.opentype_layout.specs.Fonts.{units_of};
 ghost use Rattle.c_runs.specs.Numbers.{feature_of_c};
 ghost use Rattle.c_runs.specs.Opened.{IsNamed, IsOpened, name_kept, units_kept};
-ghost use Rattle.shape_font.specs.declared.names.TheConstants.{STANDARD};
 ghost use Rattle.c_runs.specs.Outcomes.{IsUntouched, ServesBy};
 ghost use Rattle.opentype_layout.specs.declared.face.OpenTypeFace.{OpenTypeFace as AnyFace};
 
@@ -91,8 +90,8 @@ pub extern "C" fn luthgarn_font_units_per_em(alloc: Global, font: &mut luthgarn_
     units
 }
 
-/// Writes the name of a glyph by the font's table `post`, if there is room for it, and gives how many bytes it has; 0 if it
-/// has none, or no font is kept.
+/// Writes the name of a glyph by the font's table `post`, or else by the charset of `CFF `, if there is room for it, and gives
+/// how many bytes it has; 0 if it has none, or no font is kept.
 #[unsafe(no_mangle)]
 pub extern "C" fn luthgarn_font_glyph_name(
     alloc: Global,
@@ -100,7 +99,7 @@ pub extern "C" fn luthgarn_font_glyph_name(
     glyph: u32,
     name: &mut [u8],
 ) -> usize
-    ensures name { IsNamed (name_kept STANDARD.now font.old.kept.face glyph) name.old name.new result }
+    ensures name { IsNamed (name_kept font.old.kept.face glyph) name.old name.new result }
     ensures kept { font.new.kept.face ≡ font.old.kept.face }
 {
     let Some(kept) = font.take(alloc) else {

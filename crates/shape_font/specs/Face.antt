@@ -1,5 +1,5 @@
 -- what the bytes of a font say as a face
-use Rattle.std.specs.Prelude.{ℕ, ℤ, pos, neg_ℤ, ◌+ℤ◌, int_div, Option, Some, None, ◌+◌, ◌&&◌, ◌/◌, nat_lt, nat_eq, if◌then◌else◌}
+use Rattle.std.specs.Prelude.{ℕ, ℤ, List, pos, neg_ℤ, ◌+ℤ◌, int_div, Option, Some, None, ◌+◌, ◌&&◌, ◌/◌, nat_lt, nat_eq, if◌then◌else◌}
 use Rattle.std.specs.Option.{option_map_or}
 use Rattle.shape_common.specs.Face.{FaceMeaning}
 use Rattle.shape_common.specs.Wrapping.{◌+ʷ◌}
@@ -8,6 +8,9 @@ use Rattle.shape_common.specs.declared.face.hb_glyph_extents_t.{hb_glyph_extents
 use Rattle.shape_font.specs.Bytes.{u32_of}
 use Rattle.shape_font.specs.Cmap.{mapped_glyph}
 use Rattle.shape_font.specs.Metrics.{advance_of, bearing_of, listed_origin, ascender_of, descender_of, place_of, box_of, half_down}
+use Rattle.shape_font.specs.Cff.{drawn_extents, charset_name}
+use Rattle.shape_font.specs.Names.{glyph_name}
+use Rattle.shape_font.specs.declared.names.TheConstants.{STANDARD}
 use Rattle.shape_font.specs.Variations.{variation_of}
 use Rattle.shape_font.specs.declared.face.FontFace.{FontFace}
 use Rattle.shape_font.specs.declared.variations.GlyphVariant.{GlyphVariant}
@@ -50,9 +53,17 @@ unfoldable pub inked_of : FontFace → ℕ → hb_glyph_extents_t
 inked_of f glyph = box_of f.glyf.now (place_of f.loca.now f.long_places glyph) (place_of f.loca.now f.long_places (glyph + 1))
     (bearing_of f.hmtx.now f.h_count glyph)
 
--- none in a font without `glyf`, and none past the last glyph
+-- the box by `glyf`: none in a font without it, and none past the last glyph
+abbrev pub inked_extents : FontFace → GlyphId → Option hb_glyph_extents_t
+inked_extents f glyph = if f.outlines && nat_lt glyph.0 f.glyph_count then Some (inked_of f glyph.0) else None
+
+-- the box of a glyph: by `glyf`, or else by the charstrings of `CFF2` or `CFF `
 abbrev pub extents_of : FontFace → GlyphId → Option hb_glyph_extents_t
-extents_of f glyph = if f.outlines && nat_lt glyph.0 f.glyph_count then Some (inked_of f glyph.0) else None
+extents_of f glyph = if f.outlines && nat_lt glyph.0 f.glyph_count then Some (inked_of f glyph.0) else drawn_extents f.cff glyph.0
+
+-- the name of a glyph: by `post`, or else by the charset of `CFF `
+abbrev pub name_of_glyph : FontFace → ℕ → Option (List ℕ)
+name_of_glyph f glyph = elim (glyph_name STANDARD.now f.post.now glyph) [ Some name ↦ Some name | None ↦ charset_name f.cff glyph ]
 
 -- half of the room that a box leaves in a line; its height is negative as a rule
 abbrev pub half_room : FontFace → ℤ → ℤ
@@ -64,10 +75,11 @@ abbrev pub origin_over : FontFace → ℕ → hb_glyph_extents_t → ℤ
 origin_over f glyph box = box.y_bearing +ʷ option_map_or (λ bearing. bearing) (bearing_of f.vmtx.now f.v_count glyph)
     (half_room f box.height)
 
--- the height of the origin of vertical lines: by `VORG`, by the box, or at the top of a line
+-- the height of the origin of vertical lines: by `VORG`, by the box of `glyf` (not that of a charstring, as HarfBuzz has it), or at
+-- the top of a line
 abbrev pub v_origin_of : FontFace → GlyphId → ℤ
 v_origin_of f glyph = if nat_lt 0 (u32_of f.vorg.now 0) then listed_origin f.vorg.now glyph.0
-    else option_map_or (origin_over f glyph.0) (extents_of f glyph) (pos (ascender_of f.os2.now f.hhea.now))
+    else option_map_or (origin_over f glyph.0) (inked_extents f glyph) (pos (ascender_of f.os2.now f.hhea.now))
 
 abbrev pub font_face : FontFace → FaceMeaning
 font_face f = record {

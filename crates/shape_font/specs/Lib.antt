@@ -8,5 +8,6 @@ pub mod Cmap
 pub mod Variations
 pub mod Metrics
 pub mod Names
+pub mod Cff
 pub mod Face
 pub mod Worked

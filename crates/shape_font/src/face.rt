@@ -8,12 +8,12 @@ ghost use Rattle.shape_font.specs.Subtables.{chosen_subtable};
 ghost use Rattle.shape_font.specs.Variations.{sequences_of};
 ghost use Rattle.shape_font.specs.Directory.{bytes_of, has_table};
 ghost use Rattle.shape_font.specs.Metrics.{long_metrics};
-ghost use Rattle.shape_font.specs.Names;
-ghost use Rattle.shape_font.specs.declared.names.TheConstants.{STANDARD};
+ghost use Rattle.shape_font.specs.Cff;
 ghost use Rattle.shape_font.specs.declared.tags.TheConstants.{HEAD, HHEA, MAXP, HMTX, VHEA, VMTX, VORG, OS2, CMAP, LOCA, GLYF, GSUB, GPOS, GDEF, MORX, KERX, TRAK, KERN, POST};
 ghost use Rattle.shape_font.specs.Face;
 
 use crate::bytes::{u16_at, u32_at};
+use crate::cff::cff_font;
 use crate::directory::Directory;
 use crate::font_pages::{FontPage, font_page};
 use crate::subtables::chosen;
@@ -23,13 +23,15 @@ use crate::tags::{
 };
 use crate::variations::{GlyphVariant, variation};
 use crate::{cmap, metrics, names, variations};
+use cff_tables::CffFont;
 use shape_buffer::wrapping::{half, sum};
 use shape_buffer::{GlyphId, hb_font_t, hb_glyph_extents_t, hb_tables_t};
 
+mod drawn;
 mod lines;
 
 /// A face over the bytes of an OpenType or TrueType file, in its units. A table that the file lacks reads as an empty
-/// one. A font whose outlines stand in another table than `glyf` (`CFF`) has no boxes.
+/// one. Boxes are those of `glyf`, or of the charstrings of `CFF2` (at the default instance) or `CFF `.
 #[derive(Clone, Copy)]
 pub struct FontFace<'a> {
     units_per_em: u16,
@@ -49,6 +51,7 @@ pub struct FontFace<'a> {
     glyf: &'a [u8],
     hhea: &'a [u8],
     os2: &'a [u8],
+    cff: Option<CffFont<'a>>,
     kern: &'a [u8],
     post: &'a [u8],
     gdef: &'a [u8],
@@ -118,6 +121,10 @@ impl<'a> FontFace<'a> {
         ensures glyf { IfSome result (λ f. f.glyf.now ≡ bytes_of bytes.now index GLYF) }
         ensures hhea { IfSome result (λ f. f.hhea.now ≡ bytes_of bytes.now index HHEA) }
         ensures os2 { IfSome result (λ f. f.os2.now ≡ bytes_of bytes.now index OS2) }
+        ensures layout { IfSome result (λ f. option_map (λ c. c.layout) f.cff
+            ≡ Cff.chosen_layout bytes.now index (u16_of (bytes_of bytes.now index MAXP) 4)) }
+        ensures cff { IfSome result (λ f. option_map (λ c. c.table.now) f.cff
+            ≡ Cff.chosen_table bytes.now index (u16_of (bytes_of bytes.now index MAXP) 4)) }
         ensures kern { IfSome result (λ f. f.kern.now ≡ bytes_of bytes.now index KERN) }
         ensures post { IfSome result (λ f. f.post.now ≡ bytes_of bytes.now index POST) }
         ensures gdef_table { IfSome result (λ f. f.gdef.now ≡ bytes_of bytes.now index GDEF) }
@@ -133,9 +140,10 @@ impl<'a> FontFace<'a> {
         let (hhea, vhea) = (font.table_or_empty(HHEA), font.table_or_empty(VHEA));
         let (hmtx, vmtx) = (font.table_or_empty(HMTX), font.table_or_empty(VMTX));
         let cmap = font.table_or_empty(CMAP);
+        let glyph_count = u16_at(font.table_or_empty(MAXP), 4);
         Some(FontFace {
             units_per_em,
-            glyph_count: u16_at(font.table_or_empty(MAXP), 4),
+            glyph_count,
             h_count: metrics::metrics_in(hmtx, u16_at(hhea, 34)),
             v_count: metrics::metrics_in(vmtx, u16_at(vhea, 34)),
             long_places: u16_at(head, 50) != 0,
@@ -151,6 +159,7 @@ impl<'a> FontFace<'a> {
             glyf: font.table_or_empty(GLYF),
             hhea,
             os2: font.table_or_empty(OS2),
+            cff: cff_font(&font, glyph_count),
             kern: font.table_or_empty(KERN),
             post: font.table_or_empty(POST),
             gdef: font.table_or_empty(GDEF),
@@ -201,12 +210,14 @@ impl<'a> FontFace<'a> {
         self.post
     }
 
-    /// The glyph's name by `post`; none if the table has none for it, or an empty one.
+    /// The glyph's name by `post`, or else by the charset of `CFF `; none if neither has one for it, or an empty one.
     pub fn glyph_name(&self, glyph: GlyphId) -> Option<&'a [u8]>
-        ensures { option_map (λ s. s.now) result
-            ≡ Names.glyph_name STANDARD.now self.now.post.now glyph.0 }
+        ensures { option_map (λ s. s.now) result ≡ Face.name_of_glyph self.now glyph.0 }
     {
-        names::glyph_name(self.post, glyph.0)
+        match names::glyph_name(self.post, glyph.0) {
+            Some(name) => Some(name),
+            None => self.charset_name(glyph.0),
+        }
     }
 
     /// The subtable of `cmap` that has the glyphs of characters; an empty one if the font has none.
@@ -295,14 +306,14 @@ impl<'a> FontFace<'a> {
         self.outlines && glyph.0 < u32::from(self.glyph_count)
     }
 
-    /// The box of a glyph, none in a font without `glyf` and none past the last glyph.
+    /// The box of a glyph, none in a font without outlines and none past the last glyph.
     fn extents(&self, glyph: GlyphId) -> Option<hb_glyph_extents_t>
         ensures { result ≡ Face.extents_of self.now glyph }
     {
         if self.has_box(glyph) {
             Some(self.inked(glyph.0))
         } else {
-            None
+            self.drawn(glyph.0)
         }
     }
 

@@ -10,6 +10,7 @@
 #![allow(non_camel_case_types)]
 
 pub mod bytes;
+pub mod cff;
 pub mod cmap;
 pub mod directory;
 pub mod face;

@@ -56,3 +56,9 @@ pub(crate) const KERN: u32 = 0x6b65_726e;
 
 /// `post`.
 pub(crate) const POST: u32 = 0x706f_7374;
+
+/// `CFF `.
+pub(crate) const CFF: u32 = 0x4346_4620;
+
+/// `CFF2`.
+pub(crate) const CFF2: u32 = 0x4346_4632;

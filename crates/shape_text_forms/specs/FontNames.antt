@@ -2,7 +2,8 @@
 use Rattle.std.specs.Prelude.{ℕ, List, Option, Some, None, take, if◌then◌else◌}
 use Rattle.std.specs.Option.{option_and_then}
 use Rattle.std.specs.Str.{is_utf8}
-use Rattle.shape_font.specs.Names.{glyph_name}
+use Rattle.shape_font.specs.Face.{name_of_glyph}
+use Rattle.shape_font.specs.declared.face.FontFace.{FontFace}
 
 -- bytes as text, if they are UTF-8
 abbrev pub text_of : List ℕ → Option (List ℕ)
@@ -12,6 +13,10 @@ text_of bytes = if is_utf8 bytes then Some bytes else None
 abbrev pub cut_name : List ℕ → List ℕ
 cut_name name = take 127 name
 
--- the name of a glyph by `post`, if what is written of it is text
-abbrev pub written_name : List ℕ → List ℕ → ℕ → Option (List ℕ)
-written_name standard post glyph = option_and_then (λ name. text_of (cut_name name)) (glyph_name standard post glyph)
+-- what is written of a name, if that is text
+abbrev pub written : Option (List ℕ) → Option (List ℕ)
+written name = option_and_then (λ bytes. text_of (cut_name bytes)) name
+
+-- what is written of the name of a glyph, by `post` or `CFF `
+abbrev pub written_name : FontFace → ℕ → Option (List ℕ)
+written_name face glyph = written (name_of_glyph face glyph)

@@ -1,7 +1,6 @@
 //! The names that a font file has for its glyphs.
 ghost use Rattle.std.specs.Prelude.{◌≡◌};
 ghost use Rattle.std.specs.Option.{option_map};
-ghost use Rattle.shape_font.specs.declared.names.TheConstants.{STANDARD};
 ghost use Rattle.shape_text_forms.specs.FontNames.{text_of, cut_name, written_name};
 
 use crate::content::glyph_names;
@@ -30,10 +29,9 @@ pub(crate) fn cut(name: &[u8]) -> &[u8]
     }
 }
 
-/// The name of a glyph by `post`; none if it has none, or one whose first 127 bytes are no text.
+/// The name of a glyph by `post` or `CFF `; none if it has none, or one whose first 127 bytes are no text.
 fn name<'a>(face: &FontFace<'a>, glyph: GlyphId) -> Option<&'a str>
-    ensures { option_map (λ s. s.now) result
-        ≡ written_name STANDARD.now face.now.post.now glyph.0 }
+    ensures { option_map (λ s. s.now) result ≡ written_name face.now glyph.0 }
 {
     match face.glyph_name(glyph) {
         Some(name) => text(cut(name)),
@@ -41,12 +39,11 @@ fn name<'a>(face: &FontFace<'a>, glyph: GlyphId) -> Option<&'a str>
     }
 }
 
-/// The names in a font's table `post`: the first 127 bytes of each, if these are UTF-8.
+/// The names in a font's table `post` or `CFF `: the first 127 bytes of each, if these are UTF-8.
 impl<'a> glyph_names for FontFace<'a> {
-    ghost use Rattle.shape_font.specs.declared.names.TheConstants.{STANDARD};
     ghost use Rattle.shape_text_forms.specs.FontNames.{written_name};
 
-    ghost name = { λ face glyph. written_name STANDARD.now face.post.now glyph };
+    ghost name = { written_name };
 
     fn glyph_name(&self, glyph: GlyphId) -> Option<&str> {
         name(self, glyph)

@@ -4,6 +4,7 @@
 //! Here these steps are taken once. Of the 258 names that a table leaves out each is found by at most 257 steps.
 ghost use Rattle.std.specs.Prelude.{◌≡◌, ◌<◌, ◌^◌, IfOk};
 ghost use Rattle.std.specs.Option.{option_map};
+ghost use Rattle.shape_font.specs.Face.{name_of_glyph};
 ghost use Rattle.shape_font.specs.Names;
 ghost use Rattle.shape_font.specs.declared.names.TheConstants.{STANDARD};
 ghost use Rattle.shape_text_forms.specs.FontNames.{written_name};
@@ -97,7 +98,7 @@ impl<'a> OpenedNames<'a> {
     }
 
     /// The glyph's name by `post`; none if the table has none for it, or an empty one.
-    pub fn glyph_name(&self, glyph: GlyphId) -> Option<&'a [u8]>
+    fn post_name(&self, glyph: GlyphId) -> Option<&'a [u8]>
         ensures { option_map (λ s. s.now) result
             ≡ Names.glyph_name STANDARD.now self.now.post.now glyph.0 }
     {
@@ -107,10 +108,19 @@ impl<'a> OpenedNames<'a> {
         }
     }
 
+    /// The glyph's name by `post`, or else by the charset of `CFF `; none if neither has one for it, or an empty one.
+    pub fn glyph_name(&self, glyph: GlyphId) -> Option<&'a [u8]>
+        ensures { option_map (λ s. s.now) result ≡ name_of_glyph self.now glyph.0 }
+    {
+        match self.post_name(glyph) {
+            Some(name) => Some(name),
+            None => self.face.charset_name(glyph.0),
+        }
+    }
+
     /// The first bytes of the glyph's name, if they are text.
     fn written(&self, glyph: GlyphId) -> Option<&'a str>
-        ensures { option_map (λ s. s.now) result
-            ≡ written_name STANDARD.now self.now.post.now glyph.0 }
+        ensures { option_map (λ s. s.now) result ≡ written_name self.now glyph.0 }
     {
         match self.glyph_name(glyph) {
             Some(name) => text(cut(name)),
@@ -121,10 +131,9 @@ impl<'a> OpenedNames<'a> {
 
 /// The names that the face has, found without a step for each string of the table.
 impl<'a> glyph_names for OpenedNames<'a> {
-    ghost use Rattle.shape_font.specs.declared.names.TheConstants.{STANDARD};
     ghost use Rattle.shape_text_forms.specs.FontNames.{written_name};
 
-    ghost name = { λ face glyph. written_name STANDARD.now face.post.now glyph };
+    ghost name = { written_name };
 
     fn glyph_name(&self, glyph: GlyphId) -> Option<&str> {
         self.written(glyph)

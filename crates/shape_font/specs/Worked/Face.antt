@@ -4,7 +4,7 @@ use Rattle.std.specs.Int.{int_wrap}
 use Rattle.shape_common.specs.Wrapping.{◌+ʷ◌}
 use Rattle.shape_common.specs.declared.face.hb_glyph_extents_t.{hb_glyph_extents_t}
 use Rattle.shape_font.specs.Bytes.{i16_of}
-use Rattle.shape_font.specs.Face.{font_face, numbered, glyph_of, variant_of, h_advance_of, v_advance_of, extents_of, inked_of, origin_over}
+use Rattle.shape_font.specs.Face.{font_face, numbered, glyph_of, variant_of, h_advance_of, v_advance_of, inked_extents, extents_of, inked_of, origin_over}
 use Rattle.shape_font.specs.Metrics.{no_box, framed_of}
 use Rattle.shape_font.specs.Worked.Glyphs.{words, short_list, header}
 use Rattle.shape_font.specs.Worked.Lines.{origins, plain_line}
@@ -36,24 +36,27 @@ pub record WorkedFace : Type 0 where
   pub no_advance_past_the_last : (f : FontFace) → f.glyph_count ≡ 7 → h_advance_of f (record { 0 = 7 }) ≡ pos 0
   pub down : (f : FontFace) → f.glyph_count ≡ 7 → f.v_count ≡ 1 → f.vmtx.now ≡ words (900 ∷ 50 ∷ [])
       → v_advance_of f (record { 0 = 6 }) ≡ negsuc 899
-  pub no_box_past_the_last : (f : FontFace) → f.outlines ≡ true → f.glyph_count ≡ 7 → extents_of f (record { 0 = 7 }) ≡ None
-  pub no_box_without_outlines : (f : FontFace) → f.outlines ≡ false → extents_of f (record { 0 = 1 }) ≡ None
-  pub box_of_the_last : (f : FontFace) → f.outlines ≡ true → f.glyph_count ≡ 7 → extents_of f (record { 0 = 6 }) ≡ Some (inked_of f 6)
+  pub no_box_past_the_last : (f : FontFace) → f.outlines ≡ true → f.glyph_count ≡ 7 → inked_extents f (record { 0 = 7 }) ≡ None
+  pub no_box_without_outlines : (f : FontFace) → f.outlines ≡ false → inked_extents f (record { 0 = 1 }) ≡ None
+  pub box_of_the_last : (f : FontFace) → f.outlines ≡ true → f.glyph_count ≡ 7 → inked_extents f (record { 0 = 6 }) ≡ Some (inked_of f 6)
+  pub first_by_its_outline : (f : FontFace) → f.outlines ≡ true → f.glyph_count ≡ 7 → extents_of f (record { 0 = 6 }) ≡ Some (inked_of f 6)
+  pub without_a_charstring : (f : FontFace) → f.outlines ≡ false → f.cff ≡ None → extents_of f (record { 0 = 1 }) ≡ None
+  pub past_the_last_outline : (f : FontFace) → f.outlines ≡ true → f.glyph_count ≡ 7 → f.cff ≡ None → extents_of f (record { 0 = 7 }) ≡ None
   pub half_of_an_odd_em : (f : FontFace) → f.glyph_count ≡ 7 → f.h_count ≡ 0 → f.units_per_em ≡ 1001
       → h_advance_of f (record { 0 = 6 }) ≡ pos 500
   -- glyph 1 has the bytes from 2 up to 12, and the bearing 60; glyph 2 has none
   pub box_by_short_places : (f : FontFace) → f.outlines ≡ true → f.glyph_count ≡ 7 → f.long_places ≡ false
       → f.loca.now ≡ words (0 ∷ 1 ∷ 6 ∷ 6 ∷ []) → f.glyf.now ≡ words (9 ∷ []) ++ header
       → f.h_count ≡ 1 → f.hmtx.now ≡ words (500 ∷ 50 ∷ 60 ∷ [])
-      → extents_of f (record { 0 = 1 }) ≡ Some (record { x_bearing = pos 60; y_bearing = pos 700; width = pos 290; height = negsuc 719 })
+      → inked_extents f (record { 0 = 1 }) ≡ Some (record { x_bearing = pos 60; y_bearing = pos 700; width = pos 290; height = negsuc 719 })
   pub empty_box : (f : FontFace) → f.outlines ≡ true → f.glyph_count ≡ 7 → f.long_places ≡ false
       → f.loca.now ≡ words (0 ∷ 1 ∷ 6 ∷ 6 ∷ []) → f.glyf.now ≡ words (9 ∷ []) ++ header
       → f.h_count ≡ 1 → f.hmtx.now ≡ words (500 ∷ 50 ∷ 60 ∷ [])
-      → extents_of f (record { 0 = 2 }) ≡ Some no_box
+      → inked_extents f (record { 0 = 2 }) ≡ Some no_box
   pub box_by_long_places : (f : FontFace) → f.outlines ≡ true → f.glyph_count ≡ 7 → f.long_places ≡ true
       → f.loca.now ≡ words (0 ∷ 2 ∷ 0 ∷ 12 ∷ []) → f.glyf.now ≡ words (9 ∷ []) ++ header
       → f.h_count ≡ 1 → f.hmtx.now ≡ words (500 ∷ 50 ∷ 60 ∷ [])
-      → extents_of f (record { 0 = 0 }) ≡ Some (record { x_bearing = pos 50; y_bearing = pos 700; width = pos 290; height = negsuc 719 })
+      → inked_extents f (record { 0 = 0 }) ≡ Some (record { x_bearing = pos 50; y_bearing = pos 700; width = pos 290; height = negsuc 719 })
 
 pub worked_face : WorkedFace
 unfolding inked_of framed_of i16_of
@@ -75,6 +78,9 @@ worked_face = record {
   no_box_past_the_last = λ f o e. rw (o, e) refl;
   no_box_without_outlines = λ f o. rw o refl;
   box_of_the_last = λ f o e. rw (o, e) refl;
+  first_by_its_outline = λ f o e. rw (o, e) refl;
+  without_a_charstring = λ f o c. rw (o, c) refl;
+  past_the_last_outline = λ f o e c. rw (o, e, c) refl;
   half_of_an_odd_em = λ f e h u. rw (e, h, u) refl;
   box_by_short_places = λ f o e p l g h t. rw (o, e, p, l, g, h, t) refl;
   empty_box = λ f o e p l g h t. rw (o, e, p, l) refl;
@@ -107,7 +113,7 @@ pub record WorkedOrigins : Type 0 where
       → (font_face f).variation_glyph 0x41 0xFE01 ≡ Some (record { 0 = 7 })
   pub advance : (f : FontFace) → f.glyph_count ≡ 7 → f.h_count ≡ 1 → f.hmtx.now ≡ words (501 ∷ 50 ∷ [])
       → (font_face f).h_advance (record { 0 = 6 }) ≡ pos 501
-  pub no_box : (f : FontFace) → f.outlines ≡ false → (font_face f).extents (record { 0 = 1 }) ≡ None
+  pub no_box : (f : FontFace) → f.outlines ≡ false → f.cff ≡ None → (font_face f).extents (record { 0 = 1 }) ≡ None
   pub em : (f : FontFace) → f.units_per_em ≡ 2048 → (font_face f).units_per_em ≡ 2048
   -- 1005 high: -5 is left, and half of that is -3
   pub higher_than_the_line : (f : FontFace) → f.v_count ≡ 0 → f.os2.now ≡ [] → f.hhea.now ≡ plain_line
@@ -130,7 +136,7 @@ worked_origins = record {
   glyph = λ f s c. rw (s, c) refl;
   variant = λ f q. rw q refl;
   advance = λ f e h t. rw (e, h, t) refl;
-  no_box = λ f o. rw o refl;
+  no_box = λ f o c. rw (o, c) refl;
   em = λ f u. u;
   higher_than_the_line = λ f v o h. rw (v, o, h) refl;
   listed_by_a_minor_version = λ f v. rw v refl;

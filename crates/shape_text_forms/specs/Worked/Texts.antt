@@ -10,7 +10,8 @@ use Rattle.shape_common.specs.declared.positions.GlyphPosition.{GlyphPosition}
 use Rattle.shape_common.specs.declared.text_types.Script.{Script}
 use Rattle.shape_common.specs.declared.text_types.Direction.TheVariants.{Invalid, LeftToRight, RightToLeft, TopToBottom, BottomToTop}
 use Rattle.shape_font.specs.Worked.Names.{left_out, four_names}
-use Rattle.shape_text_forms.specs.FontNames.{written_name}
+use Rattle.shape_font.specs.Names.{glyph_name}
+use Rattle.shape_text_forms.specs.FontNames.{written}
 use Rattle.shape_text_forms.specs.Names.{direction_of_text, language_of_text, tag_of_text, script_of_text}
 use Rattle.shape_text_forms.specs.Serialize.{Form}
 use Rattle.shape_text_forms.specs.Lists.{serialized, part_text, spot_after, start}
@@ -160,17 +161,17 @@ worked_texts = record {
 }
 
 pub record WorkedFontNames : Type 0 where
-  pub letters : written_name left_out four_names 2 ≡ Some (98 ∷ 99 ∷ [])
-  pub no_name : written_name left_out four_names 3 ≡ None
+  pub letters : written (glyph_name left_out four_names 2) ≡ Some (98 ∷ 99 ∷ [])
+  pub no_name : written (glyph_name left_out four_names 3) ≡ None
   -- U+00E9 in two bytes, and the first of them alone
-  pub past_ascii : written_name (2 ∷ 0xC3 ∷ 0xA9 ∷ []) (0 ∷ 1 ∷ 0 ∷ 0 ∷ []) 0 ≡ Some (0xC3 ∷ 0xA9 ∷ [])
-  pub no_text : written_name (1 ∷ 0xC3 ∷ []) (0 ∷ 1 ∷ 0 ∷ 0 ∷ []) 0 ≡ None
+  pub past_ascii : written (glyph_name (2 ∷ 0xC3 ∷ 0xA9 ∷ []) (0 ∷ 1 ∷ 0 ∷ 0 ∷ []) 0) ≡ Some (0xC3 ∷ 0xA9 ∷ [])
+  pub no_text : written (glyph_name (1 ∷ 0xC3 ∷ []) (0 ∷ 1 ∷ 0 ∷ 0 ∷ []) 0) ≡ None
   -- 127 times a, and once more
-  pub as_long_as_any : written_name (127 ∷ replicate 127 97) (0 ∷ 1 ∷ 0 ∷ 0 ∷ []) 0 ≡ Some (replicate 127 97)
-  pub cut_off : written_name (128 ∷ replicate 128 97) (0 ∷ 1 ∷ 0 ∷ 0 ∷ []) 0 ≡ Some (replicate 127 97)
+  pub as_long_as_any : written (glyph_name (127 ∷ replicate 127 97) (0 ∷ 1 ∷ 0 ∷ 0 ∷ []) 0) ≡ Some (replicate 127 97)
+  pub cut_off : written (glyph_name (128 ∷ replicate 128 97) (0 ∷ 1 ∷ 0 ∷ 0 ∷ []) 0) ≡ Some (replicate 127 97)
   -- U+00E9 behind 126 letters is cut in two; a lone byte that is cut off is not looked at
-  pub cut_in_two : written_name (128 ∷ replicate 126 97 ++ 0xC3 ∷ 0xA9 ∷ []) (0 ∷ 1 ∷ 0 ∷ 0 ∷ []) 0 ≡ None
-  pub no_text_behind : written_name (128 ∷ replicate 127 97 ++ 0xC3 ∷ []) (0 ∷ 1 ∷ 0 ∷ 0 ∷ []) 0 ≡ Some (replicate 127 97)
+  pub cut_in_two : written (glyph_name (128 ∷ replicate 126 97 ++ 0xC3 ∷ 0xA9 ∷ []) (0 ∷ 1 ∷ 0 ∷ 0 ∷ []) 0) ≡ None
+  pub no_text_behind : written (glyph_name (128 ∷ replicate 127 97 ++ 0xC3 ∷ []) (0 ∷ 1 ∷ 0 ∷ 0 ∷ []) 0) ≡ Some (replicate 127 97)
 
 pub worked_font_names : WorkedFontNames
 unfolding is_utf8 chars encode
