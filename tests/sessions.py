@@ -23,7 +23,7 @@ from pathlib import Path
 from checks.programs import CRATES, FONTSHAPE, TESTS, build, program_of
 
 PROGRAM = program_of("shapeline")
-GIVEN = ("tall.ttf", "two.ttc", "flat.ttf", "heavy.ttf", "drawn.otf", "lines")
+GIVEN = ("tall.ttf", "two.ttc", "flat.ttf", "axes.ttf", "heavy.ttf", "drawn.otf", "lines")
 FILES = [CRATES / "fontshape/data/tiny.ttf", *(TESTS / "fontshape" / name for name in GIVEN)]
 
 # How long a run may take, in seconds.

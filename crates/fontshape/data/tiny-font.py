@@ -1,7 +1,7 @@
 #!/usr/bin/env python3
 """Makes the tests' fonts, of seven and eight glyphs of boxes, from nothing. It writes `tiny.ttf` beside itself and, as
 text, to the crate `test_fonts`; to tests/fontshape, `first_shape` and `fill_paragraph` `tall.ttf`, which has metrics of vertical
-lines, a dotted circle and its kerning in GPOS too; and to tests/fontshape `two.ttc`, a collection of both, `flat.ttf`, which has no outlines, and `heavy.ttf`, whose A
+lines, a dotted circle and its kerning in GPOS too; and to tests/fontshape `two.ttc`, a collection of both, `flat.ttf`, which has no outlines, `axes.ttf`, which has axes, two instances and `HVAR`, and `heavy.ttf`, whose A
 has 65,536 points in few bytes, and whose B is made of 256 of itself. They are under this repository's licence.
 
 Each glyph is a rectangle, except for the space, which is empty, and Aacute, which is made of two others.
@@ -29,6 +29,11 @@ CIRCLE = ("dottedcircle", 610, (50, 0, 550, 500), ())
 DOWN = [(900, 50), (910, 60), (920, 70), (None, 80), (None, 90), (None, 100), (None, 110), (None, 120)]
 LONG_DOWN = 3
 IN_GPOS = (2, 3, -80)  # AB
+# the axes of the font of axes, and its named instances
+AXES = [("wght", 100, 400, 900), ("opsz", 6, 6, 12.5)]
+INSTANCES = [(400, 6), (700, 12.5)]
+# how far each glyph grows at the greatest weight
+GROWTHS = [0, 0, 100, 60, 0, 100, 0]
 # by selector: characters that look as they do alone, and glyphs of their own
 VARIANTS = {0xFE00: ([0x41], {}), 0xFE01: ([], {0x41: 6})}
 
@@ -173,6 +178,27 @@ def flat():
     return tables
 
 
+def hvar():
+    """The growths, in the only region: weights above the default."""
+    regions = struct.pack(">2H6h", len(AXES), 1, 0, 0x4000, 0x4000, 0, 0, 0)
+    rows = struct.pack(">4H%dh" % len(GROWTHS), len(GROWTHS), 1, 1, 0, *GROWTHS)
+    store = struct.pack(">HIHI", 1, 12, 1, 12 + len(regions)) + regions + rows
+    return struct.pack(">2H4I", 1, 0, 20, 0, 0, 0) + store
+
+
+def axes():
+    """The tiny font with `fvar`: a weight, an axis that stands at its least value, and two named instances; and `HVAR`."""
+    tables = tiny()
+    data = struct.pack(">8H", 1, 0, 16, 2, len(AXES), 20, len(INSTANCES), 4 + 4 * len(AXES))
+    for tag, least, default, greatest in AXES:
+        data += tag.encode() + struct.pack(">3i2H", *(round(n * 65536) for n in (least, default, greatest)), 0, 256)
+    for values in INSTANCES:
+        data += struct.pack(">2H", 2, 0) + b"".join(struct.pack(">i", round(n * 65536)) for n in values)
+    tables[b"fvar"] = data
+    tables[b"HVAR"] = hvar()
+    return tables
+
+
 def heavy():
     """A is one contour of 65,536 points at one place: flags that are repeated, and no coordinates. B is made of 256 of
     itself."""
@@ -222,6 +248,7 @@ def main():
         "crates/fill_paragraph/data/tall.ttf": file_of(tall()),
         "tests/fontshape/two.ttc": collection([tiny(), tall()]),
         "tests/fontshape/flat.ttf": file_of(flat()),
+        "tests/fontshape/axes.ttf": file_of(axes()),
         "tests/fontshape/heavy.ttf": file_of(heavy()),
     }
     for name, data in files.items():

@@ -37,12 +37,24 @@ enum Takes {
 #[derive(Clone, Copy)]
 struct Choice(&'static str, char, Takes, &'static str);
 
-static INPUT_CHOICES: [Choice; 11] = [
+static INPUT_CHOICES: [Choice; 13] = [
     Choice(
         "face-index",
         'y',
         Takes::Number(0xFFFF_FFFF),
         "The font of a collection",
+    ),
+    Choice(
+        "variations",
+        ' ',
+        Takes::Word("LIST"),
+        "Values for axes of a variable font, such as wght=700,wdth=80",
+    ),
+    Choice(
+        "named-instance",
+        ' ',
+        Takes::Number(0xFFFF_FFFF),
+        "The number of a named instance of a variable font",
     ),
     Choice("text", ' ', Takes::Word("TEXT"), "The text"),
     Choice(
@@ -185,7 +197,7 @@ static SHAPING_CHOICES: [Choice; 16] = [
     ),
 ];
 
-static OUTPUT_CHOICES: [Choice; 17] = [
+static OUTPUT_CHOICES: [Choice; 18] = [
     Choice(
         "output-file",
         'o',
@@ -197,6 +209,12 @@ static OUTPUT_CHOICES: [Choice; 17] = [
         'O',
         Takes::Word("FORMAT"),
         "text or json (by the output file's name, else text)",
+    ),
+    Choice(
+        "list-axes",
+        ' ',
+        Takes::Nothing,
+        "Write the font's axes and named instances, and shape nothing",
     ),
     Choice(
         "svg",

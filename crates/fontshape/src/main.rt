@@ -2,9 +2,11 @@
 //!
 //! [`command`] says which arguments there are, [`options`] and [`values`] what they ask for; [`line`] reads a line,
 //! [`shaping`] shapes it, or [`fallback`], [`written`] writes it to an [`output`] in a [`size`], and [`picture`] draws it.
+//! [`axes`] lists the axes of a variable font, and [`warnings`] say what a font doesn't have that is asked for.
 #![tactic(auto)]
 #![allow(non_camel_case_types)]
 
+mod axes;
 mod command;
 mod drawing;
 mod failure;
@@ -18,8 +20,10 @@ mod shaping;
 mod size;
 mod unicodes;
 mod values;
+mod warnings;
 mod written;
 
+use crate::axes::list_axes;
 use crate::command::command;
 use crate::failure::Failure;
 use crate::line::Line;
@@ -27,13 +31,13 @@ use crate::options::{Format, Options, Source};
 use crate::output::Output;
 use crate::picture::Picture;
 use crate::shaping::{Planned, opened, shaped};
+use crate::warnings::{warn_of_boxes, warn_of_unvaried};
 use crate::written::{Font, Given, write_line};
 use glyph_outlines::Outlines;
 use opentype_layout::OpenedOpenTypeFace;
 use shape_font::FontFace;
-use shape_font::directory::Directory;
+use shape_font::instance::coordinates_of;
 use shape_pipeline::hb_font_t;
-use shape_text_forms::SerializeFlags;
 use std::alloc::Global;
 use std::env::{Env, FillError};
 use std::fs::File;
@@ -209,37 +213,6 @@ fn drawn<'a>(
     }
 }
 
-/// Tables of bitmaps and of layers in colours: `sbix`, `CBDT`, `COLR`.
-const COLOURED: [u32; 3] = [0x7362_6978, 0x4342_4454, 0x434F_4C52];
-
-/// What boxes a font has not, none if it has all.
-fn missing_boxes(options: &Options, bytes: &[u8]) -> Option<&'static str> {
-    let index = options.face_index();
-    if Outlines::from_slice(bytes, index).is_none() {
-        return Some("no boxes, since it has no table glyf, CFF or CFF2");
-    }
-    let font = Directory::of(bytes, index);
-    if COLOURED.iter().any(|tag| font.has(*tag)) {
-        return Some("boxes of outlines alone, and not of its bitmaps or layers (sbix, CBDT, COLR)");
-    }
-    None
-}
-
-/// Says that boxes are asked for that a font hasn't.
-fn warn_of_boxes(rt: &HostRuntime, options: &Options, bytes: &[u8]) -> Result<(), Failure> {
-    if !options.form().asks(SerializeFlags::GLYPH_EXTENTS) {
-        return Ok(());
-    }
-    let Some(missing) = missing_boxes(options, bytes) else {
-        return Ok(());
-    };
-    let name = options.font();
-    match eprintln!(rt; "warning: {name}: {missing}") {
-        Ok(()) => Ok(()),
-        Err(error) => Err(Failure::io(rt.alloc(), "standard error", error)),
-    }
-}
-
 /// Takes all lines with a face, and the same face for the font's tables of lookups if that was opened.
 fn run_over<'a, W: Write + Drop>(
     rt: &HostRuntime,
@@ -273,9 +246,15 @@ fn run_to<W: Write + Drop>(
     let Some(face) = FontFace::from_slice(bytes, index) else {
         return Err(Failure::no_font(alloc, options.font(), bytes, index));
     };
+    let output = Output::new(alloc, options.output().unwrap_or(OUTPUT), writer)?;
+    if options.lists_axes() {
+        return list_axes(alloc, options, bytes, output);
+    }
     let outlines = drawn(alloc, options, bytes)?;
     warn_of_boxes(rt, options, bytes)?;
-    let output = Output::new(alloc, options.output().unwrap_or(OUTPUT), writer)?;
+    let coordinates = coordinates_of(alloc, bytes, index, &options.wanted())?;
+    warn_of_unvaried(rt, options, bytes, coordinates.as_slice())?;
+    let face = face.at(coordinates.as_slice());
     match opened(alloc, options, face) {
         Ok(opened) => run_over(rt, options, face, opened.as_ref(), outlines, output),
         Err(_) => Err(Failure::Memory),

@@ -4,6 +4,7 @@ use crate::look::Look;
 use crate::size::Size;
 use crate::values;
 use clap::ArgMatches;
+use font_variations::coordinates::{Variation, Wanted};
 use shape_pipeline::{
     BufferClusterLevel, BufferFlags, Direction, Feature, GlyphId, Language, Script,
 };
@@ -57,6 +58,8 @@ pub struct Options {
     mode: Option<u32>,
     fallback: bool,
     face_index: u32,
+    wishes: Vec<Variation>,
+    instance: Option<u16>,
     utf8_clusters: bool,
     layout: bool,
     invisible: Option<GlyphId>,
@@ -66,6 +69,7 @@ pub struct Options {
     format: Format,
     look: Look,
     shown: Shown,
+    axes: bool,
     output: Option<String>,
 }
 
@@ -87,6 +91,8 @@ impl Options {
             mode: matches.get_one::<u32>("mode"),
             fallback: values::fallback(alloc, matches)?,
             face_index: matches.get_one::<u32>("face-index").unwrap_or(0),
+            wishes: values::wishes(alloc, matches)?,
+            instance: values::instance(matches),
             utf8_clusters: matches.get_flag("utf8-clusters"),
             layout: !matches.get_flag("no-layout"),
             invisible: values::glyph(matches, "invisible-glyph"),
@@ -96,6 +102,7 @@ impl Options {
             format: values::format(alloc, matches)?,
             look: values::look(alloc, matches)?,
             shown: values::shown(matches),
+            axes: matches.get_flag("list-axes"),
             output: values::word(alloc, matches, "output-file")?,
         })
     }
@@ -173,6 +180,14 @@ impl Options {
         self.face_index
     }
 
+    /// What is wanted of a variable font.
+    pub fn wanted(&self) -> Wanted<'_> {
+        Wanted {
+            instance: self.instance,
+            wishes: self.wishes.as_slice(),
+        }
+    }
+
     /// Whether clusters are offsets of bytes, and not numbers of characters.
     pub fn utf8_clusters(&self) -> bool {
         self.utf8_clusters
@@ -216,6 +231,11 @@ impl Options {
     /// What is written before the glyphs of a line.
     pub fn shown(&self) -> Shown {
         self.shown
+    }
+
+    /// Whether the font's axes are listed, and nothing is shaped.
+    pub fn lists_axes(&self) -> bool {
+        self.axes
     }
 
     /// The name of the file to write to, none for standard output.

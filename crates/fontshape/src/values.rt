@@ -7,7 +7,9 @@ use crate::options::{Format, Shown, Source};
 use crate::size::{Size, size_from_string};
 use crate::unicodes::text_of_numbers;
 use clap::ArgMatches;
+use font_variations::coordinates::Variation;
 use shape_pipeline::{BufferClusterLevel, BufferFlags, Direction, Feature, GlyphId, Script};
+use shape_text_forms::feature::tag_value;
 use shape_text_forms::{
     SerializeFlags, direction_from_string, feature_from_string, script_from_string,
 };
@@ -169,6 +171,51 @@ pub fn features(alloc: Global, matches: &ArgMatches) -> Result<Vec<Feature>, Fai
         }
     }
     Ok(features)
+}
+
+/// A value for an axis, as `wght=700`: a tag of one to four bytes, and a number.
+fn wish_from_string(text: &str) -> Option<Variation> {
+    let (name, number) = text.split_once('=')?;
+    if name.is_empty() || 4 < name.len() {
+        return None;
+    }
+    let value: f32 = fast_float::parse(number.as_bytes()).ok()?;
+    if !value.is_finite() {
+        return None;
+    }
+    let tag = tag_value(name.as_bytes()).0;
+    Some(Variation { tag, value })
+}
+
+/// The values for axes of a list, with commas or spaces between them; nothing stands between two.
+pub fn wishes(alloc: Global, matches: &ArgMatches) -> Result<Vec<Variation>, Failure> {
+    let mut wishes = Vec::new(alloc);
+    let list = unquoted(matches.get_str("variations").unwrap_or(""));
+    for text in list.split([',', ' ']) {
+        if text.is_empty() {
+            continue;
+        }
+        match wish_from_string(text) {
+            Some(wish) => {
+                if wishes.push(wish).is_err() {
+                    return Err(Failure::Memory);
+                }
+            }
+            None => return Err(Failure::value(
+                alloc,
+                "variations",
+                text,
+                "values for axes such as wght=700,wdth=80",
+            )),
+        }
+    }
+    Ok(wishes)
+}
+
+/// The number of the named instance that is asked for. A font has fewer than 65,535.
+pub fn instance(matches: &ArgMatches) -> Option<u16> {
+    let number = matches.get_one::<u32>("named-instance")?;
+    Some(number.min(65535) as u16)
 }
 
 /// The direction, Invalid if it is to be guessed.

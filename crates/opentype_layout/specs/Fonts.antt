@@ -1,5 +1,5 @@
 -- What the bytes of a font file are as a face.
-use Rattle.std.specs.Prelude.{◌≡◌, ℕ, List, nat_lt}
+use Rattle.std.specs.Prelude.{◌≡◌, ℕ, List, [], nat_lt}
 use Rattle.opentype_layout.specs.declared.face.OpenTypeFace.{OpenTypeFace}
 use Rattle.shape_font.specs.Bytes.{u16_of}
 use Rattle.shape_font.specs.Directory.{bytes_of, has_table}
@@ -13,7 +13,7 @@ use Rattle.shape_font.specs.declared.face.FontFace.{FontFace}
 abbrev pub units_of : List ℕ → ℕ → ℕ
 units_of bytes index = u16_of (bytes_of bytes index 0x68656164) 18
 
--- a font's numbers and tables are those of the bytes; a table is named by its tag, as 0x68656164 is `head`
+-- a font's numbers and tables are those of the bytes, at the default instance; a table is named by its tag, as 0x68656164 is `head`
 pub record IsFontOf (bytes : List ℕ) (index : ℕ) (font : FontFace) : Type 0 where
   pub units_per_em : font.units_per_em ≡ units_of bytes index
   pub glyph_count : font.glyph_count ≡ u16_of (bytes_of bytes index 0x6D617870) 4
@@ -41,6 +41,9 @@ pub record IsFontOf (bytes : List ℕ) (index : ℕ) (font : FontFace) : Type 0 
   pub gdef : font.gdef.now ≡ bytes_of bytes index 0x47444546
   pub gsub : font.gsub.now ≡ bytes_of bytes index 0x47535542
   pub gpos : font.gpos.now ≡ bytes_of bytes index 0x47504F53
+  pub hvar : font.hvar.now ≡ bytes_of bytes index 0x48564152
+  pub vvar : font.vvar.now ≡ bytes_of bytes index 0x56564152
+  pub coordinates : font.coordinates.now ≡ []
 
 -- a face is that of a font with its three tables of layout
 pub record IsFaceOf (bytes : List ℕ) (index : ℕ) (face : OpenTypeFace) : Type 0 where

@@ -1,8 +1,9 @@
 -- what the bytes of a font say as a face
-use Rattle.std.specs.Prelude.{ℕ, ℤ, List, pos, neg_ℤ, ◌+ℤ◌, int_div, Option, Some, None, ◌+◌, ◌&&◌, ◌/◌, nat_lt, nat_eq, if◌then◌else◌}
+use Rattle.std.specs.Prelude.{ℕ, ℤ, List, pos, neg_ℤ, ◌+ℤ◌, int_div, Option, Some, None, is_none, length, ◌+◌, ◌&&◌, ◌||◌, ◌/◌, nat_lt, nat_eq, if◌then◌else◌}
 use Rattle.std.specs.Option.{option_map_or}
 use Rattle.shape_common.specs.Face.{FaceMeaning}
-use Rattle.shape_common.specs.Wrapping.{◌+ʷ◌}
+use Rattle.font_variations.specs.Metrics.{advance_delta, origin_delta}
+use Rattle.shape_common.specs.Wrapping.{◌+ʷ◌, neg_w}
 use Rattle.shape_common.specs.declared.text_types.GlyphId.{GlyphId}
 use Rattle.shape_common.specs.declared.face.hb_glyph_extents_t.{hb_glyph_extents_t}
 use Rattle.shape_font.specs.Bytes.{u32_of}
@@ -33,10 +34,19 @@ varied f c (Own g) = numbered g
 abbrev pub variant_of : FontFace → ℕ → ℕ → Option GlyphId
 variant_of f c selector = varied f c (variation_of f.sequences.now c selector)
 
+-- an advance at some coordinates, to which `HVAR` or `VVAR` adds if the glyph has a bearing; none are the default instance
+abbrev pub advance_at : List ℤ → List ℕ → Option ℤ → ℕ → ℕ → ℤ
+advance_at coordinates table bearing glyph advance = if nat_eq (length coordinates) 0 || is_none bearing then pos advance
+    else pos advance +ʷ advance_delta table coordinates glyph
+
 -- its advance, half of the em square in a font without advances, 0 past the last glyph
+abbrev pub h_advance_in : FontFace → ℕ → ℤ
+h_advance_in f glyph = advance_at f.coordinates.now f.hvar.now (bearing_of f.hmtx.now f.h_count glyph) glyph
+    (advance_of f.hmtx.now f.h_count glyph)
+
 abbrev pub h_advance_of : FontFace → GlyphId → ℤ
 h_advance_of f glyph = if nat_lt glyph.0 f.glyph_count
-    then (if nat_eq f.h_count 0 then pos (f.units_per_em / 2) else pos (advance_of f.hmtx.now f.h_count glyph.0))
+    then (if nat_eq f.h_count 0 then pos (f.units_per_em / 2) else h_advance_in f glyph.0)
     else pos 0
 
 -- how high a line is
@@ -44,9 +54,13 @@ abbrev pub line_height : FontFace → ℕ
 line_height f = ascender_of f.os2.now f.hhea.now + descender_of f.os2.now f.hhea.now
 
 -- its advance downwards, the height of a line in a font without such advances
+abbrev pub v_advance_in : FontFace → ℕ → ℤ
+v_advance_in f glyph = advance_at f.coordinates.now f.vvar.now (bearing_of f.vmtx.now f.v_count glyph) glyph
+    (advance_of f.vmtx.now f.v_count glyph)
+
 abbrev pub v_advance_of : FontFace → GlyphId → ℤ
 v_advance_of f glyph = if nat_eq f.v_count 0 then neg_ℤ (pos (line_height f))
-    else (if nat_lt glyph.0 f.glyph_count then neg_ℤ (pos (advance_of f.vmtx.now f.v_count glyph.0)) else pos 0)
+    else (if nat_lt glyph.0 f.glyph_count then neg_w (v_advance_in f glyph.0) else pos 0)
 
 -- the box of its outline
 unfoldable pub inked_of : FontFace → ℕ → hb_glyph_extents_t
@@ -75,10 +89,16 @@ abbrev pub origin_over : FontFace → ℕ → hb_glyph_extents_t → ℤ
 origin_over f glyph box = box.y_bearing +ʷ option_map_or (λ bearing. bearing) (bearing_of f.vmtx.now f.v_count glyph)
     (half_room f box.height)
 
+-- a height by `VORG` at some coordinates, to which `VVAR` adds if it has a map for origins
+abbrev pub listed_origin_at : List ℤ → List ℕ → ℕ → ℤ → ℤ
+listed_origin_at coordinates vvar glyph height = if nat_eq (length coordinates) 0 then height
+    else option_map_or (λ delta. height +ʷ delta) (origin_delta vvar coordinates glyph) height
+
 -- the height of the origin of vertical lines: by `VORG`, by the box of `glyf` (not that of a charstring, as HarfBuzz has it), or at
 -- the top of a line
 abbrev pub v_origin_of : FontFace → GlyphId → ℤ
-v_origin_of f glyph = if nat_lt 0 (u32_of f.vorg.now 0) then listed_origin f.vorg.now glyph.0
+v_origin_of f glyph = if nat_lt 0 (u32_of f.vorg.now 0)
+    then listed_origin_at f.coordinates.now f.vvar.now glyph.0 (listed_origin f.vorg.now glyph.0)
     else option_map_or (origin_over f glyph.0) (inked_extents f glyph) (pos (ascender_of f.os2.now f.hhea.now))
 
 abbrev pub font_face : FontFace → FaceMeaning

@@ -5,3 +5,4 @@ pub mod Lines
 pub mod Searches
 pub mod Names
 pub mod Face
+pub mod Instances

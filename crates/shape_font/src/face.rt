@@ -1,5 +1,5 @@
 //! The face that shaping asks.
-ghost use Rattle.std.specs.Prelude.{◌≡◌, ◌≤ℤ◌, ◌&&◌, pos, negsuc, is_some, nat_lt};
+ghost use Rattle.std.specs.Prelude.{◌≡◌, ◌≤ℤ◌, ◌&&◌, [], pos, negsuc, is_some, nat_lt};
 ghost use Rattle.std.specs.Option.{IfSome, option_map};
 ghost use Rattle.shape_font.specs.Bytes.{u16_of};
 ghost use Rattle.shape_font.specs.Cmap.{mapped_glyph};
@@ -7,9 +7,9 @@ ghost use Rattle.shape_font.specs.FontPages.{font_page_of};
 ghost use Rattle.shape_font.specs.Subtables.{chosen_subtable};
 ghost use Rattle.shape_font.specs.Variations.{sequences_of};
 ghost use Rattle.shape_font.specs.Directory.{bytes_of, has_table};
-ghost use Rattle.shape_font.specs.Metrics.{long_metrics};
+ghost use Rattle.shape_font.specs.Metrics.{listed_origin, long_metrics};
 ghost use Rattle.shape_font.specs.Cff;
-ghost use Rattle.shape_font.specs.declared.tags.TheConstants.{HEAD, HHEA, MAXP, HMTX, VHEA, VMTX, VORG, OS2, CMAP, LOCA, GLYF, GSUB, GPOS, GDEF, MORX, KERX, TRAK, KERN, POST};
+ghost use Rattle.shape_font.specs.declared.tags.TheConstants.{HEAD, HHEA, MAXP, HMTX, VHEA, VMTX, VORG, OS2, CMAP, LOCA, GLYF, GSUB, GPOS, GDEF, MORX, KERX, TRAK, KERN, POST, HVAR, VVAR};
 ghost use Rattle.shape_font.specs.Face;
 
 use crate::bytes::{u16_at, u32_at};
@@ -18,20 +18,23 @@ use crate::directory::Directory;
 use crate::font_pages::{FontPage, font_page};
 use crate::subtables::chosen;
 use crate::tags::{
-    CMAP, GDEF, GLYF, GPOS, GSUB, HEAD, HHEA, HMTX, KERN, KERX, LOCA, MAXP, MORX, OS2, POST, TRAK,
-    VHEA, VMTX, VORG,
+    CMAP, GDEF, GLYF, GPOS, GSUB, HEAD, HHEA, HMTX, HVAR, KERN, KERX, LOCA, MAXP, MORX, OS2, POST,
+    TRAK, VHEA, VMTX, VORG, VVAR,
 };
 use crate::variations::{GlyphVariant, variation};
 use crate::{cmap, metrics, names, variations};
 use cff_tables::CffFont;
-use shape_buffer::wrapping::{half, sum};
+use font_variations::metrics::{advance_delta, origin_delta};
+use shape_buffer::wrapping::{half, negative, sum};
 use shape_buffer::{GlyphId, hb_font_t, hb_glyph_extents_t, hb_tables_t};
 
 mod drawn;
 mod lines;
 
 /// A face over the bytes of an OpenType or TrueType file, in its units. A table that the file lacks reads as an empty
-/// one. Boxes are those of `glyf`, or of the charstrings of `CFF2` (at the default instance) or `CFF `.
+/// one. Boxes are those of `glyf`, or of the charstrings of `CFF2` or `CFF `. The face is at the default instance of a
+/// variable font, or at the coordinates that [`FontFace::at`] is given; two faces over the same tables at the same
+/// coordinates are equal.
 #[derive(Clone, Copy)]
 pub struct FontFace<'a> {
     units_per_em: u16,
@@ -57,6 +60,9 @@ pub struct FontFace<'a> {
     gdef: &'a [u8],
     gsub: &'a [u8],
     gpos: &'a [u8],
+    hvar: &'a [u8],
+    vvar: &'a [u8],
+    coordinates: &'a [i32],
 }
 
 /// The glyph with this number, whether the font has so many or not; 0 is none.
@@ -130,6 +136,9 @@ impl<'a> FontFace<'a> {
         ensures gdef_table { IfSome result (λ f. f.gdef.now ≡ bytes_of bytes.now index GDEF) }
         ensures gsub_table { IfSome result (λ f. f.gsub.now ≡ bytes_of bytes.now index GSUB) }
         ensures gpos_table { IfSome result (λ f. f.gpos.now ≡ bytes_of bytes.now index GPOS) }
+        ensures hvar { IfSome result (λ f. f.hvar.now ≡ bytes_of bytes.now index HVAR) }
+        ensures vvar { IfSome result (λ f. f.vvar.now ≡ bytes_of bytes.now index VVAR) }
+        ensures coordinates { IfSome result (λ f. f.coordinates.now ≡ []) }
     {
         let font = Directory::of(bytes, index);
         let head = font.table_or_empty(HEAD);
@@ -165,7 +174,31 @@ impl<'a> FontFace<'a> {
             gdef: font.table_or_empty(GDEF),
             gsub: font.table_or_empty(GSUB),
             gpos: font.table_or_empty(GPOS),
+            hvar: font.table_or_empty(HVAR),
+            vvar: font.table_or_empty(VVAR),
+            coordinates: &[],
         })
+    }
+
+    /// The same font at these coordinates, normalized and in units of 1/16384, as [`coordinates_of`] makes them; an axis past the
+    /// last of them is at its default, and none are the default instance. Advances are varied by `HVAR` and `VVAR`, origins by
+    /// `VVAR` and `VORG`; boxes and measures of lines are those of the default instance.
+    ///
+    /// [`coordinates_of`]: crate::instance::coordinates_of
+    pub fn at(self, coordinates: &'a [i32]) -> FontFace<'a>
+        ensures { result ≡ record self.entry { coordinates = coordinates.entry } }
+    {
+        FontFace {
+            coordinates,
+            ..self
+        }
+    }
+
+    /// The coordinates; none at the default instance.
+    pub fn coordinates(&self) -> &'a [i32]
+        ensures { result.now ≡ self.now.coordinates.now }
+    {
+        self.coordinates
     }
 
     /// How many glyphs the font has.
@@ -252,6 +285,39 @@ impl<'a> FontFace<'a> {
         }
     }
 
+    /// An advance at the coordinates of the face, to which `HVAR` or `VVAR` adds if the glyph has a bearing.
+    fn advance_at(&self, table: &[u8], bearing: Option<i32>, glyph: u32, advance: u16) -> i32
+        ensures { result
+            ≡ Face.advance_at self.now.coordinates.now table.now bearing glyph advance }
+    {
+        if self.coordinates.is_empty() || bearing.is_none() {
+            i32::from(advance)
+        } else {
+            sum(
+                i32::from(advance),
+                advance_delta(table, self.coordinates, glyph),
+            )
+        }
+    }
+
+    /// The advance of a glyph by `hmtx`.
+    fn h_advance(&self, glyph: u32) -> i32
+        ensures { result ≡ Face.h_advance_in self.now glyph }
+    {
+        let bearing = metrics::bearing(self.hmtx, self.h_count, glyph);
+        let advance = metrics::advance(self.hmtx, self.h_count, glyph);
+        self.advance_at(self.hvar, bearing, glyph, advance)
+    }
+
+    /// The advance of a glyph by `vmtx`.
+    fn v_advance(&self, glyph: u32) -> i32
+        ensures { result ≡ Face.v_advance_in self.now glyph }
+    {
+        let bearing = metrics::bearing(self.vmtx, self.v_count, glyph);
+        let advance = metrics::advance(self.vmtx, self.v_count, glyph);
+        self.advance_at(self.vvar, bearing, glyph, advance)
+    }
+
     /// The advance of a glyph, half of the em square in a font without advances, 0 past the last glyph.
     fn advance(&self, glyph: GlyphId) -> i32
         ensures { result ≡ Face.h_advance_of self.now glyph }
@@ -261,7 +327,7 @@ impl<'a> FontFace<'a> {
         } else if self.h_count == 0 {
             i32::from(self.units_per_em / 2)
         } else {
-            i32::from(metrics::advance(self.hmtx, self.h_count, glyph.0))
+            self.h_advance(glyph.0)
         }
     }
 
@@ -280,7 +346,7 @@ impl<'a> FontFace<'a> {
         if self.v_count == 0 {
             -self.height()
         } else if glyph.0 < u32::from(self.glyph_count) {
-            -i32::from(metrics::advance(self.vmtx, self.v_count, glyph.0))
+            negative(self.v_advance(glyph.0))
         } else {
             0
         }
@@ -337,12 +403,27 @@ impl<'a> FontFace<'a> {
         }
     }
 
+    /// The height of the origin by `VORG`, to which `VVAR` adds at the coordinates if it has a map for origins.
+    fn listed_origin(&self, glyph: u32) -> i32
+        ensures { result ≡ Face.listed_origin_at self.now.coordinates.now self.now.vvar.now glyph
+            (listed_origin self.now.vorg.now glyph) }
+    {
+        let height = metrics::origin(self.vorg, glyph);
+        if self.coordinates.is_empty() {
+            return height;
+        }
+        match origin_delta(self.vvar, self.coordinates, glyph) {
+            Some(delta) => sum(height, delta),
+            None => height,
+        }
+    }
+
     /// The height of the origin of vertical lines: by `VORG`, by the box, or at the top of a line.
     fn origin(&self, glyph: GlyphId) -> i32
         ensures { result ≡ Face.v_origin_of self.now glyph }
     {
         if u32_at(self.vorg, 0) != 0 {
-            metrics::origin(self.vorg, glyph.0)
+            self.listed_origin(glyph.0)
         } else if self.has_box(glyph) {
             self.over(glyph.0)
         } else {

@@ -15,6 +15,7 @@ pub mod cmap;
 pub mod directory;
 pub mod face;
 pub mod font_pages;
+pub mod instance;
 pub mod laws;
 pub mod metrics;
 pub mod names;

@@ -54,6 +54,18 @@ pub(crate) const TRAK: u32 = 0x7472_616b;
 /// `kern`.
 pub(crate) const KERN: u32 = 0x6b65_726e;
 
+/// `fvar`.
+pub(crate) const FVAR: u32 = 0x6676_6172;
+
+/// `avar`.
+pub(crate) const AVAR: u32 = 0x6176_6172;
+
+/// `HVAR`.
+pub(crate) const HVAR: u32 = 0x4856_4152;
+
+/// `VVAR`.
+pub(crate) const VVAR: u32 = 0x5656_4152;
+
 /// `post`.
 pub(crate) const POST: u32 = 0x706f_7374;
 

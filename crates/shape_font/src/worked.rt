@@ -6,6 +6,7 @@ ghost use Rattle.shape_font.specs.Worked.Lines.{WorkedLines};
 ghost use Rattle.shape_font.specs.Worked.Searches.{WorkedSearches, WorkedVariations};
 ghost use Rattle.shape_font.specs.Worked.Names.{WorkedNames};
 ghost use Rattle.shape_font.specs.Worked.Face.{WorkedFace, WorkedOrigins};
+ghost use Rattle.shape_font.specs.Worked.Instances.{WorkedInstances};
 
 /// Numbers, the directory, collections, the choice of a character map, and the tags of tables.
 pub fn tables_meet_worked_cases()
@@ -39,4 +40,5 @@ pub fn searches_meet_worked_cases()
     ensures names { WorkedNames }
     ensures face { WorkedFace }
     ensures origins { WorkedOrigins }
+    ensures instances { WorkedInstances }
 {}

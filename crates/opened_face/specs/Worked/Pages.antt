@@ -19,7 +19,7 @@ pub record WorkedPages : Type 0 where
   pub found_in_page_1 : (f : FontFace) (glyphs : List ℕ) → f.font_page ≡ Unicode → f.cmap.now ≡ short_list
       → AreStored f (1 ∷ 0 ∷ []) glyphs → 65 < length glyphs → slice_index glyphs 65 ≡ 0
   -- the second of two long metrics serves all later glyphs
-  pub advance : (f : FontFace) (advances : List ℤ) → f.glyph_count ≡ 7 → f.h_count ≡ 2
+  pub advance : (f : FontFace) (advances : List ℤ) → f.coordinates.now ≡ [] → f.glyph_count ≡ 7 → f.h_count ≡ 2
       → f.hmtx.now ≡ words (500 ∷ 50 ∷ 600 ∷ 60 ∷ []) → AreAdvances f advances → 6 < length advances
       → slice_index_or advances 6 (pos 0) ≡ pos 600
   -- 512 pages of 256 glyphs, the 4352 pages of Unicode, and an advance for each glyph that has a number of 16 bits but the last
@@ -38,7 +38,7 @@ worked_pages = record {
   filled = λ f glyphs s c h inside. h 321 inside ∙ rw (s, c) refl;
   found = λ f glyphs s c h inside. h 0x41 (lit< tt) inside ∙ rw (s, c) refl;
   found_in_page_1 = λ f glyphs s c h inside. h 0x141 (lit< tt) inside ∙ rw (s, c) refl;
-  advance = λ f advances e n t h inside. h 6 inside ∙ rw (e, n, t) refl;
+  advance = λ f advances c e n t h inside. h 6 inside ∙ rw (c, e, n, t) refl;
   most_glyphs = λ f index glyphs advances pairs is. is.few_glyphs;
   most_pages = λ f index glyphs advances pairs is. is.few_pages;
   most_advances = λ f index glyphs advances pairs is. is.few_advances;

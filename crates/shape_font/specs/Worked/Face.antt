@@ -1,7 +1,7 @@
 -- What a face returns, by what is known of its parts.
 use Rattle.std.specs.Prelude.{◌≡◌, pos, negsuc, [], ◌∷◌, ◌++◌, Some, None, true, false, refl}
 use Rattle.std.specs.Int.{int_wrap}
-use Rattle.shape_common.specs.Wrapping.{◌+ʷ◌}
+use Rattle.shape_common.specs.Wrapping.{◌+ʷ◌, neg_w}
 use Rattle.shape_common.specs.declared.face.hb_glyph_extents_t.{hb_glyph_extents_t}
 use Rattle.shape_font.specs.Bytes.{i16_of}
 use Rattle.shape_font.specs.Face.{font_face, numbered, glyph_of, variant_of, h_advance_of, v_advance_of, inked_extents, extents_of, inked_of, origin_over}
@@ -27,14 +27,14 @@ pub record WorkedFace : Type 0 where
   pub own_past_the_last : (f : FontFace) → f.glyph_count ≡ 7 → f.sequences.now ≡ three_selectors
       → variant_of f 0x41 0xFE01 ≡ Some (record { 0 = 7 })
   pub no_variant : (f : FontFace) → f.sequences.now ≡ three_selectors → variant_of f 0x43 0xFE00 ≡ None
-  pub advance : (f : FontFace) → f.glyph_count ≡ 7 → f.h_count ≡ 2 → f.hmtx.now ≡ words (500 ∷ 50 ∷ 600 ∷ 60 ∷ [])
+  pub advance : (f : FontFace) → f.coordinates.now ≡ [] → f.glyph_count ≡ 7 → f.h_count ≡ 2 → f.hmtx.now ≡ words (500 ∷ 50 ∷ 600 ∷ 60 ∷ [])
       → h_advance_of f (record { 0 = 0 }) ≡ pos 500
-  pub shared_advance : (f : FontFace) → f.glyph_count ≡ 7 → f.h_count ≡ 2 → f.hmtx.now ≡ words (500 ∷ 50 ∷ 600 ∷ 60 ∷ [])
+  pub shared_advance : (f : FontFace) → f.coordinates.now ≡ [] → f.glyph_count ≡ 7 → f.h_count ≡ 2 → f.hmtx.now ≡ words (500 ∷ 50 ∷ 600 ∷ 60 ∷ [])
       → h_advance_of f (record { 0 = 6 }) ≡ pos 600
   pub half_of_the_em : (f : FontFace) → f.glyph_count ≡ 7 → f.h_count ≡ 0 → f.units_per_em ≡ 1000
       → h_advance_of f (record { 0 = 6 }) ≡ pos 500
   pub no_advance_past_the_last : (f : FontFace) → f.glyph_count ≡ 7 → h_advance_of f (record { 0 = 7 }) ≡ pos 0
-  pub down : (f : FontFace) → f.glyph_count ≡ 7 → f.v_count ≡ 1 → f.vmtx.now ≡ words (900 ∷ 50 ∷ [])
+  pub down : (f : FontFace) → f.coordinates.now ≡ [] → f.glyph_count ≡ 7 → f.v_count ≡ 1 → f.vmtx.now ≡ words (900 ∷ 50 ∷ [])
       → v_advance_of f (record { 0 = 6 }) ≡ negsuc 899
   pub no_box_past_the_last : (f : FontFace) → f.outlines ≡ true → f.glyph_count ≡ 7 → inked_extents f (record { 0 = 7 }) ≡ None
   pub no_box_without_outlines : (f : FontFace) → f.outlines ≡ false → inked_extents f (record { 0 = 1 }) ≡ None
@@ -59,7 +59,7 @@ pub record WorkedFace : Type 0 where
       → inked_extents f (record { 0 = 0 }) ≡ Some (record { x_bearing = pos 50; y_bearing = pos 700; width = pos 290; height = negsuc 719 })
 
 pub worked_face : WorkedFace
-unfolding inked_of framed_of i16_of
+unfolding inked_of framed_of i16_of neg_w int_wrap
 worked_face = record {
   glyph_0_is_none = refl;
   glyph_1 = refl;
@@ -70,11 +70,11 @@ worked_face = record {
   own = λ f q. rw q refl;
   own_past_the_last = λ f e q. rw q refl;
   no_variant = λ f q. rw q refl;
-  advance = λ f e h t. rw (e, h, t) refl;
-  shared_advance = λ f e h t. rw (e, h, t) refl;
+  advance = λ f c e h t. rw (c, e, h, t) refl;
+  shared_advance = λ f c e h t. rw (c, e, h, t) refl;
   half_of_the_em = λ f e h u. rw (e, h, u) refl;
   no_advance_past_the_last = λ f e. rw e refl;
-  down = λ f e h t. rw (e, h, t) refl;
+  down = λ f c e h t. rw (c, e, h, t) refl;
   no_box_past_the_last = λ f o e. rw (o, e) refl;
   no_box_without_outlines = λ f o. rw o refl;
   box_of_the_last = λ f o e. rw (o, e) refl;
@@ -97,9 +97,9 @@ pub record WorkedOrigins : Type 0 where
       → (font_face f).v_advance (record { 0 = 6 }) ≡ negsuc 999
   pub not_down_past_the_last : (f : FontFace) → f.v_count ≡ 1 → f.glyph_count ≡ 7
       → (font_face f).v_advance (record { 0 = 7 }) ≡ pos 0
-  pub half_of_the_advance : (f : FontFace) → f.glyph_count ≡ 7 → f.h_count ≡ 1 → f.hmtx.now ≡ words (501 ∷ 50 ∷ [])
+  pub half_of_the_advance : (f : FontFace) → f.coordinates.now ≡ [] → f.glyph_count ≡ 7 → f.h_count ≡ 1 → f.hmtx.now ≡ words (501 ∷ 50 ∷ [])
       → (font_face f).h_origin (record { 0 = 6 }) ≡ pos 250
-  pub as_listed : (f : FontFace) → f.vorg.now ≡ origins 2 → (font_face f).v_origin (record { 0 = 3 }) ≡ pos 900
+  pub as_listed : (f : FontFace) → f.coordinates.now ≡ [] → f.vorg.now ≡ origins 2 → (font_face f).v_origin (record { 0 = 3 }) ≡ pos 900
   pub by_the_box : (f : FontFace) → f.vorg.now ≡ [] → f.outlines ≡ true → f.glyph_count ≡ 7
       → (font_face f).v_origin (record { 0 = 6 }) ≡ origin_over f 6 (inked_of f 6)
   pub without_a_box : (f : FontFace) → f.vorg.now ≡ [] → f.outlines ≡ false → f.os2.now ≡ [] → f.hhea.now ≡ plain_line
@@ -111,14 +111,14 @@ pub record WorkedOrigins : Type 0 where
       → (font_face f).nominal_glyph 0x41 ≡ Some (record { 0 = 7 })
   pub variant : (f : FontFace) → f.sequences.now ≡ three_selectors
       → (font_face f).variation_glyph 0x41 0xFE01 ≡ Some (record { 0 = 7 })
-  pub advance : (f : FontFace) → f.glyph_count ≡ 7 → f.h_count ≡ 1 → f.hmtx.now ≡ words (501 ∷ 50 ∷ [])
+  pub advance : (f : FontFace) → f.coordinates.now ≡ [] → f.glyph_count ≡ 7 → f.h_count ≡ 1 → f.hmtx.now ≡ words (501 ∷ 50 ∷ [])
       → (font_face f).h_advance (record { 0 = 6 }) ≡ pos 501
   pub no_box : (f : FontFace) → f.outlines ≡ false → f.cff ≡ None → (font_face f).extents (record { 0 = 1 }) ≡ None
   pub em : (f : FontFace) → f.units_per_em ≡ 2048 → (font_face f).units_per_em ≡ 2048
   -- 1005 high: -5 is left, and half of that is -3
   pub higher_than_the_line : (f : FontFace) → f.v_count ≡ 0 → f.os2.now ≡ [] → f.hhea.now ≡ plain_line
       → origin_over f 1 (record box { height = negsuc 1004 }) ≡ pos 697
-  pub listed_by_a_minor_version : (f : FontFace) → f.vorg.now ≡ words (0 ∷ 1 ∷ 880 ∷ 0 ∷ [])
+  pub listed_by_a_minor_version : (f : FontFace) → f.coordinates.now ≡ [] → f.vorg.now ≡ words (0 ∷ 1 ∷ 880 ∷ 0 ∷ [])
       → (font_face f).v_origin (record { 0 = 3 }) ≡ pos 880
   pub tables : (f : FontFace) → (font_face f).tables ≡ f.tables
 
@@ -127,18 +127,18 @@ unfolding i16_of ◌+ʷ◌ int_wrap
 worked_origins = record {
   a_line_down = λ f v o h. rw (v, o, h) refl;
   not_down_past_the_last = λ f v e. rw (v, e) refl;
-  half_of_the_advance = λ f e h t. rw (e, h, t) refl;
-  as_listed = λ f v. rw v refl;
+  half_of_the_advance = λ f c e h t. rw (c, e, h, t) refl;
+  as_listed = λ f c v. rw (c, v) refl;
   by_the_box = λ f v o e. rw (v, o, e) refl;
   without_a_box = λ f v o s h. rw (v, o, s, h) refl;
   by_its_bearing = λ f v t. rw (v, t) refl;
   in_the_middle = λ f v o h. rw (v, o, h) refl;
   glyph = λ f s c. rw (s, c) refl;
   variant = λ f q. rw q refl;
-  advance = λ f e h t. rw (e, h, t) refl;
+  advance = λ f c e h t. rw (c, e, h, t) refl;
   no_box = λ f o c. rw (o, c) refl;
   em = λ f u. u;
   higher_than_the_line = λ f v o h. rw (v, o, h) refl;
-  listed_by_a_minor_version = λ f v. rw v refl;
+  listed_by_a_minor_version = λ f c v. rw (c, v) refl;
   tables = λ f. refl;
 }

@@ -1,6 +1,7 @@
 use Rattle.shape_font.specs.Worked.Searches.{worked_searches, worked_variations}
 use Rattle.shape_font.specs.Worked.Names.{worked_names}
 use Rattle.shape_font.specs.Worked.Face.{worked_face, worked_origins}
+use Rattle.shape_font.specs.Worked.Instances.{worked_instances}
 use Rattle.shape_font.proofs.worked.searches_meet_worked_cases.Goals as goal
 
 pub returns-clause-searches : goal.returns-clause-searches
@@ -17,3 +18,6 @@ returns-clause-face c = worked_face
 
 pub returns-clause-origins : goal.returns-clause-origins
 returns-clause-origins c = worked_origins
+
+pub returns-clause-instances : goal.returns-clause-instances
+returns-clause-instances c = worked_instances

@@ -1,0 +1,125 @@
+//! What is said of a font that doesn't have what is asked for, in a line of standard error.
+use crate::failure::Failure;
+use crate::options::{Format, Options};
+use glyph_outlines::Outlines;
+use shape_font::bytes::{u16_at, u32_at};
+use shape_font::directory::Directory;
+use shape_text_forms::SerializeFlags;
+use std::alloc::{AllocError, Global};
+
+/// Tables of bitmaps and of layers in colours: `sbix`, `CBDT`, `COLR`.
+const COLOURED: [u32; 3] = [0x7362_6978, 0x4342_4454, 0x434F_4C52];
+
+/// What boxes a font has not, none if it has all.
+fn missing_boxes(options: &Options, bytes: &[u8]) -> Option<&'static str> {
+    let index = options.face_index();
+    if Outlines::from_slice(bytes, index).is_none() {
+        return Some("no boxes, since it has no table glyf, CFF or CFF2");
+    }
+    let font = Directory::of(bytes, index);
+    if COLOURED.iter().any(|tag| font.has(*tag)) {
+        return Some("boxes of outlines alone, and not of its bitmaps or layers (sbix, CBDT, COLR)");
+    }
+    None
+}
+
+/// Writes a warning about the font.
+fn warn(rt: &HostRuntime, options: &Options, what: &str) -> Result<(), Failure> {
+    let name = options.font();
+    match eprintln!(rt; "warning: {name}: {what}") {
+        Ok(()) => Ok(()),
+        Err(error) => Err(Failure::io(rt.alloc(), "standard error", error)),
+    }
+}
+
+/// Says that boxes are asked for that a font hasn't.
+pub fn warn_of_boxes(rt: &HostRuntime, options: &Options, bytes: &[u8]) -> Result<(), Failure> {
+    if !options.form().asks(SerializeFlags::GLYPH_EXTENTS) {
+        return Ok(());
+    }
+    let Some(missing) = missing_boxes(options, bytes) else {
+        return Ok(());
+    };
+    warn(rt, options, missing)
+}
+
+const HVAR: u32 = 0x4856_4152;
+
+const VVAR: u32 = 0x5656_4152;
+
+const VORG: u32 = 0x564F_5247;
+
+const GPOS: u32 = 0x4750_4F53;
+
+const GSUB: u32 = 0x4753_5542;
+
+const GDEF: u32 = 0x4744_4546;
+
+/// Whether GDEF has a store of variations, which positions of GPOS may refer to.
+fn has_store(font: &Directory<'_>) -> bool {
+    let gdef = font.table_or_empty(GDEF);
+    u16_at(gdef, 2) >= 3 && u32_at(gdef, 14) != 0
+}
+
+/// Whether a table of lookups has features that stand for others at some coordinates.
+fn has_variations(font: &Directory<'_>, tag: u32) -> bool {
+    let table = font.table_or_empty(tag);
+    u16_at(table, 2) >= 1 && u32_at(table, 10) != 0
+}
+
+/// What is not varied that is asked for: its names, with commas between them.
+fn unvaried(alloc: Global, options: &Options, font: &Directory<'_>) -> Result<String, AllocError> {
+    let upright = options.direction().is_vertical();
+    let boxes = options.form().asks(SerializeFlags::GLYPH_EXTENTS) || !font.has(GPOS);
+    let parts = [
+        (!font.has(HVAR), "advances (it has no table HVAR)"),
+        (font.has(GPOS) && has_store(font), "positions (GPOS)"),
+        (
+            has_variations(font, GSUB) || has_variations(font, GPOS),
+            "features",
+        ),
+        (boxes, "boxes"),
+        (options.format() == Format::Svg, "outlines"),
+        (
+            upright && !font.has(VVAR),
+            "vertical advances (it has no table VVAR)",
+        ),
+        (
+            upright && !font.has(VORG),
+            "vertical origins (it has no table VORG)",
+        ),
+    ];
+    let mut names = String::new(alloc);
+    for (is_so, name) in parts {
+        if is_so {
+            if !names.is_empty() {
+                names.push_str(", ")?;
+            }
+            names.push_str(name)?;
+        }
+    }
+    Ok(names)
+}
+
+/// Says what stays as at the default instance of a font though other coordinates are asked for.
+pub fn warn_of_unvaried(
+    rt: &HostRuntime,
+    options: &Options,
+    bytes: &[u8],
+    coordinates: &[i32],
+) -> Result<(), Failure> {
+    let wanted = options.wanted();
+    if wanted.instance.is_none() && wanted.wishes.is_empty() {
+        return Ok(());
+    }
+    if coordinates.is_empty() {
+        return warn(rt, options, "no axes, so that nothing varies");
+    }
+    let font = Directory::of(bytes, options.face_index());
+    let names = unvaried(rt.alloc(), options, &font)?;
+    if names.is_empty() {
+        return Ok(());
+    }
+    let text = format!(in rt.alloc(); "not varied: {names}")?;
+    warn(rt, options, text.as_str())
+}
