@@ -51,9 +51,7 @@ fn written(alloc: Global, items: &[Item]) -> Result<String, AllocError> {
         write!(
             line,
             "{} {} {script:?} {} {presentation:?}",
-            item.start,
-            item.end,
-            kind.level
+            item.start, item.end, kind.level
         )?;
     }
     line.push('\n')?;
@@ -61,11 +59,7 @@ fn written(alloc: Global, items: &[Item]) -> Result<String, AllocError> {
 }
 
 /// The runs of a text, as a line.
-fn runs(
-    alloc: Global,
-    text: &[char],
-    direction: Option<Direction>,
-) -> Result<String, AllocError> {
+fn runs(alloc: Global, text: &[char], direction: Option<Direction>) -> Result<String, AllocError> {
     let made = text_levels(alloc, text, direction)?;
     let mut string = String::new(alloc);
     for c in text {
