@@ -29,14 +29,14 @@ def rule(of, input_count):
     return input_count + sum(map(len, beside)) + len(records), [(it.LookupListIndex, it.SequenceIndex) for it in records]
 
 
-def rules_of_set(found, names):
+def rules_of_set(found, names, part):
     inputs = lambda it: getattr(it, "Input", None) or getattr(it, "Class", None) or []
     rules = [it.replace("ClassSet", "ClassRule").replace("RuleSet", "Rule") for it in names]
-    return [rule(it, 1 + len(inputs(it))) for it in either(found, rules)] if found else []
+    return [rule(it, part + 1 + len(inputs(it))) for it in either(found, rules)] if found else []
 
 
-def context(table, chained):
-    """The rules of each glyph that a subtable of context begins with."""
+def context(table, chained, part):
+    """The rules of each glyph that a subtable of context begins with. A rule costs a part of its set."""
     if table.Format == 3:
         coverage = table.InputCoverage if chained else table.Coverage
         beside = len(table.BacktrackCoverage) + len(table.LookAheadCoverage) if chained else 0
@@ -44,8 +44,8 @@ def context(table, chained):
         return {glyph: [(count, named)] for glyph in coverage[0].glyphs}
     if table.Format == 1:
         sets = either(table, RULE_SETS)
-        return {glyph: rules_of_set(found, RULE_SETS) for glyph, found in zip(table.Coverage.glyphs, sets)}
-    by_class = [rules_of_set(found, CLASS_SETS) for found in either(table, CLASS_SETS)]
+        return {glyph: rules_of_set(found, RULE_SETS, part) for glyph, found in zip(table.Coverage.glyphs, sets)}
+    by_class = [rules_of_set(found, CLASS_SETS, part) for found in either(table, CLASS_SETS)]
     classes = (table.InputClassDef if chained else table.ClassDef).classDefs
     of = lambda glyph: classes.get(glyph, 0)
     return {glyph: by_class[of(glyph)] if of(glyph) < len(by_class) else [] for glyph in table.Coverage.glyphs}
@@ -53,7 +53,7 @@ def context(table, chained):
 
 def begun(kind, table, positions):
     """The rules, or the ligatures, of each glyph that a subtable that isn't plain begins with."""
-    if kind in ((7, 8) if positions else (5, 6)): return context(table, kind == (8 if positions else 6))
+    if kind in ((7, 8) if positions else (5, 6)): return context(table, kind == (8 if positions else 6), 0 if positions else 1)
     if positions: return {}
     if kind == 4: return {glyph: [(1 + len(it.Component), []) for it in found] for glyph, found in table.ligatures.items()}
     if kind == 8:
