@@ -1,3 +1,4 @@
+pub mod PastLemmas
 pub mod SearchLemmas
 pub mod DictLemmas
 pub mod CharsetLemmas

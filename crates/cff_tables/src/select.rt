@@ -31,13 +31,18 @@ fn range_at(format: u8, at: u32, i: u32) -> usize
 }
 
 /// The range of a glyph among `count`.
-#[tactic(auto, using(crate::proofs::SearchLemmas::first_at_next, crate::proofs::SearchLemmas::first_at_found, crate::proofs::SearchLemmas::first_at_end))]
+#[tactic(auto, using(crate::proofs::SearchLemmas::first_at_next, crate::proofs::SearchLemmas::first_at_found, crate::proofs::SearchLemmas::first_at_end, crate::proofs::PastLemmas::nothing_past))]
 fn range_of(table: &[u8], format: u8, at: u32, count: u32, glyph: u32) -> u32
     ensures { result ≡ Select.range_of table.now format at count glyph }
 {
     let last = count.saturating_sub(1);
     for i in 0..last {
-        if glyph < number_at(table, range_at(format, at, i + 1), glyph_size(format)) {
+        let next = range_at(format, at, i + 1);
+        // Past the end of the table ranges begin at glyph 0: a font may count 2^32 of them.
+        if table.len() <= next {
+            return last;
+        }
+        if glyph < number_at(table, next, glyph_size(format)) {
             return i;
         }
     }

@@ -1,10 +1,10 @@
 -- INDEX and DICT data, and whole fonts, on bytes that were read by hand
-use Rattle.std.specs.Prelude.{◌≡◌, ℕ, List, [], ◌∷◌, ◌++◌, true, false, Some, None, replicate, refl}
-use Rattle.cff_tables.specs.Bytes.{word_of, number_of, part_of}
+use Rattle.std.specs.Prelude.{◌≡◌, ℕ, List, [], ◌∷◌, true, false, Some, None, replicate, refl}
+use Rattle.cff_tables.specs.Bytes.{number_of, part_of}
 use Rattle.cff_tables.specs.Index.{object_count, index_end, range_of, object_of}
-use Rattle.cff_tables.specs.Dict.{begins_operand, value_of, operand_of, operator_of, operator_end, needed, values_of, no_values, dict_step, real_end}
+use Rattle.cff_tables.specs.Dict.{begins_operand, value_of, operand_of, operator_of, operator_end, values_of, no_values, real_end}
 use Rattle.cff_tables.specs.Select.{fd_of}
-use Rattle.cff_tables.specs.Font.{region_count, cff_layout, cff2_layout, name_of, glyph_local, private_of}
+use Rattle.cff_tables.specs.Font.{region_count, cff_layout, cff2_layout}
 
 pub record WorkedNumbers : Type 0 where
   pub one : number_of (1 ∷ 2 ∷ 3 ∷ 4 ∷ 5 ∷ []) 1 1 ≡ 2
