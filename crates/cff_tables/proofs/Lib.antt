@@ -1,4 +1,3 @@
-pub mod PastLemmas
 pub mod SearchLemmas
 pub mod DictLemmas
 pub mod CharsetLemmas

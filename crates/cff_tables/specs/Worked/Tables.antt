@@ -3,7 +3,7 @@ use Rattle.std.specs.Prelude.{◌≡◌, ℕ, List, [], ◌∷◌, true, false, 
 use Rattle.cff_tables.specs.Bytes.{number_of, part_of}
 use Rattle.cff_tables.specs.Index.{object_count, index_end, range_of, object_of}
 use Rattle.cff_tables.specs.Dict.{begins_operand, value_of, operand_of, operator_of, operator_end, values_of, no_values, real_end}
-use Rattle.cff_tables.specs.Select.{fd_of}
+use Rattle.cff_tables.specs.Select
 use Rattle.cff_tables.specs.Font.{region_count, cff_layout, cff2_layout}
 
 pub record WorkedNumbers : Type 0 where
@@ -102,14 +102,36 @@ pub record WorkedDicts : Type 0 where
   pub after_two_bytes : operator_end (12 ∷ 30 ∷ []) 0 ≡ 2
 
 -- format 0: a byte a glyph; format 3: glyphs 0 to 4 and 5 on; format 4 the same
+-- an FDSelect of format 3 with four ranges, and one whose ranges don't rise
+abbrev pub four_ranges : List ℕ
+four_ranges = 3 ∷ 0 ∷ 4 ∷ 0 ∷ 0 ∷ 5 ∷ 0 ∷ 2 ∷ 6 ∷ 0 ∷ 3 ∷ 7 ∷ 0 ∷ 7 ∷ 8 ∷ 0 ∷ 9 ∷ []
+
+abbrev pub turned_ranges : List ℕ
+turned_ranges = 3 ∷ 0 ∷ 4 ∷ 0 ∷ 0 ∷ 5 ∷ 0 ∷ 9 ∷ 6 ∷ 0 ∷ 3 ∷ 7 ∷ 0 ∷ 5 ∷ 8 ∷ 0 ∷ 9 ∷ []
+
 pub record WorkedSelection : Type 0 where
-  pub without : fd_of (3 ∷ 3 ∷ 3 ∷ []) 0 1 ≡ 0
-  pub listed : fd_of (9 ∷ 0 ∷ 5 ∷ 6 ∷ []) 1 1 ≡ 6
-  pub first_range : fd_of (9 ∷ 3 ∷ 0 ∷ 2 ∷ 0 ∷ 0 ∷ 7 ∷ 0 ∷ 5 ∷ 8 ∷ 0 ∷ 9 ∷ []) 1 4 ≡ 7
-  pub second_range : fd_of (9 ∷ 3 ∷ 0 ∷ 2 ∷ 0 ∷ 0 ∷ 7 ∷ 0 ∷ 5 ∷ 8 ∷ 0 ∷ 9 ∷ []) 1 5 ≡ 8
-  pub wide_first : fd_of (9 ∷ 4 ∷ 0 ∷ 0 ∷ 0 ∷ 2 ∷ 0 ∷ 0 ∷ 0 ∷ 0 ∷ 1 ∷ 7 ∷ 0 ∷ 0 ∷ 0 ∷ 5 ∷ 1 ∷ 8 ∷ 0 ∷ 0 ∷ 0 ∷ 9 ∷ []) 1 4 ≡ 263
-  pub wide_second : fd_of (9 ∷ 4 ∷ 0 ∷ 0 ∷ 0 ∷ 2 ∷ 0 ∷ 0 ∷ 0 ∷ 0 ∷ 1 ∷ 7 ∷ 0 ∷ 0 ∷ 0 ∷ 5 ∷ 1 ∷ 8 ∷ 0 ∷ 0 ∷ 0 ∷ 9 ∷ []) 1 5 ≡ 264
-  pub another_format : fd_of (9 ∷ 1 ∷ 5 ∷ 6 ∷ []) 1 1 ≡ 0
+  pub without : Select.fd_of (3 ∷ 3 ∷ 3 ∷ []) 0 1 ≡ 0
+  pub listed : Select.fd_of (9 ∷ 0 ∷ 5 ∷ 6 ∷ []) 1 1 ≡ 6
+  pub first_range : Select.fd_of (9 ∷ 3 ∷ 0 ∷ 2 ∷ 0 ∷ 0 ∷ 7 ∷ 0 ∷ 5 ∷ 8 ∷ 0 ∷ 9 ∷ []) 1 4 ≡ 7
+  pub second_range : Select.fd_of (9 ∷ 3 ∷ 0 ∷ 2 ∷ 0 ∷ 0 ∷ 7 ∷ 0 ∷ 5 ∷ 8 ∷ 0 ∷ 9 ∷ []) 1 5 ≡ 8
+  pub wide_first : Select.fd_of (9 ∷ 4 ∷ 0 ∷ 0 ∷ 0 ∷ 2 ∷ 0 ∷ 0 ∷ 0 ∷ 0 ∷ 1 ∷ 7 ∷ 0 ∷ 0 ∷ 0 ∷ 5 ∷ 1 ∷ 8 ∷ 0 ∷ 0 ∷ 0 ∷ 9 ∷ []) 1 4 ≡ 263
+  pub wide_second : Select.fd_of (9 ∷ 4 ∷ 0 ∷ 0 ∷ 0 ∷ 2 ∷ 0 ∷ 0 ∷ 0 ∷ 0 ∷ 1 ∷ 7 ∷ 0 ∷ 0 ∷ 0 ∷ 5 ∷ 1 ∷ 8 ∷ 0 ∷ 0 ∷ 0 ∷ 9 ∷ []) 1 5 ≡ 264
+  pub another_format : Select.fd_of (9 ∷ 1 ∷ 5 ∷ 6 ∷ []) 1 1 ≡ 0
+  -- ranges at 0, 2, 3 and 7
+  pub first_of_four : Select.range_of four_ranges 3 0 4 1 ≡ 0
+  pub second_of_four : Select.range_of four_ranges 3 0 4 2 ≡ 1
+  pub third_of_four : Select.range_of four_ranges 3 0 4 6 ≡ 2
+  pub fourth_of_four : Select.range_of four_ranges 3 0 4 7 ≡ 3
+  pub last_of_four : Select.range_of four_ranges 3 0 4 200 ≡ 3
+  pub walked_third : Select.walked four_ranges 3 0 4 6 ≡ 2
+  pub walked_last : Select.walked four_ranges 3 0 4 200 ≡ 3
+  pub only_one : Select.range_of four_ranges 3 0 1 200 ≡ 0
+  pub no_range : Select.range_of four_ranges 3 0 0 200 ≡ 0
+  -- at 0, 9, 3 and 5: a walk stops before the second one, a search asks the third and goes on behind it
+  pub out_of_order : Select.range_of turned_ranges 3 0 4 6 ≡ 3
+  pub walked_out_of_order : Select.walked turned_ranges 3 0 4 6 ≡ 0
+  -- one range is there, and nine are counted: those past the end begin at 0, and the last one has Font DICT 0
+  pub counted_past_the_end : Select.fd_of (9 ∷ 3 ∷ 0 ∷ 9 ∷ 0 ∷ 0 ∷ 7 ∷ []) 1 4 ≡ 0
 
 -- a font of two glyphs, .notdef and A: header, the name F, a Top DICT (charset at 26, Private of 2 bytes at 37, CharStrings at 29), no
 -- strings, no global subroutines, the charset, charstrings, and a Private DICT by which subroutines stand 2 bytes on: one of one byte
@@ -233,6 +255,18 @@ worked_selection = record {
   wide_first = refl;
   wide_second = refl;
   another_format = refl;
+  first_of_four = refl;
+  second_of_four = refl;
+  third_of_four = refl;
+  fourth_of_four = refl;
+  last_of_four = refl;
+  walked_third = refl;
+  walked_last = refl;
+  only_one = refl;
+  no_range = refl;
+  out_of_order = refl;
+  walked_out_of_order = refl;
+  counted_past_the_end = refl;
 }
 
 pub worked_fonts : WorkedFonts

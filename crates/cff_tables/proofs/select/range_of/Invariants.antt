@@ -1,8 +1,10 @@
-use Rattle.std.proofs.Common.{◌≡◌, ◌-◌, ◌+◌, nat_lt, ℕ, Bool}
-use Rattle.cff_tables.specs.Bytes.{first_at, number_of}
-use Rattle.cff_tables.specs.Select.{range_at, glyph_size}
+use Rattle.std.proofs.Common.{◌≡◌, ◌-◌, ℕ}
+use Rattle.cff_tables.specs.Select.{halved, next_is_past, range_of}
 use Rattle.cff_tables.proofs.select.range_of.Given as goal
 
-abbrev pub invariant-loop-i : goal.invariant-loop-i
-invariant-loop-i l = let p : ℕ → Bool = λ i. nat_lt l.glyph (number_of l.table (range_at l.format l.at (i + 1)) (glyph_size l.format)) in
-    first_at p l.last 0 ≡ first_at p (l.last - l.i) l.i
+-- what is found from here on is what is found from the start
+abbrev pub invariant-loop-from : goal.invariant-loop-from
+invariant-loop-from l = halved (next_is_past l.table l.format l.at l.glyph) (l.to - l.from) l.from l.to ≡ range_of l.table l.format l.at l.count l.glyph
+
+abbrev pub decreases-loop-from : goal.decreases-loop-from
+decreases-loop-from l = l.to - l.from
