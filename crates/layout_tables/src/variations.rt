@@ -1,4 +1,5 @@
-//! Feature variations at the default instance of a font, where each axis is at 0.
+//! Feature variations at some coordinates of a font: normalized, in units of 1/16384. Where there are none, it is the default
+//! instance.
 ghost use Rattle.std.specs.Prelude.{◌≡◌, ◌<◌, ◌^◌, false};
 ghost use Rattle.std.specs.Option.{IfSome, ForSome};
 ghost use Rattle.shape_font.specs.Search.{first_at};
@@ -6,53 +7,60 @@ ghost use Rattle.layout_tables.specs.Variations;
 
 use crate::features::feature;
 use crate::offsets::offset32;
-use shape_font::bytes::{records, u16_at, u32_at};
+use shape_font::bytes::{i16_at, records, u16_at, u32_at};
 
-/// Whether a number of 16 bits in two's complement is below 0.
-fn is_negative(number: u16) -> bool
-    ensures { result ≡ Variations.is_negative number }
+/// The coordinate of an axis, 0 past the last one that is given.
+fn coordinate(coordinates: &[i32], axis: u16) -> i32
+    ensures { result ≡ Variations.coordinate_of coordinates.now axis }
 {
-    0x8000 <= number
+    if usize::from(axis) < coordinates.len() {
+        coordinates[usize::from(axis)]
+    } else {
+        0
+    }
 }
 
-/// Whether a number of 16 bits in two's complement is above 0.
-fn is_positive(number: u16) -> bool
-    ensures { result ≡ Variations.is_positive number }
-{
-    0 < number && number < 0x8000
-}
-
-/// Whether the Condition at `at` holds. Of formats 3 to 5, which OpenType does not have, none does.
-fn condition_holds(table: &[u8], at: usize) -> bool
+/// Whether a coordinate lies within the two numbers of the Condition at `at`.
+fn is_within(table: &[u8], coordinates: &[i32], at: usize) -> bool
     requires { at < 2 ^ 38 }
-    ensures { result ≡ Variations.condition_holds table.now at }
+    ensures { result ≡ Variations.is_within table.now coordinates.now at }
+{
+    let there = coordinate(coordinates, u16_at(table, at + 2));
+    i16_at(table, at + 4) <= there && there <= i16_at(table, at + 6)
+}
+
+/// Whether the Condition at `at` holds. Format 2, which OpenType does not have, counts by its value at the default
+/// instance, and of formats 3 to 5, which it does not have either, none does.
+fn condition_holds(table: &[u8], coordinates: &[i32], at: usize) -> bool
+    requires { at < 2 ^ 38 }
+    ensures { result ≡ Variations.condition_holds table.now coordinates.now at }
 {
     match u16_at(table, at) {
-        1 => !is_positive(u16_at(table, at + 4)) && !is_negative(u16_at(table, at + 6)),
-        2 => is_positive(u16_at(table, at + 2)),
+        1 => is_within(table, coordinates, at),
+        2 => 0 < i16_at(table, at + 2),
         _ => false,
     }
 }
 
 /// Whether condition `i` of the ConditionSet at `set` fails.
-fn condition_fails(table: &[u8], set: usize, i: u32) -> bool
+fn condition_fails(table: &[u8], coordinates: &[i32], set: usize, i: u32) -> bool
     requires { set < 2 ^ 37 }
-    ensures { result ≡ Variations.condition_fails table.now set i }
+    ensures { result ≡ Variations.condition_fails table.now coordinates.now set i }
 {
     match offset32(table, set, set + 2 + 4 * i as usize) {
-        Some(at) => !condition_holds(table, at),
+        Some(at) => !condition_holds(table, coordinates, at),
         None => true,
     }
 }
 
 /// The first of the `count` conditions of the set that fails.
 #[tactic(auto, using(shape_font::proofs::SearchLemmas::first_at_next, shape_font::proofs::SearchLemmas::first_at_found, shape_font::proofs::SearchLemmas::first_at_end))]
-fn first_failing(table: &[u8], set: usize, count: u32) -> Option<u32>
+fn first_failing(table: &[u8], coordinates: &[i32], set: usize, count: u32) -> Option<u32>
     requires { set < 2 ^ 37 }
-    ensures { result ≡ first_at (Variations.condition_fails table.now set) count 0 }
+    ensures { result ≡ first_at (Variations.condition_fails table.now coordinates.now set) count 0 }
 {
     for i in 0..count {
-        if condition_fails(table, set, i) {
+        if condition_fails(table, coordinates, set, i) {
             return Some(i);
         }
     }
@@ -61,33 +69,33 @@ fn first_failing(table: &[u8], set: usize, count: u32) -> Option<u32>
 
 /// Whether all conditions of the ConditionSet at `set` hold. A set of more than 256 conditions does not, so that
 /// sets that overlap don't take more work than the bytes that are there.
-fn set_holds(table: &[u8], set: usize) -> bool
+fn set_holds(table: &[u8], coordinates: &[i32], set: usize) -> bool
     requires { set < 2 ^ 37 }
-    ensures { result ≡ Variations.set_holds table.now set }
+    ensures { result ≡ Variations.set_holds table.now coordinates.now set }
 {
     let count = records(table, u32::from(u16_at(table, set)), set + 2, 4);
-    count <= 256 && first_failing(table, set, count).is_none()
+    count <= 256 && first_failing(table, coordinates, set, count).is_none()
 }
 
 /// Whether record `i` of the FeatureVariations table at `start` holds.
-fn record_holds(table: &[u8], start: usize, i: u32) -> bool
+fn record_holds(table: &[u8], coordinates: &[i32], start: usize, i: u32) -> bool
     requires { start < 2 ^ 33 }
-    ensures { result ≡ Variations.record_holds table.now start i }
+    ensures { result ≡ Variations.record_holds table.now coordinates.now start i }
 {
     match offset32(table, start, start + 8 + 8 * i as usize) {
-        Some(set) => set_holds(table, set),
+        Some(set) => set_holds(table, coordinates, set),
         None => true,
     }
 }
 
 /// The first of the `count` records of the FeatureVariations table at `start` that holds.
 #[tactic(auto, using(shape_font::proofs::SearchLemmas::first_at_next, shape_font::proofs::SearchLemmas::first_at_found, shape_font::proofs::SearchLemmas::first_at_end))]
-fn first_record(table: &[u8], start: usize, count: u32) -> Option<u32>
+fn first_record(table: &[u8], coordinates: &[i32], start: usize, count: u32) -> Option<u32>
     requires { start < 2 ^ 33 }
-    ensures { result ≡ first_at (Variations.record_holds table.now start) count 0 }
+    ensures { result ≡ first_at (Variations.record_holds table.now coordinates.now start) count 0 }
 {
     for i in 0..count {
-        if record_holds(table, start, i) {
+        if record_holds(table, coordinates, start, i) {
             return Some(i);
         }
     }
@@ -109,16 +117,16 @@ fn substitution_at(table: &[u8], start: usize, i: u32) -> Option<usize>
 }
 
 /// The substitutions of the first record that holds, of the FeatureVariations table at `start`.
-fn substitution_in(table: &[u8], start: usize) -> Option<usize>
+fn substitution_in(table: &[u8], coordinates: &[i32], start: usize) -> Option<usize>
     requires { start < 2 ^ 33 }
-    ensures value { result ≡ Variations.substitution_in table.now start }
+    ensures value { result ≡ Variations.substitution_in table.now coordinates.now start }
     ensures near { IfSome result (λ at. at < 2 ^ 34) }
 {
     if u16_at(table, start) != 1 {
         return None;
     }
     let count = records(table, u32_at(table, start + 4), start + 8, 8);
-    let i = first_record(table, start, count)?;
+    let i = first_record(table, coordinates, start, count)?;
     substitution_at(table, start, i)
 }
 
@@ -134,13 +142,14 @@ fn feature_variations(table: &[u8]) -> Option<usize>
     }
 }
 
-/// Where the FeatureTableSubstitution table of the default instance stands; none if no feature varies there.
-pub fn substitution(table: &[u8]) -> Option<usize>
-    ensures value { result ≡ Variations.substitution_of table.now }
+/// Where the FeatureTableSubstitution table stands that counts at the coordinates; none if no feature varies there. Coordinates are
+/// normalized, in units of 1/16384; an axis past the last of them is at its default.
+pub fn substitution(table: &[u8], coordinates: &[i32]) -> Option<usize>
+    ensures value { result ≡ Variations.substitution_of table.now coordinates.now }
     ensures near { IfSome result (λ at. at < 2 ^ 34) }
 {
     let start = feature_variations(table)?;
-    substitution_in(table, start)
+    substitution_in(table, coordinates, start)
 }
 
 /// The first of the `count` records at `at` that is for the feature with this index.

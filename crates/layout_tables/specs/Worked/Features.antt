@@ -1,6 +1,7 @@
 -- Features and their variations, on tables that were read by hand.
 use Prim.Native.Nat.{zero}
-use Rattle.std.specs.Prelude.{◌≡◌, ℕ, suc, List, [], ◌∷◌, ◌++◌, Some, None, true, false, refl}
+use Rattle.std.specs.Prelude.{◌≡◌, ℕ, suc, pos, negsuc, List, [], ◌∷◌, ◌++◌, Some, None, true, false, refl}
+use Rattle.shape_font.specs.Bytes.{i16_of}
 use Rattle.shape_font.specs.Worked.Glyphs.{words}
 use Rattle.layout_tables.specs.Features.{feature_count_of, feature_tag_of, required_feature_of, feature_index_of, any_feature_of, feature_of, feature_lookup_count_of, feature_lookup_of}
 use Rattle.layout_tables.specs.Variations.{condition_holds, set_holds, substitution_of, varied_feature_of}
@@ -109,22 +110,30 @@ same_offsets (suc n) high low = 0 ∷ 0 ∷ high ∷ low ∷ same_offsets n high
 
 pub record WorkedConditions : Type 0 where
   -- F2DOT14: 0xC000 is -1, 0x4000 is 1, 0xFFFF is the greatest below 0
-  pub whole_axis : condition_holds (words (1 ∷ 0 ∷ 0xC000 ∷ 0x4000 ∷ [])) 0 ≡ true
-  pub at_0 : condition_holds (words (1 ∷ 0 ∷ 0 ∷ 0 ∷ [])) 0 ≡ true
-  pub above_0 : condition_holds (words (1 ∷ 0 ∷ 1 ∷ 0x4000 ∷ [])) 0 ≡ false
-  pub below_0 : condition_holds (words (1 ∷ 0 ∷ 0xC000 ∷ 0xFFFF ∷ [])) 0 ≡ false
-  pub positive_value : condition_holds (words (2 ∷ 1 ∷ 0 ∷ 0 ∷ [])) 0 ≡ true
-  pub value_0 : condition_holds (words (2 ∷ 0 ∷ 0 ∷ 0 ∷ [])) 0 ≡ false
-  pub negative_value : condition_holds (words (2 ∷ 0x8000 ∷ 0 ∷ 0 ∷ [])) 0 ≡ false
-  pub other_format : condition_holds (words (3 ∷ 1 ∷ 0 ∷ 0 ∷ [])) 0 ≡ false
-  pub empty_set : set_holds (words (0 ∷ [])) 0 ≡ true
-  pub null_condition : set_holds (words (1 ∷ 0 ∷ 0 ∷ [])) 0 ≡ false
-  pub one_fails : set_holds (words (2 ∷ 0 ∷ 10 ∷ 0 ∷ 18 ∷ 2 ∷ 1 ∷ 0 ∷ 0 ∷ 2 ∷ 0 ∷ [])) 0 ≡ false
-  pub all_hold : set_holds (words (2 ∷ 0 ∷ 10 ∷ 0 ∷ 18 ∷ 2 ∷ 1 ∷ 0 ∷ 0 ∷ 2 ∷ 1 ∷ [])) 0 ≡ true
+  pub whole_axis : condition_holds (words (1 ∷ 0 ∷ 0xC000 ∷ 0x4000 ∷ [])) [] 0 ≡ true
+  pub at_0 : condition_holds (words (1 ∷ 0 ∷ 0 ∷ 0 ∷ [])) [] 0 ≡ true
+  pub above_0 : condition_holds (words (1 ∷ 0 ∷ 1 ∷ 0x4000 ∷ [])) [] 0 ≡ false
+  pub below_0 : condition_holds (words (1 ∷ 0 ∷ 0xC000 ∷ 0xFFFF ∷ [])) [] 0 ≡ false
+  pub positive_value : condition_holds (words (2 ∷ 1 ∷ 0 ∷ 0 ∷ [])) [] 0 ≡ true
+  pub value_0 : condition_holds (words (2 ∷ 0 ∷ 0 ∷ 0 ∷ [])) [] 0 ≡ false
+  pub negative_value : condition_holds (words (2 ∷ 0x8000 ∷ 0 ∷ 0 ∷ [])) [] 0 ≡ false
+  -- axis 1 is at 1/2, from 1/4 to 1/2; a coordinate that isn't given is 0
+  pub of_its_own_axis : condition_holds (words (1 ∷ 1 ∷ 0x1000 ∷ 0x2000 ∷ [])) (pos 0 ∷ pos 0x2000 ∷ []) 0 ≡ true
+  pub at_the_least : condition_holds (words (1 ∷ 1 ∷ 0x1000 ∷ 0x2000 ∷ [])) (pos 0 ∷ pos 0x1000 ∷ []) 0 ≡ true
+  pub below_the_least : condition_holds (words (1 ∷ 1 ∷ 0x1000 ∷ 0x2000 ∷ [])) (pos 0x1800 ∷ pos 0xFFF ∷ []) 0 ≡ false
+  pub above_the_greatest : condition_holds (words (1 ∷ 1 ∷ 0x1000 ∷ 0x2000 ∷ [])) (pos 0x1800 ∷ pos 0x2001 ∷ []) 0 ≡ false
+  pub below_the_default : condition_holds (words (1 ∷ 0 ∷ 0xC000 ∷ 0xE000 ∷ [])) (negsuc 0x2FFF ∷ []) 0 ≡ true
+  pub no_such_axis : condition_holds (words (1 ∷ 1 ∷ 0x1000 ∷ 0x2000 ∷ [])) (pos 0x1800 ∷ []) 0 ≡ false
+  pub other_format : condition_holds (words (3 ∷ 1 ∷ 0 ∷ 0 ∷ [])) [] 0 ≡ false
+  pub empty_set : set_holds (words (0 ∷ [])) [] 0 ≡ true
+  pub null_condition : set_holds (words (1 ∷ 0 ∷ 0 ∷ [])) [] 0 ≡ false
+  pub one_fails : set_holds (words (2 ∷ 0 ∷ 10 ∷ 0 ∷ 18 ∷ 2 ∷ 1 ∷ 0 ∷ 0 ∷ 2 ∷ 0 ∷ [])) [] 0 ≡ false
+  pub all_hold : set_holds (words (2 ∷ 0 ∷ 10 ∷ 0 ∷ 18 ∷ 2 ∷ 1 ∷ 0 ∷ 0 ∷ 2 ∷ 1 ∷ [])) [] 0 ≡ true
   -- offsets to one condition after them, 1030 bytes from the start
-  pub more_than_256 : set_holds (1 ∷ 1 ∷ same_offsets 257 4 6 ++ words (2 ∷ 1 ∷ [])) 0 ≡ false
+  pub more_than_256 : set_holds (1 ∷ 1 ∷ same_offsets 257 4 6 ++ words (2 ∷ 1 ∷ [])) [] 0 ≡ false
 
 pub worked_conditions : WorkedConditions
+unfolding i16_of
 worked_conditions = record {
   whole_axis = refl;
   at_0 = refl;
@@ -133,6 +142,12 @@ worked_conditions = record {
   positive_value = refl;
   value_0 = refl;
   negative_value = refl;
+  of_its_own_axis = refl;
+  at_the_least = refl;
+  below_the_least = refl;
+  above_the_greatest = refl;
+  below_the_default = refl;
+  no_such_axis = refl;
   other_format = refl;
   empty_set = refl;
   null_condition = refl;
@@ -142,12 +157,14 @@ worked_conditions = record {
 }
 
 pub record WorkedVariations : Type 0 where
-  pub first_record : substitution_of (varied 0 0) ≡ Some 72
-  pub null_set_holds : substitution_of (varied 1 1) ≡ Some 84
-  pub since_1_1 : substitution_of (header 0 ++ two_records 1 0 0 1 1) ≡ None
-  pub other_version : substitution_of (header 1 ++ two_records 2 0 0 1 1) ≡ None
-  pub other_substitution : substitution_of (header 1 ++ two_records 1 0 0 2 1) ≡ None
-  pub no_variations : substitution_of two_features ≡ None
+  pub first_record : substitution_of (varied 0 0) [] ≡ Some 72
+  pub null_set_holds : substitution_of (varied 1 1) [] ≡ Some 84
+  -- the second record holds everywhere, the first one from 1/16384 on
+  pub above_the_default : substitution_of (varied 1 0x4000) (pos 1 ∷ []) ≡ Some 72
+  pub since_1_1 : substitution_of (header 0 ++ two_records 1 0 0 1 1) [] ≡ None
+  pub other_version : substitution_of (header 1 ++ two_records 2 0 0 1 1) [] ≡ None
+  pub other_substitution : substitution_of (header 1 ++ two_records 1 0 0 2 1) [] ≡ None
+  pub no_variations : substitution_of two_features [] ≡ None
   pub substitute : varied_feature_of (varied 0 0) (Some 72) 0 ≡ Some 372
   pub own_feature : varied_feature_of (varied 1 1) (Some 84) 1 ≡ None
   pub second_substitute : varied_feature_of (varied 1 1) (Some 84) 7 ≡ Some 484
@@ -158,9 +175,11 @@ pub record WorkedVariations : Type 0 where
   pub without_variations : varied_feature_of two_features None 1 ≡ Some 30
 
 pub worked_variations : WorkedVariations
+unfolding i16_of
 worked_variations = record {
   first_record = refl;
   null_set_holds = refl;
+  above_the_default = refl;
   since_1_1 = refl;
   other_version = refl;
   other_substitution = refl;

@@ -5,4 +5,4 @@ use Rattle.layout_tables.proofs.variations.first_failing.Given as goal
 
 -- what is found from here on is what is found from the start
 abbrev pub invariant-loop-i : goal.invariant-loop-i
-invariant-loop-i l = let p : ℕ → Bool = condition_fails l.table l.set in first_at p l.count 0 ≡ first_at p (l.count - l.i) l.i
+invariant-loop-i l = let p : ℕ → Bool = condition_fails l.table l.coordinates l.set in first_at p l.count 0 ≡ first_at p (l.count - l.i) l.i

@@ -1,0 +1,7 @@
+-- a step that is taken so many times
+use Prim.Native.Nat.{zero}
+use Rattle.std.specs.Prelude.{ℕ, suc}
+
+abbrev pub times : {A : Type 0} → (A → A) → ℕ → A → A
+times step zero x = x
+times step (suc n) x = step (times step n x)

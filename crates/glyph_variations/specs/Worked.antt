@@ -1,0 +1,137 @@
+-- Points, deltas and tuples of a glyph, on bytes that were read by hand.
+use Rattle.std.specs.Prelude.{◌≡◌, ℕ, ℤ, pos, negsuc, List, [], ◌∷◌, true, false, refl}
+use Rattle.std.specs.Float.{Float, fin, round_with, binary32, round_to_format}
+use lib.Count.{count_trailing_zeros}
+use lib.Ieee.{round, size, span, climb, units, odd, of_bits, of_fields, of_int, div, mul, add, sum, eq}
+use Rattle.font_bytes.specs.Bytes.{i8_of, i16_of, i32_of}
+use Rattle.font_variations.specs.Tents.{nothing}
+use Rattle.glyph_variations.specs.Times.{times}
+use Rattle.glyph_variations.specs.Numbers as numbers
+use Rattle.glyph_variations.specs.Packed as packed
+use Rattle.glyph_variations.specs.Glyph.{data_of, shared_of, is_read}
+use Rattle.glyph_variations.specs.Tuples.{ratio64, part_of, scalar_of}
+use Rattle.glyph_variations.specs.Sums.{moved_to}
+use Rattle.glyph_variations.specs.declared.glyph.GlyphVariations.{GlyphVariations}
+
+-- the standard's example: 10, -105, 0, -58, eight zeros, 4130, -1228
+abbrev deltas : List ℕ
+deltas = 0x03 ∷ 0x0A ∷ 0x97 ∷ 0x00 ∷ 0xC6 ∷ 0x87 ∷ 0x41 ∷ 0x10 ∷ 0x22 ∷ 0xFB ∷ 0x34 ∷ []
+
+abbrev delta : List ℕ → ℕ → ℤ
+delta t n = (times (packed.next_delta t) n (packed.begun 0)).value
+
+-- three numbers, two by one byte and one by two: 5, 12, 512
+abbrev points : List ℕ
+points = 3 ∷ 0x01 ∷ 5 ∷ 7 ∷ 0x80 ∷ 1 ∷ 0xF4 ∷ []
+
+abbrev number : ℕ → ℕ
+number n = (times (numbers.next_number points) n (numbers.begun 1)).number
+
+-- a tuple with its peak at 1, for point 2 alone: 10 and 20
+abbrev for_one : List ℕ
+for_one = 0 ∷ 1 ∷ 0 ∷ 10 ∷ 0 ∷ 7 ∷ 0xA0 ∷ 0 ∷ 0x40 ∷ 0 ∷ 1 ∷ 0 ∷ 2 ∷ 0 ∷ 10 ∷ 0 ∷ 20 ∷ []
+
+-- the same by points that tuples share
+abbrev by_shared_points : List ℕ
+by_shared_points = 0x80 ∷ 1 ∷ 0 ∷ 10 ∷ 0 ∷ 4 ∷ 0x80 ∷ 0 ∷ 0x40 ∷ 0 ∷ 1 ∷ 0 ∷ 2 ∷ 0 ∷ 10 ∷ 0 ∷ 20 ∷ []
+
+-- a tuple for all of three points: 1, 2, 3 and 4, 5, 6
+abbrev for_all : List ℕ
+for_all = 0 ∷ 1 ∷ 0 ∷ 10 ∷ 0 ∷ 8 ∷ 0x80 ∷ 0 ∷ 0x40 ∷ 0 ∷ 2 ∷ 1 ∷ 2 ∷ 3 ∷ 2 ∷ 4 ∷ 5 ∷ 6 ∷ []
+
+-- with a start at 1/4 and an end at 3/4, and its peak at 1/2 shared
+abbrev with_span : List ℕ
+with_span = 0 ∷ 1 ∷ 0 ∷ 12 ∷ 0 ∷ 0 ∷ 0x40 ∷ 0 ∷ 0x10 ∷ 0 ∷ 0x30 ∷ 0 ∷ []
+
+abbrev at : GlyphVariations → List ℕ → ℤ → GlyphVariations
+at g t coordinate = record g {
+  bytes = record g.bytes { now = t };
+  shared = record g.shared { now = 0x20 ∷ 0 ∷ [] };
+  axes = 1;
+  coordinates = record g.coordinates { now = coordinate ∷ [] };
+}
+
+abbrev hundred : Float
+hundred = of_int binary32 (pos 100)
+
+-- a table of one axis, one shared tuple and two glyphs, of which the second has four bytes; places are halved
+abbrev table : List ℕ
+table = 0 ∷ 1 ∷ 0 ∷ 0 ∷ 0 ∷ 1 ∷ 0 ∷ 1 ∷ 0 ∷ 0 ∷ 0 ∷ 26 ∷ 0 ∷ 2 ∷ 0 ∷ 0 ∷ 0 ∷ 0 ∷ 0 ∷ 28
+    ∷ 0 ∷ 0 ∷ 0 ∷ 0 ∷ 0 ∷ 2 ∷ 0x20 ∷ 0 ∷ 9 ∷ 8 ∷ 7 ∷ 6 ∷ []
+
+pub record WorkedGlyphs : Type 0 where
+  pub first_delta : delta deltas 1 ≡ pos 10
+  pub negative_byte : delta deltas 2 ≡ negsuc 104
+  pub last_byte : delta deltas 4 ≡ negsuc 57
+  pub zeros : delta deltas 12 ≡ pos 0
+  pub words : delta deltas 13 ≡ pos 4130
+  pub negative_word : delta deltas 14 ≡ negsuc 1227
+  pub four_bytes : delta (0xC0 ∷ 0xFF ∷ 0xFF ∷ 0xFF ∷ 0xFE ∷ []) 1 ≡ negsuc 1
+  pub count : numbers.count_of points 0 ≡ 3
+  pub count_in_two_bytes : numbers.count_of (0x81 ∷ 2 ∷ []) 0 ≡ 258
+  pub first_number : number 1 ≡ 5
+  pub second_number : number 2 ≡ 12
+  pub third_number : number 3 ≡ 512
+  pub stored : data_of table 2 1 ≡ 9 ∷ 8 ∷ 7 ∷ 6 ∷ []
+  pub stored_for_the_first : data_of table 2 0 ≡ []
+  pub past_the_glyphs : data_of table 2 2 ≡ []
+  pub shared : shared_of table ≡ 0x20 ∷ 0 ∷ []
+  pub places_cut_off : is_read table 6 ≡ false
+  -- half way to the peak, at it, past it, and on the other side
+  pub half_way : (g : GlyphVariations) → scalar_of (at g for_one (pos 8192)) 4 ≡ fin false 1 (negsuc 0)
+  pub at_the_peak : (g : GlyphVariations) → scalar_of (at g for_one (pos 16384)) 4 ≡ fin false 1 (pos 0)
+  pub on_the_other_side : (g : GlyphVariations) → scalar_of (at g for_one (negsuc 8191)) 4 ≡ nothing
+  pub rising : (g : GlyphVariations) → scalar_of (at g with_span (pos 6144)) 4 ≡ fin false 1 (negsuc 0)
+  pub falling : (g : GlyphVariations) → scalar_of (at g with_span (pos 11264)) 4 ≡ fin false 1 (negsuc 1)
+  pub at_the_end : (g : GlyphVariations) → scalar_of (at g with_span (pos 12288)) 4 ≡ nothing
+  pub no_such_peak : (g : GlyphVariations) → scalar_of (at g (0 ∷ 1 ∷ 0 ∷ 12 ∷ 0 ∷ 0 ∷ 0 ∷ 1 ∷ []) (pos 8192)) 4 ≡ nothing
+  pub of_one_point : (g : GlyphVariations) → moved_to (at g for_one (pos 8192)) (record { point = 2; count = 6; vertical = false }) hundred
+      ≡ fin false 105 (pos 0)
+  pub down_the_page : (g : GlyphVariations) → moved_to (at g for_one (pos 16384)) (record { point = 2; count = 6; vertical = true }) hundred
+      ≡ fin false 15 (pos 3)
+  pub of_another_point : (g : GlyphVariations) → moved_to (at g for_one (pos 8192)) (record { point = 3; count = 6; vertical = false }) hundred
+      ≡ fin false 25 (pos 2)
+  pub of_shared_points : (g : GlyphVariations)
+      → moved_to (at g by_shared_points (pos 8192)) (record { point = 2; count = 6; vertical = false }) hundred ≡ fin false 105 (pos 0)
+  pub of_all_points : (g : GlyphVariations) → moved_to (at g for_all (pos 16384)) (record { point = 2; count = 3; vertical = false }) hundred
+      ≡ fin false 103 (pos 0)
+  pub of_all_down : (g : GlyphVariations) → moved_to (at g for_all (pos 16384)) (record { point = 0; count = 3; vertical = true }) hundred
+      ≡ fin false 13 (pos 3)
+  pub nothing_stored : (g : GlyphVariations) → moved_to (at g [] (pos 8192)) (record { point = 2; count = 6; vertical = false }) hundred
+      ≡ fin false 25 (pos 2)
+
+pub worked_glyphs : WorkedGlyphs
+unfolding moved_to scalar_of part_of ratio64 round_to_format round_with i8_of i16_of i32_of div mul add sum eq of_int round size span climb units odd count_trailing_zeros of_bits of_fields
+worked_glyphs = record {
+  first_delta = refl;
+  negative_byte = refl;
+  last_byte = refl;
+  zeros = refl;
+  words = refl;
+  negative_word = refl;
+  four_bytes = refl;
+  count = refl;
+  count_in_two_bytes = refl;
+  first_number = refl;
+  second_number = refl;
+  third_number = refl;
+  stored = refl;
+  stored_for_the_first = refl;
+  past_the_glyphs = refl;
+  shared = refl;
+  places_cut_off = refl;
+  half_way = λ _. refl;
+  at_the_peak = λ _. refl;
+  on_the_other_side = λ _. refl;
+  rising = λ _. refl;
+  falling = λ _. refl;
+  at_the_end = λ _. refl;
+  no_such_peak = λ _. refl;
+  of_one_point = λ _. refl;
+  down_the_page = λ _. refl;
+  of_another_point = λ _. refl;
+  of_shared_points = λ _. refl;
+  of_all_points = λ _. refl;
+  of_all_down = λ _. refl;
+  nothing_stored = λ _. refl;
+}
