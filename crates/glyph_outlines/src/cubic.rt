@@ -2,7 +2,7 @@
 ghost use Rattle.std.specs.Prelude.{◌≡◌};
 
 use crate::frame::Point;
-use crate::segments::{Path, Segment};
+use crate::segments::Segment;
 use cff_tables::CffFont;
 use charstrings::bounds::{code_glyph, most_events};
 use charstrings::machine::{Program, State};
@@ -31,10 +31,10 @@ struct Drawn {
     ending: Ending,
 }
 
-/// A pen over a path, which is moved.
+/// A pen that draws segments, moved.
 #[derive(Drop)]
 struct Pen<'a> {
-    path: &'a mut Path,
+    segments: &'a mut Vec<Segment>,
     dx: i64,
     dy: i64,
     is_down: bool,
@@ -60,7 +60,7 @@ impl<'a> Pen<'a> {
         if !self.is_down {
             self.is_down = true;
             let start = self.point(place, true);
-            self.path.push(Segment::Move(start))?;
+            self.segments.push(Segment::Move(start))?;
         }
         Ok(())
     }
@@ -69,7 +69,7 @@ impl<'a> Pen<'a> {
     fn lift(&mut self) -> Result<(), AllocError> {
         if self.is_down {
             self.is_down = false;
-            self.path.push(Segment::Close)?;
+            self.segments.push(Segment::Close)?;
         }
         Ok(())
     }
@@ -81,13 +81,15 @@ impl<'a> Pen<'a> {
             Stroke::Straight(from, to) => {
                 self.lower(from)?;
                 let end = self.point(to, true);
-                self.path.push(Segment::Line(end))
+                self.segments.push(Segment::Line(end))?;
+                Ok(())
             }
             Stroke::Bent(from, first, second, to) => {
                 self.lower(from)?;
                 let (first, second) = (self.point(first, false), self.point(second, false));
                 let end = self.point(to, true);
-                self.path.push(Segment::Cubic(first, second, end))
+                self.segments.push(Segment::Cubic(first, second, end))?;
+                Ok(())
             }
         }
     }
@@ -95,7 +97,7 @@ impl<'a> Pen<'a> {
 
 /// Draws the charstring of a glyph, moved so far.
 fn draw_glyph(
-    path: &mut Path,
+    segments: &mut Vec<Segment>,
     font: &CffFont,
     glyph: u32,
     dx: i64,
@@ -110,7 +112,7 @@ fn draw_glyph(
     let program = Program::of(font, glyph);
     let mut state = State::begin(code, font.variation_data(glyph));
     let mut pen = Pen {
-        path,
+        segments,
         dx,
         dy,
         is_down: false,
@@ -136,7 +138,11 @@ fn draw_glyph(
 }
 
 /// Draws a letter and its accent. Gives the steps that it took, and whether both were drawn.
-fn draw_composed(path: &mut Path, font: &CffFont, accent: Accent) -> Result<Drawn, AllocError> {
+fn draw_composed(
+    segments: &mut Vec<Segment>,
+    font: &CffFont,
+    accent: Accent,
+) -> Result<Drawn, AllocError> {
     let (base, mark) = (
         code_glyph(font, accent.base),
         code_glyph(font, accent.accent),
@@ -148,8 +154,8 @@ fn draw_composed(path: &mut Path, font: &CffFont, accent: Accent) -> Result<Draw
     if base == 0 || mark == 0 {
         return Ok(refused);
     }
-    let first = draw_glyph(path, font, base, 0, 0)?;
-    let second = draw_glyph(path, font, mark, accent.dx, accent.dy)?;
+    let first = draw_glyph(segments, font, base, 0, 0)?;
+    let second = draw_glyph(segments, font, mark, accent.dx, accent.dy)?;
     let ending = match (first.ending, second.ending) {
         (Ending::Whole, Ending::Whole) => Ending::Whole,
         _ => Ending::Refused,
@@ -161,18 +167,22 @@ fn draw_composed(path: &mut Path, font: &CffFont, accent: Accent) -> Result<Draw
 }
 
 /// Appends the outline of a glyph, nothing if a charstring is refused. Gives how many steps that took, counted as points.
-pub(crate) fn append_glyph(path: &mut Path, font: &CffFont, glyph: u16) -> Result<u32, AllocError> {
-    let begun = path.segments.len();
-    let mut drawn = draw_glyph(path, font, u32::from(glyph), 0, 0)?;
+pub(crate) fn append_glyph(
+    segments: &mut Vec<Segment>,
+    font: &CffFont,
+    glyph: u16,
+) -> Result<u32, AllocError> {
+    let begun = segments.len();
+    let mut drawn = draw_glyph(segments, font, u32::from(glyph), 0, 0)?;
     if let Ending::Composed(accent) = drawn.ending {
-        let parts = draw_composed(path, font, accent)?;
+        let parts = draw_composed(segments, font, accent)?;
         drawn = Drawn {
             steps: drawn.steps.saturating_add(parts.steps),
             ending: parts.ending,
         };
     }
     if !matches!(drawn.ending, Ending::Whole) {
-        path.segments.truncate(begun);
+        segments.truncate(begun);
     }
     Ok(drawn.steps / STEPS_OF_A_POINT + 1)
 }

@@ -1,5 +1,8 @@
-//! Points of an outline, and where a component of a glyph stands.
-ghost use Rattle.std.specs.Prelude.{◌≡◌, true};
+//! Points of an outline, and where a component of a glyph stands. Numbers are those of binary64.
+ghost use Rattle.std.specs.Prelude.{◌≡◌};
+ghost use Rattle.glyph_outlines.specs.Frames;
+
+use glyf_points::{Component, GlyphPoint, Placement};
 
 /// Where a component of a glyph stands: what its points are multiplied by, and moved by.
 #[derive(Clone, Copy)]
@@ -20,9 +23,16 @@ pub struct Point {
     pub on: bool,
 }
 
+/// A point of an outline, and whether its contour ends with it.
+#[derive(Clone, Copy)]
+pub struct OutlinePoint {
+    pub point: Point,
+    pub ends: bool,
+}
+
 /// The point in the middle.
 pub fn middle(a: Point, b: Point) -> Point
-    ensures { result.on ≡ true }
+    ensures { result ≡ Frames.middle a b }
 {
     Point {
         x: (a.x + b.x) / 2.0,
@@ -31,9 +41,52 @@ pub fn middle(a: Point, b: Point) -> Point
     }
 }
 
+/// A number of 16384ths.
+fn fraction(n: i32) -> f64
+    ensures { result ≡ Frames.fraction n }
+{
+    f64::from(n) / 16384.0
+}
+
+/// How far a component is moved; one that is placed by points is moved later.
+fn offset(placement: Placement) -> Point
+    ensures { result ≡ Frames.offset placement }
+{
+    match placement {
+        Placement::Moved(x, y) => Point {
+            x: f64::from(x),
+            y: f64::from(y),
+            on: true,
+        },
+        Placement::OnPoint(_, _) => Point {
+            x: 0.0,
+            y: 0.0,
+            on: true,
+        },
+    }
+}
+
+impl OutlinePoint {
+    /// The point, moved.
+    pub fn moved(&self, dx: f64, dy: f64) -> OutlinePoint
+        ensures { result ≡ Frames.shifted dx dy self.now }
+    {
+        OutlinePoint {
+            point: Point {
+                x: self.point.x + dx,
+                y: self.point.y + dy,
+                on: self.point.on,
+            },
+            ends: self.ends,
+        }
+    }
+}
+
 impl Frame {
     /// The frame that moves nothing.
-    pub fn still() -> Frame {
+    pub fn still() -> Frame
+        ensures { result ≡ Frames.still }
+    {
         Frame {
             xx: 1.0,
             xy: 0.0,
@@ -44,9 +97,34 @@ impl Frame {
         }
     }
 
-    /// Where a point comes to stand.
+    /// The frame of a component in the glyph that it is part of.
+    pub fn of(component: &Component) -> Frame
+        ensures { result ≡ Frames.frame_of component.now }
+    {
+        let turned = Frame {
+            xx: fraction(component.matrix.xx),
+            xy: fraction(component.matrix.xy),
+            yx: fraction(component.matrix.yx),
+            yy: fraction(component.matrix.yy),
+            x: 0.0,
+            y: 0.0,
+        };
+        let offset = offset(component.placement);
+        let origin = if component.is_offset_scaled {
+            turned.moved(offset.x, offset.y, true)
+        } else {
+            offset
+        };
+        Frame {
+            x: origin.x,
+            y: origin.y,
+            ..turned
+        }
+    }
+
+    /// Where a place comes to stand.
     pub fn moved(&self, x: f64, y: f64, on: bool) -> Point
-        ensures { result.on ≡ on }
+        ensures { result ≡ Frames.moved self.now x y on }
     {
         Point {
             x: self.xx * x + self.yx * y + self.x,
@@ -55,8 +133,20 @@ impl Frame {
         }
     }
 
+    /// Where a point of a glyph comes to stand.
+    pub fn placed(&self, point: GlyphPoint) -> OutlinePoint
+        ensures { result ≡ Frames.placed self.now point }
+    {
+        OutlinePoint {
+            point: self.moved(f64::from(point.x), f64::from(point.y), point.on),
+            ends: point.ends,
+        }
+    }
+
     /// The frame of a component whose own frame is `inner`.
-    pub fn within(&self, inner: &Frame) -> Frame {
+    pub fn within(&self, inner: &Frame) -> Frame
+        ensures { result ≡ Frames.within self.now inner.now }
+    {
         let origin = self.moved(inner.x, inner.y, true);
         Frame {
             xx: self.xx * inner.xx + self.yx * inner.xy,

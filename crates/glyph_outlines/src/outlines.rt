@@ -5,10 +5,9 @@ ghost use Rattle.shape_font.specs.Bytes.{u16_of};
 ghost use Rattle.shape_font.specs.Directory.{bytes_of};
 ghost use Rattle.glyph_outlines.specs.Places.{outline_bytes, has_outlines};
 
-use crate::contours::{append_contours, fraction, natural, number, signed_byte};
 use crate::cubic::append_glyph;
-use crate::frame::Frame;
-use crate::segments::{Path, Segment};
+use crate::parts::{Assembly, MOST_COMPONENTS};
+use crate::segments::{Segment, append_contours};
 use cff_tables::CffFont;
 use shape_font::bytes::u16_at;
 use shape_font::cff::cff_font;
@@ -24,13 +23,6 @@ const LOCA: u32 = 0x6c6f_6361;
 
 const GLYF: u32 = 0x676c_7966;
 
-/// The most glyphs that one is drawn of.
-pub const MOST_COMPONENTS: u32 = 256;
-
-/// The most points, contours and components after which another glyph is added to one. A few bytes can stand for 65,536
-/// points.
-pub const MOST_POINTS: u32 = 65536;
-
 /// The outlines of a font. It borrows the bytes of the file.
 #[derive(Clone, Copy)]
 pub struct Outlines<'a> {
@@ -38,13 +30,6 @@ pub struct Outlines<'a> {
     loca: &'a [u8],
     long: bool,
     cff: Option<CffFont<'a>>,
-}
-
-/// A component of a glyph that is still to be drawn.
-#[derive(Clone, Copy)]
-struct Component {
-    glyph: u16,
-    frame: Frame,
 }
 
 /// The outline of a glyph.
@@ -62,7 +47,7 @@ impl Outline {
         self.segments.as_slice()
     }
 
-    /// How many points, contours and components of the font were read for it.
+    /// How many points, contours and components of the font were read for it, or eighths of the steps of its charstring.
     pub fn points(&self) -> u32
         ensures { result ≡ self.now.points }
     {
@@ -116,126 +101,30 @@ impl<'a> Outlines<'a> {
     pub fn outline(&self, alloc: Global, glyph: u16, most: usize) -> Result<Outline, AllocError>
         ensures bounded { IfOk result (λ o. length o.segments.items ≤ most) }
     {
-        let mut path = Path {
-            segments: Vec::new(alloc),
-            most,
-        };
+        let mut segments = Vec::new(alloc);
         let points = match self.cff {
-            Some(font) => append_glyph(&mut path, &font, glyph)?,
-            None => self.append(alloc, &mut path, glyph)?,
+            Some(font) => append_glyph(&mut segments, &font, glyph)?,
+            None => self.append(alloc, &mut segments, glyph)?,
         };
-        path.segments.truncate(most);
-        Ok(Outline {
-            segments: path.segments,
-            points,
-        })
+        segments.truncate(most);
+        Ok(Outline { segments, points })
     }
 
-    /// Appends the outline of a glyph. Gives how many points, contours and components were read.
-    fn append(&self, alloc: Global, path: &mut Path, glyph: u16) -> Result<u32, AllocError> {
-        let mut components = Vec::new(alloc);
-        components.push(Component {
-            glyph,
-            frame: Frame::still(),
-        })?;
-        let mut read: u32 = 0;
-        for _ in 0..MOST_COMPONENTS {
-            let Some(component) = components.pop() else {
-                return Ok(read);
-            };
-            let points = self.append_component(alloc, path, &mut components, &component, read)?;
-            read = read.saturating_add(points);
-        }
-        Ok(read)
-    }
-
-    /// Appends the contours of a component, unless more than [`MOST_POINTS`] were read already; or adds those that it is
-    /// made of to those still to be drawn. Gives how many points, contours and components that took.
-    fn append_component(
+    /// Appends the outline of a glyph of `glyf`. Gives how many points, contours and components were read.
+    fn append(
         &self,
         alloc: Global,
-        path: &mut Path,
-        components: &mut Vec<Component>,
-        component: &Component,
-        read: u32,
+        segments: &mut Vec<Segment>,
+        glyph: u16,
     ) -> Result<u32, AllocError> {
-        let outline = self.bytes(component.glyph);
-        if number(outline, 0) < 0 {
-            append_components(components, outline, &component.frame)
-        } else if read <= MOST_POINTS {
-            append_contours(alloc, path, outline, &component.frame)
-        } else {
-            Ok(0)
+        let mut assembly = Assembly::new(alloc, glyph)?;
+        for _ in 0..MOST_COMPONENTS {
+            let Some(part) = assembly.next() else {
+                break;
+            };
+            assembly.draw(alloc, &part, self.bytes(part.glyph))?;
         }
+        append_contours(alloc, segments, assembly.points())?;
+        Ok(assembly.read())
     }
-}
-
-/// Appends the components of a glyph that is made of others. Gives how many there were.
-fn append_components(
-    components: &mut Vec<Component>,
-    outline: &[u8],
-    frame: &Frame,
-) -> Result<u32, AllocError> {
-    let mut at: usize = 10;
-    for before in 0..MOST_COMPONENTS {
-        let flags = natural(outline, at);
-        let glyph = natural(outline, at.saturating_add(2));
-        let words = flags & 1 != 0;
-        let inner = inner_frame(outline, at.saturating_add(4), flags);
-        components.push(Component {
-            glyph,
-            frame: frame.within(&inner),
-        })?;
-        if flags & 0x20 == 0 {
-            return Ok(before + 1);
-        }
-        let offsets = if words { 8 } else { 6 };
-        at = at.saturating_add(offsets).saturating_add(scale_len(flags));
-    }
-    Ok(MOST_COMPONENTS)
-}
-
-/// How many bytes the scale of a component takes.
-fn scale_len(flags: u16) -> usize {
-    if flags & 8 != 0 {
-        2
-    } else if flags & 0x40 != 0 {
-        4
-    } else if flags & 0x80 != 0 {
-        8
-    } else {
-        0
-    }
-}
-
-/// The frame of a component, whose offsets stand at `at`. A component that is placed by points is not moved.
-fn inner_frame(outline: &[u8], at: usize, flags: u16) -> Frame {
-    let mut frame = Frame::still();
-    let words = flags & 1 != 0;
-    if flags & 2 != 0 && words {
-        frame.x = f64::from(number(outline, at));
-        frame.y = f64::from(number(outline, at.saturating_add(2)));
-    } else if flags & 2 != 0 {
-        frame.x = signed_byte(outline, at);
-        frame.y = signed_byte(outline, at.saturating_add(1));
-    }
-    let scale = at.saturating_add(if words { 4 } else { 2 });
-    match scale_len(flags) {
-        2 => {
-            frame.xx = fraction(outline, scale);
-            frame.yy = frame.xx;
-        }
-        4 => {
-            frame.xx = fraction(outline, scale);
-            frame.yy = fraction(outline, scale.saturating_add(2));
-        }
-        8 => {
-            frame.xx = fraction(outline, scale);
-            frame.xy = fraction(outline, scale.saturating_add(2));
-            frame.yx = fraction(outline, scale.saturating_add(4));
-            frame.yy = fraction(outline, scale.saturating_add(6));
-        }
-        _ => {}
-    }
-    frame
 }

@@ -1,5 +1,8 @@
 //! Lines and curves of contours, from points that the outline goes through and those that its curves go round.
-use crate::frame::{Point, middle};
+ghost use Rattle.std.specs.Prelude.{◌≡◌, ◌<◌, ◌++◌, [], None, length, IfOk};
+ghost use Rattle.glyph_outlines.specs.Contours;
+
+use crate::frame::{OutlinePoint, Point, middle};
 use std::alloc::{AllocError, Global};
 
 /// A step of a pen along an outline, in units of the font, y upwards.
@@ -17,25 +20,10 @@ pub enum Segment {
     Close,
 }
 
-/// The segments of an outline, at most so many.
-#[derive(Drop)]
-pub(crate) struct Path {
-    pub segments: Vec<Segment>,
-    pub most: usize,
-}
-
-impl Path {
-    /// Appends a segment, nothing if there are enough.
-    pub(crate) fn push(&mut self, segment: Segment) -> Result<(), AllocError> {
-        if self.segments.len() < self.most {
-            self.segments.push(segment)?;
-        }
-        Ok(())
-    }
-}
-
 /// Where a contour begins: at its first point, its last one, or between them, whichever the outline goes through.
-fn begin(first: Point, last: Point) -> Point {
+fn begin(first: Point, last: Point) -> Point
+    ensures { result ≡ Contours.begin first last }
+{
     if first.on {
         first
     } else if last.on {
@@ -45,36 +33,22 @@ fn begin(first: Point, last: Point) -> Point {
     }
 }
 
-/// Appends a contour: lines between points, curves round those that the outline doesn't go through.
-pub(crate) fn append_contour(path: &mut Path, points: &[Point]) -> Result<(), AllocError> {
-    let (Some(first), Some(last)) = (points.first(), points.last()) else {
-        return Ok(());
-    };
-    let start = begin(*first, *last);
-    path.push(Segment::Move(start))?;
-    let rest = if first.on { &points[1..] } else { points };
-    let control = append_points(path, rest)?;
-    if control.is_some() {
-        append_point(path, control, start)?;
-    }
-    path.push(Segment::Close)
+/// The point round which the curve goes to the next one, if there is a curve.
+fn control_after(point: Point) -> Option<Point>
+    ensures { result ≡ Contours.control_after point }
+{
+    if point.on { None } else { Some(point) }
 }
 
-/// Appends what leads to each point; gives the last one if a curve goes round it.
-fn append_points(path: &mut Path, points: &[Point]) -> Result<Option<Point>, AllocError> {
-    let mut control: Option<Point> = None;
-    for point in points {
-        control = append_point(path, control, *point)?;
-    }
-    Ok(control)
-}
-
-/// Appends what leads to a point; gives the point where a curve goes round it.
-fn append_point(
-    path: &mut Path,
+/// Appends what leads to a point: a curve round the one before it, a line, or nothing yet.
+fn append_lead(
+    segments: &mut Vec<Segment>,
     control: Option<Point>,
     point: Point,
-) -> Result<Option<Point>, AllocError> {
+) -> Result<(), AllocError>
+    ensures { IfOk result
+        (λ _. segments.new.items ≡ segments.old.items ++ Contours.lead control point) }
+{
     match control {
         Some(round) => {
             let end = if point.on {
@@ -82,10 +56,123 @@ fn append_point(
             } else {
                 middle(round, point)
             };
-            path.push(Segment::Curve(round, end))?;
+            segments.push(Segment::Curve(round, end))?;
+            Ok(())
         }
-        None if point.on => path.push(Segment::Line(point))?,
-        None => {}
+        None => {
+            if point.on {
+                segments.push(Segment::Line(point))?;
+            }
+            Ok(())
+        }
     }
-    Ok(if point.on { None } else { Some(point) })
+}
+
+/// Appends what leads back to the start of a contour: a curve, or nothing, since a line closes it.
+fn append_closing(
+    segments: &mut Vec<Segment>,
+    control: Option<Point>,
+    start: Point,
+) -> Result<(), AllocError>
+    ensures { IfOk result
+        (λ _. segments.new.items ≡ segments.old.items ++ Contours.closing start control) }
+{
+    if let Some(round) = control {
+        segments.push(Segment::Curve(round, start))?;
+    }
+    Ok(())
+}
+
+/// Appends what leads through points and back to the start.
+#[tactic(auto, using(crate::proofs::ContourLemmas::led_step, crate::proofs::ContourLemmas::led_end))]
+fn append_points(
+    segments: &mut Vec<Segment>,
+    start: Point,
+    points: &[Point],
+) -> Result<(), AllocError>
+    ensures { IfOk result
+        (λ _. segments.new.items ≡ segments.old.items ++ Contours.led start None points.now) }
+{
+    let mut control: Option<Point> = None;
+    for point in points {
+        append_lead(segments, control, *point)?;
+        control = control_after(*point);
+    }
+    append_closing(segments, control, start)
+}
+
+/// The last of a point and those behind it.
+#[tactic(auto, using(crate::proofs::ContourLemmas::last_step, crate::proofs::ContourLemmas::last_end))]
+fn last(first: Point, points: &[Point]) -> Point
+    ensures { result ≡ Contours.last_of first points.now }
+{
+    let mut last = first;
+    for point in points {
+        last = *point;
+    }
+    last
+}
+
+/// The points to which something leads, of a contour with this first one: not the first, if the contour begins there.
+fn targets(first: Point, points: &[Point]) -> &[Point]
+    requires { 0 < length points.now }
+    ensures { result.now ≡ Contours.targets first points.now }
+{
+    if first.on {
+        &points[1..points.len()]
+    } else {
+        points
+    }
+}
+
+/// Appends the contour of points of which this one is the first.
+#[tactic(auto, using(crate::proofs::ContourLemmas::contour_joined))]
+fn append_begun(
+    segments: &mut Vec<Segment>,
+    first: Point,
+    points: &[Point],
+) -> Result<(), AllocError>
+    requires { 0 < length points.now }
+    ensures { IfOk result
+        (λ _. segments.new.items ≡ segments.old.items ++ Contours.contour_from first points.now) }
+{
+    let start = begin(first, last(first, points));
+    segments.push(Segment::Move(start))?;
+    append_points(segments, start, targets(first, points))?;
+    segments.push(Segment::Close)?;
+    Ok(())
+}
+
+/// Appends a contour: lines between points, curves round those that the outline doesn't go through.
+#[tactic(auto, using(crate::proofs::ContourLemmas::contour_begun, crate::proofs::ContourLemmas::no_contour))]
+fn append_contour(segments: &mut Vec<Segment>, points: &[Point]) -> Result<(), AllocError>
+    ensures { IfOk result
+        (λ _. segments.new.items ≡ segments.old.items ++ Contours.contour points.now) }
+{
+    if points.is_empty() {
+        return Ok(());
+    }
+    append_begun(segments, points[0], points)?;
+    Ok(())
+}
+
+/// Appends the contours of an outline.
+#[tactic(auto, using(crate::proofs::ContourLemmas::outline_goes_on, crate::proofs::ContourLemmas::outline_closes, crate::proofs::ContourLemmas::outline_over))]
+pub(crate) fn append_contours(
+    alloc: Global,
+    segments: &mut Vec<Segment>,
+    points: &[OutlinePoint],
+) -> Result<(), AllocError>
+    ensures { IfOk result
+        (λ _. segments.new.items ≡ segments.old.items ++ Contours.outline [] points.now) }
+{
+    let mut contour = Vec::new(alloc);
+    for point in points {
+        contour.push(point.point)?;
+        if point.ends {
+            append_contour(segments, contour.as_slice())?;
+            contour.clear();
+        }
+    }
+    Ok(())
 }

@@ -8,7 +8,7 @@ use Rattle.shape_common.specs.declared.text_types.GlyphId.{GlyphId}
 use Rattle.shape_common.specs.declared.face.hb_glyph_extents_t.{hb_glyph_extents_t}
 use Rattle.shape_font.specs.Bytes.{u32_of}
 use Rattle.shape_font.specs.Cmap.{mapped_glyph}
-use Rattle.shape_font.specs.Metrics.{advance_of, bearing_of, listed_origin, ascender_of, descender_of, place_of, box_of, half_down}
+use Rattle.shape_font.specs.Metrics.{advance_of, as_short, bearing_of, listed_origin, ascender_of, descender_of, place_of, box_of, half_down}
 use Rattle.shape_font.specs.Cff.{drawn_extents, charset_name}
 use Rattle.shape_font.specs.Names.{glyph_name}
 use Rattle.shape_font.specs.declared.names.TheConstants.{STANDARD}
@@ -39,10 +39,10 @@ abbrev pub advance_at : List ℤ → List ℕ → Option ℤ → ℕ → ℕ →
 advance_at coordinates table bearing glyph advance = if nat_eq (length coordinates) 0 || is_none bearing then pos advance
     else pos advance +ʷ advance_delta table coordinates glyph
 
--- its advance, half of the em square in a font without advances, 0 past the last glyph
+-- its advance, half of the em square in a font without advances, 0 past the last glyph; one above 32767 is negative
 abbrev pub h_advance_in : FontFace → ℕ → ℤ
-h_advance_in f glyph = advance_at f.coordinates.now f.hvar.now (bearing_of f.hmtx.now f.h_count glyph) glyph
-    (advance_of f.hmtx.now f.h_count glyph)
+h_advance_in f glyph = as_short (advance_at f.coordinates.now f.hvar.now (bearing_of f.hmtx.now f.h_count glyph) glyph
+    (advance_of f.hmtx.now f.h_count glyph))
 
 abbrev pub h_advance_of : FontFace → GlyphId → ℤ
 h_advance_of f glyph = if nat_lt glyph.0 f.glyph_count
@@ -55,12 +55,12 @@ line_height f = ascender_of f.os2.now f.hhea.now + descender_of f.os2.now f.hhea
 
 -- its advance downwards, the height of a line in a font without such advances
 abbrev pub v_advance_in : FontFace → ℕ → ℤ
-v_advance_in f glyph = advance_at f.coordinates.now f.vvar.now (bearing_of f.vmtx.now f.v_count glyph) glyph
-    (advance_of f.vmtx.now f.v_count glyph)
+v_advance_in f glyph = as_short (neg_w (advance_at f.coordinates.now f.vvar.now (bearing_of f.vmtx.now f.v_count glyph) glyph
+    (advance_of f.vmtx.now f.v_count glyph)))
 
 abbrev pub v_advance_of : FontFace → GlyphId → ℤ
 v_advance_of f glyph = if nat_eq f.v_count 0 then neg_ℤ (pos (line_height f))
-    else (if nat_lt glyph.0 f.glyph_count then neg_w (v_advance_in f glyph.0) else pos 0)
+    else (if nat_lt glyph.0 f.glyph_count then v_advance_in f glyph.0 else pos 0)
 
 -- the box of its outline
 unfoldable pub inked_of : FontFace → ℕ → hb_glyph_extents_t

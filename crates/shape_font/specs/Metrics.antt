@@ -1,6 +1,7 @@
 -- advances, bearings, origins and boxes of glyphs, by `hmtx`, `vmtx`, `VORG`, `loca` and `glyf`
 use Rattle.std.specs.Prelude.{ℕ, ℤ, pos, List, Bool, Option, Some, None, ◌+◌, ◌-◌, ◌*◌, ◌/◌, ◌%◌, ◌-ℤ◌, ◌||◌, nat_lt, nat_eq, length, if◌then◌else◌, cond, int_lt, int_div, unsigned_abs}
 use Rattle.std.specs.Option.{option_map_or, unwrap_or}
+use Rattle.std.specs.Int.{w16, cast_signed, int_rem_euclid}
 use Rattle.std.specs.declared.cmp.Ordering.{Ordering}
 use Rattle.shape_common.specs.declared.face.hb_glyph_extents_t.{hb_glyph_extents_t}
 use Rattle.shape_font.specs.Bytes.{u16_of, u32_of, i16_of, fitting}
@@ -13,6 +14,10 @@ long_metrics table said = fitting table said 0 4
 -- the glyphs from the last long metric on share its advance
 abbrev pub advance_of : List ℕ → ℕ → ℕ → ℕ
 advance_of table count glyph = u16_of table (4 * (if nat_lt glyph count then glyph else count - 1))
+
+-- an advance is scaled as a number of 16 bits with a sign, as HarfBuzz has it: modulo 2^16, so that one above 32767 is negative
+unfoldable pub as_short : ℤ → ℤ
+as_short n = cast_signed w16 (unsigned_abs (int_rem_euclid n (pos 65536)))
 
 -- where the bearing of a glyph stands: after the long metrics stand bearings alone
 abbrev pub bearing_place : ℕ → ℕ → ℕ

@@ -306,16 +306,17 @@ impl<'a> FontFace<'a> {
     {
         let bearing = metrics::bearing(self.hmtx, self.h_count, glyph);
         let advance = metrics::advance(self.hmtx, self.h_count, glyph);
-        self.advance_at(self.hvar, bearing, glyph, advance)
+        metrics::short(self.advance_at(self.hvar, bearing, glyph, advance))
     }
 
-    /// The advance of a glyph by `vmtx`.
+    /// The advance of a glyph by `vmtx`, downwards.
     fn v_advance(&self, glyph: u32) -> i32
         ensures { result ≡ Face.v_advance_in self.now glyph }
     {
         let bearing = metrics::bearing(self.vmtx, self.v_count, glyph);
         let advance = metrics::advance(self.vmtx, self.v_count, glyph);
-        self.advance_at(self.vvar, bearing, glyph, advance)
+        let down = negative(self.advance_at(self.vvar, bearing, glyph, advance));
+        metrics::short(down)
     }
 
     /// The advance of a glyph, half of the em square in a font without advances, 0 past the last glyph.
@@ -346,7 +347,7 @@ impl<'a> FontFace<'a> {
         if self.v_count == 0 {
             -self.height()
         } else if glyph.0 < u32::from(self.glyph_count) {
-            negative(self.v_advance(glyph.0))
+            self.v_advance(glyph.0)
         } else {
             0
         }

@@ -5,7 +5,7 @@ use Rattle.shape_common.specs.Wrapping.{◌+ʷ◌, neg_w}
 use Rattle.shape_common.specs.declared.face.hb_glyph_extents_t.{hb_glyph_extents_t}
 use Rattle.shape_font.specs.Bytes.{i16_of}
 use Rattle.shape_font.specs.Face.{font_face, numbered, glyph_of, variant_of, h_advance_of, v_advance_of, inked_extents, extents_of, inked_of, origin_over}
-use Rattle.shape_font.specs.Metrics.{no_box, framed_of}
+use Rattle.shape_font.specs.Metrics.{as_short, no_box, framed_of}
 use Rattle.shape_font.specs.Worked.Glyphs.{words, short_list, header}
 use Rattle.shape_font.specs.Worked.Lines.{origins, plain_line}
 use Rattle.shape_font.specs.Worked.Searches.{three_selectors}
@@ -36,6 +36,18 @@ pub record WorkedFace : Type 0 where
   pub no_advance_past_the_last : (f : FontFace) → f.glyph_count ≡ 7 → h_advance_of f (record { 0 = 7 }) ≡ pos 0
   pub down : (f : FontFace) → f.coordinates.now ≡ [] → f.glyph_count ≡ 7 → f.v_count ≡ 1 → f.vmtx.now ≡ words (900 ∷ 50 ∷ [])
       → v_advance_of f (record { 0 = 6 }) ≡ negsuc 899
+  -- 65483 is -53, 32768 is the least number of 16 bits, and 32767 the greatest
+  pub below_0 : (f : FontFace) → f.coordinates.now ≡ [] → f.glyph_count ≡ 7 → f.h_count ≡ 2 → f.hmtx.now ≡ words (65483 ∷ 50 ∷ 32768 ∷ 60 ∷ [])
+      → h_advance_of f (record { 0 = 0 }) ≡ negsuc 52
+  pub least : (f : FontFace) → f.coordinates.now ≡ [] → f.glyph_count ≡ 7 → f.h_count ≡ 2 → f.hmtx.now ≡ words (65483 ∷ 50 ∷ 32768 ∷ 60 ∷ [])
+      → h_advance_of f (record { 0 = 6 }) ≡ negsuc 32767
+  pub greatest : (f : FontFace) → f.coordinates.now ≡ [] → f.glyph_count ≡ 7 → f.h_count ≡ 1 → f.hmtx.now ≡ words (32767 ∷ 50 ∷ [])
+      → h_advance_of f (record { 0 = 0 }) ≡ pos 32767
+  pub up : (f : FontFace) → f.coordinates.now ≡ [] → f.glyph_count ≡ 7 → f.v_count ≡ 1 → f.vmtx.now ≡ words (65483 ∷ 50 ∷ [])
+      → v_advance_of f (record { 0 = 6 }) ≡ pos 53
+  -- the negative of the least number is itself
+  pub least_down : (f : FontFace) → f.coordinates.now ≡ [] → f.glyph_count ≡ 7 → f.v_count ≡ 1 → f.vmtx.now ≡ words (32768 ∷ 50 ∷ [])
+      → v_advance_of f (record { 0 = 6 }) ≡ negsuc 32767
   pub no_box_past_the_last : (f : FontFace) → f.outlines ≡ true → f.glyph_count ≡ 7 → inked_extents f (record { 0 = 7 }) ≡ None
   pub no_box_without_outlines : (f : FontFace) → f.outlines ≡ false → inked_extents f (record { 0 = 1 }) ≡ None
   pub box_of_the_last : (f : FontFace) → f.outlines ≡ true → f.glyph_count ≡ 7 → inked_extents f (record { 0 = 6 }) ≡ Some (inked_of f 6)
@@ -59,7 +71,7 @@ pub record WorkedFace : Type 0 where
       → inked_extents f (record { 0 = 0 }) ≡ Some (record { x_bearing = pos 50; y_bearing = pos 700; width = pos 290; height = negsuc 719 })
 
 pub worked_face : WorkedFace
-unfolding inked_of framed_of i16_of neg_w int_wrap
+unfolding inked_of framed_of i16_of as_short neg_w int_wrap
 worked_face = record {
   glyph_0_is_none = refl;
   glyph_1 = refl;
@@ -75,6 +87,11 @@ worked_face = record {
   half_of_the_em = λ f e h u. rw (e, h, u) refl;
   no_advance_past_the_last = λ f e. rw e refl;
   down = λ f c e h t. rw (c, e, h, t) refl;
+  below_0 = λ f c e h t. rw (c, e, h, t) refl;
+  least = λ f c e h t. rw (c, e, h, t) refl;
+  greatest = λ f c e h t. rw (c, e, h, t) refl;
+  up = λ f c e h t. rw (c, e, h, t) refl;
+  least_down = λ f c e h t. rw (c, e, h, t) refl;
   no_box_past_the_last = λ f o e. rw (o, e) refl;
   no_box_without_outlines = λ f o. rw o refl;
   box_of_the_last = λ f o e. rw (o, e) refl;
@@ -97,6 +114,9 @@ pub record WorkedOrigins : Type 0 where
       → (font_face f).v_advance (record { 0 = 6 }) ≡ negsuc 999
   pub not_down_past_the_last : (f : FontFace) → f.v_count ≡ 1 → f.glyph_count ≡ 7
       → (font_face f).v_advance (record { 0 = 7 }) ≡ pos 0
+  -- towards 0
+  pub half_below_0 : (f : FontFace) → f.coordinates.now ≡ [] → f.glyph_count ≡ 7 → f.h_count ≡ 1 → f.hmtx.now ≡ words (65483 ∷ 50 ∷ [])
+      → (font_face f).h_origin (record { 0 = 6 }) ≡ negsuc 25
   pub half_of_the_advance : (f : FontFace) → f.coordinates.now ≡ [] → f.glyph_count ≡ 7 → f.h_count ≡ 1 → f.hmtx.now ≡ words (501 ∷ 50 ∷ [])
       → (font_face f).h_origin (record { 0 = 6 }) ≡ pos 250
   pub as_listed : (f : FontFace) → f.coordinates.now ≡ [] → f.vorg.now ≡ origins 2 → (font_face f).v_origin (record { 0 = 3 }) ≡ pos 900
@@ -123,10 +143,11 @@ pub record WorkedOrigins : Type 0 where
   pub tables : (f : FontFace) → (font_face f).tables ≡ f.tables
 
 pub worked_origins : WorkedOrigins
-unfolding i16_of ◌+ʷ◌ int_wrap
+unfolding i16_of as_short ◌+ʷ◌ int_wrap
 worked_origins = record {
   a_line_down = λ f v o h. rw (v, o, h) refl;
   not_down_past_the_last = λ f v e. rw (v, e) refl;
+  half_below_0 = λ f c e h t. rw (c, e, h, t) refl;
   half_of_the_advance = λ f c e h t. rw (c, e, h, t) refl;
   as_listed = λ f c v. rw (c, v) refl;
   by_the_box = λ f v o e. rw (v, o, e) refl;

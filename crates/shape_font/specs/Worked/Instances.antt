@@ -13,6 +13,7 @@ use Rattle.font_variations.specs.Worked.Deltas.{table_of, there}
 use Rattle.shape_common.specs.Wrapping.{◌+ʷ◌, neg_w}
 use Rattle.shape_font.specs.Bytes.{i16_of}
 use Rattle.shape_font.specs.Face.{font_face, h_advance_of, v_advance_of, v_origin_of}
+use Rattle.shape_font.specs.Metrics.{as_short}
 use Rattle.shape_font.specs.Worked.Glyphs.{words}
 use Rattle.shape_font.specs.declared.face.FontFace.{FontFace}
 
@@ -32,6 +33,11 @@ pub record WorkedInstances : Type 0 where
       → f.hmtx.now ≡ words (500 ∷ 50 ∷ 600 ∷ 60 ∷ []) → (font_face f).h_origin (record { 0 = 0 }) ≡ pos 200
   pub down : (f : FontFace) → f.coordinates.now ≡ there → f.vvar.now ≡ table_of 0 0 0 → f.glyph_count ≡ 7 → f.v_count ≡ 1
       → f.vmtx.now ≡ words (900 ∷ 50 ∷ 60 ∷ []) → v_advance_of f (record { 0 = 1 }) ≡ negsuc 1026
+  -- 32700 and 127 are 32827, which as a number of 16 bits with a sign is -32709; downwards that is 32709
+  pub wraps : (f : FontFace) → f.coordinates.now ≡ there → f.hvar.now ≡ table_of 0 0 0 → f.glyph_count ≡ 7 → f.h_count ≡ 2
+      → f.hmtx.now ≡ words (500 ∷ 50 ∷ 32700 ∷ 60 ∷ []) → h_advance_of f (record { 0 = 1 }) ≡ negsuc 32708
+  pub wraps_down : (f : FontFace) → f.coordinates.now ≡ there → f.vvar.now ≡ table_of 0 0 0 → f.glyph_count ≡ 7 → f.v_count ≡ 1
+      → f.vmtx.now ≡ words (32700 ∷ 50 ∷ 60 ∷ []) → v_advance_of f (record { 0 = 1 }) ≡ pos 32709
   -- the map leads glyph 0 to the second row
   pub listed_origin : (f : FontFace) → f.coordinates.now ≡ there → f.vvar.now ≡ table_of 0 0 80 → f.vorg.now ≡ words (1 ∷ 0 ∷ 880 ∷ 0 ∷ [])
       → v_origin_of f (record { 0 = 0 }) ≡ pos 1007
@@ -39,7 +45,7 @@ pub record WorkedInstances : Type 0 where
       → v_origin_of f (record { 0 = 0 }) ≡ pos 880
 
 pub worked_instances : WorkedInstances
-unfolding ◌+ʷ◌ neg_w int_wrap i16_of metric_delta delta_of part_of delta_in rounded round_with region_scalar axis_scalar numbers.i8_of numbers.i16_of numbers.i32_of tent ratio div mul add sum eq to_signed of_int round size span climb units odd count_trailing_zeros of_bits of_fields
+unfolding ◌+ʷ◌ neg_w int_wrap as_short i16_of metric_delta delta_of part_of delta_in rounded round_with region_scalar axis_scalar numbers.i8_of numbers.i16_of numbers.i32_of tent ratio div mul add sum eq to_signed of_int round size span climb units odd count_trailing_zeros of_bits of_fields
 worked_instances = record {
   advance = λ f c v e h t. rw (e, h, t, c, v) refl;
   of_the_next_glyph = λ f c v e h t. rw (e, h, t, c, v) refl;
@@ -48,6 +54,8 @@ worked_instances = record {
   half_of_the_em = λ f e h u. rw (e, h, u) refl;
   half_of_the_advance = λ f c v e h t. rw (e, h, t, c, v) refl;
   down = λ f c v e h t. rw (e, h, t, c, v) refl;
+  wraps = λ f c v e h t. rw (e, h, t, c, v) refl;
+  wraps_down = λ f c v e h t. rw (e, h, t, c, v) refl;
   listed_origin = λ f c v o. rw (o, c, v) refl;
   no_map_of_origins = λ f c v o. rw (o, c, v) refl;
 }

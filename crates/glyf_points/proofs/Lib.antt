@@ -1,0 +1,4 @@
+pub mod AxisLemmas
+pub mod ComponentLemmas
+pub mod FlagLemmas
+pub mod PointLemmas

@@ -1,0 +1,5 @@
+pub mod Axes
+pub mod Composite
+pub mod Flags
+pub mod Simple
+pub mod Worked

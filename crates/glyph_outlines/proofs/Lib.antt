@@ -1,0 +1,2 @@
+pub mod ContourLemmas
+pub mod PartLemmas

@@ -1,0 +1,3 @@
+pub mod Contours
+pub mod Frames
+pub mod Places
