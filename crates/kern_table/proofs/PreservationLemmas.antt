@@ -14,7 +14,7 @@ use Rattle.shape_items.specs.PreservesFlags.{PreservesFlags, has_flag, some_has}
 use Rattle.shape_items.proofs.Flags.FlagLemmas.{glyph_flags_set, PreservesFlags-same, PreservesFlags-then, unsafe_to_break_preserves}
 use Rattle.shape_items.proofs.Merging.KeyLemmas.{keys-unsafe_to_break, without_items-unsafe_to_break}
 use Rattle.shape_buffer.proofs.Steps.PreservationLemmas.{PreservesClusters-equal, PreservesOrder-same, PreservesOrder-then}
-use Rattle.shape_font.specs.Bytes.{u16_of}
+use Rattle.kern_table.specs.Headers.{first_start, length_of, ends_table}
 use Rattle.shape_font.specs.declared.face.FontFace.{FontFace}
 use Rattle.kern_table.specs.Walk.{kerned}
 use Rattle.kern_table.specs.StepLaws.{step-kerned}
@@ -168,15 +168,15 @@ order-from t mask zero start b = PreservesOrder-same b
 order-from t mask (suc n) start b =
     let paid = charged b in
     let next = subtable_kerned t start mask paid in
-    let behind = kerned_from t mask n (start + u16_of t (start + 2)) next in
+    let behind = kerned_from t mask n (start + length_of t start) next in
     let spent = nat_lt b.max_ops (subtable_work (length b.items)) in
-    elim (nat_lt (u16_of t (start + 2)) 6) as (λ s. PreservesOrder b (if s then b else (if spent then paid else behind))) [
+    elim (ends_table t start) as (λ s. PreservesOrder b (if s then b else (if spent then paid else behind))) [
       | true ↦ PreservesOrder-same b
       | false ↦ elim spent as (λ s. PreservesOrder b (if s then paid else behind)) [
         | true ↦ order-charged b
         | false ↦ PreservesOrder-then b paid behind (order-charged b)
             (PreservesOrder-then paid next behind (order-subtable_kerned t start mask paid)
-            (order-from t mask n (start + u16_of t (start + 2)) next))
+            (order-from t mask n (start + length_of t start) next))
       ]
     ]
 
@@ -185,30 +185,30 @@ flags-from t mask zero start b = PreservesFlags-same b
 flags-from t mask (suc n) start b =
     let paid = charged b in
     let next = subtable_kerned t start mask paid in
-    let behind = kerned_from t mask n (start + u16_of t (start + 2)) next in
+    let behind = kerned_from t mask n (start + length_of t start) next in
     let spent = nat_lt b.max_ops (subtable_work (length b.items)) in
-    elim (nat_lt (u16_of t (start + 2)) 6) as (λ s. PreservesFlags b (if s then b else (if spent then paid else behind))) [
+    elim (ends_table t start) as (λ s. PreservesFlags b (if s then b else (if spent then paid else behind))) [
       | true ↦ PreservesFlags-same b
       | false ↦ elim spent as (λ s. PreservesFlags b (if s then paid else behind)) [
         | true ↦ flags-charged b
         | false ↦ PreservesFlags-then b paid behind (flags-charged b)
             (PreservesFlags-then paid next behind (flags-subtable_kerned t start mask paid)
-            (flags-from t mask n (start + u16_of t (start + 2)) next))
+            (flags-from t mask n (start + length_of t start) next))
       ]
     ]
 
 order-table_kerned : (t : List ℕ) (mask : ℕ) → IsClusterPreserving (table_kerned t mask)
 order-table_kerned t mask b monotone =
-    elim (nat_eq mask 0) as (λ s. PreservesOrder b (if s then b else kerned_from t mask (subtable_count_of t) 4 b)) [
+    elim (nat_eq mask 0) as (λ s. PreservesOrder b (if s then b else kerned_from t mask (subtable_count_of t) (first_start t) b)) [
       | true ↦ PreservesOrder-same b
-      | false ↦ order-from t mask (subtable_count_of t) 4 b
+      | false ↦ order-from t mask (subtable_count_of t) (first_start t) b
     ]
 
 flags-table_kerned : (t : List ℕ) (mask : ℕ) → IsFlagPreserving (table_kerned t mask)
 flags-table_kerned t mask b =
-    elim (nat_eq mask 0) as (λ s. PreservesFlags b (if s then b else kerned_from t mask (subtable_count_of t) 4 b)) [
+    elim (nat_eq mask 0) as (λ s. PreservesFlags b (if s then b else kerned_from t mask (subtable_count_of t) (first_start t) b)) [
       | true ↦ PreservesFlags-same b
-      | false ↦ flags-from t mask (subtable_count_of t) 4 b
+      | false ↦ flags-from t mask (subtable_count_of t) (first_start t) b
     ]
 
 -- ---- the engine

@@ -1,6 +1,6 @@
 -- two glyphs of which one stands in no pair have no value
 use Prim.Native.Nat.{zero}
-use Rattle.std.proofs.Common.{◌≡◌, ℕ, suc, ℤ, ◌<◌, ◌≤◌, ◌+◌, ◌-◌, ◌*◌, ◌/◌, Bool, true, false, ◌||◌, if◌then◌else◌, List, length, None, nat_lt, nat_eq, slice_index, slice_index_or, refl, sym, ap, subst, ◌∙◌, arith}
+use Rattle.std.proofs.Common.{◌≡◌, ℕ, suc, ℤ, ◌<◌, ◌≤◌, ◌+◌, ◌-◌, ◌*◌, ◌/◌, Bool, true, false, ◌||◌, if◌then◌else◌, List, length, None, nat_lt, nat_eq, slice_index_or, refl, sym, ap, subst, ◌∙◌, arith}
 use Rattle.std.specs.Prelude.{pos}
 use Rattle.std.specs.Option.{option_map_or}
 use Rattle.std.proofs.lemmas.Bool.Decides.{nat_tests}
@@ -10,6 +10,7 @@ use Rattle.shape_font.specs.Bytes.{u16_of, u32_of, i16_of, fitting}
 use Rattle.shape_font.specs.Search.{side_of, found_in}
 use Rattle.shape_font.proofs.MidpointLemmas.{found_in-none, found_in-less, found_in-greater}
 use Rattle.kern_table.specs.declared.pairs.Subtable.{Subtable}
+use Rattle.kern_table.specs.Headers.{format_of, body_of}
 use Rattle.kern_table.specs.Pairs.{side_of_pair, pair_of, value_of, HoldSides, IsRead}
 use Rattle.kern_table.specs.Sides.{glyph_of_pair, AreMarked}
 
@@ -59,23 +60,24 @@ none_past false true x inside = refl
 none_past false false x inside = inside refl
 
 -- two glyphs that no pair lists have no value in a subtable of format 0
-unlisted : (t : List ℕ) (start count left right : ℕ) → nat_eq (slice_index t (start + 4)) 2 ≡ false
-    → count ≡ fitting t (u16_of t (start + 6)) (start + 14) 6
-    → ((i : ℕ) → i < count → right < 65536 → u32_of t (start + 14 + 6 * i) ≡ left * 65536 + right → ⊥)
+unlisted : (t : List ℕ) (start count left right : ℕ) → nat_eq (format_of t start) 2 ≡ false
+    → count ≡ fitting t (u16_of t (body_of t start)) (body_of t start + 8) 6
+    → ((i : ℕ) → i < count → right < 65536 → u32_of t (body_of t start + 8 + 6 * i) ≡ left * 65536 + right → ⊥)
     → value_of t start left right ≡ pos 0
+unfolding value_of
 unlisted t start count left right listed counted none =
-    let value : ℕ → ℤ = λ i. i16_of t (start + 18 + 6 * i) in
+    let value : ℕ → ℤ = λ i. i16_of t (body_of t start + 12 + 6 * i) in
     let sought = option_map_or value (pair_of t start (left * 65536 + right)) (pos 0) in
     rw listed (none_past (nat_lt 0xFFFF left) (nat_lt 0xFFFF right) sought (λ low.
     let small : right < 65536 = grind (arith, nat_tests, low) in
     let missed : pair_of t start (left * 65536 + right) ≡ None =
     subst (λ n. found_in (side_of_pair t start (left * 65536 + right)) n 0 n ≡ None) counted
     (none_found (side_of_pair t start (left * 65536 + right)) count count 0 count
-    (λ i within equal. none i within small (sym (side_equal (left * 65536 + right) (u32_of t (start + 14 + 6 * i)) equal))) (omega arith)) in
+    (λ i within equal. none i within small (sym (side_equal (left * 65536 + right) (u32_of t (body_of t start + 8 + 6 * i)) equal))) (omega arith)) in
     ap (λ o. option_map_or value o (pos 0)) missed))
 
-left_unmarked : (t : List ℕ) (start count left right : ℕ) (lefts : List Bool) → nat_eq (slice_index t (start + 4)) 2 ≡ false
-    → count ≡ fitting t (u16_of t (start + 6)) (start + 14) 6 → AreMarked t start true count lefts
+left_unmarked : (t : List ℕ) (start count left right : ℕ) (lefts : List Bool) → nat_eq (format_of t start) 2 ≡ false
+    → count ≡ fitting t (u16_of t (body_of t start)) (body_of t start + 8) 6 → AreMarked t start true count lefts
     → left < length lefts → slice_index_or lefts left false ≡ false → value_of t start left right ≡ pos 0
 left_unmarked t start count left right lefts listed counted marked inside unmarked =
     unlisted t start count left right listed counted (λ i within small here.
@@ -84,8 +86,8 @@ left_unmarked t start count left right lefts listed counted marked inside unmark
     let no : true ≡ false = sym set ∙ ap (λ g. slice_index_or lefts g false) same ∙ unmarked in
     absurd cc)
 
-right_unmarked : (t : List ℕ) (start count left right : ℕ) (rights : List Bool) → nat_eq (slice_index t (start + 4)) 2 ≡ false
-    → count ≡ fitting t (u16_of t (start + 6)) (start + 14) 6 → AreMarked t start false count rights
+right_unmarked : (t : List ℕ) (start count left right : ℕ) (rights : List Bool) → nat_eq (format_of t start) 2 ≡ false
+    → count ≡ fitting t (u16_of t (body_of t start)) (body_of t start + 8) 6 → AreMarked t start false count rights
     → right < length rights → slice_index_or rights right false ≡ false → value_of t start left right ≡ pos 0
 right_unmarked t start count left right rights listed counted marked inside unmarked =
     unlisted t start count left right listed counted (λ i within small here.
@@ -94,11 +96,14 @@ right_unmarked t start count left right rights listed counted marked inside unma
     let no : true ≡ false = sym set ∙ ap (λ g. slice_index_or rights g false) same ∙ unmarked in
     absurd cc)
 
+counted : (s : Subtable) → IsRead s → s.count ≡ fitting s.kern.now (u16_of s.kern.now (body_of s.kern.now s.start)) (body_of s.kern.now s.start + 8) 6
+counted s read = subst (λ body. s.count ≡ fitting s.kern.now (u16_of s.kern.now body) (body + 8) 6) read.body read.count
+
 -- what is stored of a subtable of format 0 holds
 pub HoldSides-marked : (s : Subtable) (lefts rights : List Bool) → IsRead s → s.classed ≡ false
     → AreMarked s.kern.now s.start true s.count lefts → AreMarked s.kern.now s.start false s.count rights
     → HoldSides s.kern.now s.start lefts rights
 HoldSides-marked s lefts rights read listed at_left at_right = record {
-  left = λ left right. left_unmarked s.kern.now s.start s.count left right lefts (sym read.classed ∙ listed) read.count at_left;
-  right = λ left right. right_unmarked s.kern.now s.start s.count left right rights (sym read.classed ∙ listed) read.count at_right;
+  left = λ left right. left_unmarked s.kern.now s.start s.count left right lefts (sym read.classed ∙ listed) (counted s read) at_left;
+  right = λ left right. right_unmarked s.kern.now s.start s.count left right rights (sym read.classed ∙ listed) (counted s read) at_right;
 }

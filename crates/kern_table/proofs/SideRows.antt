@@ -1,25 +1,30 @@
 -- The rows of glyphs at the sides of pairs.
 use Rattle.std.proofs.Common.{◌≡◌, zero, suc, pos, negsuc, Bool, true, false, List, [], refl, subst, arith}
 use Rattle.shape_font.specs.Bytes.{i16_of}
-use Rattle.kern_table.specs.Pairs.{HoldSides}
+use Rattle.kern_table.specs.Headers.{format_of, header_size}
+use Rattle.kern_table.specs.Pairs.{HoldSides, value_of}
 use Rattle.kern_table.specs.Sides.{AreMarked}
 use Rattle.kern_table.specs.Worked.Sides.{one_pair, none_of_3, none_of_4, glyph_2, glyph_3}
 use Rattle.kern_table.specs.Worked.Sides.{MarksOfPairs, SidesOfPairs, StoredPairs, WorkedSides}
 use Rattle.kern_table.specs.declared.sides.PairGlyphs.{PairGlyphs}
 
 left : AreMarked one_pair 4 true 1 glyph_2
+unfolding header_size
 left zero lt within = refl
 left (suc i) lt within = absurd (omega arith)
 
 right : AreMarked one_pair 4 false 1 glyph_3
+unfolding header_size
 right zero lt within = refl
 right (suc i) lt within = absurd (omega arith)
 
 past_the_marks : AreMarked one_pair 4 false 1 none_of_3
+unfolding header_size
 past_the_marks zero lt within = absurd (omega (arith, within))
 past_the_marks (suc i) lt within = absurd (omega arith)
 
 marks_of_pairs : MarksOfPairs
+unfolding header_size
 marks_of_pairs = record {
   left = left;
   right = right;
@@ -29,11 +34,11 @@ marks_of_pairs = record {
 }
 
 left_unmarked : HoldSides one_pair 4 none_of_3 [] → ⊥
-unfolding i16_of
+unfolding i16_of value_of format_of header_size
 left_unmarked hold = let e : negsuc 49 ≡ pos 0 = hold.left 2 3 (omega arith) refl in absurd cc
 
 right_unmarked : HoldSides one_pair 4 [] none_of_4 → ⊥
-unfolding i16_of
+unfolding i16_of value_of format_of header_size
 right_unmarked hold = let e : negsuc 49 ≡ pos 0 = hold.right 2 3 (omega arith) refl in absurd cc
 
 sides_of_pairs : SidesOfPairs

@@ -2,7 +2,7 @@
 use Rattle.std.proofs.Common.{◌≡◌, ℕ, suc, ◌<◌, ◌≤◌, ◌+◌, ◌-◌, Bool, true, false, not, nat_lt, List, length, refl, arith}
 use Rattle.std.proofs.lemmas.Bool.Decides.{nat_tests}
 use Rattle.shape_items.specs.Buffer.{Buffer}
-use Rattle.shape_font.specs.Bytes.{u16_of}
+use Rattle.kern_table.specs.Headers.{header_size, length_of, most_bytes, ends_table}
 use Rattle.kern_table.specs.Tables.{subtable_work, charged, subtable_kerned, kerned_from}
 use Rattle.kern_table.specs.Walk.{kerned_at, left_after, kerned_to}
 
@@ -14,31 +14,46 @@ not_false : (t : Bool) → false ≡ not t → t ≡ true
 not_false true e = refl
 not_false false e = cc
 
-pub kerned_from_next : (t : List ℕ) (mask n i start : ℕ) (b : Buffer) → i < n → 6 ≤ u16_of t (start + 2)
-    → true ≡ not (nat_lt b.max_ops (subtable_work (length b.items)))
-    → kerned_from t mask (n - i) start b
-    ≡ kerned_from t mask (n - (i + 1)) (start + u16_of t (start + 2)) (subtable_kerned t start mask (charged b))
-kerned_from_next t mask n i start b h long suffices =
-    let e : n - i ≡ suc (n - (i + 1)) = omega arith in
-    let enough : nat_lt (u16_of t (start + 2)) 6 ≡ false = grind (arith, nat_tests, long) in
-    let paid : nat_lt b.max_ops (subtable_work (length b.items)) ≡ false = not_true (nat_lt b.max_ops (subtable_work (length b.items))) suffices in
-    rw e (rw (enough, kerned_from) (rw paid refl))
+-- a subtable that is as long as its header, and ends where a table may, ends none
+goes_on : (t : List ℕ) (start : ℕ) → header_size t ≤ length_of t start → start + length_of t start ≤ most_bytes → ends_table t start ≡ false
+goes_on t start whole within =
+    let enough : nat_lt (length_of t start) (header_size t) ≡ false = grind (arith, nat_tests, whole) in
+    let inside : nat_lt most_bytes (start + length_of t start) ≡ false = grind (arith, nat_tests, within) in
+    rw (enough, inside) refl
 
-pub kerned_from_short : (t : List ℕ) (mask n i start : ℕ) (b : Buffer) → i < n → u16_of t (start + 2) < 6
+pub kerned_from_next : (t : List ℕ) (mask n i start : ℕ) (b : Buffer) → i < n → header_size t ≤ length_of t start
+    → start + length_of t start ≤ most_bytes → true ≡ not (nat_lt b.max_ops (subtable_work (length b.items)))
+    → kerned_from t mask (n - i) start b
+    ≡ kerned_from t mask (n - (i + 1)) (start + length_of t start) (subtable_kerned t start mask (charged b))
+kerned_from_next t mask n i start b h whole within suffices =
+    let e : n - i ≡ suc (n - (i + 1)) = omega arith in
+    let goes : ends_table t start ≡ false = goes_on t start whole within in
+    let paid : nat_lt b.max_ops (subtable_work (length b.items)) ≡ false = not_true (nat_lt b.max_ops (subtable_work (length b.items))) suffices in
+    rw e (rw (goes, kerned_from) (rw paid refl))
+
+pub kerned_from_short : (t : List ℕ) (mask n i start : ℕ) (b : Buffer) → i < n → length_of t start < header_size t
     → kerned_from t mask (n - i) start b ≡ b
 kerned_from_short t mask n i start b h short =
     let e : n - i ≡ suc (n - (i + 1)) = omega arith in
-    let few : nat_lt (u16_of t (start + 2)) 6 ≡ true = grind (arith, nat_tests, short) in
+    let few : nat_lt (length_of t start) (header_size t) ≡ true = grind (arith, nat_tests, short) in
     rw e (rw (few, kerned_from) refl)
 
-pub kerned_from_spent : (t : List ℕ) (mask n i start : ℕ) (b : Buffer) → i < n → 6 ≤ u16_of t (start + 2)
-    → false ≡ not (nat_lt b.max_ops (subtable_work (length b.items)))
-    → kerned_from t mask (n - i) start b ≡ charged b
-kerned_from_spent t mask n i start b h long lacks =
+pub kerned_from_long : (t : List ℕ) (mask n i start : ℕ) (b : Buffer) → i < n → header_size t ≤ length_of t start
+    → most_bytes < start + length_of t start → kerned_from t mask (n - i) start b ≡ b
+kerned_from_long t mask n i start b h whole long =
     let e : n - i ≡ suc (n - (i + 1)) = omega arith in
-    let enough : nat_lt (u16_of t (start + 2)) 6 ≡ false = grind (arith, nat_tests, long) in
+    let enough : nat_lt (length_of t start) (header_size t) ≡ false = grind (arith, nat_tests, whole) in
+    let many : nat_lt most_bytes (start + length_of t start) ≡ true = grind (arith, nat_tests, long) in
+    rw e (rw (enough, many, kerned_from) refl)
+
+pub kerned_from_spent : (t : List ℕ) (mask n i start : ℕ) (b : Buffer) → i < n → header_size t ≤ length_of t start
+    → start + length_of t start ≤ most_bytes → false ≡ not (nat_lt b.max_ops (subtable_work (length b.items)))
+    → kerned_from t mask (n - i) start b ≡ charged b
+kerned_from_spent t mask n i start b h whole within lacks =
+    let e : n - i ≡ suc (n - (i + 1)) = omega arith in
+    let goes : ends_table t start ≡ false = goes_on t start whole within in
     let spent : nat_lt b.max_ops (subtable_work (length b.items)) ≡ true = not_false (nat_lt b.max_ops (subtable_work (length b.items))) lacks in
-    rw e (rw (enough, kerned_from) (rw spent refl))
+    rw e (rw (goes, kerned_from) (rw spent refl))
 
 pub kerned_from_end : (t : List ℕ) (mask n start : ℕ) (b : Buffer) → kerned_from t mask (n - n) start b ≡ b
 kerned_from_end t mask n start b =

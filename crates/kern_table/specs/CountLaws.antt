@@ -9,7 +9,7 @@ use Rattle.shape_items.specs.Clusters.{clusters, map_range, mark_concat}
 use Rattle.shape_common.specs.Direction.{is_horizontal, is_backward}
 use Rattle.shape_common.specs.FlagNames.{PRODUCE_UNSAFE_TO_CONCAT}
 use Rattle.shape_items.proofs.Merging.KeyLemmas.{keys-map_range, length-map_range, length-unsafe_to_break, without_items-unsafe_to_break}
-use Rattle.shape_font.specs.Bytes.{u16_of}
+use Rattle.kern_table.specs.Headers.{first_start, length_of, ends_table}
 use Rattle.kern_table.specs.Walk.{pair_moved, kerned}
 use Rattle.kern_table.specs.StepLaws.{step-pair_moved, step-kerned}
 use Rattle.kern_table.specs.Tables.{subtable_count_of, is_read, reversed, subtable_kerned, subtable_work, charged, kerned_from, table_kerned}
@@ -62,21 +62,21 @@ length-from : (t : List ℕ) (mask n start : ℕ) (b : Buffer) → length (kerne
 length-from t mask zero start b = refl
 length-from t mask (suc n) start b =
     let next = subtable_kerned t start mask (charged b) in
-    let behind = kerned_from t mask n (start + u16_of t (start + 2)) next in
+    let behind = kerned_from t mask n (start + length_of t start) next in
     let spent = nat_lt b.max_ops (subtable_work (length b.items)) in
-    elim (nat_lt (u16_of t (start + 2)) 6) as (λ s. length (if s then b else (if spent then charged b else behind)).items ≡ length b.items) [
+    elim (ends_table t start) as (λ s. length (if s then b else (if spent then charged b else behind)).items ≡ length b.items) [
       | true ↦ refl
       | false ↦ elim spent as (λ s. length (if s then charged b else behind).items ≡ length b.items) [
         | true ↦ refl
-        | false ↦ length-from t mask n (start + u16_of t (start + 2)) next ∙ length-subtable_kerned t start mask (charged b)
+        | false ↦ length-from t mask n (start + length_of t start) next ∙ length-subtable_kerned t start mask (charged b)
       ]
     ]
 
 pub length-table_kerned : (t : List ℕ) (mask : ℕ) (b : Buffer) → length (table_kerned t mask b).items ≡ length b.items
 length-table_kerned t mask b =
-    elim (nat_eq mask 0) as (λ s. length (if s then b else kerned_from t mask (subtable_count_of t) 4 b).items ≡ length b.items) [
+    elim (nat_eq mask 0) as (λ s. length (if s then b else kerned_from t mask (subtable_count_of t) (first_start t) b).items ≡ length b.items) [
       | true ↦ refl
-      | false ↦ length-from t mask (subtable_count_of t) 4 b
+      | false ↦ length-from t mask (subtable_count_of t) (first_start t) b
     ]
 
 -- ---- the limit

@@ -1,3 +1,4 @@
+pub mod Headers
 pub mod Pairs
 pub mod Sides
 pub mod Walk

@@ -1,24 +1,25 @@
--- Values of pairs of glyphs, by formats 0 and 2 of `kern`.
-use Rattle.std.specs.Prelude.{◌≡◌, ◌<◌, ◌^◌, ℕ, ℤ, pos, List, Bool, Option, ◌+◌, ◌-◌, ◌*◌, ◌/◌, ◌&&◌, ◌||◌, not, nat_eq, nat_lt, nat_le, slice_index, slice_index_or, length, false, if◌then◌else◌}
+-- Values of pairs of glyphs, by formats 0 and 2 of `kern`. The fields of a format stand after the header of its subtable.
+use Rattle.std.specs.Prelude.{◌≡◌, ◌<◌, ◌≤◌, ◌^◌, ℕ, ℤ, pos, List, Bool, Option, ◌+◌, ◌-◌, ◌*◌, ◌/◌, ◌&&◌, ◌||◌, not, nat_eq, nat_lt, nat_le, slice_index_or, length, false, if◌then◌else◌}
 use Rattle.std.specs.Option.{option_map_or}
 use Rattle.std.specs.declared.cmp.Ordering.{Ordering}
 use Rattle.shape_font.specs.Bytes.{u16_of, u32_of, i16_of, fitting}
 use Rattle.shape_font.specs.Search.{side_of, found_by}
+use Rattle.kern_table.specs.Headers.{format_of, body_of}
 use Rattle.kern_table.specs.declared.pairs.Subtable.{Subtable}
 
 -- ---- format 0: pairs in order
 
 -- pairs of 6 bytes: two glyphs, which are one number for the search, and their value
 abbrev pub side_of_pair : List ℕ → ℕ → ℕ → ℕ → Ordering
-side_of_pair t start glyphs i = let there = u32_of t (start + 14 + 6 * i) in side_of glyphs there there
+side_of_pair t start glyphs i = let there = u32_of t (body_of t start + 8 + 6 * i) in side_of glyphs there there
 
 abbrev pub pair_of : List ℕ → ℕ → ℕ → Option ℕ
-pair_of t start glyphs = found_by (side_of_pair t start glyphs) (fitting t (u16_of t (start + 6)) (start + 14) 6)
+pair_of t start glyphs = found_by (side_of_pair t start glyphs) (fitting t (u16_of t (body_of t start)) (body_of t start + 8) 6)
 
 -- the value of two glyphs in the subtable that begins at `start`; none has a glyph past 65535
 abbrev pub listed_value : List ℕ → ℕ → ℕ → ℕ → ℤ
 listed_value t start left right = if nat_lt 0xFFFF left || nat_lt 0xFFFF right then pos 0
-    else option_map_or (λ i. i16_of t (start + 18 + 6 * i)) (pair_of t start (left * 65536 + right)) (pos 0)
+    else option_map_or (λ i. i16_of t (body_of t start + 12 + 6 * i)) (pair_of t start (left * 65536 + right)) (pos 0)
 
 -- ---- format 2: values by the class of the left glyph and that of the right one
 
@@ -35,21 +36,21 @@ is_classed t classes glyph = nat_le (u16_of t classes) glyph
 -- a class is a number of bytes: that of the left glyph leads from the start of the subtable to a row of the array, that of the right
 -- one along the row. What stands before the array is no value; from there on each has two bytes
 abbrev pub value_at : List ℕ → ℕ → ℕ → ℤ
-value_at t start place = let array = u16_of t (start + 12) in
+value_at t start place = let array = u16_of t (body_of t start + 6) in
     (if nat_lt place array then pos 0 else i16_of t (start + array + 2 * ((place - array) / 2)))
 
 -- two glyphs of which one has no class have no value
 abbrev pub classed_value : List ℕ → ℕ → ℕ → ℕ → ℤ
-classed_value t start left right = let lefts = start + u16_of t (start + 8) in
-    let rights = start + u16_of t (start + 10) in
+classed_value t start left right = let lefts = start + u16_of t (body_of t start + 2) in
+    let rights = start + u16_of t (body_of t start + 4) in
     (if is_classed t lefts left && is_classed t rights right
     then value_at t start (class_of t lefts left + class_of t rights right) else pos 0)
 
 -- ---- by the format of the subtable
 
-abbrev pub value_of : List ℕ → ℕ → ℕ → ℕ → ℤ
+unfoldable pub value_of : List ℕ → ℕ → ℕ → ℕ → ℤ
 value_of t start left right =
-    if nat_eq (slice_index t (start + 4)) 2 then classed_value t start left right else listed_value t start left right
+    if nat_eq (format_of t start) 2 then classed_value t start left right else listed_value t start left right
 
 -- a glyph that isn't marked has no value as the left one of two, or as the right one
 pub record HoldSides (t : List ℕ) (start : ℕ) (lefts rights : List Bool) : Type 0 where
@@ -59,6 +60,8 @@ pub record HoldSides (t : List ℕ) (start : ℕ) (lefts rights : List Bool) : T
 -- what was read of a subtable is what its bytes say, and what is stored of it holds
 pub record IsRead (s : Subtable) : Type 0 where
   pub near : s.start < 2 ^ 34
+  pub inside : s.body ≤ s.start + 8
+  pub body : s.body ≡ body_of s.kern.now s.start
   pub sides : HoldSides s.kern.now s.start s.sides.lefts.now s.sides.rights.now
-  pub classed : s.classed ≡ nat_eq (slice_index s.kern.now (s.start + 4)) 2
-  pub count : s.count ≡ fitting s.kern.now (u16_of s.kern.now (s.start + 6)) (s.start + 14) 6
+  pub classed : s.classed ≡ nat_eq (format_of s.kern.now s.start) 2
+  pub count : s.count ≡ fitting s.kern.now (u16_of s.kern.now s.body) (s.body + 8) 6

@@ -1,20 +1,32 @@
--- kerning of a buffer by a whole table `kern` (OpenType, version 0)
+-- kerning of a buffer by a whole table `kern`
 use Prim.Native.Nat.{zero}
-use Rattle.std.specs.Prelude.{ℕ, suc, List, Bool, ◌+◌, ◌-◌, ◌*◌, ◌/◌, ◌%◌, ◌&&◌, ◌||◌, min, max, length, nat_lt, nat_eq, reverse, slice_index, if◌then◌else◌}
+use Rattle.std.specs.Prelude.{ℕ, suc, List, Bool, ◌+◌, ◌-◌, ◌*◌, ◌/◌, ◌%◌, ◌&&◌, ◌||◌, min, max, length, nat_lt, nat_eq, reverse, if◌then◌else◌}
 use Rattle.shape_items.specs.Buffer.{Buffer, most_countable}
 use Rattle.shape_common.specs.Direction.{is_horizontal, is_backward}
-use Rattle.shape_font.specs.Bytes.{u16_of}
+use Rattle.shape_font.specs.Bytes.{u16_of, u32_of}
+use Rattle.kern_table.specs.Headers.{is_apple, first_start, length_of, format_of, coverage_of, ends_table}
 use Rattle.kern_table.specs.Walk.{kerned}
 
--- how many subtables the table states; none if its version isn't 0
+-- how many subtables the table states (`nTables`): a number of 16 bits in OpenType, of 32 in Apple's version; none in another one
 abbrev pub subtable_count_of : List ℕ → ℕ
-subtable_count_of t = if nat_eq (u16_of t 0) 0 then u16_of t 2 else 0
+subtable_count_of t = if nat_eq (u16_of t 0) 0 then u16_of t 2 else (if is_apple t then u32_of t 4 else 0)
 
--- a subtable of format 0 or 2, for lines of this kind (bit 0), that doesn't move glyphs across the line (bit 2)
+-- OpenType: a subtable for lines of this kind (horizontal, bit 0), that doesn't move glyphs across the line (crossStream, bit 2)
+abbrev pub is_along : ℕ → Bool → Bool
+is_along coverage horizontal = nat_eq (coverage % 2) (if horizontal then 1 else 0) && nat_eq (coverage / 4 % 2) 0
+
+-- Apple: the upper half of coverage says kernVertical (0x8000), kernCrossStream (0x4000) and, with values for instances of a variable
+-- font, kernVariation (0x2000)
+abbrev pub is_along_apple : ℕ → Bool → Bool
+is_along_apple coverage horizontal = nat_eq (coverage / 128 % 2) (if horizontal then 0 else 1) && nat_eq (coverage / 32 % 4) 0
+
+abbrev pub runs_along : List ℕ → ℕ → Bool → Bool
+runs_along t start horizontal = if is_apple t then is_along_apple (coverage_of t start) horizontal
+    else is_along (coverage_of t start) horizontal
+
+-- a subtable of format 0 or 2, along lines of this kind
 abbrev pub is_read : List ℕ → ℕ → Bool → Bool
-is_read t start horizontal = let coverage = slice_index t (start + 5) in
-    (nat_eq (slice_index t (start + 4)) 0 || nat_eq (slice_index t (start + 4)) 2)
-    && nat_eq (coverage % 2) (if horizontal then 1 else 0) && nat_eq (coverage / 4 % 2) 0
+is_read t start horizontal = (nat_eq (format_of t start) 0 || nat_eq (format_of t start) 2) && runs_along t start horizontal
 
 abbrev pub reversed : Buffer → Buffer
 reversed b = record b { items = reverse b.items; positions = reverse b.positions }
@@ -38,14 +50,13 @@ subtable_work count = max (min (count * SUBTABLE_WORK) most_countable) 1
 abbrev pub charged : Buffer → Buffer
 charged b = record b { max_ops = b.max_ops - subtable_work (length b.items) }
 
--- so many subtables from a place on; a subtable whose stated length is less than its header ends the table, and so does one that what
--- is left doesn't suffice for, after which nothing is left
+-- so many subtables from a place on; one that what is left doesn't suffice for ends the table, after which nothing is left
 abbrev pub kerned_from : List ℕ → ℕ → ℕ → ℕ → Buffer → Buffer
 kerned_from t mask zero start b = b
-kerned_from t mask (suc n) start b = let len = u16_of t (start + 2) in
-    (if nat_lt len 6 then b else (if nat_lt b.max_ops (subtable_work (length b.items)) then charged b
-    else kerned_from t mask n (start + len) (subtable_kerned t start mask (charged b))))
+kerned_from t mask (suc n) start b = if ends_table t start then b
+    else (if nat_lt b.max_ops (subtable_work (length b.items)) then charged b
+    else kerned_from t mask n (start + length_of t start) (subtable_kerned t start mask (charged b)))
 
 -- all subtables, if kerning is on somewhere
 abbrev pub table_kerned : List ℕ → ℕ → Buffer → Buffer
-table_kerned t mask b = if nat_eq mask 0 then b else kerned_from t mask (subtable_count_of t) 4 b
+table_kerned t mask b = if nat_eq mask 0 then b else kerned_from t mask (subtable_count_of t) (first_start t) b

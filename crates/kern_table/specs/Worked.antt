@@ -1,3 +1,4 @@
+pub mod Apple
 pub mod Kern
 pub mod Engine
 pub mod Sides

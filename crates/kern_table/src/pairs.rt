@@ -1,19 +1,21 @@
-//! Values of pairs of glyphs: formats 0 and 2 of the table `kern`.
+//! Values of pairs of glyphs: formats 0 and 2 of the table `kern`, whose fields stand after the header of a subtable.
 ghost use Rattle.std.specs.Prelude.{◌≡◌, ◌+◌, ◌*◌, ◌<◌, ◌^◌, ◌≤ℤ◌, pos, negsuc, length, not, ◌||◌, false, nat_lt, slice_index_or};
 ghost use Rattle.kern_table.specs.Pairs;
 ghost use Rattle.std.specs.Option.{IfSome};
 
+use crate::headers::{format, header_size};
 use crate::sides::Sides;
-use shape_font::bytes::{i16_at, long, records, u8_at, u16_at};
+use shape_font::bytes::{i16_at, long, records, u16_at};
 use shape_font::search::{found_within, side};
 use std::cmp::Ordering;
 
-/// A subtable of the table, what is stored of it, and what is read of it once for all pairs: whether it is of format 2, and
-/// how many pairs it has room for.
+/// A subtable of the table, what is stored of it, and what is read of it once for all pairs: where the fields of its format
+/// begin, whether it is of format 2, and how many pairs it has room for.
 #[derive(Clone, Copy)]
 pub(crate) struct Subtable<'a> {
     pub kern: &'a [u8],
     pub start: usize,
+    pub body: usize,
     pub sides: Sides<'a>,
     pub classed: bool,
     pub count: u32,
@@ -27,12 +29,14 @@ pub(crate) fn read_subtable<'a>(kern: &'a [u8], start: usize, sides: Sides<'a>) 
     ensures kern { result.kern.now ≡ kern.now }
     ensures start { result.start ≡ start }
 {
+    let body = start + header_size(kern);
     Subtable {
         kern,
         start,
+        body,
         sides,
-        classed: u8_at(kern, start + 4) == 2,
-        count: records(kern, u32::from(u16_at(kern, start + 6)), start + 14, 6),
+        classed: format(kern, start) == 2,
+        count: records(kern, u32::from(u16_at(kern, body)), body + 8, 6),
     }
 }
 
@@ -42,7 +46,7 @@ fn pair_side(subtable: Subtable<'_>, glyphs: u32, i: u32) -> Ordering
     requires listed { i < subtable.count }
     ensures { result ≡ Pairs.side_of_pair subtable.entry.kern.now subtable.entry.start glyphs i }
 {
-    let there = long(subtable.kern, subtable.start + 14 + 6 * i as usize);
+    let there = long(subtable.kern, subtable.body + 8 + 6 * i as usize);
     side(glyphs, there, there)
 }
 
@@ -73,7 +77,7 @@ fn listed_value(subtable: Subtable<'_>, left: u32, right: u32) -> i32
         return 0;
     }
     match pair(subtable, left * 65536 + right) {
-        Some(i) => i16_at(subtable.kern, subtable.start + 18 + 6 * i as usize),
+        Some(i) => i16_at(subtable.kern, subtable.body + 12 + 6 * i as usize),
         None => 0,
     }
 }
@@ -101,38 +105,37 @@ fn class(kern: &[u8], classes: usize, glyph: u32) -> u32
 }
 
 /// The value that stands so many bytes after the start of a subtable, 0 if its array of values begins later.
-fn value_at(kern: &[u8], start: usize, place: u32) -> i32
-    requires subtable { start < 2 ^ 34 }
+fn value_at(subtable: Subtable<'_>, place: u32) -> i32
+    requires read { Pairs.IsRead subtable }
     requires near { place < 131072 }
-    ensures value { result ≡ Pairs.value_at kern.now start place }
+    ensures value { result ≡ Pairs.value_at subtable.entry.kern.now subtable.entry.start place }
     ensures low { negsuc 32767 ≤ℤ result }
     ensures high { result ≤ℤ pos 32767 }
 {
-    let array = u32::from(u16_at(kern, start + 12));
+    let array = u32::from(u16_at(subtable.kern, subtable.body + 6));
     if place < array {
         return 0;
     }
-    i16_at(
-        kern,
-        start + array as usize + 2 * ((place - array) / 2) as usize,
-    )
+    let at = subtable.start + array as usize + 2 * ((place - array) / 2) as usize;
+    i16_at(subtable.kern, at)
 }
 
-/// The value of two glyphs in the subtable of format 2 that begins at `start`, by their classes; 0 if one has none.
-fn classed_value(kern: &[u8], start: usize, left: u32, right: u32) -> i32
-    requires { start < 2 ^ 34 }
-    ensures value { result ≡ Pairs.classed_value kern.now start left right }
+/// The value of two glyphs in a subtable of format 2, by their classes; 0 if one has none.
+fn classed_value(subtable: Subtable<'_>, left: u32, right: u32) -> i32
+    requires { Pairs.IsRead subtable }
+    ensures value { result ≡ Pairs.classed_value subtable.entry.kern.now subtable.entry.start left
+        right }
     ensures low { negsuc 32767 ≤ℤ result }
     ensures high { result ≤ℤ pos 32767 }
 {
-    let lefts = start + usize::from(u16_at(kern, start + 8));
-    let rights = start + usize::from(u16_at(kern, start + 10));
+    let kern = subtable.kern;
+    let lefts = subtable.start + usize::from(u16_at(kern, subtable.body + 2));
+    let rights = subtable.start + usize::from(u16_at(kern, subtable.body + 4));
     if !is_classed(kern, lefts, left) || !is_classed(kern, rights, right) {
         return 0;
     }
     value_at(
-        kern,
-        start,
+        subtable,
         class(kern, lefts, left) + class(kern, rights, right),
     )
 }
@@ -147,6 +150,7 @@ fn may_stand(marks: &[bool], glyph: u32) -> bool
 }
 
 /// The value of two glyphs, sought among all pairs.
+#[tactic(auto, unfolding(crate::specs::Pairs::value_of))]
 fn sought_value(subtable: Subtable<'_>, left: u32, right: u32) -> i32
     requires { Pairs.IsRead subtable }
     ensures value { result ≡ Pairs.value_of subtable.entry.kern.now subtable.entry.start left right }
@@ -154,7 +158,7 @@ fn sought_value(subtable: Subtable<'_>, left: u32, right: u32) -> i32
     ensures high { result ≤ℤ pos 32767 }
 {
     if subtable.classed {
-        classed_value(subtable.kern, subtable.start, left, right)
+        classed_value(subtable, left, right)
     } else {
         listed_value(subtable, left, right)
     }

@@ -1,12 +1,13 @@
 //! Glyphs that stand in pairs, stored once, so that most pairs need no search.
 //!
 //! A font kerns few of its glyphs. So for each glyph it is stored whether a pair has it at its left, and whether one has it
-//! at its right: two glyphs of which one has no pair have no value. This is done for the first subtable, if it has
-//! format 0: nearly every font has that one alone.
+//! at its right: two glyphs of which one has no pair have no value. This is done for the first subtable of OpenType's
+//! version, if it has format 0: nearly every font has that one alone.
 ghost use Rattle.std.specs.Prelude.{◌≡◌, ◌≤◌, ◌<◌, length, true, false, IfOk, IsOkUnless, slice_index_or};
 ghost use Rattle.kern_table.specs.Pairs.{IsRead, HoldSides};
 ghost use Rattle.kern_table.specs.Sides.{glyph_of_pair, AreMarked, HoldPairs};
 
+use crate::headers::is_apple;
 use crate::pairs::{Subtable, read_subtable};
 use shape_buffer::buffer::ShapeError;
 use shape_font::bytes::long;
@@ -46,7 +47,7 @@ fn glyph_at(subtable: Subtable<'_>, at_left: bool, i: u32) -> u32
     requires listed { i < subtable.count }
     ensures { result ≡ glyph_of_pair subtable.entry.kern.now subtable.entry.start at_left i }
 {
-    let glyphs = long(subtable.kern, subtable.start + 14 + 6 * i as usize);
+    let glyphs = long(subtable.kern, subtable.body + 8 + 6 * i as usize);
     if at_left {
         glyphs / 65536
     } else {
@@ -80,7 +81,7 @@ fn marks(
 
 impl PairGlyphs {
     /// Stores which of so many glyphs stand in pairs of the first subtable, two bytes for each; nothing if it has another
-    /// format or no pair. Refuses with `Memory` if a growth was refused.
+    /// format or no pair, or if the table is Apple's. Refuses with `Memory` if a growth was refused.
     pub fn new(alloc: Global, kern: &[u8], glyph_count: u16) -> Result<PairGlyphs, ShapeError>
         ensures ok { IfOk result (λ glyphs. HoldPairs kern.now glyphs) }
         ensures few { IfOk result (λ glyphs. (length glyphs.lefts.items ≤ glyph_count)
@@ -88,7 +89,7 @@ impl PairGlyphs {
         ensures memory { IsOkUnless result ShapeError.Memory }
     {
         let subtable = read_subtable(kern, 4, Sides::none());
-        if subtable.classed || subtable.count == 0 {
+        if is_apple(kern) || subtable.classed || subtable.count == 0 {
             return Ok(PairGlyphs {
                 lefts: Vec::new(alloc),
                 rights: Vec::new(alloc),

@@ -4,21 +4,53 @@ ghost use Rattle.shape_items.specs.Buffer.{limit_of};
 ghost use Rattle.kern_table.specs.Pairs.{HoldSides, IsRead};
 ghost use Rattle.kern_table.specs.Tables;
 
+use crate::headers::{
+    MOST_BYTES, coverage, first_start, format, header_size, is_apple, stated_length,
+};
 use crate::pairs::{Subtable, read_subtable};
 use crate::sides::Sides;
 use crate::walk::kern_each;
 use shape_buffer::buffer::{hb_buffer_t, hb_mask_t};
-use shape_font::bytes::{u8_at, u16_at};
+use shape_font::bytes::{u16_at, u32_at};
 
-/// How many subtables the table says that it has; none if its version isn't 0.
+/// How many subtables the table says that it has; none if its version is neither OpenType's nor Apple's.
 pub fn subtable_count(kern: &[u8]) -> u32
-    ensures value { result ≡ Tables.subtable_count_of kern.now }
-    ensures small { result ≤ 65535 }
+    ensures { result ≡ Tables.subtable_count_of kern.now }
 {
     if u16_at(kern, 0) == 0 {
         u32::from(u16_at(kern, 2))
+    } else if is_apple(kern) {
+        u32_at(kern, 4)
     } else {
         0
+    }
+}
+
+/// Whether a subtable of OpenType's version is for lines of this kind, and doesn't move glyphs across the line.
+fn is_along(coverage: u8, horizontal: bool) -> bool
+    ensures { result ≡ Tables.is_along coverage horizontal }
+{
+    let line = if horizontal { 1 } else { 0 };
+    coverage % 2 == line && coverage / 4 % 2 == 0
+}
+
+/// The same of Apple's version; one with values for instances of a variable font is for no line.
+fn is_along_apple(coverage: u8, horizontal: bool) -> bool
+    ensures { result ≡ Tables.is_along_apple coverage horizontal }
+{
+    let line = if horizontal { 0 } else { 1 };
+    coverage / 128 % 2 == line && coverage / 32 % 4 == 0
+}
+
+/// Whether the subtable that begins at `start` is for lines of this kind, and moves glyphs along them.
+fn runs_along(kern: &[u8], start: usize, horizontal: bool) -> bool
+    requires { start < 2 ^ 34 }
+    ensures { result ≡ Tables.runs_along kern.now start horizontal }
+{
+    if is_apple(kern) {
+        is_along_apple(coverage(kern, start), horizontal)
+    } else {
+        is_along(coverage(kern, start), horizontal)
     }
 }
 
@@ -28,9 +60,7 @@ fn is_read(kern: &[u8], start: usize, horizontal: bool) -> bool
     requires { start < 2 ^ 34 }
     ensures { result ≡ Tables.is_read kern.now start horizontal }
 {
-    let coverage = u8_at(kern, start + 5);
-    let line = if horizontal { 1 } else { 0 };
-    matches!(u8_at(kern, start + 4), 0 | 2) && coverage % 2 == line && coverage / 4 % 2 == 0
+    matches!(format(kern, start), 0 | 2) && runs_along(kern, start, horizontal)
 }
 
 /// Kerns a buffer by a subtable whose head was read, from the left of the line to its right.
@@ -86,8 +116,8 @@ fn sides_at(start: usize, first: Sides<'_>) -> Sides<'_>
 }
 
 /// Kerns a buffer by all subtables of the table that are read, in order, if the mask isn't 0. A subtable that
-/// says that it is shorter than its header ends the table, and so does one that costs more than is left of
-/// `max_ops`. Takes no memory.
+/// says that it is shorter than its header, or longer than any table, ends the table, and so does one that costs more than is
+/// left of `max_ops`. Takes no memory.
 pub fn kern_table(kern: &[u8], mask: hb_mask_t, buffer: &mut hb_buffer_t)
     ensures made { buffer.new ≡ Tables.table_kerned kern.now mask buffer.old }
     ensures len { length buffer.new.items ≡ length buffer.old.items }
@@ -98,7 +128,7 @@ pub fn kern_table(kern: &[u8], mask: hb_mask_t, buffer: &mut hb_buffer_t)
 
 /// The same, where this is stored of the first subtable ([`PairGlyphs`](crate::PairGlyphs)): two glyphs of which one has no
 /// pair take a few instructions.
-#[tactic(auto, using(crate::proofs::SubtableLemmas::kerned_from_next, crate::proofs::SubtableLemmas::kerned_from_short, crate::proofs::SubtableLemmas::kerned_from_spent, crate::proofs::SubtableLemmas::kerned_from_end))]
+#[tactic(auto, using(crate::proofs::SubtableLemmas::kerned_from_next, crate::proofs::SubtableLemmas::kerned_from_short, crate::proofs::SubtableLemmas::kerned_from_long, crate::proofs::SubtableLemmas::kerned_from_spent, crate::proofs::SubtableLemmas::kerned_from_end))]
 pub fn kern_table_by(kern: &[u8], first: Sides<'_>, mask: hb_mask_t, buffer: &mut hb_buffer_t)
     requires { HoldSides kern.now 4 first.lefts.now first.rights.now }
     ensures made { buffer.new ≡ Tables.table_kerned kern.now mask buffer.old }
@@ -108,10 +138,13 @@ pub fn kern_table_by(kern: &[u8], first: Sides<'_>, mask: hb_mask_t, buffer: &mu
     if mask == 0 {
         return;
     }
-    let mut start: usize = 4;
+    let mut start = first_start(kern);
     for _i in 0..subtable_count(kern) {
-        let len = u16_at(kern, start + 2);
-        if len < 6 {
+        let len = stated_length(kern, start);
+        if len < header_size(kern) {
+            return;
+        }
+        if MOST_BYTES < start + len {
             return;
         }
         if !charge(buffer) {
@@ -119,6 +152,6 @@ pub fn kern_table_by(kern: &[u8], first: Sides<'_>, mask: hb_mask_t, buffer: &mu
         }
         let subtable = read_subtable(kern, start, sides_at(start, first));
         kern_subtable(subtable, mask, buffer);
-        start += usize::from(len);
+        start += len;
     }
 }

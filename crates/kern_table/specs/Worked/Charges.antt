@@ -5,6 +5,8 @@ use Rattle.shape_common.specs.Wrapping.{◌+ʷ◌, ◌-ʷ◌}
 use Rattle.shape_common.specs.declared.text_types.Direction.TheVariants.{LeftToRight, RightToLeft}
 use Rattle.shape_font.specs.Bytes.{i16_of}
 use Rattle.shape_items.specs.Buffer.{Buffer}
+use Rattle.kern_table.specs.Headers.{first_start, length_of, format_of, coverage_of, header_size}
+use Rattle.kern_table.specs.Pairs.{value_of}
 use Rattle.kern_table.specs.Tables.{subtable_work, table_kerned}
 use Rattle.kern_table.specs.Worked.Kern.{subtable, table, on, line, along, masks, still}
 
@@ -49,7 +51,7 @@ pub record WorkedCharges : Type 0 where
   pub backward_too : (kerned_by twice (record (two 63) { direction = RightToLeft })).max_ops ≡ 0
 
 pub worked_charges : WorkedCharges
-unfolding i16_of ◌+ʷ◌ ◌-ʷ◌ int_wrap
+unfolding i16_of ◌+ʷ◌ ◌-ʷ◌ int_wrap first_start length_of value_of format_of coverage_of header_size
 worked_charges = record {
   an_item = refl;
   items = refl;

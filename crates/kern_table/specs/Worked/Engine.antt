@@ -9,13 +9,16 @@ use Rattle.shape_items.specs.Buffer.{Buffer}
 use Rattle.shape_common.specs.declared.text_types.Direction.TheVariants.{LeftToRight}
 use Rattle.shape_font.specs.Bytes.{i16_of}
 use Rattle.shape_font.specs.declared.face.FontFace.{FontFace}
+use Rattle.kern_table.specs.Headers.{first_start, length_of, format_of, coverage_of, header_size}
 use Rattle.kern_table.specs.Engine.{kern_layout, kern_lookups}
+use Rattle.kern_table.specs.Pairs.{value_of}
 use Rattle.kern_table.specs.Worked.Kern.{table, on, line, along, whole}
 
 pub record WorkedEngine : Type 0 where
   pub kerns : (f : FontFace) → f.kern.now ≡ table 1 1 → (kern_layout f).has_kerning ≡ true
   pub no_subtables : (f : FontFace) → f.kern.now ≡ table 0 1 → (kern_layout f).has_kerning ≡ false
-  pub other_version : (f : FontFace) → f.kern.now ≡ 0 ∷ 1 ∷ 0 ∷ 0 ∷ 0 ∷ 0 ∷ 0 ∷ 1 ∷ [] → (kern_layout f).has_kerning ≡ false
+  pub of_apple : (f : FontFace) → f.kern.now ≡ 0 ∷ 1 ∷ 0 ∷ 0 ∷ 0 ∷ 0 ∷ 0 ∷ 1 ∷ [] → (kern_layout f).has_kerning ≡ true
+  pub other_version : (f : FontFace) → f.kern.now ≡ 0 ∷ 2 ∷ 0 ∷ 0 ∷ 0 ∷ 0 ∷ 0 ∷ 1 ∷ [] → (kern_layout f).has_kerning ≡ false
   pub compiled : (f : FontFace) (b : Builder) → b.requests ≡ whole 1 ∷ []
       → (kern_layout f).compiled b ≡ record { is_on = true; everywhere = 1 }
   pub kerned : (f : FontFace) → f.kern.now ≡ table 1 1
@@ -32,10 +35,11 @@ pub record WorkedEngine : Type 0 where
   pub no_positions : (f : FontFace) (b : Buffer) → (kern_lookups f).position b ≡ b
 
 pub worked_engine : WorkedEngine
-unfolding i16_of ◌+ʷ◌ ◌-ʷ◌ int_wrap
+unfolding i16_of ◌+ʷ◌ ◌-ʷ◌ int_wrap first_start length_of value_of format_of coverage_of header_size
 worked_engine = record {
   kerns = λ f e. rw e refl;
   no_subtables = λ f e. rw e refl;
+  of_apple = λ f e. rw e refl;
   other_version = λ f e. rw e refl;
   compiled = λ f b e. rw e refl;
   kerned = λ f e. rw e refl;

@@ -13,6 +13,7 @@ use Rattle.shape_buffer.specs.declared.interfaces.map_request.MapRequest.TheVari
 use Rattle.shape_buffer.specs.declared.interfaces.map_request.TableIndex.{TableIndex}
 use Rattle.std.specs.Int.{int_wrap}
 use Rattle.shape_font.specs.Bytes.{i16_of}
+use Rattle.kern_table.specs.Headers.{first_start, length_of, format_of, coverage_of, header_size}
 use Rattle.kern_table.specs.Map.{map_of, kern_masks}
 use Rattle.kern_table.specs.Pairs.{value_of}
 use Rattle.kern_table.specs.Tables.{subtable_count_of, is_read, subtable_kerned, table_kerned}
@@ -79,7 +80,7 @@ pub record WorkedClasses : Type 0 where
   pub first_of_the_array : value_of one_value 4 2 3 ≡ negsuc 49
 
 pub worked_classes : WorkedClasses
-unfolding i16_of
+unfolding i16_of value_of format_of coverage_of header_size
 worked_classes = record {
   first_row = refl;
   second_row = refl;
@@ -115,9 +116,9 @@ pub record WorkedValues : Type 0 where
   pub vertical : is_read (table 1 0) 4 false ≡ true
   pub other_format : is_read (0 ∷ 0 ∷ 0 ∷ 1 ∷ 0 ∷ 0 ∷ 0 ∷ 14 ∷ 3 ∷ 1 ∷ []) 4 true ≡ false
   pub subtables : subtable_count_of (table 3 1) ≡ 3
-  pub other_version : subtable_count_of (0 ∷ 1 ∷ 0 ∷ 0 ∷ 0 ∷ 0 ∷ 0 ∷ 1 ∷ []) ≡ 0
+  pub other_version : subtable_count_of (0 ∷ 2 ∷ 0 ∷ 0 ∷ 0 ∷ 0 ∷ 0 ∷ 1 ∷ []) ≡ 0
   -- where a count would stand if the version were 0
-  pub count_of_another_version : subtable_count_of (0 ∷ 1 ∷ 0 ∷ 3 ∷ []) ≡ 0
+  pub count_of_another_version : subtable_count_of (0 ∷ 2 ∷ 0 ∷ 3 ∷ []) ≡ 0
   pub minimum_too : is_read (table 1 3) 4 true ≡ true
   -- 65536 more than the right glyph of (2, 3) if the left one is 1
   pub right_past_all_glyphs : value_of (table 1 1) 4 1 65539 ≡ pos 0
@@ -133,7 +134,7 @@ pub record WorkedValues : Type 0 where
   pub at_the_right_of_the_second : glyph_of_pair (table 1 1) 4 false 1 ≡ 2
 
 pub worked_values : WorkedValues
-unfolding i16_of
+unfolding i16_of value_of format_of coverage_of header_size
 worked_values = record {
   first = refl;
   second = refl;
@@ -253,7 +254,7 @@ pub record WorkedLines : Type 0 where
       ≡ (pos 575, pos 0) ∷ still ∷ (pos 575, negsuc 24) ∷ []
 
 pub worked_lines : WorkedLines
-unfolding i16_of ◌+ʷ◌ ◌-ʷ◌ int_wrap
+unfolding i16_of ◌+ʷ◌ ◌-ʷ◌ int_wrap first_start length_of value_of format_of coverage_of header_size
 worked_lines = record {
   half_to_each = refl;
   half_downwards = refl;

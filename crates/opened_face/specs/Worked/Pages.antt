@@ -1,7 +1,8 @@
 -- What an opened face stores, on tables that were read by hand.
-use Rattle.std.specs.Prelude.{◌≡◌, ◌<◌, ◌≤◌, ℕ, ℤ, pos, List, [], ◌∷◌, length, slice_index, slice_index_or, refl}
+use Rattle.std.specs.Prelude.{◌≡◌, ◌<◌, ◌≤◌, ℕ, ℤ, pos, negsuc, List, [], ◌∷◌, length, slice_index, slice_index_or, refl}
 use Rattle.std.proofs.Common.{lit<, ◌∙◌}
 use Rattle.kern_table.specs.declared.sides.PairGlyphs.{PairGlyphs}
+use Rattle.shape_font.specs.Metrics.{as_short}
 use Rattle.shape_font.specs.Worked.Glyphs.{words, short_list}
 use Rattle.shape_font.specs.declared.face.FontFace.{FontFace}
 use Rattle.shape_font.specs.declared.font_pages.FontPage.TheVariants.{Unicode}
@@ -22,6 +23,10 @@ pub record WorkedPages : Type 0 where
   pub advance : (f : FontFace) (advances : List ℤ) → f.coordinates.now ≡ [] → f.glyph_count ≡ 7 → f.h_count ≡ 2
       → f.hmtx.now ≡ words (500 ∷ 50 ∷ 600 ∷ 60 ∷ []) → AreAdvances f advances → 6 < length advances
       → slice_index_or advances 6 (pos 0) ≡ pos 600
+  -- 65483 is -53 as a number of 16 bits with a sign
+  pub below_0 : (f : FontFace) (advances : List ℤ) → f.coordinates.now ≡ [] → f.glyph_count ≡ 7 → f.h_count ≡ 1
+      → f.hmtx.now ≡ words (65483 ∷ 50 ∷ []) → AreAdvances f advances → 6 < length advances
+      → slice_index_or advances 6 (pos 0) ≡ negsuc 52
   -- 512 pages of 256 glyphs, the 4352 pages of Unicode, and an advance for each glyph that has a number of 16 bits but the last
   pub most_glyphs : (f : FontFace) (index glyphs : List ℕ) (advances : List ℤ) (pairs : PairGlyphs) → IsOpened f index glyphs advances pairs → length glyphs ≤ 131072
   pub most_pages : (f : FontFace) (index glyphs : List ℕ) (advances : List ℤ) (pairs : PairGlyphs) → IsOpened f index glyphs advances pairs → length index ≤ 4352
@@ -32,13 +37,14 @@ pub record WorkedPages : Type 0 where
       → length pairs.rights.items ≤ 65535
 
 pub worked_pages : WorkedPages
-unfolding glyph_in
+unfolding glyph_in as_short
 worked_pages = record {
   place = λ pages h inside. h 5 (lit< tt) inside;
   filled = λ f glyphs s c h inside. h 321 inside ∙ rw (s, c) refl;
   found = λ f glyphs s c h inside. h 0x41 (lit< tt) inside ∙ rw (s, c) refl;
   found_in_page_1 = λ f glyphs s c h inside. h 0x141 (lit< tt) inside ∙ rw (s, c) refl;
   advance = λ f advances c e n t h inside. h 6 inside ∙ rw (c, e, n, t) refl;
+  below_0 = λ f advances c e n t h inside. h 6 inside ∙ rw (c, e, n, t) refl;
   most_glyphs = λ f index glyphs advances pairs is. is.few_glyphs;
   most_pages = λ f index glyphs advances pairs is. is.few_pages;
   most_advances = λ f index glyphs advances pairs is. is.few_advances;

@@ -1,3 +1,4 @@
+use Rattle.kern_table.specs.Worked.Apple.{worked_apple}
 use Rattle.kern_table.specs.Worked.Charges.{worked_charges}
 use Rattle.kern_table.specs.Worked.Engine.{worked_engine}
 use Rattle.kern_table.specs.Worked.Kern.{worked_values, worked_classes, worked_lines, worked_maps}
@@ -9,6 +10,9 @@ returns-clause-values c = worked_values
 
 pub returns-clause-classes : goal.returns-clause-classes
 returns-clause-classes c = worked_classes
+
+pub returns-clause-apple : goal.returns-clause-apple
+returns-clause-apple c = worked_apple
 
 pub returns-clause-sides : goal.returns-clause-sides
 returns-clause-sides c = worked_sides
