@@ -1,1 +1,2 @@
+pub mod EachShaper
 pub mod Strings

@@ -13,22 +13,13 @@ ghost use Rattle.shape_plan.specs.Plan.{Plan};
 ghost use Rattle.shape_plan.specs.Preservation.{RunPreservesFlags};
 ghost use Rattle.shape_plan.specs.declared.ot_shaper.shapers.hb_default_shaper_t.{hb_default_shaper_t as DefaultShaper};
 
-use indic_shaper::shaper::{IndicShaper, indic_runs_preserve};
-use khmer_shaper::shaper::{KhmerShaper, khmer_runs_preserve};
-use myanmar_shaper::shaper::{MyanmarShaper, myanmar_runs_preserve};
-use myanmar_shaper::zawgyi::{ZawgyiShaper, zawgyi_runs_preserve};
+use crate::each_shaper::texts_preserve;
 use opentype_layout::laws::opentype_layout_preserves;
 use opentype_layout::{OpenTypeFace, OpenTypeLayout};
-use script_shapers::arabic::{ArabicShaper, arabic_runs_preserve};
-use script_shapers::hangul::{HangulShaper, hangul_runs_preserve};
-use script_shapers::hebrew::{HebrewShaper, hebrew_runs_preserve};
-use script_shapers::thai::{ThaiShaper, thai_runs_preserve};
-use shape_buffer::interfaces::{hb_font_t, hb_ot_layout_t, hb_unicode_funcs_t};
+use shape_buffer::interfaces::hb_unicode_funcs_t;
 use shape_pipeline::laws::runs_without_hooks_have_no_obligations;
-use shape_pipeline::ot_shaper::{Runs, hb_default_shaper_t, hb_ot_shaper_t};
-use shape_pipeline::shaping::TextRuns;
+use shape_pipeline::ot_shaper::{Runs, hb_default_shaper_t};
 use shaper_choice::choice::{ScriptRuns, by_script};
-use universal_shaper::shaper::{UniversalShaper, universal_runs_preserve};
 
 /// A run of the default shaper with the tables of a font file has no obligations, whatever the bytes of the file are
 /// and whatever the plan: every premise of the promises about a run holds of it.
@@ -44,27 +35,6 @@ pub fn opentype_runs_have_no_obligations<'a, U: hb_unicode_funcs_t>()
         hb_default_shaper_t,
     >();
 }
-
-/// What is preserved by every run of a shaper is preserved by the run that it makes of a text.
-fn text_runs_preserve<U, F, M, S>()
-where
-    U: hb_unicode_funcs_t,
-    F: hb_font_t,
-    M: hb_ot_layout_t<F>,
-    S: hb_ot_shaper_t<U, F, M>,
-    ensures clusters { ((plan : Plan S M.Map S.Data) (face : F)
-        → RunOrdersClusters (⟦<S as Runs<U, F, M>>⟧.run plan face))
-        → (face : F) (shaper : S) (features : List AnyFeature) (text : Buffer)
-        → RunOrdersClusters (⟦<S as TextRuns<U, F, M>>⟧.text_run face shaper features text) }
-    ensures flags { ((plan : Plan S M.Map S.Data) (face : F)
-        → RunPreservesFlags (⟦<S as Runs<U, F, M>>⟧.run plan face))
-        → (face : F) (shaper : S) (features : List AnyFeature) (text : Buffer)
-        → RunPreservesFlags (⟦<S as TextRuns<U, F, M>>⟧.text_run face shaper features text) }
-    ensures equivalence { ((plan : Plan S M.Map S.Data) (face : F)
-        → RunPreservesEquivalence (⟦<S as Runs<U, F, M>>⟧.run plan face))
-        → (face : F) (shaper : S) (features : List AnyFeature) (text : Buffer)
-        → RunPreservesEquivalence (⟦<S as TextRuns<U, F, M>>⟧.text_run face shaper features text) }
-{}
 
 /// A run by the shaper of a text's script with the tables of a font file preserves clusters and flags, whatever the bytes of
 /// the file are; by the default shaper, and those of Myanmar and Zawgyi, it preserves equivalence, too. Its Unicode functions are
@@ -83,24 +53,5 @@ pub fn script_runs_preserve<'a, U: hb_unicode_funcs_t>()
         (⟦<by_script as ScriptRuns<U, OpenTypeFace<'a>, OpenTypeLayout>>⟧.text_run face features text) }
 {
     opentype_layout_preserves();
-    opentype_runs_have_no_obligations::<U>();
-    arabic_runs_preserve::<U, OpenTypeFace, OpenTypeLayout>();
-    hangul_runs_preserve::<U, OpenTypeFace, OpenTypeLayout>();
-    hebrew_runs_preserve::<U, OpenTypeFace, OpenTypeLayout>();
-    thai_runs_preserve::<U, OpenTypeFace, OpenTypeLayout>();
-    universal_runs_preserve::<U, OpenTypeFace, OpenTypeLayout>();
-    khmer_runs_preserve::<U, OpenTypeFace, OpenTypeLayout>();
-    myanmar_runs_preserve::<U, OpenTypeFace, OpenTypeLayout>();
-    zawgyi_runs_preserve::<U, OpenTypeFace, OpenTypeLayout>();
-    indic_runs_preserve::<U, OpenTypeFace, OpenTypeLayout>();
-    text_runs_preserve::<U, OpenTypeFace, OpenTypeLayout, hb_default_shaper_t>();
-    text_runs_preserve::<U, OpenTypeFace, OpenTypeLayout, ArabicShaper>();
-    text_runs_preserve::<U, OpenTypeFace, OpenTypeLayout, HangulShaper>();
-    text_runs_preserve::<U, OpenTypeFace, OpenTypeLayout, HebrewShaper>();
-    text_runs_preserve::<U, OpenTypeFace, OpenTypeLayout, ThaiShaper>();
-    text_runs_preserve::<U, OpenTypeFace, OpenTypeLayout, UniversalShaper>();
-    text_runs_preserve::<U, OpenTypeFace, OpenTypeLayout, KhmerShaper>();
-    text_runs_preserve::<U, OpenTypeFace, OpenTypeLayout, MyanmarShaper>();
-    text_runs_preserve::<U, OpenTypeFace, OpenTypeLayout, ZawgyiShaper>();
-    text_runs_preserve::<U, OpenTypeFace, OpenTypeLayout, IndicShaper>();
+    texts_preserve::<U, OpenTypeFace, OpenTypeLayout>();
 }

@@ -6,5 +6,7 @@ mod PlainLemmas
 mod PlainRows
 mod PromisedRows
 mod ShownRows
+mod SignCharacterLemmas
+mod SignLemmas
 mod WordLemmas
 mod WordRows

@@ -3,6 +3,7 @@ pub mod Ligatures
 pub mod Lines
 pub mod Paragraph
 pub mod PlainGlyphs
+pub mod Signs
 pub mod Stages
 pub mod Worked
 pub mod Words

@@ -4,5 +4,6 @@ pub mod Ligatures
 pub mod Plain
 pub mod Promised
 pub mod Shown
+pub mod Signs
 pub mod Stages
 pub mod Words

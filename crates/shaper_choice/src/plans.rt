@@ -123,9 +123,12 @@ impl<U: hb_unicode_funcs_t, F: hb_font_t, M: hb_ot_layout_t<F>> ScriptPlans<U, F
         }) };
 }
 
-/// What a plan is made for: texts of a direction, a script and a language, and the features that a user asks for.
-#[derive(Clone, Copy)]
-struct Asked<'l> {
+/// What a plan is made of: a face, the texts that it is for by their direction, script and language, and the features that a
+/// user asks for.
+#[derive(Drop)]
+struct Asked<'a, 'l, F> {
+    alloc: Global,
+    face: &'a F,
     direction: Direction,
     script: Option<Script>,
     language: Option<&'l Language>,
@@ -134,25 +137,23 @@ struct Asked<'l> {
 
 /// A plan by one shaper.
 fn plan_of<'a, U, F, M, S>(
-    alloc: Global,
-    face: &'a F,
+    asked: &Asked<'a, '_, F>,
     shaper: &'a S,
-    asked: Asked<'_>,
 ) -> Result<hb_ot_shape_plan_t<'a, S, M::Map, S::Data>, ShapeError>
 where
     U: hb_unicode_funcs_t,
     F: hb_font_t,
     M: hb_ot_layout_t<F>,
     S: hb_ot_shaper_t<U, F, M>,
-    requires { asked.direction ≢ Direction.Invalid }
-    ensures plan { IfOk result (λ plan. plan ≡ planned ⟦<S as Plans<U, F, M>>⟧.planning face.now shaper.now
-        asked.entry.direction asked.entry.script
-        (option_map (λ l. string_bytes l.now.0) asked.entry.language) asked.entry.features.now) }
+    requires { asked.now.direction ≢ Direction.Invalid }
+    ensures plan { IfOk result (λ plan. plan ≡ planned ⟦<S as Plans<U, F, M>>⟧.planning asked.now.face.now shaper.now
+        asked.now.direction asked.now.script
+        (option_map (λ l. string_bytes l.now.0) asked.now.language) asked.now.features.now) }
     ensures memory { IfErr result (λ e. e ≡ ShapeError.Memory) }
 {
     hb_ot_shape_plan_t::new::<U, F, M>(
-        alloc,
-        face,
+        asked.alloc,
+        asked.face,
         shaper,
         asked.direction,
         asked.script,
@@ -185,73 +186,28 @@ where
 {
     let chosen = M::chosen_script(face, script, language, TableIndex::GSUB);
     let asked = Asked {
+        alloc,
+        face,
         direction,
         script,
         language,
         features,
     };
-    match category_of(script, direction, chosen) {
-        Category::Default => Ok(ScriptPlan::Default(plan_of::<U, F, M, _>(
-            alloc,
-            face,
-            &shapers.default,
-            asked,
-        )?)),
-        Category::Arabic => Ok(ScriptPlan::Arabic(plan_of::<U, F, M, _>(
-            alloc,
-            face,
-            &shapers.arabic,
-            asked,
-        )?)),
-        Category::Hangul => Ok(ScriptPlan::Hangul(plan_of::<U, F, M, _>(
-            alloc,
-            face,
-            &shapers.hangul,
-            asked,
-        )?)),
-        Category::Hebrew => Ok(ScriptPlan::Hebrew(plan_of::<U, F, M, _>(
-            alloc,
-            face,
-            &shapers.hebrew,
-            asked,
-        )?)),
-        Category::Thai => Ok(ScriptPlan::Thai(plan_of::<U, F, M, _>(
-            alloc,
-            face,
-            &shapers.thai,
-            asked,
-        )?)),
-        Category::Universal => Ok(ScriptPlan::Universal(plan_of::<U, F, M, _>(
-            alloc,
-            face,
-            &shapers.universal,
-            asked,
-        )?)),
-        Category::Khmer => Ok(ScriptPlan::Khmer(plan_of::<U, F, M, _>(
-            alloc,
-            face,
-            &shapers.khmer,
-            asked,
-        )?)),
-        Category::Myanmar => Ok(ScriptPlan::Myanmar(plan_of::<U, F, M, _>(
-            alloc,
-            face,
-            &shapers.myanmar,
-            asked,
-        )?)),
-        Category::Zawgyi => Ok(ScriptPlan::Zawgyi(plan_of::<U, F, M, _>(
-            alloc,
-            face,
-            &shapers.zawgyi,
-            asked,
-        )?)),
-        Category::Indic => Ok(ScriptPlan::Indic(plan_of::<U, F, M, _>(
-            alloc,
-            face,
-            &shapers.indic,
-            asked,
-        )?)),
-    }
+    let plan = match category_of(script, direction, chosen) {
+        Category::Default => ScriptPlan::Default(plan_of::<U, F, M, _>(&asked, &shapers.default)?),
+        Category::Arabic => ScriptPlan::Arabic(plan_of::<U, F, M, _>(&asked, &shapers.arabic)?),
+        Category::Hangul => ScriptPlan::Hangul(plan_of::<U, F, M, _>(&asked, &shapers.hangul)?),
+        Category::Hebrew => ScriptPlan::Hebrew(plan_of::<U, F, M, _>(&asked, &shapers.hebrew)?),
+        Category::Thai => ScriptPlan::Thai(plan_of::<U, F, M, _>(&asked, &shapers.thai)?),
+        Category::Universal => {
+            ScriptPlan::Universal(plan_of::<U, F, M, _>(&asked, &shapers.universal)?)
+        }
+        Category::Khmer => ScriptPlan::Khmer(plan_of::<U, F, M, _>(&asked, &shapers.khmer)?),
+        Category::Myanmar => ScriptPlan::Myanmar(plan_of::<U, F, M, _>(&asked, &shapers.myanmar)?),
+        Category::Zawgyi => ScriptPlan::Zawgyi(plan_of::<U, F, M, _>(&asked, &shapers.zawgyi)?),
+        Category::Indic => ScriptPlan::Indic(plan_of::<U, F, M, _>(&asked, &shapers.indic)?),
+    };
+    Ok(plan)
 }
 
 /// The glyphs of a text by a plan of one shaper. It is `shape_with_plan`, with its promises in one record.

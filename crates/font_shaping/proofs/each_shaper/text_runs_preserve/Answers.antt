@@ -1,5 +1,5 @@
 use Rattle.shape_pipeline.specs.Planned.{planned_for}
-use Rattle.font_shaping.proofs.laws.text_runs_preserve.Goals as goal
+use Rattle.font_shaping.proofs.each_shaper.text_runs_preserve.Goals as goal
 
 pub returns-clause-clusters : goal.returns-clause-clusters
 returns-clause-clusters g c = λ each face shaper features text.
