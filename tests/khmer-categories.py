@@ -1,10 +1,10 @@
 #!/usr/bin/env python3
 """Categories of the scripts of India, of Khmer and of Myanmar: crates/syllabic, src/categories.
 
-    tests/khmer-categories.py --check [FOLDER]   compares the table with the files of a version of
+    tests/khmer-categories.py --check [FOLDER]   compares the tables with the files of a version of
                                                  Unicode, in FOLDER or where Debian's package
                                                  unicode-data has them
-    tests/khmer-categories.py --write FOLDER     writes the table from those of a newer version
+    tests/khmer-categories.py --write FOLDER     writes the tables from those of a newer version
 
 A category follows from Indic_Syllabic_Category, in the blocks of these scripts, and for vowels of
 Khmer and Myanmar from Indic_Positional_Category, as HarfBuzz 10.2.0 has it (`category` below);
@@ -18,10 +18,11 @@ import sys
 from pathlib import Path
 
 ROOT = Path(__file__).resolve().parent.parent
-TABLE = ROOT / "crates" / "syllabic" / "src" / "categories" / "table.rt"
+TABLES = ROOT / "crates" / "syllabic" / "src" / "categories"
 NAMES = ROOT / "crates" / "syllables" / "src" / "categories" / "indic.rt"
 REPLACED = Path(__file__).resolve().with_suffix(".txt")
 DEBIAN = Path("/usr/share/unicode")
+PAGE = 32
 # Characters that have another category in Unicode 16.0, by the version of the files.
 CHANGED = {"15.0.0": set(), "16.0.0": set()}
 BLOCKS = {
@@ -107,32 +108,34 @@ def of_files(p):
     return [number[category(c, p)] for c in range(0x110000)]
 
 
-def runs_of(values):
-    """The runs of equal values up to the last that isn't 0: 2048 times the end, and the value."""
-    runs, last = [], max(c for c, value in enumerate(values) if value)
-    for c in range(last + 1):
-        if c == last or values[c + 1] != values[c]:
-            runs.append((c + 1) * 2048 + values[c])
-    return runs
+def numbers_in(name):
+    return [int(n) for n in re.findall(r"\d+", (TABLES / f"{name}.rt").read_text().partition("= [")[2])]
 
 
 def table():
-    """What the crate gives to each character."""
-    values = []
-    for run in map(int, re.findall(r"\d+", TABLE.read_text().partition("= [")[2])):
-        values += [run % 2048] * (run // 2048 - len(values))
+    """What the crate gives to each character: the block of a page, past the end none."""
+    pages, blocks = numbers_in("pages"), numbers_in("blocks")
+    values = [blocks[page * PAGE + c] for page in pages for c in range(PAGE)]
     return values + [0] * (0x110000 - len(values))
 
 
+def write_array(name, head, values):
+    lines = ("    " + ", ".join(map(str, values[i:i + 16])) + ",\n" for i in range(0, len(values), 16))
+    (TABLES / f"{name}.rt").write_text(
+        f"//! {head}\n// Made by tests/khmer-categories.py from the files of Unicode 16.0. Do not edit.\n\n"
+        f"#[rattlefmt::skip]\npub(crate) static {name.upper()}: [u8; {len(values)}] = [\n"
+        + "".join(lines) + "];\n")
+
+
 def write(values):
-    runs = runs_of(values)
-    rows = (runs[i:i + 12] for i in range(0, len(runs), 12))
-    body = "".join("    " + " ".join(f"{run}," for run in row) + "\n" for row in rows)
-    TABLE.write_text(
-        "//! Categories of characters as runs: 2048 times the first character past a run, and its "
-        "category.\n"
-        "// Made by tests/khmer-categories.py from the files of Unicode 16.0. Do not edit.\n\n"
-        f"#[rattlefmt::skip]\npub(crate) static RUNS: [u32; {len(runs)}] = [\n{body}];\n")
+    """Writes each block of 32 characters once, the one without categories first."""
+    last = max(c for c, value in enumerate(values) if value)
+    found = [tuple(values[c:c + PAGE]) for c in range(0, last + 1, PAGE)]
+    blocks = list(dict.fromkeys([(0,) * PAGE] + found))
+    write_array("pages", "The block of each 32 characters; past the end there is none.",
+                [blocks.index(block) for block in found])
+    write_array("blocks", "The categories of 32 characters each, every block once; the first has none.",
+                [value for block in blocks for value in block])
 
 
 def check(p):

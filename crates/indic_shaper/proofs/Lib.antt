@@ -1,3 +1,4 @@
+mod ArrangingLemmas
 pub mod BringingLemmas
 pub mod ComposingLemmas
 pub mod DrawnLemmas

@@ -1,6 +1,6 @@
 -- Where the font puts each consonant.
 -- Whether a letter has a form below the base or after it no character property says: the font's lookups do.
-use Rattle.std.specs.Prelude.{ℕ, ◌==◌, ◌&&◌, ◌||◌, not, Bool, List, [], ◌∷◌, drop, if◌then◌else◌}
+use Rattle.std.specs.Prelude.{◌≡◌, ℕ, ◌==◌, ◌&&◌, ◌||◌, not, All, Bool, true, List, [], ◌∷◌, drop, if◌then◌else◌}
 use Rattle.std.specs.List.{list_any}
 use Rattle.shape_common.specs.declared.text_types.hb_tag_t.{hb_tag_t}
 use Rattle.shape_buffer.specs.Layout.{LookupMeaning}
@@ -11,6 +11,7 @@ use Rattle.indic_shaper.specs.Glyphs.{category, position, with_position, is_lett
 use Rattle.indic_shaper.specs.Places.{walked}
 use Rattle.indic_shaper.specs.declared.categories.TheConstants.{POS_BASE_C, POS_BELOW_C, POS_POST_C}
 use Rattle.indic_shaper.specs.declared.engine.Facts.{Facts}
+use Rattle.indic_shaper.specs.declared.initial.consonants.Known.{Known}
 use Rattle.indic_shaper.specs.declared.requests.TheConstants.{BLWF, PREF, PSTF, VATU}
 
 -- a feature joins a consonant with the virama before it (new specification) or after it (old one); both are asked in either, since
@@ -26,6 +27,13 @@ consonant_position lookups facts consonant =
     if joins lookups facts BLWF consonant || joins lookups facts VATU consonant then POS_BELOW_C
     else if joins lookups facts PSTF consonant || joins lookups facts PREF consonant then POS_POST_C
     else POS_BASE_C
+
+-- what is kept in mind of consonants is what the font says of them
+abbrev pub IsKnown : LookupMeaning → Facts → Known → Type 0
+IsKnown lookups facts known = known.is_set ≡ true → known.place ≡ consonant_position lookups facts known.glyph
+
+abbrev pub AreKnown : LookupMeaning → Facts → List Known → Type 0
+AreKnown lookups facts known = All (IsKnown lookups facts) known
 
 -- a letter that may be the base, in a script with a virama
 abbrev pub is_candidate : Facts → Item → Bool

@@ -1,5 +1,5 @@
 -- The first pause: each syllable in the order that lookups want, with the masks of the forms that its letters may take.
-use Rattle.std.specs.Prelude.{ℕ, ◌+◌, ◌-◌, ◌==◌, ◌&&◌, ◌||◌, nat_le, nat_lt, Bool, List, ◌++◌, length, take, drop}
+use Rattle.std.specs.Prelude.{ℕ, ◌+◌, ◌==◌, ◌&&◌, ◌||◌, nat_le, nat_lt, Bool, List, ◌++◌, length, take, drop}
 use Rattle.std.specs.Prelude.{slice_range, if◌then◌else◌}
 use Rattle.shape_common.specs.Face.{FaceMeaning}
 use Rattle.shape_buffer.specs.Layout.{LookupMeaning}
@@ -20,7 +20,7 @@ use Rattle.indic_shaper.specs.declared.categories.TheConstants.{CAT_H, CAT_RA, C
 use Rattle.indic_shaper.specs.declared.config.TheConstants.{KANNADA}
 use Rattle.indic_shaper.specs.declared.cutting.TheConstants.{CONSONANT, VOWEL, STANDALONE, BROKEN}
 use Rattle.indic_shaper.specs.declared.engine.Facts.{Facts}
-use Rattle.indic_shaper.specs.declared.initial.Arrangement.{Arrangement}
+use Rattle.indic_shaper.specs.declared.initial.arranging.Arrangement.{Arrangement}
 
 -- ---- one syllable: what its items become, the order that they took, and where the base stands then
 
@@ -40,11 +40,11 @@ ordering_by lookups facts items =
     let o = ordering_sorted items in
     record { items = all_masked lookups facts o.base o.items; order = o.order; base = o.base }
 
-abbrev pub ordering_placed : LookupMeaning → Facts → (placed : List Item) → Ordering
-ordering_placed lookups facts items = ordering_by lookups facts (positioned facts (find_base lookups facts items) items)
+abbrev pub positioned_placed : LookupMeaning → Facts → (placed : List Item) → List Item
+positioned_placed lookups facts items = positioned facts (find_base lookups facts items) items
 
 abbrev pub ordering : LookupMeaning → Facts → List Item → Ordering
-ordering lookups facts items = ordering_placed lookups facts (letters_placed lookups facts items)
+ordering lookups facts items = ordering_by lookups facts (positioned_placed lookups facts (letters_placed lookups facts items))
 
 -- ---- in the buffer
 

@@ -1,3 +1,4 @@
+pub mod LawfulLemmas
 mod LengthLemmas
 pub mod MaskLemmas
 pub mod PauseLemmas

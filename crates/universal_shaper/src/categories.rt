@@ -2,7 +2,7 @@
 //!
 //! A category follows from Unicode's properties `Indic_Syllabic_Category`, `Indic_Positional_Category`, `General_Category`,
 //! `Joining_Type` and `Default_Ignorable_Code_Point` by the rules of the Universal Shaping Engine's specification. The table
-//! is made by `tests/syllabic-categories.py`, which also compares it with Unicode's files.
+//! is made by `tests/syllable-categories.py`, which also compares it with Unicode's files.
 ghost use Rattle.std.specs.Prelude.{◌≡◌, slice_index_or};
 ghost use Rattle.shape_buffer.specs.Outcome.{Made};
 ghost use Rattle.universal_shaper.specs.Categories;

@@ -13,6 +13,7 @@ pub mod categories;
 mod composing;
 mod finding;
 pub mod joining;
+pub mod lawful;
 mod masks;
 mod pauses;
 mod recording;

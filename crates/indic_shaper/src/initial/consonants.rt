@@ -1,7 +1,11 @@
 //! Where the font puts each consonant: below, after, or as the base.
-ghost use Rattle.std.specs.Prelude.{◌≡◌};
+ghost use Rattle.std.specs.Prelude.{◌≡◌, length};
+ghost use Rattle.std.specs.Option.{IfSome};
 ghost use Rattle.std.specs.List.{list_any};
+ghost use Rattle.shape_buffer.specs.Layout.{LookupMeaning};
 ghost use Rattle.indic_shaper.specs.Consonants;
+ghost use Rattle.indic_shaper.specs.Consonants.{AreKnown};
+ghost use Rattle.indic_shaper.specs.declared.engine.Facts.{Facts as AnyFacts};
 
 use crate::categories::{POS_BASE_C, POS_BELOW_C, POS_POST_C};
 use crate::cutting::{as_circle, is_new_circle};
@@ -75,38 +79,120 @@ fn has_several(items: &[hb_glyph_info_t]) -> bool
     1 < items.len() && has_letter(&items[1..])
 }
 
+/// A consonant that the font was asked about, and where the font puts it.
+#[derive(Clone, Copy, Debug)]
+pub struct Known {
+    pub glyph: u32,
+    pub place: u8,
+    /// Whether it was asked about one.
+    pub is_set: bool,
+}
+
+/// No consonant.
+pub const NOT_KNOWN: Known = Known {
+    glyph: 0,
+    place: 0,
+    is_set: false,
+};
+
+/// How many consonants are kept in mind.
+pub const ROOM: usize = 32;
+
+/// Where the font puts a consonant, if it was asked before.
+fn recalled(known: &[Known], consonant: u32) -> Option<u8>
+    ensures { (lookups : LookupMeaning) (facts : AnyFacts) → AreKnown lookups facts known.now
+        → IfSome result (λ place. place ≡ Consonants.consonant_position lookups facts consonant) }
+{
+    let i = consonant as usize % ROOM;
+    if i < known.len() && known[i].is_set && known[i].glyph == consonant {
+        Some(known[i].place)
+    } else {
+        None
+    }
+}
+
+/// Keeps in mind where the font puts a consonant, in place of another one.
+fn keep(known: &mut [Known], consonant: u32, place: u8)
+    ensures known { (lookups : LookupMeaning) (facts : AnyFacts)
+        → place ≡ Consonants.consonant_position lookups facts consonant
+        → AreKnown lookups facts known.old → AreKnown lookups facts known.new }
+    ensures len { length known.new ≡ length known.old }
+{
+    let i = consonant as usize % ROOM;
+    if i < known.len() {
+        known[i] = Known {
+            glyph: consonant,
+            place,
+            is_set: true,
+        };
+    }
+}
+
+/// Where the font puts a consonant. It is asked once, as long as the consonant is kept in mind: the
+/// answer is the same all through a text.
+fn place_of<F, M: hb_ot_layout_t<F>>(
+    map: &M::Map,
+    face: &F,
+    facts: &Facts,
+    known: &mut [Known],
+    consonant: u32,
+) -> u8
+    requires { AreKnown (M.lookups map.now face.now) facts.now known.old }
+    ensures place { result
+        ≡ Consonants.consonant_position (M.lookups map.now face.now) facts.now consonant }
+    ensures known { AreKnown (M.lookups map.now face.now) facts.now known.new }
+    ensures len { length known.new ≡ length known.old }
+{
+    match recalled(known, consonant) {
+        Some(place) => place,
+        None => {
+            let place = consonant_position::<F, M>(map, face, facts, consonant);
+            keep(known, consonant, place);
+            place
+        }
+    }
+}
+
 /// An item where the font puts it, if its syllable has several letters.
 fn placed<F, M: hb_ot_layout_t<F>>(
     map: &M::Map,
     face: &F,
     facts: &Facts,
+    known: &mut [Known],
     several: bool,
     info: &hb_glyph_info_t,
 ) -> hb_glyph_info_t
-    ensures { result ≡ Consonants.placed (M.lookups map.now face.now) facts.now several info.now }
+    requires { AreKnown (M.lookups map.now face.now) facts.now known.old }
+    ensures value { result
+        ≡ Consonants.placed (M.lookups map.now face.now) facts.now several info.now }
+    ensures known { AreKnown (M.lookups map.now face.now) facts.now known.new }
+    ensures len { length known.new ≡ length known.old }
 {
     if is_new_circle(info) {
         return as_circle(info);
     }
     if several && is_candidate(facts, info) {
-        let place = consonant_position::<F, M>(map, face, facts, info.glyph_id);
+        let place = place_of::<F, M>(map, face, facts, known, info.glyph_id);
         return with_position(info, place);
     }
     *info
 }
 
 /// Notes where the font puts each letter of a syllable.
-pub fn place_letters<F, M: hb_ot_layout_t<F>>(
+pub(super) fn place_letters<F, M: hb_ot_layout_t<F>>(
     map: &M::Map,
     face: &F,
     facts: &Facts,
+    known: &mut [Known],
     items: &mut [hb_glyph_info_t],
 )
-    ensures { items.new
+    requires { AreKnown (M.lookups map.now face.now) facts.now known.old }
+    ensures made { items.new
         ≡ Consonants.letters_placed (M.lookups map.now face.now) facts.now items.old }
+    ensures known { AreKnown (M.lookups map.now face.now) facts.now known.new }
 {
     let several = has_several(items);
     for i in 0..items.len() {
-        items[i] = placed::<F, M>(map, face, facts, several, &items[i]);
+        items[i] = placed::<F, M>(map, face, facts, known, several, &items[i]);
     }
 }

@@ -7,7 +7,6 @@ use Rattle.shape_items.specs.Items.{Item, new_item}
 use Rattle.shape_buffer.specs.Layout.{MapMeaning}
 use Rattle.shape_buffer.specs.Walks.{items_mapped}
 use Rattle.khmer_shaper.specs.Pauses.{khmer_masks, made_by_pause}
-use Rattle.ucd_table.specs.Steps.{step_value}
 
 -- a face that has a dotted circle alone
 abbrev face : FaceMeaning
@@ -75,7 +74,7 @@ pub record WorkedTexts : Type 0 where
   pub no_pause : made_by_pause 3 map face (text 0 (0x1781 ∷ 0x17C1 ∷ [])) ≡ text 0 (0x1781 ∷ 0x17C1 ∷ [])
 
 pub worked_texts : WorkedTexts
-unfolding merge step_value items_mapped
+unfolding merge items_mapped
 worked_texts = record {
   masks = refl;
   syllables = refl;

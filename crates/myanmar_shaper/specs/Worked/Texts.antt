@@ -6,7 +6,6 @@ use Rattle.shape_items.specs.Clusters.{merge}
 use Rattle.shape_items.specs.Items.{Item, new_item}
 use Rattle.shape_buffer.specs.Walks.{items_mapped}
 use Rattle.myanmar_shaper.specs.Pauses.{made_by_pause}
-use Rattle.ucd_table.specs.Steps.{step_value}
 
 -- a face that has a dotted circle alone
 abbrev face : FaceMeaning
@@ -59,7 +58,7 @@ pub record WorkedTexts : Type 0 where
   pub no_pause : made_by_pause 3 face (text 0 (0x1000 ∷ 0x1031 ∷ [])) ≡ text 0 (0x1000 ∷ 0x1031 ∷ [])
 
 pub worked_texts : WorkedTexts
-unfolding merge step_value items_mapped
+unfolding merge items_mapped
 worked_texts = record {
   syllables = refl;
   flags = refl;

@@ -1,5 +1,5 @@
 use Rattle.std.proofs.Common.{◌≡◌, ◌++◌, take, drop, length}
-use Rattle.indic_shaper.specs.Consonants.{letters_placed, placed_in, several_still}
+use Rattle.indic_shaper.specs.Consonants.{AreKnown, letters_placed, placed_in, several_still}
 use Rattle.indic_shaper.specs.Places.{walked}
 use Rattle.indic_shaper.proofs.initial.consonants.place_letters.Given as goal
 
@@ -11,4 +11,5 @@ invariant-loop-i g l =
       left : take l.i l.items ++ walked (placed_in lookups l.facts) several_still l.several (drop l.i l.items)
           ≡ letters_placed lookups l.facts l.fn.items;
       len : length l.items ≡ length l.fn.items;
+      known : AreKnown lookups l.facts l.known;
     }

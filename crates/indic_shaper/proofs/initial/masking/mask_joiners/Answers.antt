@@ -1,4 +1,4 @@
-use Rattle.std.proofs.Common.{◌≡◌, suc, ◌+◌, ◌-◌, ◌<◌, ◌++◌, Bool, List, length, take, drop, ap, ap₂, sym, ◌∙◌, arith, drop-cons}
+use Rattle.std.proofs.Common.{◌≡◌, suc, ◌-◌, ◌<◌, ◌++◌, Bool, List, length, take, drop, ap, ap₂, sym, ◌∙◌, arith, drop-cons}
 use Rattle.std.proofs.lemmas.List.{drop_all}
 use Rattle.shape_items.specs.Items.{Item, new_item}
 use Rattle.syllabic.specs.Walking.{item_at}
