@@ -1,13 +1,12 @@
 -- a lookup whose digest holds no glyph of the list may be passed over, and a place whose glyph it doesn't hold
 use Prim.Native.Nat.{zero}
-use Rattle.std.proofs.Common.{◌≡◌, ℕ, suc, ◌+◌, ◌-◌, ◌<◌, ◌≤◌, ◌&&◌, Bool, true, false, List, [], ◌∷◌, All, length, nat_eq, nat_lt, not, refl, sym, ap, ◌∙◌, subst, arith, if◌then◌else◌, drop, slice_index_or}
+use Rattle.std.proofs.Common.{◌≡◌, ℕ, suc, ◌+◌, ◌-◌, ◌<◌, ◌≤◌, ◌&&◌, Bool, true, false, List, [], ◌∷◌, length, nat_eq, nat_lt, not, refl, sym, ap, ◌∙◌, subst, arith, if◌then◌else◌}
 use Rattle.std.proofs.lemmas.Bool.Decides.{nat_tests}
-use Rattle.std.proofs.lemmas.List.{drop_more}
 use Rattle.shape_items.specs.Buffer.{Buffer}
 use Rattle.shape_items.specs.Items.{Item}
 use Rattle.layout_matching.specs.Loops.{times}
 use Rattle.layout_matching.specs.Skipping.{nth, shares, is_skipped, is_on}
-use Rattle.layout_matching.specs.Work.{walk_work, walks_charged}
+use Rattle.layout_matching.specs.Work.{walk_work}
 use Rattle.layout_matching.specs.declared.lookup.Lookup.{Lookup}
 use Rattle.layout_digests.specs.Digests.{has, IsWithin}
 use Rattle.layout_digests.specs.declared.digest.Digest.{Digest}
@@ -15,13 +14,13 @@ use Rattle.layout_digests.specs.declared.digested.Digested.{Digested}
 use Rattle.layout_substitution.specs.Edits.{item_at, is_inside, is_past}
 use Rattle.layout_substitution.specs.declared.apply.Spot.{Spot}
 use Rattle.layout_context.specs.Covered.{IsUncovered, CoversNone}
-use Rattle.layout_context.specs.Digested.{IsOut, IsDigested, IsApart, HoldsFirst, HoldsGlyphs, meets, MeetsNone, lookups_in}
+use Rattle.layout_context.specs.Digested.{IsOut, IsDigested, IsApart, HoldsFirst, HoldsGlyphs, meets, MeetsNone}
 use Rattle.layout_context.specs.Nested.{nested_applied}
 use Rattle.layout_context.specs.Reverse.{Backwards, is_reverse, reversed, reverse_step}
-use Rattle.layout_context.specs.Stages.{Walk, passed, tried, lookup_step, first_walk, walked, gone_back, gone_over, walk_charged, looked_up, all_looked_up, stage_begun, stage_ended, stage_made}
+use Rattle.layout_context.specs.Stages.{Walk, passed, tried, lookup_step, first_walk, walked, gone_back, gone_over, walk_charged, looked_up, all_looked_up, stage_ended}
 use Rattle.layout_matching.proofs.LoopLemmas.{times_after, times_still}
 use Rattle.layout_context.proofs.CoveredLemmas.{tried-uncovered-at, reversed-uncovered}
-use Rattle.layout_context.proofs.StageLemmas.{past_all, past_still}
+use Rattle.layout_context.proofs.StageLemmas.{past_still}
 
 same-if : {X : Type 0} (t : Bool) (x y z : X) → x ≡ z → y ≡ z → (if t then x else y) ≡ z
 same-if true x y z a b = a
@@ -208,13 +207,6 @@ over-still levels l s gsub none = by_way (is_reverse l) refl
 
 -- ---- the loop over the lookups
 
-pub looked_on : (levels : ℕ) (ds : List Digested) (k : ℕ) (x : Digested) (here next : Walk) (b : Buffer) → k < length ds
-    → stage_ended (all_looked_up levels (lookups_in (drop k ds)) here) ≡ b → next ≡ looked_up levels (slice_index_or ds k x).lookup here
-    → stage_ended (all_looked_up levels (lookups_in (drop (k + 1) ds)) next) ≡ b
-looked_on levels ds k x here next b more before is =
-    ap (λ (w : Walk). stage_ended (all_looked_up levels (lookups_in (drop (k + 1) ds)) w)) is
-    ∙ sym (ap (λ (rest : List Digested). stage_ended (all_looked_up levels (lookups_in rest) here)) (drop_more ds k x more)) ∙ before
-
 none-covered : (d : Digested) (run : Digest) (items : List Item) → IsDigested d → HoldsGlyphs run items
     → IsApart run d → CoversNone d.lookup items
 none-covered d run items said held apart at inside = (said.out (nth items at).glyph_id (apart (nth items at).glyph_id (held at inside))).uncovered
@@ -250,6 +242,14 @@ looked_paid levels l s work is paid =
     ap (λ t. if t then walk_charged l s else gone_over levels l (walk_charged l s)) enough
     ∙ ap (λ n. gone_over levels l (record { buffer = s.buffer; spot = record s.spot { left = s.spot.left - n } })) (sym is)
 
+-- one that can't be is charged for
+pub looked_unpaid : (levels : ℕ) (l : Lookup) (s : Walk) (work : ℕ) → work ≡ walk_work l (length s.buffer.items) → s.spot.left < work
+    → looked_up levels l s ≡ record { buffer = s.buffer; spot = record s.spot { left = s.spot.left - work } }
+looked_unpaid levels l s work is unpaid =
+    let short : nat_lt s.spot.left (walk_work l (length s.buffer.items)) ≡ true = grind (arith, nat_tests, is, unpaid) in
+    ap (λ t. if t then walk_charged l s else gone_over levels l (walk_charged l s)) short
+    ∙ ap (λ n. record { buffer = s.buffer; spot = record s.spot { left = s.spot.left - n } }) (sym is)
+
 -- its walk is charged for all the same; one that can't be paid changes nothing, whatever glyphs there are
 digest-still : (levels : ℕ) (d : Digested) (here : Walk) (run : Digest) → IsDigested d → HoldsGlyphs run here.buffer.items
     → (walk_work d.lookup (length here.buffer.items) ≤ here.spot.left → IsApart run d)
@@ -264,52 +264,14 @@ digest-still levels d here run said held apart = by_charge (nat_lt here.spot.lef
     by_charge true e = refl
     by_charge false e = digest-over levels d t run said held (apart (grind (arith, nat_tests, e)))
 
-pub charged_next : (ds : List Digested) (k : ℕ) (x : Digested) (b : Buffer) (spot next : Spot) (work count : ℕ)
-    → next ≡ record spot { left = spot.left - work } → work ≡ walk_work (slice_index_or ds k x).lookup count → count ≡ length b.items
-    → record { buffer = b; spot = next } ≡ walk_charged (slice_index_or ds k x).lookup (record { buffer = b; spot = spot })
-charged_next ds k x b spot next work count is cost same =
-    let l = (slice_index_or ds k x).lookup in
-    ap (λ (s : Spot). record { buffer = b; spot = s }) (is ∙ ap (λ n. record spot { left = spot.left - n }) (cost ∙ ap (walk_work l) same))
-
-pub passed_over : (levels : ℕ) (ds : List Digested) (k : ℕ) (x : Digested) (here next : Walk) (run : Digest) (b : Buffer) (work count : ℕ)
-    → k < length ds → count ≡ length here.buffer.items → work ≡ walk_work (slice_index_or ds k x).lookup count
-    → IsDigested (slice_index_or ds k x) → HoldsGlyphs run here.buffer.items
-    → (work ≤ here.spot.left → IsApart run (slice_index_or ds k x))
-    → next ≡ walk_charged (slice_index_or ds k x).lookup here
-    → stage_ended (all_looked_up levels (lookups_in (drop k ds)) here) ≡ b
-    → stage_ended (all_looked_up levels (lookups_in (drop (k + 1) ds)) next) ≡ b
-passed_over levels ds k x here next run b work count more same cost said held apart is before =
-    let d = slice_index_or ds k x in
-    let still : settled (looked_up levels d.lookup here) ≡ settled next =
-    digest-still levels d here run said held (subst (λ n. n ≤ here.spot.left → IsApart run d) (cost ∙ ap (walk_work d.lookup) same) apart)
-    ∙ sym (ap settled is) in
-    sym (all-settled levels (lookups_in (drop (k + 1) ds)) (looked_up levels d.lookup here) next still)
-    ∙ sym (ap (λ (rest : List Digested). stage_ended (all_looked_up levels (lookups_in rest) here)) (drop_more ds k x more)) ∙ before
-
-pub past_digested : (levels : ℕ) (ds : List Digested) (k : ℕ) (x : Digested) (here : Walk) (b : Buffer) → k < length ds
-    → stage_ended (all_looked_up levels (lookups_in (drop k ds)) here) ≡ b
-    → is_past (looked_up levels (slice_index_or ds k x).lookup here).buffer ≡ true → is_past b ≡ true
-past_digested levels ds k x here b more before past =
-    sym (ap is_past before)
-    ∙ ap (λ (rest : List Digested). is_past (stage_ended (all_looked_up levels (lookups_in rest) here))) (drop_more ds k x more)
-    ∙ past_all levels (lookups_in (drop (k + 1) ds)) (looked_up levels (slice_index_or ds k x).lookup here) past
-
--- ---- lookups none of which can apply
-
-all-idle : (levels : ℕ) (ds : List Digested) (run : Digest) (s : Walk) → All IsDigested ds → All (IsApart run) ds
-    → HoldsGlyphs run s.buffer.items → stage_ended (all_looked_up levels (lookups_in ds) s)
-    ≡ record s.buffer { max_ops = walks_charged (lookups_in ds) (length s.buffer.items) s.spot.left }
-all-idle levels [] run s said apart held = refl
-all-idle levels (d ∷ ds) run s said apart held =
-    let still = digest-still levels d s run (said 0 d (omega arith)) held (λ paid. apart 0 d (omega arith)) in
-    all-settled levels (lookups_in ds) (looked_up levels d.lookup s) (walk_charged d.lookup s) still
-    ∙ all-idle levels ds run (walk_charged d.lookup s) (λ k e inside. said (suc k) e (omega (arith, inside)))
-    (λ k e inside. apart (suc k) e (omega (arith, inside))) held
-
-pub stage_idle : (levels : ℕ) (ds : List Digested) (run : Digest) (b : Buffer) → All IsDigested ds → All (IsApart run) ds
-    → HoldsGlyphs run b.items
-    → record b { max_ops = walks_charged (lookups_in ds) (length b.items) b.max_ops } ≡ stage_made levels (lookups_in ds) b
-stage_idle levels ds run b said apart held = sym (all-idle levels ds run (stage_begun b) said apart held)
+-- before other lookups such a one is as good as charged for
+pub skipped_over : (levels : ℕ) (d : Digested) (ls : List Lookup) (b : Buffer) (spot : Spot) (run : Digest) → IsDigested d
+    → HoldsGlyphs run b.items → (walk_work d.lookup (length b.items) ≤ spot.left → IsApart run d)
+    → stage_ended (all_looked_up levels (d.lookup ∷ ls) (record { buffer = b; spot = spot }))
+    ≡ stage_ended (all_looked_up levels ls (walk_charged d.lookup (record { buffer = b; spot = spot })))
+skipped_over levels d ls b spot run said held apart =
+    let here : Walk = record { buffer = b; spot = spot } in
+    all-settled levels ls (looked_up levels d.lookup here) (walk_charged d.lookup here) (digest-still levels d here run said held apart)
 
 -- one lookup, which goes forwards and meets no item
 over-unmet : (levels : ℕ) (d : Digested) (s : Walk) → IsDigested d → is_reverse d.lookup ≡ false
@@ -338,24 +300,9 @@ looked-unmet levels d s said forwards none = by_charge (nat_lt s.spot.left (walk
     by_charge true = refl
     by_charge false = over-unmet levels d (walk_charged d.lookup s) said forwards none
 
-only-unmet : (levels : ℕ) (ds : List Digested) (x : Digested) (b : Buffer) → length ds ≡ 1 → All IsDigested ds
-    → is_reverse (slice_index_or ds 0 x).lookup ≡ false → MeetsNone (slice_index_or ds 0 x) b.items (length b.items)
-    → stage_ended (all_looked_up levels (lookups_in ds) (stage_begun b))
-    ≡ record b { max_ops = walks_charged (lookups_in ds) (length b.items) b.max_ops }
-only-unmet levels [] x b one said forwards none = grind (arith, one)
-only-unmet levels (d ∷ []) x b one said forwards none =
-    ap stage_ended (looked-unmet levels d (stage_begun b) (said 0 d (omega arith)) forwards none)
-only-unmet levels (d ∷ e ∷ ds) x b one said forwards none = grind (arith, one)
-
-pub stage_unmet : (levels : ℕ) (ds : List Digested) (x : Digested) (b : Buffer) (xs : List Item) → xs ≡ b.items → length ds ≡ 1
-    → All IsDigested ds → is_reverse (slice_index_or ds 0 x).lookup ≡ false → MeetsNone (slice_index_or ds 0 x) xs (length xs)
-    → record b { max_ops = walks_charged (lookups_in ds) (length b.items) b.max_ops } ≡ stage_made levels (lookups_in ds) b
-stage_unmet levels ds x b xs same one said forwards none = sym (only-unmet levels ds x b one said forwards
-    (subst (λ (ys : List Item). MeetsNone (slice_index_or ds 0 x) ys (length ys)) same none))
-
-pub charged_on : (ds : List Digested) (k : ℕ) (x : Digested) (here next count made : ℕ) → k < length ds
-    → walks_charged (lookups_in (drop k ds)) count here ≡ made → next ≡ here - walk_work (slice_index_or ds k x).lookup count
-    → walks_charged (lookups_in (drop (k + 1) ds)) count next ≡ made
-charged_on ds k x here next count made more before is =
-    ap (walks_charged (lookups_in (drop (k + 1) ds)) count) is
-    ∙ sym (ap (λ (rest : List Digested). walks_charged (lookups_in rest) count here) (drop_more ds k x more)) ∙ before
+pub unmet_over : (levels : ℕ) (d : Digested) (ls : List Lookup) (b : Buffer) (spot : Spot) → IsDigested d → is_reverse d.lookup ≡ false
+    → MeetsNone d b.items (length b.items) → stage_ended (all_looked_up levels (d.lookup ∷ ls) (record { buffer = b; spot = spot }))
+    ≡ stage_ended (all_looked_up levels ls (walk_charged d.lookup (record { buffer = b; spot = spot })))
+unmet_over levels d ls b spot said forwards none =
+    let here : Walk = record { buffer = b; spot = spot } in
+    all-settled levels ls (looked_up levels d.lookup here) (walk_charged d.lookup here) (looked-unmet levels d here said forwards none)

@@ -7,3 +7,7 @@ pub mod CoveredLemmas
 mod OffWalks
 pub mod DigestLemmas
 pub mod KindLemmas
+pub mod TriesLemmas
+pub mod FreeLemmas
+pub mod WorkLeftLemmas
+pub mod LabelLemmas

@@ -1,7 +1,10 @@
 pub mod Places
+pub mod Labels
 pub mod Nested
 pub mod Reverse
 pub mod Stages
+pub mod Tries
+pub mod Stage
 pub mod Covered
 pub mod Digested
 pub mod Worked

@@ -1,7 +1,10 @@
 pub mod Places
+pub mod Labels
 pub mod Lookups
+pub mod Tries
 pub mod Contexts
 pub mod Chains
 pub mod Marks
 pub mod Formats
+pub mod Reversals
 pub mod Around

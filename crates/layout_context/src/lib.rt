@@ -8,11 +8,11 @@
 #![allow(non_camel_case_types)]
 
 pub mod laws;
-mod meeting;
+pub mod meeting;
 pub mod nested;
 pub mod places;
 pub mod reversal_reach;
 pub mod reverse;
-mod run_digest;
+pub mod run_digest;
 pub mod stages;
 pub mod worked;

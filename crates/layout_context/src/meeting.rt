@@ -37,7 +37,7 @@ pub(crate) fn unmet(named: &Digested<'_>, infos: &[hb_glyph_info_t], most: usize
 }
 
 /// Whether a lookup goes forwards, and meets no item of a list.
-pub(crate) fn is_unmet(named: &Digested<'_>, infos: &[hb_glyph_info_t]) -> bool
+pub fn is_unmet(named: &Digested<'_>, infos: &[hb_glyph_info_t]) -> bool
     requires { IsDigested named.now }
     ensures none { result ≡ true → Digests.MeetsNone named.now infos.now (length infos.now) }
     ensures forwards { result ≡ true → is_reversed named.now.lookup ≡ false }

@@ -1,25 +1,22 @@
 //! Lookups over a buffer, nested ones included, and stages of lookups.
-ghost use Rattle.std.specs.Prelude.{◌≡◌, ℕ, ◌<◌, ◌≤◌, ◌+◌, ◌-◌, ◌^◌, length, true, false, IfOk, IsErrOf, IsOkUnless, OnOk, All};
-ghost use Rattle.shape_buffer.specs.Outcome.{IsWithinLimit, Outcome, step};
+ghost use Rattle.std.specs.Prelude.{◌≡◌, ℕ, ◌<◌, ◌≤◌, ◌-◌, ◌^◌, length, true, false, IfOk, IsErrOf};
 ghost use Rattle.shape_buffer.specs.declared.buffer.error.ShapeError.TheVariants.{Length};
 ghost use Rattle.layout_matching.specs.Loops.{times};
-ghost use Rattle.layout_matching.specs.Work;
 ghost use Rattle.layout_matching.specs.Skipping.{is_on};
 ghost use Rattle.layout_substitution.specs.Edits.{is_inside, is_past, item_at};
 ghost use Rattle.layout_context.specs.Nested.{nested_applied};
 ghost use Rattle.layout_context.specs.Stages;
-ghost use Rattle.layout_context.specs.Digested.{IsDigested, HoldsGlyphs, lookups_in};
+ghost use Rattle.layout_context.specs.Digested.{IsDigested};
 
-use crate::meeting::{is_unmet, unmet};
+use crate::meeting::unmet;
 use crate::nested::{apply_charged, with_left};
 use crate::reverse::{is_reverse, reverse};
-use crate::run_digest::{any_shares, first_digest, is_made, renewed};
-use layout_buffer::{GapBuffer, ItemList};
-use layout_digests::{Digest, Digested};
+use layout_buffer::GapBuffer;
+use layout_digests::Digested;
 use layout_matching::indexed::Indexed;
 use layout_matching::work::walk_work;
 use layout_substitution::apply::Spot;
-use shape_buffer::{ShapeError, hb_buffer_t};
+use shape_buffer::ShapeError;
 use std::alloc::Global;
 
 fn next_spot(spot: Spot, count: usize) -> Spot
@@ -193,174 +190,6 @@ fn charge_walk(work: usize, spot: Spot) -> Spot
     with_left(spot, spot.left.saturating_sub(work))
 }
 
-/// Goes over a buffer in a walk that costs so much, for which what is left suffices.
-#[tactic(auto, using(crate::proofs::DigestLemmas::looked_paid))]
-fn look_up(
-    alloc: Global,
-    levels: u32,
-    named: &Digested<'_>,
-    buffer: &mut GapBuffer,
-    spot: Spot,
-    work: usize,
-) -> Result<Spot, ShapeError>
-    requires said { IsDigested named.now }
-    requires work { work ≡ Work.walk_work named.now.lookup (length buffer.old.items) }
-    requires paid { work ≤ spot.left }
-    ensures ok { IfOk result (λ next. record { buffer = buffer.new; spot = next }
-        ≡ Stages.looked_up levels named.now.lookup (record { buffer = buffer.old; spot = spot })) }
-    ensures length { IsErrOf result Length
-        → is_past (Stages.looked_up levels named.now.lookup
-        (record { buffer = buffer.old; spot = spot })).buffer ≡ true }
-{
-    go_over(alloc, levels, named, buffer, charge_walk(work, spot))
-}
-
-/// Lookups one after the other, from a digest of the list on. One that isn't made changes nothing, so that the digest stays.
-#[tactic(auto, using(crate::proofs::DigestLemmas::looked_on))]
-fn look_all_up(
-    alloc: Global,
-    levels: u32,
-    lookups: &[Digested<'_>],
-    run: Digest,
-    buffer: &mut GapBuffer,
-) -> Result<(), ShapeError>
-    requires said { All IsDigested lookups.now }
-    requires run { HoldsGlyphs run buffer.old.items }
-    ensures ok { OnOk result (buffer.new
-        ≡ Stages.stage_made levels (lookups_in lookups.now) buffer.old) }
-    ensures length { IsErrOf result Length
-        → is_past (Stages.stage_made levels (lookups_in lookups.now) buffer.old) ≡ true }
-{
-    let mut spot = Spot {
-        at: 0,
-        random: 1,
-        left: buffer.max_ops(),
-        whole: 0,
-    };
-    let mut run = run;
-    let mut is_stale = false;
-    let mut rest = lookups.len();
-    for named in lookups {
-        run = renewed(run, is_stale, rest, &buffer.items());
-        rest = rest.saturating_sub(1);
-        let work = walk_work(&named.lookup, buffer.len());
-        is_stale = is_made(named, &run, work, spot.left);
-        if !is_stale {
-            spot = charge_walk(work, spot);
-            continue;
-        }
-        match look_up(alloc, levels, named, buffer, spot, work) {
-            Err(error) => return Err(error),
-            Ok(next) => spot = next,
-        }
-    }
-    buffer.set_max_ops(spot.left);
-    Ok(())
-}
-
-/// What is left after each of the lookups was charged for its walk, and none was made.
-#[tactic(auto, using(crate::proofs::DigestLemmas::charged_on))]
-fn charge_walks(lookups: &[Digested<'_>], count: usize, left: usize) -> usize
-    requires said { All IsDigested lookups.now }
-    ensures { result ≡ Work.walks_charged (lookups_in lookups.now) count left }
-{
-    let mut left = left;
-    for named in lookups {
-        left = left.saturating_sub(walk_work(&named.lookup, count));
-    }
-    left
-}
-
-/// Refuses with `Length` if the list passes the limit of the run.
-fn within_limit(buffer: &hb_buffer_t) -> Result<(), ShapeError>
-    ensures ok { OnOk result (IsWithinLimit buffer.now) }
-    ensures length { IsErrOf result Length → is_past buffer.now ≡ true }
-{
-    if buffer.length_limit() < buffer.len() {
-        return Err(ShapeError::Length);
-    }
-    Ok(())
-}
-
-/// Gives the buffer its items back, in one slice again.
-fn put_back(walk: GapBuffer, buffer: &mut hb_buffer_t) -> Result<(), ShapeError>
-    ensures ok { OnOk result (buffer.new ≡ walk) }
-    ensures memory { IsOkUnless result ShapeError.Memory }
-{
-    let (edited, outcome) = walk.close();
-    *buffer = edited;
-    outcome
-}
-
-/// Lookups one after the other, from a digest of the list on, over a buffer that edits in linear time.
-#[inline(never)]
-fn edit_opened(
-    alloc: Global,
-    levels: u32,
-    lookups: &[Digested<'_>],
-    run: Digest,
-    buffer: &mut hb_buffer_t,
-) -> Result<(), ShapeError>
-    requires said { All IsDigested lookups.now }
-    requires run { HoldsGlyphs run buffer.old.items }
-    ensures ok { OnOk result (buffer.new
-        ≡ Stages.stage_made levels (lookups_in lookups.now) buffer.old) }
-    ensures length { IsErrOf result Length
-        → is_past (Stages.stage_made levels (lookups_in lookups.now) buffer.old) ≡ true }
-{
-    let mut walk = GapBuffer::open(alloc, buffer);
-    match look_all_up(alloc, levels, lookups, run, &mut walk) {
-        Err(error) => {
-            *buffer = walk.abandon();
-            Err(error)
-        }
-        Ok(()) => put_back(walk, buffer),
-    }
-}
-
-/// Lookups one after the other; if none of them can apply, all are charged for.
-fn edit_all(
-    alloc: Global,
-    levels: u32,
-    lookups: &[Digested<'_>],
-    buffer: &mut hb_buffer_t,
-) -> Result<(), ShapeError>
-    requires said { All IsDigested lookups.now }
-    ensures ok { OnOk result (buffer.new
-        ≡ Stages.stage_made levels (lookups_in lookups.now) buffer.old) }
-    ensures length { IsErrOf result Length
-        → is_past (Stages.stage_made levels (lookups_in lookups.now) buffer.old) ≡ true }
-{
-    if lookups.len() == 1 && is_unmet(&lookups[0], buffer.infos()) {
-        buffer.set_max_ops(charge_walks(lookups, buffer.len(), buffer.max_ops()));
-        return Ok(());
-    }
-    let run = first_digest(lookups.len(), &ItemList::of_slice(buffer.infos()));
-    if !any_shares(&run, lookups) {
-        buffer.set_max_ops(charge_walks(lookups, buffer.len(), buffer.max_ops()));
-        return Ok(());
-    }
-    edit_opened(alloc, levels, lookups, run, buffer)
-}
-
-/// A stage of substitution with so many levels of lookups.
-fn substitute_within(
-    alloc: Global,
-    levels: u32,
-    lookups: &[Digested<'_>],
-    buffer: &mut hb_buffer_t,
-) -> Result<(), ShapeError>
-    requires said { All IsDigested lookups.now }
-    requires within { IsWithinLimit buffer.old }
-    ensures { Outcome (step (Stages.stage_made levels
-        (lookups_in lookups.now))) buffer.old buffer.new result }
-{
-    match edit_all(alloc, levels, lookups, buffer) {
-        Err(error) => Err(error),
-        Ok(()) => within_limit(buffer),
-    }
-}
-
 /// A lookup over the text, and 64 levels of others that it names.
 fn levels() -> u32
     ensures { result ≡ Stages.most_levels }
@@ -368,18 +197,27 @@ fn levels() -> u32
     65
 }
 
-/// A stage of substitution: lookups one after the other, in their order. Refuses with `Length` if the list passes the limit of
-/// the run, and with `Memory` if a growth of the list, or of the places of a rule, was refused.
-#[tactic(auto, unfolding(crate::specs::Stages::substituted))]
-pub fn substitute(
+/// Goes over a buffer for one lookup of a stage, if what is left suffices for the walk, and returns where it ended. Refuses with
+/// `Length` if the list passes the limit of the run, and with `Memory` if a growth of the list, or of the places of a rule, was
+/// refused.
+#[tactic(auto, using(crate::proofs::DigestLemmas::looked_paid, crate::proofs::DigestLemmas::looked_unpaid))]
+pub fn look_up(
     alloc: Global,
-    lookups: &[Digested<'_>],
-    buffer: &mut hb_buffer_t,
-) -> Result<(), ShapeError>
-    requires said { All IsDigested lookups.now }
-    requires within { IsWithinLimit buffer.old }
-    ensures { Outcome (step (Stages.substituted
-        (lookups_in lookups.now))) buffer.old buffer.new result }
+    named: &Digested<'_>,
+    buffer: &mut GapBuffer,
+    spot: Spot,
+) -> Result<Spot, ShapeError>
+    requires said { IsDigested named.now }
+    ensures ok { IfOk result (λ next. record { buffer = buffer.new; spot = next }
+        ≡ Stages.looked_up Stages.most_levels named.now.lookup
+        (record { buffer = buffer.old; spot = spot })) }
+    ensures length { IsErrOf result Length
+        → is_past (Stages.looked_up Stages.most_levels named.now.lookup
+        (record { buffer = buffer.old; spot = spot })).buffer ≡ true }
 {
-    substitute_within(alloc, levels(), lookups, buffer)
+    let work = walk_work(&named.lookup, buffer.len());
+    if spot.left < work {
+        return Ok(charge_walk(work, spot));
+    }
+    go_over(alloc, levels(), named, buffer, charge_walk(work, spot))
 }

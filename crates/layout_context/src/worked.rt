@@ -5,9 +5,12 @@ ghost use Rattle.layout_context.specs.Worked.Chains.{WorkedChainedGlyphs, Worked
 ghost use Rattle.layout_context.specs.Worked.Contexts.{WorkedRules, WorkedClasses, WorkedChains, WorkedChainsElsewhere};
 ghost use Rattle.layout_context.specs.Worked.Contexts.{WorkedMarkSets, WorkedMarkClasses, WorkedSyllables, WorkedComponents};
 ghost use Rattle.layout_context.specs.Worked.Formats.{WorkedChainedClasses, WorkedBackwards, WorkedFlags};
+ghost use Rattle.layout_context.specs.Worked.Labels.{WorkedLabels};
 ghost use Rattle.layout_context.specs.Worked.Lookups.{WorkedLookups};
 ghost use Rattle.layout_context.specs.Worked.Marks.{WorkedVainLigatures, WorkedVainRules, WorkedRandom, WorkedIds, WorkedOps};
 ghost use Rattle.layout_context.specs.Worked.Places.{WorkedPlaces};
+ghost use Rattle.layout_context.specs.Worked.Reversals.{WorkedReversals};
+ghost use Rattle.layout_context.specs.Worked.Tries.{WorkedTries};
 
 /// Where the glyphs of a rule stand after a nested lookup that changed how many items there are, and where the rule goes on.
 pub fn places_meet_worked_cases()
@@ -65,4 +68,19 @@ pub fn surroundings_meet_worked_cases()
     ensures classes_of_three_lists { WorkedClassesOfThreeLists }
     ensures bounds { WorkedBounds }
     ensures covers { WorkedCovers }
+{}
+
+/// What lookups try over lists: subtables, rules and ligatures, and lookups that rules name.
+pub fn tries_meet_worked_cases()
+    ensures { WorkedTries }
+{}
+
+/// What a subtable of reverse chaining replaces at a place, and what is unsafe to break then.
+pub fn reversals_meet_worked_cases()
+    ensures { WorkedReversals }
+{}
+
+/// Where the items stand that have a label, and what of them is left after others came or went.
+pub fn labels_meet_worked_cases()
+    ensures { WorkedLabels }
 {}

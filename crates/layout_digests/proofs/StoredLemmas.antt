@@ -1,16 +1,18 @@
 -- what is stored stays true as more is stored
 use Rattle.std.proofs.Common.{◌≡◌, ℕ, Bool, true, false, List, [], ◌∷◌, ◌++◌, length, slice_index_or, Some, ◌+◌, ◌≤◌, ◌<◌, nat_eq, refl, sym, ap, subst, ◌∙◌, arith}
+use Rattle.std.specs.Option.{IfSome, option_map}
 use Rattle.std.proofs.lemmas.Bool.Decides.{nat_tests}
 use Rattle.std.proofs.lemmas.List.Elements.{All-push}
 use Rattle.std.proofs.lemmas.List.{get_or_push, get_or_append_left, length-append}
-use Rattle.layout_tables.specs.Lookups.{subtable_of}
+use Rattle.layout_tables.specs.Lookups.{lookup_of, subtable_of}
 use Rattle.layout_matching.specs.Firsts.{may_begin, no_first}
 use Rattle.layout_matching.specs.declared.firsts.First.{First}
 use Rattle.layout_digests.specs.declared.digest.Digest.{Digest}
+use Rattle.layout_digests.specs.declared.stored.Head.{Head}
 use Rattle.layout_digests.specs.declared.stored.StoredLookup.{StoredLookup}
 use Rattle.layout_digests.specs.Digests.{has}
 use Rattle.layout_digests.specs.Lookups.{begins_at, extension_kind, HasFirst, IsDigestAt}
-use Rattle.layout_digests.specs.Stored.{HoldsFirsts, HoldsFirstsAt, Extends, IsStored, IsStoredAt, no_lookup, AreStored, AreInside}
+use Rattle.layout_digests.specs.Stored.{HoldsFirsts, HoldsFirstsAt, Extends, IsHead, IsStored, IsStoredAt, no_lookup, AreStored, AreInside}
 
 pub nothing_held : (t : List ℕ) (positioning : Bool) (place : ℕ) (firsts : List First) (from : ℕ) → HoldsFirsts t positioning place firsts from 0
 nothing_held t positioning place firsts from i glyph none = absurd (omega (arith, none))
@@ -69,11 +71,16 @@ stays t positioning place firsts more s longer inside before = record {
 pub one_stored : (t : List ℕ) (positioning : Bool) (firsts more : List First) (ss : List StoredLookup) (s : StoredLookup)
     → AreStored t positioning firsts ss → AreInside firsts ss → Extends firsts more
     → IsDigestAt t positioning (length ss) s.digest → HoldsFirstsAt t positioning (length ss) more s.from s.count
+    → option_map (λ (h : Head). h.place) s.head ≡ lookup_of t (length ss) → IfSome s.head (IsHead t)
     → AreStored t positioning more (ss ++ s ∷ [])
-one_stored t positioning firsts more ss s before within longer digest held index inside = by_last (nat_eq index (length ss)) refl
+one_stored t positioning firsts more ss s before within longer digest held place head index inside = by_last (nat_eq index (length ss)) refl
   where
     new : IsStoredAt t positioning (length ss) more s
-    new place there = record { digest = digest place there; subtables = held place there }
+    new = record {
+      place = place;
+      head = head;
+      stored = λ there is. record { digest = digest there is; subtables = held there is };
+    }
 
     by_last : (u : Bool) → nat_eq index (length ss) ≡ u → IsStoredAt t positioning index more (slice_index_or (ss ++ s ∷ []) index no_lookup)
     by_last true is =
@@ -84,8 +91,12 @@ one_stored t positioning firsts more ss s before within longer digest held index
         let count : length (ss ++ s ∷ []) ≡ length ss + 1 = length-append ss (s ∷ []) in
         let below : index < length ss = grind (arith, nat_tests, is, inside, count) in
         subst (IsStoredAt t positioning index more) (sym (get_or_append_left ss (s ∷ []) no_lookup index below))
-        (λ place there. stays t positioning place firsts more (slice_index_or ss index no_lookup) longer (within index no_lookup below)
-        (before index below place there))
+        (let old = before index below in record {
+          place = old.place;
+          head = old.head;
+          stored = λ there is. stays t positioning there firsts more (slice_index_or ss index no_lookup) longer (within index no_lookup below)
+              (old.stored there is);
+        })
 
 pub all_inside : (firsts more : List First) (ss : List StoredLookup) (s : StoredLookup) → AreInside firsts ss → Extends firsts more
     → s.from + s.count ≤ length more → AreInside more (ss ++ s ∷ [])

@@ -15,4 +15,4 @@ pub mod worked;
 
 pub use digest::Digest;
 pub use digested::Digested;
-pub use stored::{StoredLookup, StoredLookups};
+pub use stored::{Head, StoredLookup, StoredLookups};

@@ -1,19 +1,36 @@
 //! What is stored of the lookups of a table, once for a font: for each the set of the glyphs that it may begin at, and if it has
 //! more than one subtable, such a set for each of these.
 ghost use Rattle.std.specs.Prelude.{◌≡◌, ◌+◌, ◌≤◌, ◌<◌, ◌^◌, length, IfOk, OnOk, IsOkUnless};
-ghost use Rattle.layout_tables.specs.Lookups.{lookup_count_of};
+ghost use Rattle.std.specs.Option.{IfSome, option_map};
+ghost use Rattle.layout_tables.specs.Lookups.{lookup_count_of, lookup_of};
+ghost use Rattle.layout_digests.specs.declared.stored.Head.{Head as HeadOf};
 ghost use Rattle.layout_digests.specs.Stored as stored_rules;
 
 use crate::digest::Digest;
 use crate::lookups::{Lookups, Reading, digest_of, with_subtable};
 use layout_matching::firsts::First;
-use layout_tables::lookups::{lookup, lookup_count, subtable_count};
+use layout_tables::lookups::{
+    lookup, lookup_count, lookup_flag, lookup_type, mark_filtering_set, subtable_count,
+};
 use shape_buffer::ShapeError;
 use std::alloc::Global;
 
-/// What is stored of a lookup: its digest, and which of the stored subtables are its own.
+/// What a lookup begins with (OpenType, "Lookup table"): where it stands in its table, its flags and its set of marks, its type,
+/// and how many subtables it has.
+#[derive(Clone, Copy)]
+pub struct Head {
+    pub place: usize,
+    pub flags: u16,
+    pub mark_set: u16,
+    pub kind: u16,
+    pub subtables: u32,
+}
+
+/// What is stored of a lookup: its head, none if the table has no such lookup, its digest, and which of the stored subtables are
+/// its own.
 #[derive(Clone, Copy)]
 pub struct StoredLookup {
+    pub head: Option<Head>,
     pub digest: Digest,
     pub from: u32,
     pub count: u32,
@@ -125,6 +142,32 @@ fn push_index(
     }
 }
 
+/// The head of the lookup at `place`.
+pub fn head_at(table: &[u8], place: usize) -> Head
+    requires { place < 2 ^ 17 }
+    ensures place { result.place ≡ place }
+    ensures head { stored_rules.IsHead table.now result }
+{
+    Head {
+        place,
+        flags: lookup_flag(table, place),
+        mark_set: mark_filtering_set(table, place),
+        kind: lookup_type(table, place),
+        subtables: subtable_count(table, place),
+    }
+}
+
+/// The head of the lookup with this index; none if the table has no such lookup.
+fn head_of(table: &[u8], index: u16) -> Option<Head>
+    ensures place { option_map (λ (h : HeadOf). h.place) result ≡ lookup_of table.now index }
+    ensures head { IfSome result (stored_rules.IsHead table.now) }
+{
+    match lookup(table, index) {
+        Some(place) => Some(head_at(table, place)),
+        None => None,
+    }
+}
+
 /// What is stored of each lookup of a table. Takes a step for each entry of their lists and for each subtable, and no more steps
 /// than twice the bytes of the table. Refuses with `Memory` if a growth was refused.
 #[tactic(auto, using(crate::proofs::StoredLemmas::one_stored, crate::proofs::StoredLemmas::all_inside))]
@@ -146,6 +189,7 @@ pub fn stored(alloc: Global, lookups: Lookups<'_>) -> Result<StoredLookups, Shap
         let span = push_index(&mut firsts, lookups, index as u16, rest)?;
         rest = span.left;
         all.push(StoredLookup {
+            head: head_of(lookups.table, index as u16),
             digest: reading.digest,
             from: span.from,
             count: span.count,

@@ -1,22 +1,23 @@
 -- A table of lookups, and what is chosen in it for a text.
-use Rattle.std.specs.Prelude.{ℕ, List, Option}
+use Rattle.std.specs.Prelude.{ℕ, ℤ, List, Option}
 use Rattle.std.specs.Option.{option_and_then, option_map_or}
 use Rattle.layout_tables.specs.Scripts.{chosen_lang_sys}
 use Rattle.layout_tables.specs.Features.{feature_index_of, required_feature_of, feature_tag_of}
 use Rattle.layout_tables.specs.Variations.{substitution_of, varied_feature_of}
 
--- the bytes, where the language system stands, and where the features stand that vary at the default instance
+-- the bytes, where the language system stands, and where the features stand that take the place of others
 pub record Chosen : Type 0 where
   pub bytes : List ℕ
   pub lang_sys : Option ℕ
   pub substitution : Option ℕ
 
--- the language system of a script of the table for a text whose language has these tags; none without a script
-abbrev pub chosen : List ℕ → Option ℕ → List ℕ → Chosen
-chosen bytes script languages = record {
+-- the language system of a script of the table for a text whose language has these tags, none without a script; and the features
+-- at the coordinates of a font
+abbrev pub chosen : List ℕ → List ℤ → Option ℕ → List ℕ → Chosen
+chosen bytes coordinates script languages = record {
   bytes = bytes;
   lang_sys = option_and_then (λ tag. chosen_lang_sys bytes tag languages) script;
-  substitution = substitution_of bytes;
+  substitution = substitution_of bytes coordinates;
 }
 
 -- the index of the feature with a tag that the language system lists

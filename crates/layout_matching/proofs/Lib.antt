@@ -11,3 +11,6 @@ pub mod BesideLemmas
 pub mod PastLemmas
 pub mod KindLemmas
 pub mod SoughtLemmas
+pub mod NearestLemmas
+pub mod ChargeLemmas
+pub mod TriesLemmas

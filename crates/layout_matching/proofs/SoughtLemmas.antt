@@ -176,7 +176,7 @@ subtable_finds l items origin left subtable s = by_kind (is_context_subtable l s
     by_kind true false is = sets_find l items origin subtable left s is
     by_kind false u is = unfound_finds left s is
 
-at_subtable_finds : (l : Lookup) (items : List Item) (origin : Origin) → Finds (sought_at_subtable l items origin) (found_at_subtable l items origin)
+pub at_subtable_finds : (l : Lookup) (items : List Item) (origin : Origin) → Finds (sought_at_subtable l items origin) (found_at_subtable l items origin)
 at_subtable_finds l items origin i left s = by_subtable (subtable_at l i)
   where
     by_subtable : (o : Option LookupSubtable) → option_map_or (subtable_sought l items origin left) o (Some (unfound left)) ≡ Some s

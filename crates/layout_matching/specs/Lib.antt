@@ -11,5 +11,6 @@ pub mod Nesting
 pub mod Tried
 pub mod Work
 pub mod Sought
+pub mod Tries
 pub mod Would
 pub mod Worked

@@ -1,17 +1,17 @@
 -- The rule of a lookup of context that applies at a place, and what looking for it costs: what is looked at is charged for before,
--- and nothing after the rule that applies.
+-- and nothing after the rule that applies. So what any lookup costs at a place.
 use Rattle.std.specs.Prelude.{ℕ, List, Bool, Option, Some, None, ◌+◌, ◌||◌, not, nat_eq, nat_le, is_some, length, if◌then◌else◌}
 use Rattle.std.specs.Option.{option_and_then, option_map, option_map_or}
 use Rattle.shape_font.specs.Bytes.{u16_of, fitting}
 use Rattle.shape_items.specs.Items.{Item}
 use Rattle.layout_tables.specs.Lookups.{subtable_count_of}
 use Rattle.layout_tables.specs.declared.lookups.LookupSubtable.{LookupSubtable}
-use Rattle.layout_matching.specs.Found.{is_chained, is_context_subtable, whole_rule, is_first, set_for, number_of, subtable_at, found_if, found_at}
+use Rattle.layout_matching.specs.Found.{is_chained, is_context_subtable, is_context, whole_rule, is_first, set_for, number_of, subtable_at, found_if, found_at}
 use Rattle.layout_matching.specs.Glance.{glances_in, is_refused}
 use Rattle.layout_matching.specs.Loops.{steps}
 use Rattle.layout_matching.specs.Rules.{rule_place}
 use Rattle.layout_matching.specs.Skipping.{nth}
-use Rattle.layout_matching.specs.Work.{charged, uncounted, beside, counted, counts_at, passed_charged, has_classes, rule_charged, SUBTABLE_WORK}
+use Rattle.layout_matching.specs.Work.{charged, uncounted, beside, counted, counts_at, passed_charged, has_classes, rule_charged, SUBTABLE_WORK, lookup_charged, nested_charged, steps_work, NESTED_WORK}
 use Rattle.layout_matching.specs.declared.lookup.Lookup.{Lookup}
 use Rattle.layout_matching.specs.declared.sought.Sought.{Sought}
 use Rattle.layout_matching.specs.declared.spans.Origin.{Origin}
@@ -103,3 +103,18 @@ sought_at_subtable l items origin i left = option_map_or (subtable_sought l item
 abbrev pub sought : Lookup → List Item → Origin → ℕ → Option Sought
 sought l items origin left =
     steps (unless_found (sought_at_subtable l items origin)) (subtable_count_of l.table.now l.place) 0 (unfound left)
+
+-- ---- what a lookup costs at a place
+
+abbrev pub sought_left : Lookup → List Item → Origin → ℕ → Option ℕ
+sought_left l items origin left = option_map (λ (s : Sought). s.left) (sought l items origin left)
+
+-- one of context is charged for as its rule is sought, any other one before it is tried
+abbrev pub place_charged : Lookup → List Item → Origin → ℕ → Option ℕ
+place_charged l items origin left = if is_context l then sought_left l items origin left else lookup_charged l items origin.at left
+
+-- one that a rule names costs more
+abbrev pub named_charged : Lookup → List Item → Origin → ℕ → Option ℕ
+named_charged l items origin left = if is_context l
+    then option_and_then (sought_left l items origin) (charged (steps_work l + NESTED_WORK) left)
+    else nested_charged l items origin.at left

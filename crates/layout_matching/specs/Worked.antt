@@ -4,6 +4,8 @@ pub mod Passing
 pub mod Glance
 pub mod Would
 pub mod Sought
+pub mod Tries
+pub mod Seeking
 use Rattle.std.specs.Prelude.{◌≡◌, ℕ, ◌+◌, Bool, List, [], ◌∷◌, Some, None, true, false, refl}
 use Rattle.shape_font.specs.Worked.Glyphs.{words}
 use Rattle.shape_items.specs.Items.{Item}

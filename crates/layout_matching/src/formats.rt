@@ -22,7 +22,8 @@ fn from_one_place(test: Test, start: usize) -> RowTests
     }
 }
 
-/// The one rule of a subtable of format 3.
+/// The one rule of a subtable of format 3. Inlined, as few of its numbers are read of most rules.
+#[inline(always)]
 pub(crate) fn whole_rule(table: &[u8], is_chain: bool, start: usize) -> Rule
     requires { start < 2 ^ 35 }
     ensures { result ≡ found_rules.whole_rule table.now is_chain start }

@@ -63,6 +63,7 @@ pub(crate) fn is_context_subtable(lookup: &Lookup<'_>, subtable: LookupSubtable)
 }
 
 /// The rule, if the table has all of its bytes, and it matches.
+#[inline(always)]
 pub(crate) fn found_if(
     lookup: &Lookup<'_>,
     items: &ItemList<'_>,

@@ -34,7 +34,8 @@ pub struct First {
 }
 
 /// Whether a glyph is a mark on a component of a ligature.
-fn is_on_component(item: &hb_glyph_info_t) -> bool
+#[inline(always)]
+pub(crate) fn is_on_component(item: &hb_glyph_info_t) -> bool
     ensures { result ≡ Input.is_on_component item.now }
 {
     0 < item._hb_glyph_info_get_ligature_id() && 0 < item._hb_glyph_info_get_ligature_component()

@@ -5,7 +5,7 @@
 //! context, [`glance`] refuses most of them at once ([`around`] looks as far as a rule asks), [`found`] has the first
 //! rule that matches, and [`nesting`] the lookups that it names. [`tried`] and [`reaching`] say how far searches in
 //! vain looked. [`work`] says what a lookup is charged for, by [`sets`] of rules, [`tally`] of each rule and
-//! [`passing`] of glyphs beside a place; [`beside`] charges subtables of positioning, which share those glyphs, and
+//! [`passing`] of glyphs beside a place, and [`nearest`] looks at the nearest ones first; [`beside`] charges subtables of positioning, which share those glyphs, and
 //! [`sought`] a lookup of context while it looks for the rule that applies.
 //! [`firsts`] has the glyphs that subtables may begin at, and [`indexed`] a lookup with those of its own.
 //! [`would`] says whether context would match glyphs that stand alone. All are functions of the bytes of the font and of
@@ -22,6 +22,7 @@ pub mod glance;
 pub mod indexed;
 pub mod input;
 pub mod lookup;
+pub mod nearest;
 pub mod nesting;
 pub mod passing;
 pub mod reaching;

@@ -1,11 +1,14 @@
 //! The glyphs beside a place that a lookup passes over, and what they cost.
-ghost use Rattle.std.specs.Prelude.{◌≡◌, ◌<◌, ◌≤◌, ◌+◌, ◌-◌, ◌^◌, length};
+ghost use Rattle.std.specs.Prelude.{◌≡◌, ◌<◌, ◌≤◌, ◌+◌, ◌-◌, ◌^◌, Bool, true, length};
 ghost use Rattle.layout_matching.specs.Loops.{along};
 ghost use Rattle.layout_matching.specs.Skipping.{nth};
 ghost use Rattle.layout_matching.specs.Work;
 
+use crate::input::is_on_component;
 use crate::lookup::Lookup;
+use crate::nearest::ends_searches;
 use crate::skipping::{is_skipped, is_transparent};
+use crate::tally::Tally;
 use layout_buffer::ItemList;
 use shape_buffer::hb_glyph_info_t;
 
@@ -144,4 +147,69 @@ pub(crate) fn passed_before(
         passing = passing_step(lookup, listed, items.at(at - 1 - d), passing);
     }
     passing.total
+}
+
+/// Whether nothing is passed over on the way from place `from` to the `n`th glyph, as the glyphs there say.
+#[tactic(auto, using(crate::proofs::PassingLemmas::along_next, crate::proofs::PassingLemmas::along_end, crate::proofs::PassingLemmas::after_stops))]
+#[inline(always)]
+fn is_free_from(lookup: &Lookup<'_>, items: &ItemList<'_>, from: usize, n: usize) -> bool
+    ensures { result ≡ true → (listed : Bool)
+        → (along (λ j. Work.passing_step lookup.now listed (nth items.now j))
+        (length items.now - from) from (Work.to_stops n)).total ≡ 0 }
+{
+    let mut stops = n;
+    for j in from..items.len() {
+        if stops == 0 {
+            return true;
+        }
+        if !ends_searches(lookup, items.at(j)) {
+            return false;
+        }
+        stops -= 1;
+    }
+    true
+}
+
+/// The same on the way to the `n`th glyph before a place.
+#[tactic(auto, using(crate::proofs::PassingLemmas::along_next, crate::proofs::PassingLemmas::along_end, crate::proofs::PassingLemmas::before_stops))]
+#[inline(always)]
+fn is_free_before(lookup: &Lookup<'_>, items: &ItemList<'_>, at: usize, n: usize) -> bool
+    requires { at ≤ length items.now }
+    ensures { result ≡ true → (listed : Bool)
+        → Work.passed_before lookup.now listed items.now at n ≡ 0 }
+{
+    let mut stops = n;
+    for d in 0..at {
+        if stops == 0 {
+            return true;
+        }
+        if !ends_searches(lookup, items.at(at - 1 - d)) {
+            return false;
+        }
+        stops -= 1;
+    }
+    true
+}
+
+/// Whether nothing is passed over on the way from a place to so many glyphs before it and after it, as the glyphs there say. So it
+/// is nearly always.
+#[inline(always)]
+pub(crate) fn is_free_beside(
+    lookup: &Lookup<'_>,
+    items: &ItemList<'_>,
+    at: usize,
+    count: Tally,
+) -> bool
+    requires { at < length items.now }
+    ensures { result ≡ true → (listed : Bool) → Work.passed lookup.now listed items.now at count ≡ 0 }
+{
+    // The list can be counted, so the place after one of its own can.
+    let _count = items.len();
+    if !is_free_before(lookup, items, at, count.before) {
+        return false;
+    }
+    if !is_free_from(lookup, items, at + 1, count.after) {
+        return false;
+    }
+    !is_on_component(items.at(at))
 }

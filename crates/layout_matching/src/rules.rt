@@ -115,6 +115,7 @@ pub(crate) fn is_inside(table: &[u8], rule: &Rule) -> bool
 }
 
 /// So many values, from a place on.
+#[inline(always)]
 pub(crate) fn row_of(test: Test, from: usize, count: u16, values: usize) -> Row
     ensures { result ≡ row test from count values }
 {
@@ -127,6 +128,7 @@ pub(crate) fn row_of(test: Test, from: usize, count: u16, values: usize) -> Row
 }
 
 /// A rule without what stands before and after.
+#[inline(always)]
 pub(crate) fn plain(table: &[u8], test: Test, from: usize, at: usize, values: usize) -> Rule
     requires at { at < 2 ^ 38 }
     requires values { values < 2 ^ 38 }

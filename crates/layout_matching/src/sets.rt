@@ -7,7 +7,7 @@ use crate::found::{is_chained, is_context_subtable};
 use crate::glance::{Glances, glances_around, is_refused};
 use crate::input::marks_passed;
 use crate::lookup::Lookup;
-use crate::passing::{SEARCH_WORK, passed_after, passed_before};
+use crate::passing::{SEARCH_WORK, is_free_beside, passed_after, passed_before};
 use crate::rules::{Rule, rule_at};
 use crate::spans::Origin;
 use crate::tally::{
@@ -21,9 +21,27 @@ use shape_font::bytes::{records, u16_at};
 /// How many marks cost one that are looked at for the ligature that a mark stands on: nothing but their ligature is read.
 const MARKS_PART: usize = 4;
 
-/// What a rule or a set passes over beside a place, by glyphs that are `listed` or aren't.
+/// What a rule or a set passes over beside a place, by glyphs that are `listed` or aren't. Nearly always that is nothing.
 #[inline(never)]
 pub(crate) fn passed(
+    lookup: &Lookup<'_>,
+    listed: bool,
+    items: &ItemList<'_>,
+    at: usize,
+    count: Tally,
+) -> usize
+    requires { at < length items.now }
+    ensures { result ≡ Work.passed lookup.now listed items.now at count }
+{
+    if is_free_beside(lookup, items, at, count) {
+        return 0;
+    }
+    passed_glyphs(lookup, listed, items, at, count)
+}
+
+/// The same, where a glyph may be passed over.
+#[inline(never)]
+fn passed_glyphs(
     lookup: &Lookup<'_>,
     listed: bool,
     items: &ItemList<'_>,
@@ -62,6 +80,7 @@ fn lists_charged(rule: &Rule, left: usize) -> Option<usize>
 }
 
 /// What is left after what a rule names, and what it passes over.
+#[inline(always)]
 fn counted_charged(
     lookup: &Lookup<'_>,
     items: &ItemList<'_>,
@@ -79,6 +98,7 @@ fn counted_charged(
 }
 
 /// What is left after one rule of lists.
+#[inline(always)]
 pub(crate) fn rule_charged(
     lookup: &Lookup<'_>,
     items: &ItemList<'_>,

@@ -16,6 +16,7 @@ use crate::found::{
 use crate::glance::Glances;
 use crate::indexed::Indexed;
 use crate::lookup::Lookup;
+use crate::nearest::is_missed;
 use crate::rules::{begins_inside, rule_at};
 use crate::sets::{has_classes, passed_charged, rule_charged};
 use crate::spans::Origin;
@@ -190,7 +191,8 @@ fn set_sought(
     }
 }
 
-/// The first rule of a subtable of format 1 or 2 that applies.
+/// The first rule of a subtable of format 1 or 2 that applies. A call of its own, as what it returns would be copied.
+#[inline(never)]
 fn sets_sought(
     lookup: &Lookup<'_>,
     items: &ItemList<'_>,
@@ -217,7 +219,8 @@ fn sets_sought(
     }
 }
 
-/// The one rule of a subtable of format 3, if it applies. It is read once.
+/// The one rule of a subtable of format 3, if it applies. It is read once. A call of its own, as what it returns would be copied.
+#[inline(never)]
 fn whole_sought(
     lookup: &Lookup<'_>,
     items: &ItemList<'_>,
@@ -239,13 +242,16 @@ fn whole_sought(
         return None;
     };
     let rule = whole_rule(lookup.table, is_chain, subtable.start);
-    match rule_charged(lookup, items, origin.at, &rule, left) {
-        Some(left) => Some(Sought {
-            left,
-            found: found_if(lookup, items, origin, rule),
-        }),
-        None => None,
+    let Some(left) = rule_charged(lookup, items, origin.at, &rule, left) else {
+        return None;
+    };
+    if is_missed(lookup, items, origin, &rule) {
+        return Some(unfound(left));
     }
+    Some(Sought {
+        left,
+        found: found_if(lookup, items, origin, rule),
+    })
 }
 
 /// The first rule of subtable `i` that applies.

@@ -25,10 +25,10 @@ use shape_font::bytes::u16_at;
 pub(crate) const SUBTABLE_WORK: usize = 8;
 
 /// What a subtable costs at each item of a list, whether it begins there or not.
-const STEP_WORK: usize = 8;
+pub const STEP_WORK: usize = 8;
 
 /// The same if the lookup is plain, which is paid by that alone.
-const PLAIN_WORK: usize = 16;
+pub const PLAIN_WORK: usize = 16;
 
 /// What a lookup costs that a rule names.
 const NESTED_WORK: usize = 32;

@@ -2,7 +2,9 @@
 ghost use Rattle.layout_matching.specs.Worked.{WorkedNullClasses, WorkedEnds, WorkedTypes};
 ghost use Rattle.layout_matching.specs.Worked.Glance.{WorkedGlance};
 ghost use Rattle.layout_matching.specs.Worked.Passing.{WorkedPassing};
+ghost use Rattle.layout_matching.specs.Worked.Seeking.{WorkedSeeking};
 ghost use Rattle.layout_matching.specs.Worked.Sought.{WorkedSought};
+ghost use Rattle.layout_matching.specs.Worked.Tries.{WorkedTries};
 ghost use Rattle.layout_matching.specs.Worked.Work.{WorkedWork};
 ghost use Rattle.layout_matching.specs.Worked.Would.{WorkedWould};
 
@@ -40,4 +42,14 @@ pub fn glances_meet_worked_cases()
 /// Which rules of context match glyphs that stand alone, and at which glyphs subtables of context begin.
 pub fn would_meets_worked_cases()
     ensures { WorkedWould }
+{}
+
+/// How many subtables are asked at a place, and how many rules are compared there, up to the first that applies.
+pub fn tries_meet_worked_cases()
+    ensures { WorkedTries }
+{}
+
+/// Which glyphs a search finds, how many a rule may have, and which syllable it keeps to.
+pub fn searches_meet_worked_cases()
+    ensures { WorkedSeeking }
 {}

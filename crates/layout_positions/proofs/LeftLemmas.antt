@@ -9,17 +9,18 @@ use Rattle.layout_tables.specs.declared.lookups.LookupSubtable.{LookupSubtable}
 use Rattle.layout_matching.specs.Found.{found_of, is_context}
 use Rattle.layout_matching.specs.Loops.{times}
 use Rattle.layout_matching.specs.Skipping.{nth, is_on}
-use Rattle.layout_matching.specs.Work.{lookup_charged, nested_charged, walk_work}
+use Rattle.layout_matching.specs.Sought.{place_charged, named_charged}
+use Rattle.layout_matching.specs.Work.{walk_work}
 use Rattle.layout_matching.specs.declared.found.Found.{Found}
 use Rattle.layout_matching.specs.declared.lookup.Lookup.{Lookup}
 use Rattle.layout_matching.specs.declared.rules.Rule.{Rule}
 use Rattle.layout_positions.specs.Edits.{broken}
 use Rattle.layout_positions.specs.Marks.{base_seen, seek_work}
-use Rattle.layout_positions.specs.Nested.{LEVELS, named_index, named_place, named_lookup, Nest, skipped, spent, record_within, record_at_place, place_charged, record_for, record_step, rule_placed, origin_at, tried_concat_marked, first_rule_placed, level_placed, nested_placed}
+use Rattle.layout_positions.specs.Nested.{LEVELS, named_index, named_place, named_lookup, Nest, skipped, spent, record_within, record_at_place, seek_charged, record_for, record_step, rule_placed, origin_at, tried_concat_marked, first_rule_placed, level_placed, nested_placed}
 use Rattle.layout_positions.specs.Subtables.{looks_for_base, Placing, unplaced, sought_from, links_of, links_charged, unsought, sought, kind_placed, subtable_placed, Trial, trial_of, subtable_tried, next_tried, trial_step, lookup_placed}
 use Rattle.layout_positions.specs.Walk.{Budgeted, Walk, tried_within, tried, lookup_step, first_walk, gone_over, walk_charged, lookup_applied, budgeted, positioned}
 use Rattle.layout_positions.specs.declared.bases.BaseSeen.{BaseSeen}
-use Rattle.layout_positions.proofs.ChargeLemmas.{charged-lessens, lookup_charged-lessens, nested_charged-lessens}
+use Rattle.layout_matching.proofs.ChargeLemmas.{charged-lessens, place_charged-lessens, named_charged-lessens}
 
 pub nothing-left : {P : Type 0} → 0 < 0 → P
 nothing-left less = absurd (omega (arith, less))
@@ -84,7 +85,7 @@ times-less view f one (suc n) s =
 
 -- ---- lookups that are named
 
-abbrev NextLess : (Lookup → ℕ → ℕ → BaseSeen → Buffer → Placing) → Type 0
+abbrev pub NextLess : (Lookup → ℕ → ℕ → BaseSeen → Buffer → Placing) → Type 0
 NextLess next = (l : Lookup) (i left : ℕ) (seen : BaseSeen) (b : Buffer) → (next l i left seen b).left ≤ left
 
 record-less : (next : Lookup → ℕ → ℕ → BaseSeen → Buffer → Placing) → NextLess next → (l : Lookup) (at : ℕ) (rule : Rule) (s : Nest)
@@ -93,7 +94,7 @@ record-less next deeper l at rule s = by_left (nat_eq s.left 0)
   where
     by_charge : (other : Lookup) (place : ℕ) (o : Option ℕ)
         → ((rest : ℕ) → o ≡ Some rest → rest ≤ s.left - named_index l rule s.r * 8)
-        → (option_map_or (record_within next (place_charged l rule s) other place) o (spent (place_charged l rule s))).left ≤ s.left
+        → (option_map_or (record_within next (seek_charged l rule s) other place) o (spent (seek_charged l rule s))).left ≤ s.left
     by_charge other place None low = omega arith
     by_charge other place (Some rest) low =
         let first = low rest refl in
@@ -101,11 +102,11 @@ record-less next deeper l at rule s = by_left (nat_eq s.left 0)
         omega (arith, first, made)
 
     by_place : (other : Lookup) (o : Option ℕ)
-        → (option_map_or (record_at_place next (place_charged l rule s) other) o (skipped s)).left ≤ s.left
+        → (option_map_or (record_at_place next (seek_charged l rule s) other) o (skipped s)).left ≤ s.left
     by_place other None = omega arith
     by_place other (Some place) =
-        by_charge other place (nested_charged other s.buffer.items place (s.left - named_index l rule s.r * 8))
-        (λ rest. nested_charged-lessens other s.buffer.items place (s.left - named_index l rule s.r * 8) rest)
+        by_charge other place (named_charged other s.buffer.items (origin_at place) (s.left - named_index l rule s.r * 8))
+        (λ rest. named_charged-lessens other s.buffer.items (origin_at place) (s.left - named_index l rule s.r * 8) rest)
 
     by_lookup : (o : Option Lookup) → (option_map_or (record_for next l at rule s) o (skipped s)).left ≤ s.left
     by_lookup None = omega arith
@@ -116,7 +117,7 @@ record-less next deeper l at rule s = by_left (nat_eq s.left 0)
     by_left true = omega arith
     by_left false = by_lookup (named_lookup l rule s.r)
 
-level-less : (next : Lookup → ℕ → ℕ → BaseSeen → Buffer → Placing) → NextLess next → NextLess (level_placed next)
+pub level-less : (next : Lookup → ℕ → ℕ → BaseSeen → Buffer → Placing) → NextLess next → NextLess (level_placed next)
 level-less next deeper l i left seen b = by_kind (is_context l)
   where
     by_found : (c : Buffer) (o : Option Found) → (option_map_or (rule_placed next l i left seen c) o (unplaced left seen c)).left ≤ left
@@ -134,7 +135,7 @@ level-less next deeper l i left seen b = by_kind (is_context l)
         times-less (λ (t : Trial). t.left) (trial_step l i) (trial-less l i) (subtable_count_of l.table.now l.place)
         (record { buffer = b; next = None; seen = seen; left = left; subtable = 0 })
 
-nested-less : (level : ℕ) → NextLess (nested_placed level)
+pub nested-less : (level : ℕ) → NextLess (nested_placed level)
 nested-less zero l i left seen b = omega arith
 nested-less (suc level) l i left seen b = by_inside (level-less (nested_placed level) (nested-less level) l i left seen b) (nat_lt i (length b.items))
   where
@@ -174,7 +175,8 @@ walk-less l s = by_inside (nat_lt s.at (length s.buffer.items))
         omega (arith, first, made)
 
     by_on : (t : Bool) → (if t then tried l s else record s { at = s.at + 1 }).left ≤ s.left
-    by_on true = by_charge (lookup_charged l s.buffer.items s.at s.left) (λ rest. lookup_charged-lessens l s.buffer.items s.at s.left rest)
+    by_on true = by_charge (place_charged l s.buffer.items (origin_at s.at) s.left)
+        (λ rest. place_charged-lessens l s.buffer.items (origin_at s.at) s.left rest)
     by_on false = omega arith
 
     by_inside : (t : Bool) → (if t then (if is_on l (nth s.buffer.items s.at) then tried l s else record s { at = s.at + 1 }) else s).left ≤ s.left

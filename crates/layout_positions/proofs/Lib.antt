@@ -23,8 +23,8 @@ pub mod FollowLemmas
 pub mod ForestLemmas
 pub mod PointLemmas
 pub mod LinkLemmas
-pub mod ChargeLemmas
 pub mod LeftLemmas
+pub mod TriesLemmas
 pub mod SightLemmas
 pub mod TrialLemmas
 pub mod StageLemmas

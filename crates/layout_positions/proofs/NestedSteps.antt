@@ -7,12 +7,13 @@ use Rattle.layout_matching.specs.Found.{found_of, is_context}
 use Rattle.layout_matching.specs.Loops.{times}
 use Rattle.layout_matching.specs.Skipping.{nth, is_on}
 use Rattle.layout_matching.specs.Tried.{reach_of}
-use Rattle.layout_matching.specs.Work.{lookup_charged, nested_charged, walk_work}
+use Rattle.layout_matching.specs.Sought.{place_charged, named_charged}
+use Rattle.layout_matching.specs.Work.{walk_work}
 use Rattle.layout_matching.specs.declared.found.Found.{Found}
 use Rattle.layout_matching.specs.declared.lookup.Lookup.{Lookup}
 use Rattle.layout_matching.specs.declared.rules.Rule.{Rule}
 use Rattle.layout_positions.specs.Edits.{broken, concat_marked}
-use Rattle.layout_positions.specs.Nested.{named_place, named_lookup, Nest, skipped, spent, place_charged, record_within, record_at_place, record_for, record_step, rule_placed, origin_at, tried_concat_marked, first_rule_placed, level_placed, LEVELS, nested_placed}
+use Rattle.layout_positions.specs.Nested.{named_place, named_lookup, Nest, skipped, spent, seek_charged, record_within, record_at_place, record_for, record_step, rule_placed, origin_at, tried_concat_marked, first_rule_placed, level_placed, LEVELS, nested_placed}
 use Rattle.layout_positions.specs.Subtables.{Placing, unplaced, lookup_placed}
 use Rattle.layout_positions.specs.Walk.{Walk, tried_within, lookup_step, Budgeted, first_walk, gone_over, walk_charged, lookup_applied}
 use Rattle.layout_positions.specs.declared.bases.BaseSeen.{BaseSeen}
@@ -45,16 +46,16 @@ module _ (P : Buffer → Buffer → Type 0) (same : (b : Buffer) → P b b) (aft
 
   step-place : (next : Lookup → ℕ → ℕ → BaseSeen → Buffer → Placing) → Preserves next → (s : Nest) (other : Lookup) (place : ℕ)
       → P s.buffer (record_at_place next s other place).buffer
-  step-place next preserves s other place = by_charge (nested_charged other s.buffer.items place s.left)
+  step-place next preserves s other place = by_charge (named_charged other s.buffer.items (origin_at place) s.left)
     where
       by_charge : (o : Option ℕ) → P s.buffer (option_map_or (record_within next s other place) o (spent s)).buffer
       by_charge None = same s.buffer
       by_charge (Some left) = preserves other place left s.seen s.buffer
 
   step-for : (next : Lookup → ℕ → ℕ → BaseSeen → Buffer → Placing) → Preserves next → (l : Lookup) (rule : Rule) (s : Nest) (other : Lookup)
-      (o : Option ℕ) → P s.buffer (option_map_or (record_at_place next (place_charged l rule s) other) o (skipped s)).buffer
+      (o : Option ℕ) → P s.buffer (option_map_or (record_at_place next (seek_charged l rule s) other) o (skipped s)).buffer
   step-for next preserves l rule s other None = same s.buffer
-  step-for next preserves l rule s other (Some place) = step-place next preserves (place_charged l rule s) other place
+  step-for next preserves l rule s other (Some place) = step-place next preserves (seek_charged l rule s) other place
 
   step-named : (next : Lookup → ℕ → ℕ → BaseSeen → Buffer → Placing) → Preserves next → (l : Lookup) (at : ℕ) (rule : Rule) (s : Nest)
       (o : Option Lookup) → P s.buffer (option_map_or (record_for next l at rule s) o (skipped s)).buffer
@@ -115,7 +116,7 @@ module _ (P : Buffer → Buffer → Type 0) (same : (b : Buffer) → P b b) (aft
   step-walk l s =
       walk-if (nat_lt s.at (length s.buffer.items)) s.buffer _ s
       (walk-if (is_on l (nth s.buffer.items s.at)) s.buffer _ (record s { at = s.at + 1 })
-      (step-try l s (lookup_charged l s.buffer.items s.at s.left)) (same s.buffer))
+      (step-try l s (place_charged l s.buffer.items (origin_at s.at) s.left)) (same s.buffer))
       (same s.buffer)
 
   step-over : (l : Lookup) (s : Budgeted) → P s.buffer (gone_over s l).buffer

@@ -13,8 +13,9 @@ use Rattle.layout_matching.specs.Found.{found_of, is_context}
 use Rattle.layout_matching.specs.Loops.{times}
 use Rattle.layout_matching.specs.Nesting.{lookup_with, record_at}
 use Rattle.layout_matching.specs.Skipping.{nth, is_on}
+use Rattle.layout_matching.specs.Sought.{place_charged, named_charged}
 use Rattle.layout_matching.specs.Tried.{reach_of}
-use Rattle.layout_matching.specs.Work.{lookup_charged, nested_charged, walk_work}
+use Rattle.layout_matching.specs.Work.{walk_work}
 use Rattle.layout_matching.specs.declared.found.Found.{Found}
 use Rattle.layout_matching.specs.declared.lookup.Lookup.{Lookup}
 use Rattle.layout_matching.specs.declared.rules.Rule.{Rule}
@@ -22,7 +23,7 @@ use Rattle.layout_positions.specs.Attachment.{each}
 use Rattle.layout_positions.specs.Edits.{broken, concat_marked}
 use Rattle.layout_positions.specs.Lookups.{Applied, unapplied}
 use Rattle.layout_positions.specs.Marks.{is_base_seen}
-use Rattle.layout_positions.specs.Nested.{LEVELS, named_index, named_place, named_lookup, Nest, skipped, spent, record_within, record_at_place, place_charged, record_for, record_step, rule_placed, origin_at, tried_concat_marked, first_rule_placed, level_placed, nested_placed}
+use Rattle.layout_positions.specs.Nested.{LEVELS, named_index, named_place, named_lookup, Nest, skipped, spent, record_within, record_at_place, seek_charged, record_for, record_step, rule_placed, origin_at, tried_concat_marked, first_rule_placed, level_placed, nested_placed}
 use Rattle.layout_positions.specs.Stage.{by_subtables, at_named, by_named, by_record, by_rule, by_rules, by_level, by_lookup, Going, going_on, at_glyph, over_line, stage_applied, HasNoLaterComponents, LeavesFlags}
 use Rattle.layout_positions.specs.Subtables.{Placing, unplaced, Trial, trial_step, lookup_placed}
 use Rattle.layout_positions.specs.Walk.{Budgeted, Walk, tried_within, tried, lookup_step, none_seen, first_walk, gone_over, walk_charged, lookup_applied, budgeted, positioned}
@@ -85,22 +86,22 @@ module _ (l : Lookup) (leaves : LeavesFlags l) where
         place_index = u16_of other.table.now (record_at rule s.r + 2)
 
         by_charge : (named place : ℕ) → 0 < s.left → (o : Option ℕ)
-            → 0 < (option_map_or (record_within next (place_charged other rule s) (lookup_with other named) place) o
-            (spent (place_charged other rule s))).left
-            → NestAgrees s.left (s.r + 1) (option_map_or (record_within next (place_charged other rule s) (lookup_with other named) place) o
-            (spent (place_charged other rule s))) (at_named plain s.buffer (lookup_with other named) place)
+            → 0 < (option_map_or (record_within next (seek_charged other rule s) (lookup_with other named) place) o
+            (spent (seek_charged other rule s))).left
+            → NestAgrees s.left (s.r + 1) (option_map_or (record_within next (seek_charged other rule s) (lookup_with other named) place) o
+            (spent (seek_charged other rule s))) (at_named plain s.buffer (lookup_with other named) place)
         by_charge named place first None some = nothing-left some
         by_charge named place first (Some rest) some =
             let made = deeper (lookup_with other named) sees place rest s.seen s.buffer ready some in
             record { buffer = made.buffer; number = refl; ready = made.ready; some = first }
 
         by_place : (named : ℕ) (o : Option ℕ) → 0 < s.left
-            → 0 < (option_map_or (record_at_place next (place_charged other rule s) (lookup_with other named)) o (skipped s)).left
-            → NestAgrees s.left (s.r + 1) (option_map_or (record_at_place next (place_charged other rule s) (lookup_with other named)) o (skipped s))
+            → 0 < (option_map_or (record_at_place next (seek_charged other rule s) (lookup_with other named)) o (skipped s)).left
+            → NestAgrees s.left (s.r + 1) (option_map_or (record_at_place next (seek_charged other rule s) (lookup_with other named)) o (skipped s))
             (option_map_or (at_named plain s.buffer (lookup_with other named)) o s.buffer)
         by_place named None first some = record { buffer = refl; number = refl; ready = ready; some = first }
         by_place named (Some place) first some =
-            by_charge named place first (nested_charged (lookup_with other named) s.buffer.items place (s.left - named_index other rule s.r * 8)) some
+            by_charge named place first (named_charged (lookup_with other named) s.buffer.items (origin_at place) (s.left - named_index other rule s.r * 8)) some
 
         by_lookup_of : (o : Option ℕ) → 0 < s.left
             → 0 < (option_map_or (record_for next other at rule s) (option_map (lookup_with other) o) (skipped s)).left
@@ -235,7 +236,7 @@ module _ (l : Lookup) (leaves : LeavesFlags l) where
       by_on : (t : Bool) → 0 < (if t then tried l s else record s { at = s.at + 1 }).left
           → WalkAgrees (if t then tried l s else record s { at = s.at + 1 })
           (if t then going_on s.at (by_lookup LEVELS l s.at s.buffer) else record here { at = s.at + 1 })
-      by_on true more = by_charge (lookup_charged l s.buffer.items s.at s.left) more
+      by_on true more = by_charge (place_charged l s.buffer.items (origin_at s.at) s.left) more
       by_on false more = record { buffer = refl; at = refl; ready = ready }
 
       by_inside : (t : Bool)

@@ -2,21 +2,25 @@
 use Prim.Native.Nat.{zero}
 use Rattle.std.proofs.Common.{◌≡◌, ℕ, suc, ◌+◌, ◌-◌, ◌*◌, ◌&&◌, Bool, true, false, List, [], ◌∷◌, Option, Some, None, is_some, All, fold, length, nat_eq, nat_lt, refl, sym, ap, subst, ◌∙◌, arith, ◌<◌, ◌≤◌, ◌||◌, if◌then◌else◌}
 use Rattle.std.proofs.lemmas.Bool.Decides.{nat_tests}
-use Rattle.std.specs.Option.{option_map_or, option_and_then}
+use Rattle.std.specs.Option.{option_map, option_map_or, option_and_then}
 use Rattle.shape_font.specs.Bytes.{u16_of}
 use Rattle.shape_items.specs.Buffer.{Buffer}
 use Rattle.shape_items.specs.Items.{Item}
 use Rattle.layout_tables.specs.Lookups.{subtable_count_of, subtable_of}
 use Rattle.layout_tables.specs.declared.lookups.LookupSubtable.{LookupSubtable}
-use Rattle.layout_matching.specs.Firsts.{IsOut}
+use Rattle.layout_matching.specs.Firsts.{begins, IsOut}
 use Rattle.layout_matching.specs.Found.{extension_kind, is_context, is_context_subtable, is_chained, whole_rule, is_first, found_whole, found_by_number, found_in_sets, found_in_subtable, found_at_subtable, found_of}
 use Rattle.layout_matching.specs.Loops.{times, first_some}
 use Rattle.layout_matching.specs.Skipping.{nth, is_on}
 use Rattle.layout_matching.specs.Tried.{untried, whole_reach, number_reach, sets_reach, subtable_reach, reach_at_subtable, reach_of}
 use Rattle.layout_digests.proofs.TriedLemmas.{until_untried_below}
-use Rattle.layout_matching.specs.Work.{subtable_charged, charged_at_subtable, lookup_charged, walk_work, walks_charged}
-use Rattle.layout_matching.proofs.WorkLemmas.{subtable_free, lookup_free}
+use Rattle.layout_matching.specs.Sought.{sought_left, place_charged}
+use Rattle.layout_matching.specs.Work.{lookup_charged, walk_work, walks_charged}
+use Rattle.layout_matching.proofs.FirstLemmas.{charged_out}
+use Rattle.layout_matching.proofs.SoughtLemmas.{sought_free}
+use Rattle.layout_matching.proofs.WorkLemmas.{lookup_free}
 use Rattle.layout_matching.specs.declared.lookup.Lookup.{Lookup}
+use Rattle.layout_matching.specs.declared.sought.Sought.{Sought as RuleSought}
 use Rattle.layout_matching.specs.declared.spans.Origin.{Origin}
 use Rattle.layout_matching.specs.declared.tried.Reach.{Reach}
 use Rattle.layout_positions.specs.Anchors.{number_at}
@@ -315,25 +319,24 @@ abbrev passed : Walk → Walk
 passed s = record s { at = s.at + 1 }
 
 -- a lookup that doesn't list the glyph is charged for nothing
-charged-un : (l : Lookup) (items : List Item) (at left : ℕ) → l.positioning ≡ true → IsUnlisted l (nth items at).glyph_id
-    → lookup_charged l items at left ≡ Some left
-charged-un l items at left gpos un = lookup_free l items at left free
-  where
-    by_subtable : (k : ℕ) → k < subtable_count_of l.table.now l.place → (o : Option LookupSubtable)
-        → subtable_of l.table.now 9 l.place k ≡ o → option_map_or (subtable_charged l items at left) o (Some left) ≡ Some left
-    by_subtable k below None e = refl
-    by_subtable k below (Some subtable) e = subtable_free l items at left subtable (un k subtable below e)
+out_of : (l : Lookup) (glyph k : ℕ) → l.positioning ≡ true → IsUnlisted l glyph → k < subtable_count_of l.table.now l.place → IsOut l k glyph
+out_of l glyph k gpos un below =
+    subst (λ kind. (subtable : LookupSubtable) → subtable_of l.table.now kind l.place k ≡ Some subtable → begins l subtable glyph ≡ false)
+    (sym (ap (λ t. if t then 9 else 7) gpos)) (λ subtable. un k subtable below)
 
-    free : (k : ℕ) → k < subtable_count_of l.table.now l.place → charged_at_subtable l items at k left ≡ Some left
-    free k below =
-        let far : extension_kind l ≡ 9 = ap (λ t. if t then 9 else 7) gpos in
-        ap (λ kind. option_map_or (subtable_charged l items at left) (subtable_of l.table.now kind l.place k) (Some left)) far
-        ∙ by_subtable k below (subtable_of l.table.now 9 l.place k) refl
+charged-un : (l : Lookup) (items : List Item) (origin : Origin) (left : ℕ) → l.positioning ≡ true
+    → IsUnlisted l (nth items origin.at).glyph_id → place_charged l items origin left ≡ Some left
+charged-un l items origin left gpos un =
+    same-if (is_context l) (sought_left l items origin left) (lookup_charged l items origin.at left) (Some left)
+    (ap (option_map (λ (s : RuleSought). s.left))
+    (sought_free l items origin left (λ k below. out_of l (nth items origin.at).glyph_id k gpos un below)))
+    (lookup_free l items origin.at left
+    (λ k below. charged_out l items origin.at k left (out_of l (nth items origin.at).glyph_id k gpos un below)))
 
 try-un : (l : Lookup) (s : Walk) → l.positioning ≡ true → IsUnlisted l (nth s.buffer.items s.at).glyph_id → tried l s ≡ passed s
 try-un l s gpos un =
     ap (λ o. option_map_or (tried_within l s) o (record s { at = s.at + 1; left = 0 }))
-    (charged-un l s.buffer.items s.at s.left gpos un)
+    (charged-un l s.buffer.items (origin_at s.at) s.left gpos un)
     ∙ ap (gone_on s.at) (nested-un LEVELS l s.at s.left s.seen s.buffer gpos un)
 
 -- at a glyph that no subtable lists

@@ -15,6 +15,7 @@ pub mod Subtables
 pub mod Known
 pub mod Nested
 pub mod Walk
+pub mod Tries
 pub mod Stage
 pub mod Preserves
 pub mod Uncovered

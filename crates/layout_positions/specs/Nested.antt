@@ -12,8 +12,8 @@ use Rattle.layout_matching.specs.Loops.{times}
 use Rattle.layout_matching.specs.Nesting.{lookup_with, record_at}
 use Rattle.layout_matching.specs.Seeking.{last_after}
 use Rattle.layout_matching.specs.Skipping.{nth}
+use Rattle.layout_matching.specs.Sought.{sought_left, place_charged, named_charged}
 use Rattle.layout_matching.specs.Tried.{reach_of}
-use Rattle.layout_matching.specs.Work.{nested_charged}
 use Rattle.layout_matching.specs.declared.found.Found.{Found}
 use Rattle.layout_matching.specs.declared.lookup.Lookup.{Lookup}
 use Rattle.layout_matching.specs.declared.rules.Rule.{Rule}
@@ -58,24 +58,27 @@ nest_of s made = record { buffer = made.buffer; seen = made.seen; left = made.le
 abbrev pub spent : Nest → Nest
 spent s = record s { left = 0; r = s.r + 1 }
 
+abbrev pub origin_at : ℕ → Origin
+origin_at i = record { at = i; is_steady = true }
+
 abbrev pub record_within : (Lookup → ℕ → ℕ → BaseSeen → Buffer → Placing) → Nest → Lookup → ℕ → ℕ → Nest
 record_within next s other place left = nest_of s (next other place left s.seen s.buffer)
 
 -- a lookup is charged for, whether it applies or not
 abbrev pub record_at_place : (Lookup → ℕ → ℕ → BaseSeen → Buffer → Placing) → Nest → Lookup → ℕ → Nest
 record_at_place next s other place =
-    option_map_or (record_within next s other place) (nested_charged other s.buffer.items place s.left) (spent s)
+    option_map_or (record_within next s other place) (named_charged other s.buffer.items (origin_at place) s.left) (spent s)
 
 -- each record looks for its glyph from the first one of the rule on; each glyph on the way is compared, and searched for in a list
 abbrev pub PLACE_WORK : ℕ
 PLACE_WORK = 8
 
-abbrev pub place_charged : Lookup → Rule → Nest → Nest
-place_charged l rule s = record s { left = s.left - named_index l rule s.r * PLACE_WORK }
+abbrev pub seek_charged : Lookup → Rule → Nest → Nest
+seek_charged l rule s = record s { left = s.left - named_index l rule s.r * PLACE_WORK }
 
 abbrev pub record_for : (Lookup → ℕ → ℕ → BaseSeen → Buffer → Placing) → Lookup → ℕ → Rule → Nest → Lookup → Nest
 record_for next l at rule s other =
-    option_map_or (record_at_place next (place_charged l rule s) other) (named_place l s.buffer.items at rule s.r) (skipped s)
+    option_map_or (record_at_place next (seek_charged l rule s) other) (named_place l s.buffer.items at rule s.r) (skipped s)
 
 -- nothing is done once nothing is left
 abbrev pub record_step : (Lookup → ℕ → ℕ → BaseSeen → Buffer → Placing) → Lookup → ℕ → Rule → Nest → Nest
@@ -88,9 +91,6 @@ rule_placed next l i left seen b found =
     let s = times (record_step next l i found.rule) found.rule.count
     (record { buffer = broken found.span.start found.span.end b; seen = seen; left = left; r = 0 }) in
     record { buffer = s.buffer; next = Some (found.span.last + 1); seen = s.seen; left = s.left }
-
-abbrev pub origin_at : ℕ → Origin
-origin_at i = record { at = i; is_steady = true }
 
 -- what rules looked at in vain, up to the first that matches, is unsafe to concat
 abbrev pub tried_concat_marked : Lookup → ℕ → Buffer → Buffer
@@ -114,3 +114,19 @@ nested_placed (suc level) l i left seen b =
 -- 64 levels below a lookup of the plan
 abbrev pub LEVELS : ℕ
 LEVELS = 65
+
+-- ---- lookups that are charged for at a place
+
+-- where what is left doesn't suffice, nothing is done, and nothing is left
+abbrev pub placed_by_charge : ℕ → Lookup → ℕ → BaseSeen → Buffer → Option ℕ → Placing
+placed_by_charge level l i seen b charge = option_map_or (λ left. nested_placed level l i left seen b) charge (unplaced 0 seen b)
+
+abbrev pub sought_placed : ℕ → Lookup → ℕ → ℕ → BaseSeen → Buffer → Placing
+sought_placed level l i left seen b = placed_by_charge level l i seen b (sought_left l b.items (origin_at i) left)
+
+-- at a place of a walk, and where a rule names the lookup
+abbrev pub walk_placed : ℕ → Lookup → ℕ → ℕ → BaseSeen → Buffer → Placing
+walk_placed level l i left seen b = placed_by_charge level l i seen b (place_charged l b.items (origin_at i) left)
+
+abbrev pub named_placed : ℕ → Lookup → ℕ → ℕ → BaseSeen → Buffer → Placing
+named_placed level l i left seen b = placed_by_charge level l i seen b (named_charged l b.items (origin_at i) left)

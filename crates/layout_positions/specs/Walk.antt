@@ -6,9 +6,10 @@ use Rattle.shape_items.specs.Buffer.{Buffer}
 use Rattle.shape_buffer.specs.PositionWalks.{positions_mapped}
 use Rattle.layout_matching.specs.Loops.{times}
 use Rattle.layout_matching.specs.Skipping.{nth, is_on}
-use Rattle.layout_matching.specs.Work.{lookup_charged, walk_work}
+use Rattle.layout_matching.specs.Sought.{place_charged}
+use Rattle.layout_matching.specs.Work.{walk_work}
 use Rattle.layout_matching.specs.declared.lookup.Lookup.{Lookup}
-use Rattle.layout_positions.specs.Nested.{LEVELS, nested_placed}
+use Rattle.layout_positions.specs.Nested.{LEVELS, origin_at, nested_placed}
 use Rattle.layout_positions.specs.Subtables.{Placing}
 use Rattle.layout_positions.specs.declared.bases.BaseSeen.{BaseSeen}
 
@@ -41,7 +42,7 @@ abbrev pub tried_within : Lookup → Walk → ℕ → Walk
 tried_within l s left = gone_on s.at (nested_placed LEVELS l s.at left s.seen s.buffer)
 
 abbrev pub tried : Lookup → Walk → Walk
-tried l s = option_map_or (tried_within l s) (lookup_charged l s.buffer.items s.at s.left) (record s { at = s.at + 1; left = 0 })
+tried l s = option_map_or (tried_within l s) (place_charged l s.buffer.items (origin_at s.at) s.left) (record s { at = s.at + 1; left = 0 })
 
 -- at each place where the lookup is on it applies, or goes on to the next glyph
 abbrev pub lookup_step : Lookup → Walk → Walk

@@ -7,5 +7,6 @@ pub mod Cursive
 pub mod Attachment
 pub mod Forest
 pub mod Walk
+pub mod Tries
 pub mod Stage
 pub mod Types

@@ -1,5 +1,5 @@
 //! What positioning preserves, for every font and every buffer.
-ghost use Rattle.std.specs.Prelude.{◌≡◌, ◌≤◌, ◌<◌, ◌-◌, ℕ, List, Option, Some, None, All, length};
+ghost use Rattle.std.specs.Prelude.{◌≡◌, ◌≤◌, ◌<◌, ◌+◌, ◌-◌, ℕ, List, Option, Some, None, All, length};
 ghost use Rattle.shape_common.specs.Direction.{is_horizontal};
 ghost use Rattle.shape_buffer.specs.Preservation.{IsClusterPreserving, IsFlagPreserving};
 ghost use Rattle.shape_items.specs.Buffer.{Buffer};
@@ -15,6 +15,7 @@ ghost use Rattle.layout_positions.specs.Marks.{nearest_base, base_of, mark_put};
 ghost use Rattle.layout_positions.specs.NearestBase.{IsBaseOf};
 ghost use Rattle.layout_positions.specs.Preserves.{Kept};
 ghost use Rattle.layout_positions.specs.Stage.{LeavesFlags, HasNoLaterComponents, stage_applied};
+ghost use Rattle.layout_positions.specs.Tries.{position_tries};
 ghost use Rattle.layout_positions.specs.Uncovered.{IsUncovered};
 ghost use Rattle.layout_positions.specs.Turning.{attached};
 ghost use Rattle.layout_positions.specs.Walk.{started, positioned};
@@ -105,4 +106,12 @@ pub fn lookups_with_work_left_are_the_stage()
         → positioned lookups b
         ≡ record (stage_applied lookups b) { max_ops = (positioned lookups b).max_ops } }
     ensures work { (lookups : List LookupOf) (b : Buffer) → (positioned lookups b).max_ops ≤ b.max_ops }
+{}
+
+/// No font makes positioning try more than it may: all subtables that its lookups ask, and all rules
+/// that they compare, nested ones included, are at most what was left before less what is left after.
+/// They are counted over the steps of the definitions (`Tries`).
+pub fn lookups_try_no_more_than_is_left()
+    ensures { (lookups : List LookupOf) (b : Buffer)
+        → position_tries lookups b + (positioned lookups b).max_ops ≤ b.max_ops }
 {}

@@ -3,8 +3,9 @@
 //!
 //! Positioning leaves the items where they are, so that the place of a matched glyph is looked for
 //! again where a record names it, and no list of places is kept.
-ghost use Rattle.std.specs.Prelude.{◌≡◌, ◌<◌, ◌+◌, ◌-◌, ◌*◌, ◌^◌, length};
+ghost use Rattle.std.specs.Prelude.{◌≡◌, ◌<◌, ◌+◌, ◌-◌, ◌*◌, ◌^◌, length, true, None};
 ghost use Rattle.std.specs.Option.{IfSome};
+ghost use Rattle.layout_matching.specs.Found as found_rules;
 ghost use Rattle.layout_positions.specs.Nested;
 ghost use Rattle.layout_matching.specs.Loops.{times};
 
@@ -21,8 +22,9 @@ use layout_matching::reaching::reach_at;
 use layout_matching::rules::Rule;
 use layout_matching::seeking::last_after;
 use layout_matching::skipping::item_at;
+use layout_matching::sought::seek_rule;
 use layout_matching::spans::Origin;
-use layout_matching::work::nested_charged;
+use layout_matching::work::{named_paid, nested_charged};
 use layout_tables::lookups::lookup;
 use shape_buffer::{hb_buffer_t, hb_glyph_info_t};
 use shape_font::bytes::u16_at;
@@ -90,8 +92,57 @@ fn named_lookup<'a>(site: &Site<'a>, r: u32) -> Option<Lookup<'a>>
     }
 }
 
-/// Applies what record `r` of a rule names, at the glyph that it names, if what is left suffices for what it may try.
+/// Nothing is done, and nothing is left.
+pub(crate) fn unpaid(carried: Carried) -> Outcome
+    ensures { result ≡ record { next = None; carried = record { seen = carried.seen; left = 0 } } }
+{
+    Outcome {
+        next: None,
+        carried: Carried {
+            seen: carried.seen,
+            left: 0,
+        },
+    }
+}
+
+/// Applies a lookup that a rule names, if what is left suffices for what it may try. Else nothing is left.
 #[cycle(nesting)]
+#[tactic(auto, using(crate::proofs::NestedLemmas::named_context, crate::proofs::NestedLemmas::named_unpaid, crate::proofs::NestedLemmas::named_plain, crate::proofs::NestedLemmas::named_stopped))]
+fn apply_named(
+    level: u32,
+    lookup: &Lookup<'_>,
+    buffer: &mut hb_buffer_t,
+    at: usize,
+    carried: Carried,
+) -> Outcome
+    requires near { lookup.now.place < 2 ^ 17 }
+    requires inside { at < length buffer.old.items }
+    ensures made { record {
+      buffer = buffer.new;
+      next = result.next;
+      seen = result.carried.seen;
+      left = result.carried.left;
+    } ≡ Nested.named_placed level lookup.now at carried.left carried.seen buffer.old }
+    ensures len { length buffer.new.items ≡ length buffer.old.items }
+{
+    let indexed = Indexed::unstored(&*lookup);
+    let seen = carried.seen;
+    if is_context(lookup) {
+        return match named_paid(lookup, carried.left) {
+            Some(left) => apply_sought(level, &indexed, buffer, at, Carried { seen, left }),
+            None => unpaid(carried),
+        };
+    }
+    let items = ItemList::of_slice(buffer.infos());
+    match nested_charged(lookup, &items, at, carried.left) {
+        Some(left) => apply_nested(level, &indexed, buffer, at, Carried { seen, left }),
+        None => unpaid(carried),
+    }
+}
+
+/// Applies what record `r` of a rule names, at the glyph that it names.
+#[cycle(nesting)]
+#[tactic(auto, using(crate::proofs::NestedLemmas::record_named))]
 fn apply_record(
     level: u32,
     site: &Site<'_>,
@@ -113,16 +164,11 @@ fn apply_record(
     };
     match named_place(site, buffer.infos(), r) {
         Some(place) => {
-            let seen = carried.seen;
-            let items = ItemList::of_slice(buffer.infos());
-            let rest = charge_place(site, r, carried.left);
-            match nested_charged(&other, &items, place, rest) {
-                Some(left) => {
-                    let fewer = Carried { seen, left };
-                    apply_nested(level, &Indexed::unstored(&other), buffer, place, fewer).carried
-                }
-                None => Carried { seen, left: 0 },
-            }
+            let fewer = Carried {
+                seen: carried.seen,
+                left: charge_place(site, r, carried.left),
+            };
+            apply_named(level, &other, buffer, place, fewer).carried
         }
         None => carried,
     }
@@ -269,6 +315,78 @@ fn apply_first(
             carried,
         },
     }
+}
+
+/// Applies the rule that is found at place `at`, if there is one. Where the buffer asks what is unsafe to concat, what was looked
+/// at before is marked first.
+#[cycle(nesting)]
+#[tactic(auto, using(crate::proofs::NestedLemmas::found_some, crate::proofs::NestedLemmas::found_none))]
+fn apply_found(
+    level: u32,
+    indexed: &Indexed<'_>,
+    buffer: &mut hb_buffer_t,
+    at: usize,
+    carried: Carried,
+    found: Option<Found>,
+) -> Outcome
+    requires near { indexed.now.lookup.now.place < 2 ^ 17 }
+    requires inside { at < length buffer.old.items }
+    requires context { found_rules.is_context indexed.now.lookup.now ≡ true }
+    requires found { found ≡ found_rules.found_of indexed.now.lookup.now buffer.old.items
+        (Nested.origin_at at) }
+    requires last { IfSome found (λ f. f.span.last < length buffer.old.items) }
+    ensures made { record {
+      buffer = buffer.new;
+      next = result.next;
+      seen = result.carried.seen;
+      left = result.carried.left;
+    } ≡ Nested.nested_placed level indexed.now.lookup.now at carried.left carried.seen buffer.old }
+    ensures len { length buffer.new.items ≡ length buffer.old.items }
+{
+    if level == 0 || asks_for_concat(buffer) {
+        return apply_nested(level, indexed, buffer, at, carried);
+    }
+    match found {
+        Some(found) => apply_rule(level - 1, indexed.lookup, buffer, at, carried, found),
+        None => Outcome {
+            next: None,
+            carried,
+        },
+    }
+}
+
+/// Applies a lookup of context at place `at`, if what is left suffices for what is looked at. Else nothing is left. Its rule is
+/// sought once.
+#[cycle(nesting)]
+#[inline(never)]
+#[tactic(auto, using(crate::proofs::NestedLemmas::sought_some, crate::proofs::NestedLemmas::sought_none))]
+pub fn apply_sought(
+    level: u32,
+    indexed: &Indexed<'_>,
+    buffer: &mut hb_buffer_t,
+    at: usize,
+    carried: Carried,
+) -> Outcome
+    requires near { indexed.now.lookup.now.place < 2 ^ 17 }
+    requires inside { at < length buffer.old.items }
+    requires context { found_rules.is_context indexed.now.lookup.now ≡ true }
+    ensures made { record {
+      buffer = buffer.new;
+      next = result.next;
+      seen = result.carried.seen;
+      left = result.carried.left;
+    } ≡ Nested.sought_placed level indexed.now.lookup.now at carried.left carried.seen buffer.old }
+    ensures len { length buffer.new.items ≡ length buffer.old.items }
+{
+    let items = ItemList::of_slice(buffer.infos());
+    let Some(sought) = seek_rule(indexed, &items, origin_at(at), carried.left) else {
+        return unpaid(carried);
+    };
+    let rest = Carried {
+        seen: carried.seen,
+        left: sought.left,
+    };
+    apply_found(level, indexed, buffer, at, rest, sought.found)
 }
 
 /// Applies a lookup where a level is left and the place is inside.

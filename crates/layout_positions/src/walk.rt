@@ -14,7 +14,7 @@ ghost use Rattle.layout_positions.specs.declared.bases.BaseSeen.{BaseSeen};
 use crate::bases::BaseSeen;
 use crate::flagged::{Flagged, none_flagged};
 use crate::known::{Known, LONG, ROOM, apply_known, attaches_marks};
-use crate::nested::apply_nested;
+use crate::nested::{apply_sought, unpaid};
 use crate::places::after;
 use crate::subtables::{Carried, Outcome, apply_lookup};
 use crate::tolls::{has_rules, walk_toll};
@@ -56,22 +56,16 @@ pub fn position_start(buffer: &mut hb_buffer_t)
     update_positions(buffer, |_info, position| unattached(position));
 }
 
-/// What is left after a lookup was charged at a place. Whether it is one of context is decided once for a walk.
-fn charge(
-    indexed: &Indexed<'_>,
-    has_rules: bool,
-    buffer: &hb_buffer_t,
-    at: usize,
-    left: usize,
-) -> Option<usize>
+/// What is left after a lookup that isn't one of context was charged at a place.
+fn charge(indexed: &Indexed<'_>, buffer: &hb_buffer_t, at: usize, left: usize) -> Option<usize>
     requires near { indexed.now.lookup.now.place < 2 ^ 17 }
-    requires kind { has_rules ≡ found_rules.is_context indexed.now.lookup.now }
+    requires plain { found_rules.is_context indexed.now.lookup.now ≡ false }
     requires inside { at < length buffer.now.items }
     ensures { result ≡ Work.lookup_charged indexed.now.lookup.now buffer.now.items at left }
 {
     let lookup = indexed.lookup;
     let infos = buffer.infos();
-    if !lookup.positioning || has_rules {
+    if !lookup.positioning {
         return lookup_charged(indexed, &ItemList::of_slice(infos), at, left);
     }
     if is_transparent(lookup, false, &infos[at]) {
@@ -81,8 +75,42 @@ fn charge(
     }
 }
 
-/// Applies a lookup at a place.
+/// Applies a lookup that isn't one of context at a place.
 #[tactic(auto, using(crate::proofs::NestedLemmas::placed_plainly))]
+fn apply_plain(
+    indexed: &Indexed<'_>,
+    buffer: &mut hb_buffer_t,
+    spot: Spot,
+    known: &mut [Known],
+    flagged: &mut Flagged,
+) -> Outcome
+    requires near { indexed.now.lookup.now.place < 2 ^ 17 }
+    requires plain { found_rules.is_context indexed.now.lookup.now ≡ false }
+    requires inside { spot.at < length buffer.old.items }
+    requires known { All (known_marks.IsKnown indexed.now.lookup.now) known.old }
+    requires flagged { IsFlagged flagged.old buffer.old.items }
+    ensures made { record {
+      buffer = buffer.new;
+      next = result.next;
+      seen = result.carried.seen;
+      left = result.carried.left;
+    } ≡ Nested.nested_placed Nested.LEVELS indexed.now.lookup.now spot.at spot.carried.left
+        spot.carried.seen buffer.old }
+    ensures known { All (known_marks.IsKnown indexed.now.lookup.now) known.new }
+    ensures flagged { IsFlagged flagged.new buffer.new.items }
+{
+    let Spot { at, carried } = spot;
+    if known.is_empty() {
+        *flagged = none_flagged();
+        let mut carried = carried;
+        let next = apply_lookup(indexed, buffer, at, &mut carried);
+        return Outcome { next, carried };
+    }
+    apply_known(indexed.lookup, buffer, at, carried, known, flagged)
+}
+
+/// Applies a lookup at a place of the walk, if what is left suffices for what it may try there. Else nothing is left.
+#[tactic(auto, using(crate::proofs::NestedLemmas::walk_context, crate::proofs::NestedLemmas::walk_plain, crate::proofs::NestedLemmas::walk_stopped))]
 fn apply_at(
     indexed: &Indexed<'_>,
     has_rules: bool,
@@ -101,7 +129,7 @@ fn apply_at(
       next = result.next;
       seen = result.carried.seen;
       left = result.carried.left;
-    } ≡ Nested.nested_placed Nested.LEVELS indexed.now.lookup.now spot.at spot.carried.left
+    } ≡ Nested.walk_placed Nested.LEVELS indexed.now.lookup.now spot.at spot.carried.left
         spot.carried.seen buffer.old }
     ensures known { All (known_marks.IsKnown indexed.now.lookup.now) known.new }
     ensures flagged { IsFlagged flagged.new buffer.new.items }
@@ -109,68 +137,23 @@ fn apply_at(
     let Spot { at, carried } = spot;
     if has_rules {
         *flagged = none_flagged();
-        return apply_nested(LEVELS, indexed, buffer, at, carried);
+        return apply_sought(LEVELS, indexed, buffer, at, carried);
     }
-    if known.is_empty() {
-        *flagged = none_flagged();
-        let mut carried = carried;
-        let next = apply_lookup(indexed, buffer, at, &mut carried);
-        return Outcome { next, carried };
-    }
-    apply_known(indexed.lookup, buffer, at, carried, known, flagged)
-}
-
-/// Applies a lookup at a place of the walk, if what is left suffices for what it may try there. Else nothing is left.
-fn try_at(
-    indexed: &Indexed<'_>,
-    has_rules: bool,
-    buffer: &mut hb_buffer_t,
-    spot: Spot,
-    known: &mut [Known],
-    flagged: &mut Flagged,
-) -> Spot
-    requires near { indexed.now.lookup.now.place < 2 ^ 17 }
-    requires kind { has_rules ≡ found_rules.is_context indexed.now.lookup.now }
-    requires inside { spot.at < length buffer.old.items }
-    requires known { All (known_marks.IsKnown indexed.now.lookup.now) known.old }
-    requires flagged { IsFlagged flagged.old buffer.old.items }
-    ensures made { record {
-      buffer = buffer.new;
-      at = result.at;
-      seen = result.carried.seen;
-      left = result.carried.left;
-    } ≡ Walk.tried indexed.now.lookup.now (record {
-      buffer = buffer.old;
-      at = spot.at;
-      seen = spot.carried.seen;
-      left = spot.carried.left;
-    }) }
-    ensures known { All (known_marks.IsKnown indexed.now.lookup.now) known.new }
-    ensures flagged { IsFlagged flagged.new buffer.new.items }
-{
-    let next = after(buffer.len(), spot.at);
-    let seen = spot.carried.seen;
-    let Some(left) = charge(indexed, has_rules, buffer, spot.at, spot.carried.left) else {
-        return Spot {
-            at: next,
-            carried: Carried { seen, left: 0 },
-        };
-    };
-    let here = Spot {
-        at: spot.at,
-        carried: Carried { seen, left },
-    };
-    let outcome = apply_at(indexed, has_rules, buffer, here, known, flagged);
-    Spot {
-        at: match outcome.next {
-            Some(there) => there,
-            None => next,
-        },
-        carried: outcome.carried,
+    let seen = carried.seen;
+    match charge(indexed, buffer, at, carried.left) {
+        Some(left) => {
+            let here = Spot {
+                at,
+                carried: Carried { seen, left },
+            };
+            apply_plain(indexed, buffer, here, known, flagged)
+        }
+        None => unpaid(carried),
     }
 }
 
 /// Applies a lookup at a place of the walk, or goes on to the next glyph.
+#[tactic(auto, using(crate::proofs::NestedLemmas::walk_tried))]
 fn step_on(
     indexed: &Indexed<'_>,
     has_rules: bool,
@@ -206,7 +189,12 @@ fn step_on(
             carried: spot.carried,
         };
     }
-    try_at(indexed, has_rules, buffer, spot, known, flagged)
+    let next = after(buffer.len(), spot.at);
+    let outcome = apply_at(indexed, has_rules, buffer, spot, known, flagged);
+    Spot {
+        at: outcome.next.unwrap_or(next),
+        carried: outcome.carried,
+    }
 }
 
 /// How many glyphs from a place on, of so many, a digest doesn't hold.

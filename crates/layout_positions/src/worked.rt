@@ -7,6 +7,7 @@ ghost use Rattle.layout_positions.specs.Worked.Walk.{WorkedBounds, WorkedWalk};
 ghost use Rattle.layout_positions.specs.Worked.Attachment.{WorkedAttachment, WorkedTurning};
 ghost use Rattle.layout_positions.specs.Worked.Forest.{WorkedForest};
 ghost use Rattle.layout_positions.specs.Worked.Stage.{WorkedStage};
+ghost use Rattle.layout_positions.specs.Worked.Tries.{WorkedTries};
 ghost use Rattle.layout_positions.specs.Worked.Types.{WorkedFarMarks, WorkedMarkClasses, WorkedPairsDown, WorkedFlags};
 
 /// Value records, anchors, single and pair adjustment.
@@ -50,4 +51,9 @@ pub fn types_meet_worked_cases()
 pub fn joins_meet_worked_cases()
     ensures forest { WorkedForest }
     ensures stage { WorkedStage }
+{}
+
+/// What lookups try over lines: subtables, rules, and lookups that rules name.
+pub fn tries_meet_worked_cases()
+    ensures { WorkedTries }
 {}

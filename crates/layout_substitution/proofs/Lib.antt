@@ -10,3 +10,6 @@ pub mod OffLemmas
 pub mod OutLemmas
 pub mod OffKinds
 pub mod SingleLemmas
+pub mod LeftLemmas
+pub mod TriesLemmas
+pub mod LigatureListLemmas

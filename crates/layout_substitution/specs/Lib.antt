@@ -3,7 +3,9 @@ pub mod Substitutes
 pub mod Replaced
 pub mod Applied
 pub mod Ligatures
+pub mod LigatureList
 pub mod Kinds
+pub mod Tries
 pub mod Start
 pub mod Off
 pub mod Would

@@ -1,5 +1,7 @@
 -- Ligatures on tables of 16-bit words and what they cost, what becomes of items, and what deleting costs, computed by hand.
 pub mod Would
+pub mod Made
+pub mod Lists
 use Rattle.std.specs.Prelude.{◌≡◌, ℕ, Bool, List, [], ◌∷◌, Option, Some, None, true, false, refl, map}
 use Rattle.std.specs.Option.{option_map}
 use Rattle.shape_font.specs.Worked.Glyphs.{words}

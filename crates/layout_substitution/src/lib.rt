@@ -14,6 +14,7 @@ pub mod apply;
 pub mod deletion;
 pub mod edits;
 pub mod kinds;
+pub mod laws;
 pub mod ligation;
 pub mod ligature;
 pub mod ligature_reach;

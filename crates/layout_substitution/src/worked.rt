@@ -1,6 +1,8 @@
 //! The definitions, computed by hand.
 ghost use Rattle.layout_substitution.specs.Worked.{WorkedLigatures, WorkedPasts, WorkedBeginnings, WorkedCounts, WorkedDeletions};
 ghost use Rattle.layout_substitution.specs.Worked.{WorkedMergings, WorkedLigating};
+ghost use Rattle.layout_substitution.specs.Worked.Lists.{WorkedLists};
+ghost use Rattle.layout_substitution.specs.Worked.Made.{WorkedMade};
 ghost use Rattle.layout_substitution.specs.Worked.Would.{WorkedWould};
 
 /// Ligatures: their components, and one that leads past the end of the table.
@@ -38,4 +40,14 @@ pub fn ligating_meets_worked_cases()
 /// Which glyphs that stand alone lookups of each type would substitute, in any context and in none.
 pub fn would_meets_worked_cases()
     ensures { WorkedWould }
+{}
+
+/// What items are after glyphs were taken apart, joined or deleted, and which glyph a lookup of type 1 puts in place of one.
+pub fn replaced_items_meet_worked_cases()
+    ensures { WorkedMade }
+{}
+
+/// The list that a ligature makes: its glyphs, and which component each mark stands on.
+pub fn lists_meet_worked_cases()
+    ensures { WorkedLists }
 {}

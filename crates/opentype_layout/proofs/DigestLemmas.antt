@@ -15,7 +15,7 @@ out-of false h held none = refl
 out-of true true held none = cc
 out-of true false held none = sym (held refl)
 
-substitutes-one : (d : Digested) → IsSaid false d → substitution.IsDigested d
+pub substitutes-one : (d : Digested) → IsSaid false d → substitution.IsDigested d
 substitutes-one d said = record {
   near = said.near;
   out = λ glyph none. record {

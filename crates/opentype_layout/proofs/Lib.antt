@@ -2,3 +2,4 @@ pub mod NumberLemmas
 pub mod PreservationLemmas
 pub mod DigestLemmas
 pub mod StageLemmas
+pub mod StoredLemmas

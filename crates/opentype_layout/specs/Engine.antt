@@ -34,10 +34,11 @@ gpos_tables f = record { table = f.gpos; gdef = f.gdef; positioning = true }
 unfoldable pub positioned_by : LookupTables → List LookupMap → Buffer → Buffer
 positioned_by t maps = positioned (lookups_of t maps)
 
--- requests, compiled for the scripts that were chosen and the language of the text
+-- requests, compiled for the scripts that were chosen and the language of the text, at the coordinates of the font
 abbrev pub map_of : OpenTypeFace → Builder → OtMap
-map_of f builder = compiled (chosen_in f.gsub.now builder.gsub_script builder.language)
-    (chosen_in f.gpos.now builder.gpos_script builder.language) builder.requests
+map_of f builder = let coordinates = f.font.coordinates.now in
+    compiled (chosen_in f.gsub.now coordinates builder.gsub_script builder.language)
+    (chosen_in f.gpos.now coordinates builder.gpos_script builder.language) builder.requests
 
 abbrev pub opentype_layout : OpenTypeFace → LayoutMeaning OtMap
 opentype_layout f = record {

@@ -3,6 +3,7 @@ pub mod Chosen
 pub mod Lookups
 pub mod Classes
 pub mod Digested
+pub mod Stage
 pub mod Would
 pub mod Engine
 pub mod EngineLaws

@@ -58,35 +58,47 @@ pub fn script_in(
 }
 
 /// A table of lookups with the language system that is taken for these tags, within the script with a tag.
-fn chosen_by<'a>(table: &'a [u8], script: Option<u32>, tags: &[hb_tag_t]) -> ChosenTable<'a>
+fn chosen_by<'a>(
+    table: &'a [u8],
+    coordinates: &[i32],
+    script: Option<u32>,
+    tags: &[hb_tag_t],
+) -> ChosenTable<'a>
     requires { length tags.now ≤ 3 }
-    ensures { result ≡ chosen table.now script (Chosen.numbers_of tags.now) }
+    ensures { result ≡ chosen table.now coordinates.now script (Chosen.numbers_of tags.now) }
 {
-    ChosenTable::new(table, script, &numbers(tags)[..tags.len()])
+    ChosenTable::new(table, coordinates, script, &numbers(tags)[..tags.len()])
 }
 
 /// A table of lookups with the language system that is taken for a text in this language, within a script of the
 /// table.
 fn chosen_in<'a>(
     table: &'a [u8],
+    coordinates: &[i32],
     script: Option<hb_tag_t>,
     language: Option<&Language>,
 ) -> ChosenTable<'a>
-    ensures { result ≡ Chosen.chosen_in table.now script
+    ensures { result ≡ Chosen.chosen_in table.now coordinates.now script
         (option_map (λ l. string_bytes l.now.0) language.entry) }
 {
     let list = language_tags(language);
-    chosen_by(table, number_of(script), list.as_slice())
+    chosen_by(table, coordinates, number_of(script), list.as_slice())
 }
 
-/// A table of lookups with what is taken in it for the texts of a plan.
+/// A table of lookups with what is taken in it for the texts of a plan, at the coordinates of the font.
 pub fn chosen_for<'a>(
     table: &'a [u8],
+    coordinates: &[i32],
     index: TableIndex,
     builder: &hb_ot_map_builder_t,
 ) -> ChosenTable<'a>
-    ensures { result ≡ Chosen.chosen_in table.now (MapBuilder.chosen_script builder.now index)
+    ensures { result ≡ Chosen.chosen_in table.now coordinates.now (MapBuilder.chosen_script builder.now index)
         builder.now.language }
 {
-    chosen_in(table, builder.chosen_script(index), builder.language())
+    chosen_in(
+        table,
+        coordinates,
+        builder.chosen_script(index),
+        builder.language(),
+    )
 }

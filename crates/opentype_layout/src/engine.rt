@@ -1,9 +1,7 @@
 //! The engine.
-ghost use Rattle.std.specs.Prelude.{◌≡◌, true, false, [], MatchResult};
+ghost use Rattle.std.specs.Prelude.{◌≡◌, true, MatchResult};
 ghost use Rattle.shape_buffer.specs.Outcome.{IsWithinLimit, Made, Outcome, step};
-ghost use Rattle.layout_context.specs.Stages.{substituted};
 ghost use Rattle.layout_digests.specs.Stored.{AreStored};
-ghost use Rattle.opentype_layout.specs.Lookups.{lookups_of, with_lookup};
 ghost use Rattle.layout_map.specs.Map.{OtMap, map_meaning};
 ghost use Rattle.opentype_layout.specs.declared.face.OpenTypeFace.{OpenTypeFace as Face};
 ghost use Rattle.opentype_layout.specs.Engine;
@@ -13,10 +11,10 @@ ghost use Rattle.layout_map.proofs.LawfulLemmas.{map_meaning-lawful};
 use crate::chosen::{chosen_for, script_in};
 use crate::classes::{GlyphClasses, begin_glyphs};
 use crate::face::OpenTypeFace;
-use crate::lookups::{LookupTables, Stored, lookup_with_digest, lookups};
+use crate::lookups::{LookupTables, Stored, lookups};
+use crate::stage::substitute_by;
 use crate::would::feature_would;
 use kern_table::tables::{kern_table, subtable_count};
-use layout_context::stages::substitute;
 use layout_map::lookups::LookupMap;
 use layout_map::map::hb_ot_map_t;
 use layout_matching::would::Alone;
@@ -64,73 +62,6 @@ pub(crate) fn gpos_tables<'a>(face: &OpenTypeFace<'a>) -> LookupTables<'a>
     }
 }
 
-/// Applies the lookups of a stage of substitution, with what is stored of the table's. A call of its own, so that
-/// a stage without lookups makes no room for what a walk needs.
-#[inline(never)]
-#[tactic(auto, using(crate::proofs::DigestLemmas::substitutes))]
-fn substitute_some(
-    alloc: Global,
-    tables: LookupTables<'_>,
-    stored: Stored<'_>,
-    maps: &[LookupMap],
-    buffer: &mut hb_buffer_t,
-) -> Result<(), ShapeError>
-    requires within { IsWithinLimit buffer.old }
-    requires kind { tables.positioning ≡ false }
-    requires stored { AreStored tables.table.now false stored.firsts.now stored.lookups.now }
-    ensures { Outcome (step (substituted (lookups_of tables.entry maps.now)))
-        buffer.old buffer.new result }
-{
-    match lookups(alloc, tables, stored, maps) {
-        Ok(lookups) => substitute(alloc, lookups.as_slice(), buffer),
-        Err(_) => Err(ShapeError::Memory),
-    }
-}
-
-/// Applies the one lookup of a stage, for which no list is made.
-#[inline(never)]
-fn substitute_one(
-    alloc: Global,
-    tables: LookupTables<'_>,
-    stored: Stored<'_>,
-    map: &LookupMap,
-    buffer: &mut hb_buffer_t,
-) -> Result<(), ShapeError>
-    requires within { IsWithinLimit buffer.old }
-    requires kind { tables.positioning ≡ false }
-    requires stored { AreStored tables.table.now false stored.firsts.now stored.lookups.now }
-    ensures { Outcome (step (substituted (with_lookup tables.entry [] map.now)))
-        buffer.old buffer.new result }
-{
-    match lookup_with_digest(tables, stored, map) {
-        Some(lookup) => substitute(alloc, &[lookup], buffer),
-        None => Ok(()),
-    }
-}
-
-/// The same for a stage of any number of lookups. Many have none, and forms of Arabic one.
-pub(crate) fn substitute_by(
-    alloc: Global,
-    tables: LookupTables<'_>,
-    stored: Stored<'_>,
-    maps: &[LookupMap],
-    buffer: &mut hb_buffer_t,
-) -> Result<(), ShapeError>
-    requires within { IsWithinLimit buffer.old }
-    requires kind { tables.positioning ≡ false }
-    requires stored { AreStored tables.table.now false stored.firsts.now stored.lookups.now }
-    ensures { Outcome (step (substituted (lookups_of tables.entry maps.now)))
-        buffer.old buffer.new result }
-{
-    if maps.is_empty() {
-        return Ok(());
-    }
-    if maps.len() == 1 {
-        return substitute_one(alloc, tables, stored, &maps[0], buffer);
-    }
-    substitute_some(alloc, tables, stored, maps, buffer)
-}
-
 /// Applies the lookups of positioning, with what is stored of the table's.
 #[tactic(auto, using(crate::proofs::DigestLemmas::positioning), unfolding(crate::specs::Engine::positioned_by))]
 pub(crate) fn position_by(
@@ -164,8 +95,9 @@ pub(crate) fn compiled(
     ensures { MatchResult result (λ map. map ≡ Engine.map_of face.now builder.now) (λ e. e
         ≡ ShapeError.Memory) }
 {
-    let gsub = chosen_for(face.gsub(), TableIndex::GSUB, builder);
-    let gpos = chosen_for(face.gpos(), TableIndex::GPOS, builder);
+    let coordinates = face.coordinates();
+    let gsub = chosen_for(face.gsub(), coordinates, TableIndex::GSUB, builder);
+    let gpos = chosen_for(face.gpos(), coordinates, TableIndex::GPOS, builder);
     match hb_ot_map_t::compile(alloc, &gsub, &gpos, builder.requests()) {
         Ok(map) => Ok(map),
         Err(_) => Err(ShapeError::Memory),

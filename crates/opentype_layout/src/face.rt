@@ -89,6 +89,13 @@ impl<'a> OpenTypeFace<'a> {
         self.gpos
     }
 
+    /// The coordinates of the font.
+    pub(crate) fn coordinates(&self) -> &'a [i32]
+        ensures { result.now ≡ self.now.font.coordinates.now }
+    {
+        self.font.coordinates()
+    }
+
     /// The table `kern`.
     pub(crate) fn kern(&self) -> &'a [u8]
         ensures { result.now ≡ self.now.font.kern.now }

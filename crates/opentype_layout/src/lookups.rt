@@ -1,17 +1,19 @@
 //! The lookups of a plan, ready to be applied.
 ghost use Rattle.std.specs.Prelude.{◌≡◌, ◌<◌, ◌^◌, All, IfOk, OnOk, IsOkUnless};
 ghost use Rattle.std.specs.Option.{IfSome, option_map};
-ghost use Rattle.layout_digests.specs.Stored.{AreStored, IsStoredAt};
+ghost use Rattle.layout_digests.specs.Stored.{AreStored, IsHead, IsStoredAt};
+ghost use Rattle.layout_digests.specs.declared.stored.Head.{Head as HeadOf};
 ghost use Rattle.layout_digests.specs.declared.digested.Digested.{Digested as DigestedLookup};
 ghost use Rattle.opentype_layout.specs.Digested.{IsSaid, lookups_in};
 ghost use Rattle.layout_tables.specs.Lookups.{lookup_of};
 ghost use Rattle.opentype_layout.specs.Lookups;
 
-use layout_digests::{Digest, Digested, StoredLookup};
+use layout_digests::stored::head_at;
+use layout_digests::{Digest, Digested, Head, StoredLookup};
 use layout_map::lookups::LookupMap;
 use layout_matching::firsts::{First, Firsts};
 use layout_matching::lookup::Lookup;
-use layout_tables::lookups::{lookup_count, lookup_flag, mark_filtering_set};
+use layout_tables::lookups::lookup_count;
 use layout_tables::offsets::{header_offset, offset16};
 use shape_buffer::ShapeError;
 use std::alloc::Global;
@@ -33,12 +35,12 @@ pub struct Stored<'a> {
 
 /// The list of lookups of a table, read once for all lookups of a stage: where it stands, and how many it has.
 #[derive(Clone, Copy)]
-struct LookupList {
+pub(crate) struct LookupList {
     place: Option<usize>,
     count: u32,
 }
 
-fn list_of(table: &[u8]) -> LookupList
+pub(crate) fn list_of(table: &[u8]) -> LookupList
     ensures list { Lookups.IsListOf table.now result }
     ensures near { IfSome result.place (λ list. list < 2 ^ 16) }
 {
@@ -73,17 +75,17 @@ fn least_bit(mask: u32) -> u32
     }
 }
 
-/// The lookup at a place with the use that a plan makes of it.
-fn made_ready<'a>(tables: LookupTables<'a>, map: &LookupMap, place: usize) -> Lookup<'a>
-    requires { place < 2 ^ 17 }
-    ensures { result ≡ Lookups.lookup_at tables.entry map.now place }
+/// The lookup with this head, with the use that a plan makes of it.
+#[inline(always)]
+fn made_ready<'a>(tables: LookupTables<'a>, map: &LookupMap, head: &Head) -> Lookup<'a>
+    ensures { result ≡ Lookups.lookup_by tables.entry map.now head.now }
 {
     Lookup {
         table: tables.table,
         gdef: tables.gdef,
-        place,
-        flags: lookup_flag(tables.table, place),
-        mark_set: mark_filtering_set(tables.table, place),
+        place: head.place,
+        flags: head.flags,
+        mark_set: head.mark_set,
         mask: map.mask,
         unit: least_bit(map.mask),
         auto_zwnj: map.auto_zwnj,
@@ -94,9 +96,31 @@ fn made_ready<'a>(tables: LookupTables<'a>, map: &LookupMap, place: usize) -> Lo
     }
 }
 
-/// What is stored of the lookup with this index; a digest of all glyphs if nothing is.
-fn stored_at(tables: LookupTables<'_>, stored: Stored<'_>, index: u16) -> StoredLookup
-    requires { AreStored tables.table.now tables.positioning stored.firsts.now
+/// The head of the lookup with this index, as the table has it; none if it has no such lookup. Where a face is opened none is read.
+#[inline(never)]
+fn head_in(table: &[u8], list: LookupList, index: u16) -> Option<Head>
+    requires list { Lookups.IsListOf table.now list }
+    requires near { IfSome list.place (λ list. list < 2 ^ 16) }
+    ensures place { option_map (λ (h : HeadOf). h.place) result ≡ lookup_of table.now index }
+    ensures head { IfSome result (IsHead table.now) }
+{
+    match place_in(table, list, index) {
+        Some(place) => Some(head_at(table, place)),
+        None => None,
+    }
+}
+
+/// What is stored of the lookup with this index; if nothing is, its head and a digest of all glyphs.
+#[inline(always)]
+pub(crate) fn stored_at(
+    tables: LookupTables<'_>,
+    list: LookupList,
+    stored: Stored<'_>,
+    index: u16,
+) -> StoredLookup
+    requires list { Lookups.IsListOf tables.table.now list }
+    requires near { IfSome list.place (λ list. list < 2 ^ 16) }
+    requires stored { AreStored tables.table.now tables.positioning stored.firsts.now
         stored.lookups.now }
     ensures { IsStoredAt tables.entry.table.now tables.entry.positioning index
         stored.entry.firsts.now result }
@@ -106,6 +130,7 @@ fn stored_at(tables: LookupTables<'_>, stored: Stored<'_>, index: u16) -> Stored
         stored.lookups[i]
     } else {
         StoredLookup {
+            head: head_in(tables.table, list, index),
             digest: Digest::every(),
             from: 0,
             count: 0,
@@ -115,8 +140,9 @@ fn stored_at(tables: LookupTables<'_>, stored: Stored<'_>, index: u16) -> Stored
 
 /// A lookup with the use that a plan makes of it, and its digest; none if the table has no such lookup. Inlined, since what it
 /// returns would be copied twice.
+#[tactic(auto, using(crate::proofs::StoredLemmas::known_none, crate::proofs::StoredLemmas::known_some))]
 #[inline(always)]
-fn digested<'a>(
+pub(crate) fn digested<'a>(
     tables: LookupTables<'a>,
     list: LookupList,
     stored: Stored<'a>,
@@ -130,10 +156,10 @@ fn digested<'a>(
         ≡ Lookups.lookup_of tables.entry map.now }
     ensures said { IfSome result (IsSaid tables.entry.positioning) }
 {
-    let place = place_in(tables.table, list, map.index)?;
-    let known = stored_at(tables, stored, map.index);
+    let known = stored_at(tables, list, stored, map.index);
+    let head = known.head?;
     Some(Digested {
-        lookup: made_ready(tables, map, place),
+        lookup: made_ready(tables, map, &head),
         digest: known.digest,
         firsts: Firsts {
             all: stored.firsts,
@@ -141,21 +167,6 @@ fn digested<'a>(
             count: known.count,
         },
     })
-}
-
-/// The same for a lookup by itself.
-pub(crate) fn lookup_with_digest<'a>(
-    tables: LookupTables<'a>,
-    stored: Stored<'a>,
-    map: &LookupMap,
-) -> Option<Digested<'a>>
-    requires { AreStored tables.table.now tables.positioning stored.firsts.now
-        stored.lookups.now }
-    ensures value { option_map (λ (d : DigestedLookup). d.lookup) result
-        ≡ Lookups.lookup_of tables.entry map.now }
-    ensures said { IfSome result (IsSaid tables.entry.positioning) }
-{
-    digested(tables, list_of(tables.table), stored, map)
 }
 
 /// Appends a lookup with the use that a plan makes of it, if the table has it. Refuses with `Memory` if a growth was

@@ -17,8 +17,8 @@ use std::alloc::Global;
 use std::marker::Model;
 
 /// A face over the bytes of a font file with tables beside it: those of [`OpenedFace`], for each glyph what `GDEF` says of it, in
-/// 2 bytes, for each lookup of `GSUB` and `GPOS` a digest of the glyphs that it may begin at, in 56 bytes with the place of those of
-/// its subtables, and for these 24 each. It returns what the [`OpenTypeFace`] returns, and contracts see it as that face.
+/// 2 bytes, for each lookup of `GSUB` and `GPOS` what it begins with and a digest of the glyphs that it may begin at, in 88 bytes with
+/// the place of those of its subtables, and for these 24 each. It returns what the [`OpenTypeFace`] returns, and contracts see it as that face.
 #[derive(Drop)]
 pub struct OpenedOpenTypeFace<'a> {
     face: OpenTypeFace<'a>,

@@ -10,10 +10,9 @@ ghost use Rattle.layout_map.proofs.LawfulLemmas.{map_meaning-lawful};
 
 use crate::chosen::script_in;
 use crate::classes::begin_glyphs;
-use crate::engine::{
-    OpenTypeLayout, compiled, gpos_tables, gsub_tables, position_by, substitute_by, table_of,
-};
+use crate::engine::{OpenTypeLayout, compiled, gpos_tables, gsub_tables, position_by, table_of};
 use crate::opened::OpenedOpenTypeFace;
+use crate::stage::substitute_by;
 use crate::would::feature_would;
 use kern_table::tables::{kern_table_by, subtable_count};
 use layout_map::map::hb_ot_map_t;

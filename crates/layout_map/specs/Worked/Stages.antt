@@ -1,5 +1,6 @@
 -- Lookups and stages, by hand from the rules of hb-ot-map.
-use Rattle.std.specs.Prelude.{◌≡◌, ℕ, ◌+◌, ◌^◌, true, false, List, [], ◌∷◌, Some, None, map, refl}
+use Rattle.std.specs.Prelude.{◌≡◌, ℕ, pos, ◌+◌, ◌^◌, true, false, List, [], ◌∷◌, Some, None, map, refl}
+use Rattle.shape_font.specs.Bytes.{i16_of}
 use Rattle.shape_font.specs.Worked.Glyphs.{words}
 use Rattle.shape_buffer.specs.declared.interfaces.map_request.MapRequest.TheVariants.{Pause}
 use Rattle.shape_buffer.specs.declared.interfaces.map_request.TableIndex.TheVariants.{GSUB, GPOS}
@@ -162,10 +163,11 @@ worked_map = record {
 
 -- what is chosen in a table for a text, and what it says of features
 pub record WorkedChosen : Type 0 where
-  pub language : chosen two_scripts (Some LATN) (TRK ∷ []) ≡ record { bytes = two_scripts; lang_sys = Some 56; substitution = None }
-  pub no_language : (chosen two_scripts (Some LATN) []).lang_sys ≡ Some 44
-  pub no_script : (chosen two_scripts None (TRK ∷ [])).lang_sys ≡ None
-  pub varied_features : (chosen (varied 0 0) None []).substitution ≡ Some 72
+  pub language : chosen two_scripts [] (Some LATN) (TRK ∷ []) ≡ record { bytes = two_scripts; lang_sys = Some 56; substitution = None }
+  pub no_language : (chosen two_scripts [] (Some LATN) []).lang_sys ≡ Some 44
+  pub no_script : (chosen two_scripts [] None (TRK ∷ [])).lang_sys ≡ None
+  pub varied_features : (chosen (varied 0 0) [] None []).substitution ≡ Some 72
+  pub varied_at_coordinates : (chosen (varied 1 0x4000) (pos 1 ∷ []) None []).substitution ≡ Some 72
   pub required_tag : required_tag_of (record { bytes = two_features; lang_sys = Some 38; substitution = None }) ≡ LIGA
   pub none_required : required_tag_of (record { bytes = two_features; lang_sys = Some 50; substitution = None }) ≡ 0
   pub without_language : required_tag_of (record { bytes = two_features; lang_sys = None; substitution = None }) ≡ 0
@@ -174,11 +176,13 @@ pub record WorkedChosen : Type 0 where
   pub no_place : feature_place (record { bytes = two_features; lang_sys = None; substitution = None }) None ≡ None
 
 pub worked_chosen : WorkedChosen
+unfolding i16_of
 worked_chosen = record {
   language = refl;
   no_language = refl;
   no_script = refl;
   varied_features = refl;
+  varied_at_coordinates = refl;
   required_tag = refl;
   none_required = refl;
   without_language = refl;

@@ -1,5 +1,5 @@
 -- Marks attached to bases, ligatures and marks, on subtables that were read by hand.
-use Rattle.std.specs.Prelude.{◌≡◌, ℕ, pos, negsuc, List, [], ◌∷◌, ◌++◌, Option, Some, None, false, length, refl}
+use Rattle.std.specs.Prelude.{◌≡◌, ℕ, pos, negsuc, List, [], ◌∷◌, ◌++◌, Option, Some, None, true, false, length, refl}
 use Rattle.shape_common.specs.Wrapping.{◌-ʷ◌}
 use Rattle.std.specs.Int.{int_wrap}
 use Rattle.shape_common.specs.declared.text_types.Direction.TheVariants.{LeftToRight}
@@ -8,7 +8,7 @@ use Rattle.shape_items.specs.Items.{Item}
 use Rattle.layout_tables.specs.declared.lookups.LookupSubtable.{LookupSubtable}
 use Rattle.layout_matching.specs.declared.lookup.Lookup.{Lookup}
 use Rattle.layout_positions.specs.Lookups.{Applied}
-use Rattle.layout_positions.specs.Marks.{base_of, base_work, search_work, seek_work, mark_base_applied, mark_ligature_applied, mark_mark_applied}
+use Rattle.layout_positions.specs.Marks.{base_of, base_work, search_work, seek_work, mark_base_applied, mark_ligature_applied, mark_mark_applied, for_marks, is_base_seen}
 use Rattle.layout_positions.specs.Walk.{none_seen}
 use Rattle.layout_positions.specs.Worked.Lines.{base, mark, ligature, mark_on, component_of, ignorable, line, offsets, chains, masks}
 use Rattle.layout_positions.specs.Worked.Pairs.{IsLookup}
@@ -54,6 +54,9 @@ pub record WorkedMarks : Type 0 where
   pub other_base_in_vain : (l : Lookup) → IsLookup l on_bases 0
       → base_asked l (Some 0) (base 3 0 ∷ mark 8 1 ∷ base 7 2 ∷ []) ≡ 18 ∷ 18 ∷ 16 ∷ []
   pub no_base_in_vain : (l : Lookup) → IsLookup l on_bases 0 → base_asked l None (mark 7 0 ∷ mark 8 1 ∷ base 7 2 ∷ []) ≡ 18 ∷ 18 ∷ 16 ∷ []
+  -- a mark on a mark: bases and ligatures are seen, whatever the flags
+  pub no_class_is_skipped : (l : Lookup) → (for_marks (record l { flags = 6 })).flags ≡ 0
+  pub lookup_is_off : (l : Lookup) → is_base_seen (record l { mask = 1; positioning = true; auto_zwj = true }) (record (base 2 0) { mask = 2 }) ≡ false
 
 pub worked_marks : WorkedMarks
 unfolding i16_of ◌-ʷ◌ int_wrap
@@ -67,6 +70,8 @@ worked_marks = record {
   no_base = λ l is. rw is.table refl;
   other_base_in_vain = λ l is. rw is.table refl;
   no_base_in_vain = λ l is. rw is.table refl;
+  no_class_is_skipped = λ l. refl;
+  lookup_is_off = λ l. refl;
 }
 
 -- ---- the base of a mark

@@ -1,5 +1,6 @@
 -- Value records and anchors, on bytes that were read by hand.
 use Rattle.std.specs.Prelude.{◌≡◌, ℕ, ℤ, pos, negsuc, List, [], ◌∷◌, ◌++◌, Some, None, true, false, refl}
+use Rattle.shape_font.specs.Worked.Glyphs.{words}
 use Rattle.std.specs.Int.{int_wrap}
 use Rattle.std.specs.Int.Count.{ones}
 use Rattle.shape_common.specs.Positions.{zero_position}
@@ -105,6 +106,8 @@ pub record WorkedAnchors : Type 0 where
   pub whole_format_3 : anchor_by (0 ∷ 2 ∷ (anchor 3 ++ 0 ∷ 0 ∷ 0 ∷ 0 ∷ [])) 0 0 ≡ Some (record { x = pos 100; y = negsuc 4 })
   pub two_bytes_of_another_format : anchor_by (0 ∷ 2 ∷ 0 ∷ 4 ∷ []) 0 0 ≡ Some (record { x = pos 0; y = pos 0 })
   pub one_byte : anchor_by (0 ∷ 2 ∷ 0 ∷ []) 0 0 ≡ None
+  -- a row of one class: the anchor behind it is that of the next row
+  pub class_past_the_last : anchor_in (words (2 ∷ 6 ∷ 12 ∷ 1 ∷ 7 ∷ 8 ∷ 1 ∷ 9 ∷ 10 ∷ [])) 1 0 1 0 ≡ None
 
 pub worked_anchors : WorkedAnchors
 unfolding i16_of
@@ -132,4 +135,5 @@ worked_anchors = record {
   whole_format_3 = refl;
   two_bytes_of_another_format = refl;
   one_byte = refl;
+  class_past_the_last = refl;
 }

@@ -1,5 +1,6 @@
 -- Lookups over lines, on tables that were read by hand.
 use Rattle.std.specs.Prelude.{◌≡◌, ℕ, ℤ, pos, negsuc, List, [], ◌∷◌, ◌++◌, Some, None, true, false, refl}
+use Rattle.shape_common.specs.Positions.{zero_position}
 use Rattle.std.specs.Int.{int_wrap}
 use Rattle.std.specs.Int.Count.{ones}
 use Rattle.shape_common.specs.Wrapping.{◌+ʷ◌, ◌-ʷ◌, neg_w}
@@ -12,7 +13,7 @@ use Rattle.layout_positions.specs.Attachment.{MOST_LINKS}
 use Rattle.layout_positions.specs.Nested.{LEVELS, nested_placed}
 use Rattle.layout_positions.specs.Subtables.{Placing}
 use Rattle.layout_positions.specs.Uncovered.{subtable_lists}
-use Rattle.layout_positions.specs.Walk.{Budgeted, none_seen, budgeted, settled_up, positioned}
+use Rattle.layout_positions.specs.Walk.{Budgeted, none_seen, budgeted, settled_up, positioned, unattached}
 use Rattle.layout_positions.specs.Worked.Lines.{base, mark, component_of, line, advances, offsets, chains, masks}
 use Rattle.layout_positions.specs.Worked.Cursive.{joins, joins_by, followed}
 use Rattle.layout_positions.specs.Worked.Marks.{on_bases}
@@ -87,6 +88,7 @@ pub record WorkedBounds : Type 0 where
   -- what the stages have left, and what the lookups leave
   pub begun : (b : Buffer) → (budgeted b).left ≡ b.max_ops
   pub ended : (s : Budgeted) → settled_up s ≡ record s.buffer { max_ops = s.left }
+  pub none_is_attached_at_first : unattached (record zero_position { attach_chain = pos 1; attach_type = 2 }) ≡ zero_position
 
 pub worked_bounds : WorkedBounds
 worked_bounds = record {
@@ -94,6 +96,7 @@ worked_bounds = record {
   links = refl;
   begun = λ b. refl;
   ended = λ s. refl;
+  none_is_attached_at_first = refl;
 }
 
 -- a lookup with these flags over these bytes of `GPOS`, at a place

@@ -55,7 +55,7 @@ asked = record {
 -- whether a feature's lookups would substitute glyphs, if `liga` is what is asked for in a table of two lookups
 abbrev pub Would : ℕ → List ℕ → Bool → Type 0
 Would feature glyphs is =
-    feature_would gsub_of_two (compiled (chosen_in gsub_of_two (Some latn) None) (chosen_in [] None None) asked.requests) feature glyphs true
+    feature_would gsub_of_two (compiled (chosen_in gsub_of_two [] (Some latn) None) (chosen_in [] [] None None) asked.requests) feature glyphs true
     ≡ is
 
 -- glyph `n` of a ligature
@@ -80,7 +80,7 @@ pub record WorkedEngine : Type 0 where
   pub script : script_in gsub (Some latin) None ≡ Some latn
   pub other_script : script_in gsub (Some greek) None ≡ Some latn
   pub no_script : script_in [] (Some latin) None ≡ None
-  pub lang_sys : (chosen_in gsub (Some latn) None).lang_sys ≡ Some 22
+  pub lang_sys : (chosen_in gsub [] (Some latn) None).lang_sys ≡ Some 22
   -- tables are read if they are of version 1
   pub read : (f : OpenTypeFace) → f.gsub.now ≡ gsub → (tables_of f).gsub ≡ true
   pub not_read : (f : OpenTypeFace) → f.gpos.now ≡ words (2 ∷ 0 ∷ []) → (tables_of f).gpos ≡ false

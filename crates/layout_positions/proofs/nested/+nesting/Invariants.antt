@@ -5,22 +5,31 @@ use Rattle.layout_positions.proofs.nested.+nesting.Given as goal
 
 -- from a lookup to its rule, its records and each of them, and from there to a lookup one level below
 abbrev pub decreases-apply_nested : goal.decreases-apply_nested
-decreases-apply_nested l = 6 * l.level
+decreases-apply_nested l = 9 * l.level
 
 abbrev pub decreases-apply_level : goal.decreases-apply_level
-decreases-apply_level l = 6 * l.level + 5
+decreases-apply_level l = 9 * l.level + 8
 
 abbrev pub decreases-apply_first : goal.decreases-apply_first
-decreases-apply_first l = 6 * l.level + 4
+decreases-apply_first l = 9 * l.level + 7
 
 abbrev pub decreases-apply_rule : goal.decreases-apply_rule
-decreases-apply_rule l = 6 * l.level + 3
+decreases-apply_rule l = 9 * l.level + 6
 
 abbrev pub decreases-apply_records : goal.decreases-apply_records
-decreases-apply_records l = 6 * l.level + 2
+decreases-apply_records l = 9 * l.level + 5
 
 abbrev pub decreases-apply_record : goal.decreases-apply_record
-decreases-apply_record l = 6 * l.level + 1
+decreases-apply_record l = 9 * l.level + 4
+
+abbrev pub decreases-apply_named : goal.decreases-apply_named
+decreases-apply_named l = 9 * l.level + 3
+
+abbrev pub decreases-apply_sought : goal.decreases-apply_sought
+decreases-apply_sought l = 9 * l.level + 2
+
+abbrev pub decreases-apply_found : goal.decreases-apply_found
+decreases-apply_found l = 9 * l.level + 1
 
 -- so many records are done
 abbrev pub invariant-apply_records-loop-r : goal.invariant-apply_records-loop-r
