@@ -1,7 +1,7 @@
 -- The pieces of a line as parts of it.
 use Rattle.std.specs.Prelude.{ℕ}
 use Rattle.text_lines.specs.Lines.{Shown}
-use Rattle.text_lines.specs.declared.lines.Piece.{Piece}
+use Rattle.text_lines.specs.declared.pieces.Piece.{Piece}
 
 abbrev pub shown_of : Piece → Shown
 shown_of piece = record { start = piece.start; end = piece.end; level = piece.level }

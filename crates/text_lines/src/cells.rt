@@ -1,7 +1,8 @@
-//! A text as it is measured: the glyphs of all its runs in the order of the text, as one list that is cut into lines.
+//! A text as it is measured: the glyphs of all its runs in the order of the text, as one list that
+//! is cut into lines.
 //!
-//! A run without glyphs has one of no width, so that a line may and must end beside it, too. Runs are shaped by themselves, so
-//! the text may be cut between them.
+//! A run without glyphs has one of no width, so that a line may and must end beside it, too. Runs
+//! are shaped by themselves, so the text may be cut between them.
 ghost use Rattle.std.specs.Prelude.{◌↔◌, ℕ, List, IsTrue, pos, true, IfOk};
 ghost use Rattle.shape_items.specs.Buffer.{Buffer};
 ghost use Rattle.std.specs.List.Sorted.{IsNonDecreasing};
@@ -16,8 +17,9 @@ use shape_buffer::hb_glyph_info_t;
 use shape_lines::{Breaks, LineAt, can_cut, cut_lines_at};
 use std::alloc::{AllocError, Global};
 
-/// A glyph: the number of its run and its place in the order of the run's text; what it is measured by; and whether it is
-/// a space that isn't measured at the end of a line.
+/// A glyph: the number of its run and its place in the order of the run's text; what it is
+/// measured by; whether it is a space that isn't measured at the end of a line; and whether its
+/// run may be cut before its cluster.
 #[derive(Clone, Copy)]
 pub(crate) struct Cell {
     pub run: usize,
@@ -25,16 +27,12 @@ pub(crate) struct Cell {
     pub info: hb_glyph_info_t,
     pub position: GlyphPosition,
     pub space: bool,
+    pub safe: bool,
 }
 
 /// Where the text of a cell begins.
 pub(crate) fn start_of(cell: &Cell) -> usize {
     cell.info.cluster as usize
-}
-
-/// Whether a cell begins a cluster before which the text may be cut.
-pub(crate) fn is_safe(cell: &Cell) -> bool {
-    !cell.info.unsafe_to_break()
 }
 
 /// The place in the list of a run's glyphs of that at a place of its text.
@@ -51,16 +49,18 @@ fn has(list: &[u32], at: u32) -> bool {
     list.binary_search(&at).is_ok()
 }
 
-/// A glyph as it is measured, of a cluster, with these flags and this width.
-fn measured(cluster: u32, mask: u32, width: i32) -> (hb_glyph_info_t, GlyphPosition) {
+/// A glyph as it is measured: its cluster, whether a line may begin with it anywhere, and its
+/// width.
+fn measured(cluster: u32, begins: bool, width: i32) -> (hb_glyph_info_t, GlyphPosition) {
     let mut info = hb_glyph_info_t::new('\0', cluster);
-    info.mask = mask;
+    info.mask = if begins { 0 } else { UNSAFE_TO_BREAK };
     let mut position = GlyphPosition::zero();
     position.x_advance = width;
     (info, position)
 }
 
-/// Adds the glyphs of a run of this number, in the scale of its font.
+/// Adds the glyphs of a run of this number, in the scale of its font. No line begins with a space
+/// or with what ends a line (UAX 14, LB6 and LB7), however narrow lines are.
 fn add_run(
     cells: &mut Vec<Cell>,
     run: &Run,
@@ -70,13 +70,14 @@ fn add_run(
 ) -> Result<(), AllocError> {
     let first = u32::try_from(run.part.start).unwrap_or(u32::MAX);
     if run.glyphs.is_empty() {
-        let (info, position) = measured(first, 0, 0);
+        let (info, position) = measured(first, false, 0);
         return Ok(cells.push(Cell {
             run: number,
             place: 0,
             info,
             position,
             space: true,
+            safe: true,
         })?);
     }
     let (infos, positions) = (run.glyphs.glyph_infos(), run.glyphs.glyph_positions());
@@ -85,18 +86,17 @@ fn add_run(
         let (Some(glyph), Some(position)) = (infos.get(at), positions.get(at)) else {
             continue;
         };
-        let flags = if glyph.cluster == first {
-            0
-        } else {
-            glyph.mask & UNSAFE_TO_BREAK
-        };
-        let (info, position) = measured(glyph.cluster, flags, scale.times(position.x_advance));
+        let space = has(spaces, glyph.cluster);
+        let safe = glyph.cluster == first || !glyph.unsafe_to_break();
+        let width = scale.times(position.x_advance);
+        let (info, position) = measured(glyph.cluster, safe && !space, width);
         cells.push(Cell {
             run: number,
             place,
             info,
             position,
-            space: has(spaces, glyph.cluster),
+            space,
+            safe,
         })?;
     }
     Ok(())
@@ -158,8 +158,9 @@ fn rises(list: &[u32]) -> bool
     list.is_sorted()
 }
 
-/// The lines of a text's cells, at most this wide as far as they can be: at places where a line may end, and inside a word that is
-/// too wide. Refuses with `Uncut` if the cells don't stand in the order of the text.
+/// The lines of a text's cells, at most this wide as far as they can be: at places where a line
+/// may end, and inside a word that is too wide. Refuses with `Uncut` if the cells don't stand in
+/// the order of the text.
 pub(crate) fn lines_of(
     alloc: Global,
     cells: &[Cell],
@@ -168,8 +169,8 @@ pub(crate) fn lines_of(
     breaks: &LineBreaks,
 ) -> Result<Vec<LineAt>, ParagraphError>
     ensures { IfOk result (λ lines. (glyphs : Buffer) × (spaces : List ℕ)
-        × AreLinesAt glyphs text_end breaks.now.allowed.items breaks.now.mandatory.items spaces true (pos width)
-        lines.items) }
+        × AreLinesAt glyphs text_end breaks.now.allowed.items breaks.now.mandatory.items
+        spaces true (pos width) lines.items) }
 {
     let glyphs = glyphs_of(alloc, cells)?;
     let spaces = spaces_of(alloc, cells)?;

@@ -1,7 +1,7 @@
 //! A font for each cluster of a part, and its glyphs: the runs of a text.
 //!
-//! The clusters are extended grapheme clusters (UAX 29), so none is parted among fonts. A font has a cluster if none of the
-//! glyphs that it makes of it in its part is 0, `.notdef`.
+//! The clusters are extended grapheme clusters (UAX 29), so none is parted among fonts. A font has
+//! a cluster if none of the glyphs that it makes of it in its part is 0, `.notdef`.
 use crate::options::ParagraphError;
 use crate::parts::{Part, PartShaper};
 use font_fallback::{Chosen, Tried, choose_fonts};
@@ -40,7 +40,8 @@ fn is_whole(glyphs: &GlyphBuffer, cluster: &GlyphCluster) -> bool {
     }
 }
 
-/// The last of the shaped clusters from one on that begins at an offset or before it; the first of them if none does.
+/// The last of the shaped clusters from one on that begins at an offset or before it; the first of
+/// them if none does.
 fn cluster_at(shaped: &[GlyphCluster], from: usize, offset: usize) -> usize {
     let mut at = from;
     for next in from.saturating_add(1)..shaped.len() {
@@ -102,8 +103,8 @@ fn part_of(part: Part, starts: &[usize], first: usize, last: usize) -> Part {
     }
 }
 
-/// Adds the runs of a part: one with the glyphs that are there if one font shows all of it, else one for each span, shaped
-/// by itself.
+/// Adds the runs of a part: one with the glyphs that are there if one font shows all of it, else
+/// one for each span, shaped by itself.
 fn add_chosen<S: PartShaper>(
     alloc: Global,
     runs: &mut Vec<Run>,

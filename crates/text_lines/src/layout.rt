@@ -4,9 +4,10 @@ ghost use Rattle.text_lines.specs.Lines.{AreCutBy, AreLines, cut_text, line_text
 
 use crate::cells::{cells, lines_of};
 use crate::fitting::runs;
-use crate::lines::{Laid, Span, TextLine};
+use crate::lines::TextLine;
 use crate::options::{ParagraphError, ParagraphOptions};
 use crate::parts::{PartShaper, parts};
+use crate::pieces::{Laid, Span};
 use crate::reading::levels_of;
 use crate::scaling::Scale;
 use line_breaks::line_breaks;
@@ -27,8 +28,8 @@ fn scales<S: PartShaper>(
     Ok(scales)
 }
 
-/// The lines of a text, each from the end of the one before it, and the last one up to the end of the text. Refuses with
-/// `Uncut` if they aren't that.
+/// The lines of a text, each from the end of the one before it, and the last one up to the end of
+/// the text. Refuses with `Uncut` if they aren't that.
 fn lines<S: PartShaper>(
     alloc: Global,
     shaper: &mut S,
@@ -96,8 +97,8 @@ fn laid_out<S: PartShaper>(
     lines(alloc, shaper, &laid, &cut, text.len())
 }
 
-/// The lines of a text, in its order, by what shapes its parts: each cluster in the first font that has it, each line as long as its width
-/// lets it, its runs from left to right.
+/// The lines of a text, in its order, by what shapes its parts: each cluster in the first font
+/// that has it, each line as long as its width lets it, its runs from left to right.
 pub fn text_lines<S: PartShaper>(
     alloc: Global,
     shaper: &mut S,

@@ -9,15 +9,17 @@ use std::error::Error;
 use std::fmt;
 use std::fmt::{Display, Formatter};
 
-/// How a paragraph is laid out. By default its lines end where they must alone, its direction is that of its first
-/// strong character, and a unit is one of the first font.
+/// How a paragraph is laid out. By default its lines end where they must alone, its direction is
+/// that of its first strong character, and a unit is one of the first font.
 #[derive(Clone, Copy, Debug)]
 pub struct ParagraphOptions<'a> {
     /// How wide lines may be. A line that can't be so narrow is as short as it can be.
     pub width: u32,
-    /// The direction of the text; none for that of the first strong character of each paragraph in it.
+    /// The direction of the text; none for that of the first strong character of each paragraph in
+    /// it.
     pub direction: Option<Direction>,
-    /// How many units wide and high the em square of each font is to be; none for as many as that of the first font.
+    /// How many units wide and high the em square of each font is to be; none for as many as that
+    /// of the first font.
     pub size: Option<u32>,
     /// The language of the text, by its name in BCP 47.
     pub language: Option<&'a str>,
@@ -49,7 +51,8 @@ pub enum ParagraphError {
     Length,
     /// A growth of memory was refused.
     Memory,
-    /// A font's lookups left glyphs out of the order of the text, so that they can't be cut into lines.
+    /// A font's lookups left glyphs out of the order of the text, so that they can't be cut into
+    /// lines.
     Uncut,
 }
 

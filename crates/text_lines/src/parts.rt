@@ -1,5 +1,5 @@
-//! The parts of a text that are shaped by themselves: its items, cut where a line must end. The characters that end a line
-//! or a paragraph are parts by themselves, and have no glyphs.
+//! The parts of a text that are shaped by themselves: its items, cut where a line must end. The
+//! characters that end a line or a paragraph are parts by themselves, and have no glyphs.
 use crate::reading::{Block, Levels};
 use shape_buffer::buffer::{GlyphBuffer, Script, ShapeError};
 use shape_buffer::hb_unicode_funcs_t;
@@ -31,10 +31,12 @@ pub trait PartShaper {
     /// The side of the em square of a font.
     fn units_per_em(&self, font: usize) -> u16;
 
-    /// How far a line in a font reaches above its baseline, and below it as a number that is never positive.
+    /// How far a line in a font reaches above its baseline, and below it as a number that is never
+    /// positive.
     fn reach(&self, font: usize) -> (i32, i32);
 
-    /// The glyphs of a part of the text in a font, with the bytes of the text as their clusters, by what stands beside the part.
+    /// The glyphs of a part of the text in a font, with the bytes of the text as their clusters,
+    /// by what stands beside the part.
     fn shape(&mut self, alloc: Global, font: usize, part: Part) -> Result<GlyphBuffer, ShapeError>;
 }
 
@@ -89,8 +91,9 @@ fn items(
     text_items(alloc, text, &options)
 }
 
-/// The script of an item as shaping names it: by a character that has it. Each script of an item is that of a
-/// character of its paragraph, except Common. `known` are those that were sought before.
+/// The script of an item as shaping names it: by a character that has it. Each script of an item
+/// is that of a character of its paragraph, except Common. `known` are those that were sought
+/// before.
 fn script_of(
     known: &mut Vec<(u32, Script)>,
     text: &str,

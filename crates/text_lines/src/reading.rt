@@ -1,9 +1,11 @@
-//! A text with its levels by UAX 9, for each byte: those of a character all have its level and its class.
+//! A text with its levels by UAX 9, for each byte: those of a character all have its level and its
+//! class.
 use bidi::{Direction, Paragraph, text_levels};
 use std::alloc::{AllocError, Global};
 use ucd_bidi::BidiClass;
 
-/// A paragraph of a text by P1: its bytes and its characters from one place up to another, and its level.
+/// A paragraph of a text by P1: its bytes and its characters from one place up to another, and its
+/// level.
 #[derive(Clone, Copy)]
 pub(crate) struct Block {
     pub start: usize,
@@ -29,7 +31,8 @@ pub(crate) struct Levels {
 impl Levels {
     /// The level of the paragraph that a byte stands in.
     pub fn base_at(&self, at: usize) -> u8 {
-        match self.blocks.iter().find(|block| at < block.end) {
+        let place = self.blocks.partition_point(|block| block.end <= at);
+        match self.blocks.get(place) {
             Some(block) => block.level,
             None => 0,
         }
@@ -58,7 +61,8 @@ fn blocks(
     Ok(blocks)
 }
 
-/// The levels of a text, of this direction or that of the first strong character of each paragraph.
+/// The levels of a text, of this direction or that of the first strong character of each
+/// paragraph.
 pub(crate) fn levels_of(
     alloc: Global,
     text: &str,

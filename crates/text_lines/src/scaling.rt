@@ -1,7 +1,7 @@
 //! Numbers of fonts in units of the paragraph: those of all fonts in one size.
 //!
-//! A number is multiplied and rounded as HarfBuzz does it: by the size times 2^16 over the units of the em square, cut to a
-//! whole number, and then by 2^-16, halves upwards.
+//! A number is multiplied and rounded as HarfBuzz does it: by the size times 2^16 over the units
+//! of the em square, cut to a whole number, and then by 2^-16, halves upwards.
 
 /// What the numbers of a font are multiplied by, in 2^-16ths.
 #[derive(Clone, Copy)]

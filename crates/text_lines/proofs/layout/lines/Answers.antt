@@ -23,7 +23,7 @@ loop-place-preserved g c =
     record {
       follow = subst (AreLines 0 span.end) (sym c.in_ok-push.ensures.items)
           (subst (λ n. AreLines 0 n (lines ++ line ∷ [])) ends
-          (AreLines-push 0 c.loop-place.start lines line c.loop-place.invariant.follow begins after c.in_ok-line.ensures.order));
+          (AreLines-push 0 c.loop-place.start lines line c.loop-place.invariant.follow begins after c.in_ok-line.ensures.order c.in_ok-line.ensures.measured));
       texts = ap (map line_text) c.in_ok-push.ensures.items ∙ map_push line_text lines line
           ∙ ap₂ (λ ls t. ls ++ t ∷ []) c.loop-place.invariant.texts (texts ∙ ap₂ (λ a b. (a, b)) cut_start cut_end)
           ∙ sym (map_more cut_text c.args.cut.now c.loop-place.place none c.loop-place-test.true);

@@ -3,9 +3,9 @@ use Rattle.std.proofs.lemmas.List.{map_push}
 use Rattle.text_lines.specs.Lines.{AreParts}
 use Rattle.text_lines.specs.Pieces.{shown_of}
 use Rattle.text_lines.proofs.PartLemmas.{AreParts-push}
-use Rattle.text_lines.specs.declared.lines.Piece.{Piece}
-use Rattle.text_lines.proofs.lines.Laid.pieces.Goals as goal
-use Rattle.text_lines.proofs.lines.Laid.pieces.Goals.{then-start-line+in_ok-push-2, else-start-line}
+use Rattle.text_lines.specs.declared.pieces.Piece.{Piece}
+use Rattle.text_lines.proofs.pieces.Laid.pieces.Goals as goal
+use Rattle.text_lines.proofs.pieces.Laid.pieces.Goals.{then-start-line+in_ok-push-2, else-start-line}
 
 pub loop-at-preserved : goal.loop-at-preserved
 loop-at-preserved c =

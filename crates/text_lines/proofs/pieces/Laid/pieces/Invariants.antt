@@ -1,7 +1,7 @@
 use Rattle.std.proofs.Common.{◌-◌, ◌≤◌, map}
 use Rattle.text_lines.specs.Lines.{AreParts}
 use Rattle.text_lines.specs.Pieces.{shown_of}
-use Rattle.text_lines.proofs.lines.Laid.pieces.Given as goal
+use Rattle.text_lines.proofs.pieces.Laid.pieces.Given as goal
 
 abbrev pub decreases-loop-at : goal.decreases-loop-at
 decreases-loop-at l = l.line.last - l.at

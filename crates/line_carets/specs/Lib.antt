@@ -1,0 +1,3 @@
+pub mod LineCarets
+pub mod Laws
+pub mod Worked
