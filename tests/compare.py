@@ -8,8 +8,8 @@ models print, and libraries with Unicode's test files (Debian's package `unicode
 Status 0: no difference. 1: there are some, which are shown. 77: something is not installed.
 """
 from checks import (
-    bidi, cuts, items, line_breaks, normalising, normalization, options, paragraphs, random_fonts,
-    scripts, suite, syllables, texts,
+    bidi, cuts, hovering, items, line_breaks, normalising, normalization, options, outlines, paragraphs,
+    random_fonts, scripts, suite, syllables, texts, traces,
 )
 from checks.command import run_kind
 
@@ -18,6 +18,9 @@ KINDS = {
     "scripts": scripts,
     "syllables": syllables,
     "paragraphs": paragraphs,
+    "traces": traces,
+    "hovering": hovering,
+    "outlines": outlines,
     "suite": suite,
     "options": options,
     "fonts": random_fonts,

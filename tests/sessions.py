@@ -2,6 +2,7 @@
 """Runs the built programs on their sessions, and compares what they write and their status.
 
     tests/sessions.py [FILE ..]
+    tests/sessions.py --night
 
 Those of tests/sessions are of `shapeline`, those of tests/fontshape of `fontshape`;
 tests/sessions/README.md says how a session is written. If no file is named it takes all, then the
@@ -9,6 +10,8 @@ inputs that fuzzing kept, in tests/fuzz, then runs `shapeline` with each of its 
 turn, and with each of its writes, until a run has no such call, and `fontshape` on a long text, to
 a full device and a closed pipe, and with an argument that isn't UTF-8. It ends with status 1 if something isn't as it should be, and says at which case,
 input or call.
+
+With `--night` it runs a page of a heavy font and the trace of a long line instead.
 """
 import os
 import re
@@ -43,6 +46,7 @@ class Block:
         self.wanted = section.wanted if section else b""
         self.status = section.status if section else 0
         self.left_out = section.left_out if section else []
+        self.begin = section.begin if section else ""
 
 
 def line_of(text):
@@ -86,6 +90,8 @@ def read_line(block, text, folder):
         block.status = int(rest)
     elif mark == "without":
         block.left_out = rest.split()
+    elif mark == "from":
+        block.begin = rest
     elif mark != "#":
         raise ValueError(f"no line of a block begins so: {text}")
 
@@ -144,17 +150,20 @@ def shown(data):
     return "".join(f"    {line!r}\n" for line in data.splitlines(keepends=True)) or "    nothing\n"
 
 
-def compared(written, left_out):
-    """What is written, except for the lines that begin with these words."""
+def compared(written, left_out, begin):
+    """What is written, from the line on that begins with this word, except for the lines that begin
+    with these."""
     begins = tuple(word.encode() for word in left_out)
     lines = re.findall(rb"[^\n]*\n|[^\n]+$", written)
-    return b"".join(line for line in lines if not line.startswith(begins))
+    first = next((at for at, line in enumerate(lines) if line.startswith(begin.encode())),
+                 len(lines))
+    return b"".join(line for line in lines[first:] if not line.startswith(begins))
 
 
 def fault_of(program, case, folder):
     """What is wrong with a run of a case, or nothing."""
     written, said, status = run(program, case, folder)
-    found = compared(written, case.left_out) if case.left_out else written
+    found = compared(written, case.left_out, case.begin)
     if found != case.wanted:
         return f"it should write\n{shown(case.wanted)}  and writes\n{shown(found)}"
     if status != case.status:
@@ -312,26 +321,54 @@ def run_malformed_argument(folder):
     return right
 
 
-def run_heavy_font(folder):
-    """The picture of a line has at most a megabyte and takes little time, whatever the font: A has
-    65,536 points, and B is made of 256 of itself, again and again. Returns whether it does."""
+def draws_heavy_font(folder, form, most):
+    """Whether lines over a heavy font are drawn in little time, in fewer bytes than `most`: A has
+    65,536 points, and B is made of 256 of itself, again and again."""
     given = b"A" * 5000 + b"\n" + b"A" * 5000 + b"\n" + b"B" * 5000 + b"\n"
-    ended = subprocess.run([FONTSHAPE, "heavy.ttf", "--svg"], input=given, stdout=subprocess.PIPE,
+    ended = subprocess.run([FONTSHAPE, "heavy.ttf", form], input=given, stdout=subprocess.PIPE,
                            cwd=folder, timeout=LIMIT, preexec_fn=limit_processor_time)
-    right = ended.returncode == 0 and 2_500_000 < len(ended.stdout) < 3_001_000
+    right = ended.returncode == 0 and 2_500_000 < len(ended.stdout) < most
     if not right:
-        print(f"fontshape draws a heavy font: status {ended.returncode}, "
+        print(f"fontshape draws a heavy font by {form}: status {ended.returncode}, "
               f"{len(ended.stdout)} bytes")
+    return right
+
+
+def run_heavy_font(folder):
+    """The picture of a line has at most a megabyte. Returns whether it does."""
+    return draws_heavy_font(folder, "--svg", 3_001_000)
+
+
+def run_heavy_page(folder):
+    """On a page a line has at most three megabytes more than its picture, for its text, its places
+    and its table. Returns whether it does."""
+    return draws_heavy_font(folder, "--html=-", 12_020_000)
+
+
+def run_long_trace(folder):
+    """The trace of a line has at most a megabyte and its last words. Returns whether it has."""
+    given = b"A" * 100_000 + b"\n"
+    ended = subprocess.run([FONTSHAPE, "tiny.ttf", "--trace"], input=given, capture_output=True,
+                           cwd=folder, timeout=LIMIT)
+    lines = ended.stderr.split(b"\n")
+    right = (ended.returncode == 0 and len(ended.stderr) < 1_000_100
+             and lines[-2:] == [b"trace: the rest is left out", b""])
+    if not right:
+        print(f"fontshape traces a long line: status {ended.returncode}, "
+              f"{len(ended.stderr)} bytes, and at last {lines[-2:]}")
     return right
 
 
 def main():
     build("shapeline")
     build("fontshape")
-    named = [Path(name) for name in sys.argv[1:]]
+    at_night = sys.argv[1:] == ["--night"]
+    named = [] if at_night else [Path(name) for name in sys.argv[1:]]
     with tempfile.TemporaryDirectory() as folder:
         for file in FILES:
             shutil.copy(file, folder)
+        if at_night:
+            sys.exit(0 if all([run_heavy_page(folder), run_long_trace(folder)]) else 1)
         all_files = sorted([*(TESTS / "sessions").glob("*.txt"),
                             *(TESTS / "fontshape").glob("*.txt")])
         right = [run_sessions(named or all_files, folder)]

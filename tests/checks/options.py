@@ -3,7 +3,7 @@
 Each run has a font, a list of options and some lines, with marks, joiners, scripts from right to
 left, bytes that aren't UTF-8, and no line at all. The fonts are two copies of DejaVu Sans without
 GSUB and GPOS: one with `kern`, one without. Lists differ in all that `fontshape` takes but
-`--mode`, `--no-layout`, `--svg` and `-v`, which `hb-shape` takes for `--ned`. A run differs if a
+`--mode`, `--no-layout`, `--svg`, `--html`, `--trace` and `-v`, which `hb-shape` takes for `--ned`. A run differs if a
 byte of standard output does, or if one ends with status 0 and the other doesn't.
 
 Left out is where the two are known to differ. A line in another size has no marks, no kerning and

@@ -197,7 +197,7 @@ static SHAPING_CHOICES: [Choice; 16] = [
     ),
 ];
 
-static OUTPUT_CHOICES: [Choice; 18] = [
+static OUTPUT_CHOICES: [Choice; 20] = [
     Choice(
         "output-file",
         'o',
@@ -241,6 +241,12 @@ static OUTPUT_CHOICES: [Choice; 18] = [
         "Its margins in units of the font, one to four numbers (an eighth of the em square)",
     ),
     Choice(
+        "html",
+        ' ',
+        Takes::Word("FILE"),
+        "Draw all lines on a page that shows where each glyph comes from",
+    ),
+    Choice(
         "show-text",
         ' ',
         Takes::Nothing,
@@ -259,6 +265,12 @@ static OUTPUT_CHOICES: [Choice; 18] = [
         "Write the number of each line",
     ),
     Choice("verbose", 'v', Takes::Nothing, "All of the last three"),
+    Choice(
+        "trace",
+        'V',
+        Takes::Nothing,
+        "Write to standard error what each step of a run makes of its list",
+    ),
     Choice(
         "no-glyph-names",
         ' ',

@@ -1,199 +1,106 @@
-//! What is drawn of one line, as SVG, and the bounds that it takes.
-use glyph_outlines::{Point, Segment};
+//! Lines that are drawn: on a picture of SVG, or on a page of HTML that shows where each glyph comes from.
+use crate::failure::Failure;
+use crate::glyphs::Glyphs;
+use crate::line::Line;
+use crate::options::{Format, Options};
+use crate::size::Scale;
+use crate::written::Font;
+use glyph_outlines::Outlines;
+use glyph_pictures::{Page, Picture, ShapedLine};
+use shape_pipeline::{GlyphBuffer, ShapeError, hb_font_t};
+use shape_text_forms::NoNames;
 use std::alloc::{AllocError, Global};
-use std::fmt;
-use std::fmt::{Display, Formatter};
-use std::num::saturating_f64_to_i64;
 
-/// The most bytes of one step of a path, or of what begins or ends a path or a group.
-const STEP: usize = 120;
-
-/// Coordinates stay below this, so that no font makes the picture of a point longer than a step.
-const FARTHEST: f64 = 1_000_000.0;
-
-/// A place in the plane, y upwards.
-#[derive(Clone, Copy)]
-pub struct Place {
-    pub x: f64,
-    pub y: f64,
-}
-
-/// A number rounded to a tenth, halves upwards.
-#[derive(Clone, Copy)]
-pub struct Tenths(i64);
-
-/// A number as it is written.
-pub fn rounded(x: f64) -> Tenths {
-    Tenths(saturating_f64_to_i64((x * 10.0 + 0.5).floor()))
-}
-
-impl Display for Tenths {
-    fn fmt<W: fmt::Write>(&self, f: &mut Formatter<W>) -> fmt::Result {
-        let sign = if self.0 < 0 { "-" } else { "" };
-        let (whole, tenth) = (self.0.unsigned_abs() / 10, self.0.unsigned_abs() % 10);
-        if tenth == 0 {
-            write!(f, "{sign}{whole}")
-        } else {
-            write!(f, "{sign}{whole}.{tenth}")
-        }
-    }
-}
-
-/// The least rectangle that holds all that was drawn.
-#[derive(Clone, Copy)]
-pub struct Bounds {
-    pub left: f64,
-    pub right: f64,
-    pub low: f64,
-    pub high: f64,
-}
-
-/// A number that is near enough to be drawn; 0 if it is none.
-fn near(x: f64) -> f64 {
-    if x.is_nan() {
-        0.0
-    } else {
-        x.max(-FARTHEST).min(FARTHEST)
-    }
-}
-
-/// A drawing of at most so many bytes: a step that would pass them is left out.
+/// What lines are drawn on.
 #[derive(Drop)]
-pub struct Drawing {
-    out: String,
-    most: usize,
-    bounds: Bounds,
+enum Canvas {
+    Svg(Picture),
+    Html(Page),
 }
 
-impl Drawing {
-    /// An empty drawing.
-    pub fn new(alloc: Global, most: usize) -> Drawing {
-        Drawing {
-            out: String::new(alloc),
-            most,
-            bounds: Bounds {
-                left: 0.0,
-                right: 0.0,
-                low: 0.0,
-                high: 0.0,
-            },
-        }
-    }
+/// Lines drawn with the outlines of a font.
+#[derive(Drop)]
+pub struct Drawn<'a> {
+    outlines: Outlines<'a>,
+    canvas: Canvas,
+}
 
-    /// Whether there is room for another step, and for all ends.
-    pub fn has_room(&self) -> bool {
-        self.out.len().saturating_add(4 * STEP) <= self.most
+/// What lines are to be drawn on, none if they are written. Refuses to draw a font without outlines.
+pub fn begin_drawing<'a>(
+    alloc: Global,
+    options: &Options,
+    bytes: &'a [u8],
+    units_per_em: u16,
+) -> Result<Option<Drawn<'a>>, Failure> {
+    let canvas = match options.format() {
+        Format::Svg => Canvas::Svg(Picture::new(alloc, units_per_em)),
+        Format::Html => Canvas::Html(Page::new(alloc, units_per_em, options.typed())?),
+        Format::Text | Format::Json => return Ok(None),
+    };
+    match Outlines::from_slice(bytes, options.face_index()) {
+        Some(outlines) => Ok(Some(Drawn { outlines, canvas })),
+        None => Err(Failure::file(
+            alloc,
+            options.font(),
+            "no outlines to draw, since it has no table glyf, CFF or CFF2",
+        )),
     }
+}
 
-    /// What the drawing takes.
-    pub fn bounds(&self) -> &Bounds {
-        &self.bounds
+/// Draws a line on a page, its glyphs by name if names are written.
+fn add_named(
+    alloc: Global,
+    page: &mut Page,
+    outlines: &Outlines,
+    font: &Font,
+    line: ShapedLine,
+) -> Result<(), ShapeError> {
+    match font.names() {
+        Some(names) => page.add(alloc, Some(outlines), names, line),
+        None => page.add(alloc, Some(outlines), &NoNames, line),
     }
+}
 
-    /// Takes a place into the bounds.
-    pub fn sees(&mut self, place: Place) {
-        let (x, y) = (near(place.x), near(place.y));
-        self.bounds.left = self.bounds.left.min(x);
-        self.bounds.right = self.bounds.right.max(x);
-        self.bounds.low = self.bounds.low.min(y);
-        self.bounds.high = self.bounds.high.max(y);
-    }
-
-    /// Draws the outline of a glyph of a cluster from this place on.
-    pub fn glyph(
+impl<'a> Drawn<'a> {
+    /// Draws a line below all others, on a page with its numbers in the size that is asked for. Refuses if a growth was
+    /// refused.
+    pub fn add(
         &mut self,
-        glyph: u16,
-        cluster: u32,
-        segments: &[Segment],
-        pen: Place,
-    ) -> Result<(), AllocError> {
-        if !self.has_room() {
-            return Ok(());
-        }
-        let (x, y) = (rounded(near(pen.x)), rounded(near(pen.y)));
-        write!(
-            self.out,
-            "<path class=\"glyph\" data-glyph=\"{glyph}\" data-cluster=\"{cluster}\""
-        )?;
-        write!(self.out, " transform=\"translate({x} {y})\" d=\"")?;
-        for segment in segments {
-            self.segment(*segment, pen)?;
-        }
-        self.out.push_str("\"/>\n")
+        alloc: Global,
+        options: &Options,
+        font: &Font,
+        line: &Line,
+        glyphs: &GlyphBuffer,
+    ) -> Result<(), ShapeError> {
+        let text = line.characters();
+        let page = match &mut self.canvas {
+            Canvas::Svg(picture) => return picture.add(alloc, &self.outlines, text, glyphs),
+            Canvas::Html(page) => page,
+        };
+        let Some(size) = options.size() else {
+            let positions = glyphs.glyph_positions();
+            let line = ShapedLine {
+                text,
+                glyphs,
+                positions,
+            };
+            return add_named(alloc, page, &self.outlines, font, line);
+        };
+        let scale = Scale::new(size, font.face.units_per_em());
+        let positions = scale.positions(alloc, &font.face, Glyphs::of_line(glyphs))?;
+        let line = ShapedLine {
+            text,
+            glyphs,
+            positions: positions.as_slice(),
+        };
+        add_named(alloc, page, &self.outlines, font, line)
     }
 
-    /// Draws a step of an outline.
-    fn segment(&mut self, segment: Segment, pen: Place) -> Result<(), AllocError> {
-        if !self.has_room() {
-            return Ok(());
+    /// The picture or the page. Refuses only if a growth was refused.
+    pub fn text(&self, alloc: Global, options: &Options) -> Result<String, AllocError> {
+        match &self.canvas {
+            Canvas::Svg(picture) => picture.svg(alloc, options.look()),
+            Canvas::Html(page) => page.html(alloc),
         }
-        match segment {
-            Segment::Move(point) => self.point('M', point, pen),
-            Segment::Line(point) => self.point('L', point, pen),
-            Segment::Curve(round, point) => {
-                self.point('Q', round, pen)?;
-                self.point(' ', point, pen)
-            }
-            Segment::Cubic(first, second, point) => {
-                self.point('C', first, pen)?;
-                self.point(' ', second, pen)?;
-                self.point(' ', point, pen)
-            }
-            Segment::Close => self.out.push('Z'),
-        }
-    }
-
-    /// Appends a letter and a point of an outline that begins at this place.
-    fn point(&mut self, letter: char, point: Point, pen: Place) -> Result<(), AllocError> {
-        self.sees(Place {
-            x: pen.x + point.x,
-            y: pen.y + point.y,
-        });
-        let (x, y) = (rounded(near(point.x)), rounded(near(point.y)));
-        write!(self.out, "{letter}{x} {y}")
-    }
-
-    /// Begins the lines of clusters, which are so wide; they are the rest of the drawing.
-    pub fn begin_clusters(&mut self, width: f64) -> Result<(), AllocError> {
-        let width = rounded(width);
-        write!(
-            self.out,
-            "<g class=\"clusters\" stroke-width=\"{width}\">\n"
-        )
-    }
-
-    /// Draws a line of a cluster, of this class and colour.
-    pub fn line(
-        &mut self,
-        class: &str,
-        cluster: u32,
-        colour: &str,
-        from: Place,
-        to: Place,
-    ) -> Result<(), AllocError> {
-        if !self.has_room() {
-            return Ok(());
-        }
-        self.sees(from);
-        self.sees(to);
-        let (x, y) = (rounded(near(from.x)), rounded(near(from.y)));
-        write!(
-            self.out,
-            "<path class=\"{class}\" data-cluster=\"{cluster}\" stroke=\"{colour}\""
-        )?;
-        write!(self.out, " d=\"M{x} {y}")?;
-        let (x, y) = (rounded(near(to.x)), rounded(near(to.y)));
-        write!(self.out, "L{x} {y}\"/>\n")
-    }
-
-    /// Appends the drawing to a picture, with its origin at this height.
-    pub fn append_to(&self, picture: &mut String, base: f64) -> Result<(), AllocError> {
-        let base = rounded(base);
-        write!(
-            picture,
-            "<g class=\"line\" transform=\"translate(0 {base})\">\n"
-        )?;
-        picture.push_str(self.out.as_str())?;
-        picture.push_str("</g>\n</g>\n")
     }
 }

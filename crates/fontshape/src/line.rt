@@ -1,15 +1,9 @@
 //! A line of the input as characters.
+use glyph_pictures::Character;
 use std::alloc::{AllocError, Global};
 
 /// What stands for a byte that is part of no character (HarfBuzz, `hb_buffer_set_replacement_codepoint`).
 const REPLACEMENT: char = '\u{FFFD}';
-
-/// A character, and its cluster.
-#[derive(Clone, Copy)]
-pub struct Character {
-    pub c: char,
-    pub cluster: u32,
-}
 
 /// The characters of a line.
 #[derive(Drop)]

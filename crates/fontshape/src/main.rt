@@ -1,8 +1,9 @@
 //! Shapes texts with a font file, and writes the glyphs as `hb-shape` does.
 //!
-//! [`command`] says which arguments there are, [`options`] and [`values`] what they ask for; [`line`] reads a line,
-//! [`shaping`] shapes it, or [`fallback`], [`written`] writes it to an [`output`] in a [`size`], and [`picture`] draws it.
-//! [`axes`] lists the axes of a variable font, and [`warnings`] say what a font doesn't have that is asked for.
+//! [`command`] says which arguments there are, [`options`], [`values`] and [`forms`] what they ask for; [`line`] reads a
+//! line, [`shaping`] shapes it, or [`fallback`], [`written`] writes it to an [`output`] in a [`size`], and [`drawing`] draws
+//! it. A [`trace`] has what its run makes of it step by step. [`axes`] lists the axes of a variable font, and [`warnings`]
+//! say what a font doesn't have that is asked for.
 #![tactic(auto)]
 #![allow(non_camel_case_types)]
 
@@ -11,13 +12,15 @@ mod command;
 mod drawing;
 mod failure;
 mod fallback;
+mod forms;
+mod glyphs;
 mod line;
-mod look;
 mod options;
 mod output;
-mod picture;
 mod shaping;
 mod size;
+mod trace;
+mod typed;
 mod unicodes;
 mod values;
 mod warnings;
@@ -25,19 +28,19 @@ mod written;
 
 use crate::axes::list_axes;
 use crate::command::command;
+use crate::drawing::{Drawn, begin_drawing};
 use crate::failure::Failure;
 use crate::line::Line;
-use crate::options::{Format, Options, Source};
+use crate::options::{Options, Source};
 use crate::output::Output;
-use crate::picture::Picture;
-use crate::shaping::{Planned, opened, shaped};
+use crate::shaping::{Planned, opened, shaped, traced};
+use crate::trace::Trace;
 use crate::warnings::{warn_of_boxes, warn_of_unvaried};
 use crate::written::{Font, Given, write_line};
-use glyph_outlines::Outlines;
 use opentype_layout::OpenedOpenTypeFace;
 use shape_font::FontFace;
 use shape_font::instance::coordinates_of;
-use shape_pipeline::hb_font_t;
+use shape_pipeline::{GlyphBuffer, hb_font_t};
 use std::alloc::Global;
 use std::env::{Env, FillError};
 use std::fs::File;
@@ -45,71 +48,103 @@ use std::io::{BufRead, BufReader, Read, Write};
 use std::process::ExitCode;
 use std::{env, fs, io};
 
-/// What is said of standard input and output.
+/// What is said of standard input, output and error.
 const INPUT: &str = "standard input";
 
 const OUTPUT: &str = "standard output";
 
-/// The program at work: what it shapes with, and what it draws or writes to.
+const ERRORS: &str = "standard error";
+
+/// The program at work: what it shapes with, and what it draws on or writes to.
 #[derive(Drop)]
 struct Work<'a, W: Write + Drop> {
     options: &'a Options,
     font: Font<'a>,
     planned: Option<Planned<'a>>,
-    outlines: Option<Outlines<'a>>,
-    picture: Picture,
+    drawn: Option<Drawn<'a>>,
     output: Output<'a, W>,
 }
 
 impl<'a, W: Write + Drop> Work<'a, W> {
+    /// Shapes a line, and writes the trace of its run to standard error, also if the line is refused.
+    fn shape_traced(
+        &self,
+        rt: &HostRuntime,
+        line: &Line,
+        number: usize,
+    ) -> Result<GlyphBuffer, Failure> {
+        let alloc = rt.alloc();
+        let trace = Trace::new(alloc, self.options, &self.font, number);
+        let planned = self.planned.as_ref();
+        let done = traced(alloc, self.options, &self.font.face, planned, &trace, line);
+        let text = trace.into_text()?;
+        match eprint!(rt; "{text}") {
+            Ok(()) => {}
+            Err(error) => return Err(Failure::io(alloc, ERRORS, error)),
+        }
+        match done {
+            Ok(glyphs) => Ok(glyphs),
+            Err(error) => Err(Failure::line(alloc, number, error)),
+        }
+    }
+
+    /// Shapes a line as the options ask.
+    fn shape(
+        &mut self,
+        rt: &HostRuntime,
+        line: &Line,
+        number: usize,
+    ) -> Result<GlyphBuffer, Failure> {
+        if self.options.traced() {
+            return self.shape_traced(rt, line, number);
+        }
+        let alloc = rt.alloc();
+        let planned = self.planned.as_mut();
+        match shaped(alloc, self.options, &self.font.face, planned, line) {
+            Ok(glyphs) => Ok(glyphs),
+            Err(error) => Err(Failure::line(alloc, number, error)),
+        }
+    }
+
     /// Shapes a line, and draws it or writes it.
-    fn take_line(&mut self, alloc: Global, text: &[u8], number: usize) -> Result<(), Failure> {
+    fn take_line(&mut self, rt: &HostRuntime, text: &[u8], number: usize) -> Result<(), Failure> {
+        let alloc = rt.alloc();
         let line = Line::new(alloc, text, self.options.utf8_clusters())?;
-        let glyphs = match shaped(
-            alloc,
-            self.options,
-            &self.font.face,
-            self.planned.as_mut(),
-            &line,
-        ) {
-            Ok(glyphs) => glyphs,
-            Err(error) => return Err(Failure::line(alloc, number, error)),
-        };
-        match &self.outlines {
-            Some(outlines) => match self.picture.add(alloc, outlines, &line, &glyphs) {
+        let glyphs = self.shape(rt, &line, number)?;
+        if let Some(drawn) = &mut self.drawn {
+            return match drawn.add(alloc, self.options, &self.font, &line, &glyphs) {
                 Ok(()) => Ok(()),
                 Err(error) => Err(Failure::line(alloc, number, error)),
-            },
-            None => {
-                let given = Given {
-                    text,
-                    number,
-                    line: &line,
-                };
-                write_line(
-                    alloc,
-                    &mut self.output,
-                    self.options,
-                    &self.font,
-                    given,
-                    &glyphs,
-                )
-            }
+            };
         }
+        let given = Given {
+            text,
+            number,
+            line: &line,
+        };
+        write_line(
+            alloc,
+            &mut self.output,
+            self.options,
+            &self.font,
+            given,
+            &glyphs,
+        )
     }
 
     /// Takes each line of a reader.
     fn take_lines<R: BufRead + Drop>(
         &mut self,
-        alloc: Global,
+        rt: &HostRuntime,
         reader: R,
         name: &str,
     ) -> Result<(), Failure> {
+        let alloc = rt.alloc();
         let mut number: usize = 0;
         for line in reader.split(alloc, b'\n') {
             number = number.saturating_add(1);
             match line {
-                Ok(text) => self.take_line(alloc, text.as_slice(), number)?,
+                Ok(text) => self.take_line(rt, text.as_slice(), number)?,
                 Err(error) => return Err(Failure::io(alloc, name, error)),
             }
         }
@@ -119,15 +154,16 @@ impl<'a, W: Write + Drop> Work<'a, W> {
     /// Takes all that a reader gives as one text, if there is anything.
     fn take_whole<R: BufRead + Drop>(
         &mut self,
-        alloc: Global,
+        rt: &HostRuntime,
         reader: R,
         name: &str,
     ) -> Result<(), Failure> {
+        let alloc = rt.alloc();
         let mut reader = reader;
         let mut text = Vec::new(alloc);
         match reader.read_to_end(&mut text) {
             Ok(0) => Ok(()),
-            Ok(_) => self.take_line(alloc, text.as_slice(), 1),
+            Ok(_) => self.take_line(rt, text.as_slice(), 1),
             Err(error) => Err(Failure::io(alloc, name, error)),
         }
     }
@@ -135,14 +171,14 @@ impl<'a, W: Write + Drop> Work<'a, W> {
     /// Takes what a reader gives, as the options ask.
     fn take<R: BufRead + Drop>(
         &mut self,
-        alloc: Global,
+        rt: &HostRuntime,
         reader: R,
         name: &str,
     ) -> Result<(), Failure> {
         if self.options.single_par() {
-            self.take_whole(alloc, reader, name)
+            self.take_whole(rt, reader, name)
         } else {
-            self.take_lines(alloc, reader, name)
+            self.take_lines(rt, reader, name)
         }
     }
 
@@ -150,28 +186,28 @@ impl<'a, W: Write + Drop> Work<'a, W> {
     fn take_source(&mut self, rt: &HostRuntime) -> Result<(), Failure> {
         let alloc = rt.alloc();
         match self.options.source() {
-            Source::Given(text) => self.take(alloc, text.as_bytes(), INPUT),
+            Source::Given(text) => self.take(rt, text.as_bytes(), INPUT),
             Source::File(name) => match File::open(rt, name.as_str()) {
                 Ok(file) => {
                     let reader = buffered(alloc, file)?;
-                    self.take(alloc, reader, name.as_str())
+                    self.take(rt, reader, name.as_str())
                 }
                 Err(error) => Err(Failure::io(alloc, name.as_str(), error)),
             },
             Source::Input => {
                 let reader = buffered(alloc, rt.reader())?;
-                self.take(alloc, reader, INPUT)
+                self.take(rt, reader, INPUT)
             }
         }
     }
 
-    /// Takes all lines, and writes the picture if one was drawn.
+    /// Takes all lines, and writes what was drawn of them.
     fn take_all(&mut self, rt: &HostRuntime) -> Result<(), Failure> {
         let alloc = rt.alloc();
         self.take_source(rt)?;
-        if self.outlines.is_some() {
-            let svg = self.picture.svg(alloc, self.options.look())?;
-            self.output.write(alloc, svg.as_bytes())?;
+        if let Some(drawn) = &self.drawn {
+            let text = drawn.text(alloc, self.options)?;
+            self.output.write(alloc, text.as_bytes())?;
         }
         Ok(())
     }
@@ -194,32 +230,13 @@ fn buffered<R: Read + Drop>(alloc: Global, reader: R) -> Result<BufReader<R>, Fa
     }
 }
 
-/// The outlines to draw, none if glyphs are written. Refuses to draw a font without any.
-fn drawn<'a>(
-    alloc: Global,
-    options: &Options,
-    bytes: &'a [u8],
-) -> Result<Option<Outlines<'a>>, Failure> {
-    if options.format() != Format::Svg {
-        return Ok(None);
-    }
-    match Outlines::from_slice(bytes, options.face_index()) {
-        Some(outlines) => Ok(Some(outlines)),
-        None => Err(Failure::file(
-            alloc,
-            options.font(),
-            "no outlines to draw, since it has no table glyf, CFF or CFF2",
-        )),
-    }
-}
-
 /// Takes all lines with a face, and the same face for the font's tables of lookups if that was opened.
 fn run_over<'a, W: Write + Drop>(
     rt: &HostRuntime,
     options: &'a Options,
     face: FontFace<'a>,
     opened: Option<&'a OpenedOpenTypeFace<'a>>,
-    outlines: Option<Outlines<'a>>,
+    drawn: Option<Drawn<'a>>,
     output: Output<'a, W>,
 ) -> Result<(), Failure> {
     let alloc = rt.alloc();
@@ -227,8 +244,7 @@ fn run_over<'a, W: Write + Drop>(
         options,
         font: Font::new(alloc, options, face)?,
         planned: opened.map(Planned::new),
-        outlines,
-        picture: Picture::new(alloc, face.units_per_em()),
+        drawn,
         output,
     };
     work.run(rt)
@@ -250,13 +266,13 @@ fn run_to<W: Write + Drop>(
     if options.lists_axes() {
         return list_axes(alloc, options, bytes, output);
     }
-    let outlines = drawn(alloc, options, bytes)?;
+    let drawn = begin_drawing(alloc, options, bytes, face.units_per_em())?;
     warn_of_boxes(rt, options, bytes)?;
     let coordinates = coordinates_of(alloc, bytes, index, &options.wanted())?;
     warn_of_unvaried(rt, options, bytes, coordinates.as_slice())?;
     let face = face.at(coordinates.as_slice());
     match opened(alloc, options, face) {
-        Ok(opened) => run_over(rt, options, face, opened.as_ref(), outlines, output),
+        Ok(opened) => run_over(rt, options, face, opened.as_ref(), drawn, output),
         Err(_) => Err(Failure::Memory),
     }
 }
@@ -311,7 +327,7 @@ fn obey(rt: &HostRuntime) -> Result<(), Failure> {
         Ok(matches) => matches,
         Err(error) => return Err(Failure::from(error)),
     };
-    let options = Options::new(alloc, &matches)?;
+    let options = Options::new(alloc, &matches, words.as_slice())?;
     match fs::read(rt, options.font()) {
         Ok(bytes) => run(rt, &options, bytes.as_slice()),
         Err(error) => Err(Failure::io(alloc, options.font(), error)),

@@ -1,10 +1,11 @@
 //! What the arguments ask for.
 use crate::failure::Failure;
-use crate::look::Look;
 use crate::size::Size;
-use crate::values;
+use crate::typed::command_line;
+use crate::{forms, values};
 use clap::ArgMatches;
 use font_variations::coordinates::{Variation, Wanted};
+use glyph_pictures::Look;
 use shape_pipeline::{
     BufferClusterLevel, BufferFlags, Direction, Feature, GlyphId, Language, Script,
 };
@@ -20,6 +21,8 @@ pub enum Format {
     Json,
     /// As one picture.
     Svg,
+    /// As one page.
+    Html,
 }
 
 /// Where texts come from.
@@ -70,12 +73,15 @@ pub struct Options {
     look: Look,
     shown: Shown,
     axes: bool,
+    traced: bool,
     output: Option<String>,
+    typed: String,
 }
 
 impl Options {
-    /// What the arguments ask for. Refuses the first value that isn't as it should be, and two texts.
-    pub fn new(alloc: Global, matches: &ArgMatches) -> Result<Options, Failure> {
+    /// What these words ask for. Refuses the first value that isn't as it should be, and two options that exclude each
+    /// other.
+    pub fn new(alloc: Global, matches: &ArgMatches, words: &[String]) -> Result<Options, Failure> {
         Ok(Options {
             font: values::word_or(alloc, matches, "font", "")?,
             source: values::source(alloc, matches)?,
@@ -98,12 +104,14 @@ impl Options {
             invisible: values::glyph(matches, "invisible-glyph"),
             not_found_selector: values::glyph(matches, "not-found-variation-selector-glyph"),
             flags: values::run_flags(matches),
-            form: values::form_flags(matches),
-            format: values::format(alloc, matches)?,
-            look: values::look(alloc, matches)?,
-            shown: values::shown(matches),
-            axes: matches.get_flag("list-axes"),
-            output: values::word(alloc, matches, "output-file")?,
+            form: forms::form_flags(matches),
+            format: forms::format(alloc, matches)?,
+            look: forms::look(alloc, matches)?,
+            shown: forms::shown(matches),
+            axes: forms::axes(alloc, matches)?,
+            traced: matches.get_flag("trace"),
+            output: forms::output(alloc, matches)?,
+            typed: command_line(alloc, words)?,
         })
     }
 
@@ -223,6 +231,11 @@ impl Options {
         self.format
     }
 
+    /// Whether lines are drawn, and not written.
+    pub fn draws(&self) -> bool {
+        matches!(self.format, Format::Svg | Format::Html)
+    }
+
     /// How a picture looks.
     pub fn look(&self) -> &Look {
         &self.look
@@ -236,6 +249,16 @@ impl Options {
     /// Whether the font's axes are listed, and nothing is shaped.
     pub fn lists_axes(&self) -> bool {
         self.axes
+    }
+
+    /// Whether the list of each run is written after its steps.
+    pub fn traced(&self) -> bool {
+        self.traced
+    }
+
+    /// The command line, as a shell takes it.
+    pub fn typed(&self) -> &str {
+        self.typed.as_str()
     }
 
     /// The name of the file to write to, none for standard output.

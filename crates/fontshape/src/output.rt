@@ -3,6 +3,12 @@ use crate::failure::Failure;
 use std::alloc::Global;
 use std::io::{BufWriter, Write};
 
+/// What takes a text part by part.
+pub trait sink {
+    /// Takes the next part.
+    fn put(&mut self, alloc: Global, part: &str) -> Result<(), Failure>;
+}
+
 /// A file or standard output, and what is said of it if it can't be written.
 #[derive(Drop)]
 pub struct Output<'a, W: Write + Drop> {
@@ -33,5 +39,11 @@ impl<'a, W: Write + Drop> Output<'a, W> {
             Ok(()) => Ok(()),
             Err(error) => Err(Failure::write(alloc, self.name, error)),
         }
+    }
+}
+
+impl<'a, W: Write + Drop> sink for Output<'a, W> {
+    fn put(&mut self, alloc: Global, part: &str) -> Result<(), Failure> {
+        self.write(alloc, part.as_bytes())
     }
 }

@@ -6,6 +6,7 @@ ghost use Rattle.shaper_choice.specs.ScriptPlans.{PlanFits};
 use crate::fallback::shaped_alone;
 use crate::line::Line;
 use crate::options::Options;
+use crate::trace::Trace;
 use kern_table::KernTable;
 use layout_map::map::hb_ot_map_t;
 use opentype_layout::{OpenTypeFace, OpenTypeLayout, OpenedOpenTypeFace};
@@ -22,6 +23,7 @@ use shaper_choice::{
     SCRIPT_SHAPERS, ScriptPlan, plan_by_script, shape_by_script, shape_with_script_plan,
 };
 use std::alloc::Global;
+use watched_runs::{Watched, WatchedFace};
 
 /// The face for the font's tables of lookups, with the plan of the last line. A line of the same script and direction
 /// needs no other one, since language and features are those of the options. Making a plan takes as long as shaping a
@@ -248,4 +250,51 @@ pub fn shaped(
         }
         None => shaped_without_layout(alloc, options, face, buffer),
     }
+}
+
+/// The glyphs of a buffer without tables of lookups, as `shaped_without_layout`, with a trace of the run.
+fn traced_without_layout(
+    alloc: Global,
+    options: &Options,
+    face: &FontFace,
+    trace: &Trace,
+    buffer: UnicodeBuffer,
+) -> Result<GlyphBuffer, ShapeError> {
+    let gpos = face.tables().gpos;
+    let watcher = trace;
+    let watched = &WatchedFace { face, watcher };
+    if gpos {
+        shaped_with::<WatchedFace<FontFace, Trace>, Watched<NoLookups>>(
+            alloc, options, watched, buffer,
+        )
+    } else {
+        shaped_with::<WatchedFace<FontFace, Trace>, Watched<KernTable>>(
+            alloc, options, watched, buffer,
+        )
+    }
+}
+
+/// The glyphs of a line, as `shaped`, with a trace of its run. No plan is kept for the next line.
+pub fn traced(
+    alloc: Global,
+    options: &Options,
+    face: &FontFace,
+    planned: Option<&Planned>,
+    trace: &Trace,
+    line: &Line,
+) -> Result<GlyphBuffer, ShapeError> {
+    let buffer = filled(alloc, options, line)?;
+    if options.fallback() {
+        return Ok(shaped_alone(face, buffer));
+    }
+    let Some(planned) = planned else {
+        return traced_without_layout(alloc, options, face, trace, buffer);
+    };
+    let watched = &WatchedFace {
+        face: planned.face,
+        watcher: trace,
+    };
+    shaped_with::<WatchedFace<OpenedOpenTypeFace, Trace>, Watched<OpenTypeLayout>>(
+        alloc, options, watched, buffer,
+    )
 }

@@ -2,9 +2,10 @@
 //!
 //! A number of the font is multiplied and rounded as HarfBuzz does it: by the size times 2^16 over the units of the em
 //! square, cut to a whole number, and then by 2^-16, halves upwards.
+use crate::glyphs::Glyphs;
 use shape_buffer::wrapping::{difference, sum};
 use shape_pipeline::{
-    GlyphBuffer, GlyphId, GlyphPosition, MapFace, Metrics, hb_font_t, hb_glyph_extents_t,
+    GlyphId, GlyphPosition, MapFace, Metrics, hb_font_t, hb_glyph_extents_t, hb_glyph_info_t,
 };
 use std::alloc::{AllocError, Global};
 use std::num::{nearest_i32_to_f32, saturating_f32_to_i32};
@@ -122,11 +123,11 @@ impl Scale {
         self,
         alloc: Global,
         face: &F,
-        glyphs: &GlyphBuffer,
+        glyphs: Glyphs,
     ) -> Result<Vec<GlyphPosition>, AllocError> {
-        let down = glyphs.direction().is_vertical();
+        let down = glyphs.down;
         let mut positions = Vec::new(alloc);
-        for (info, position) in glyphs.iter() {
+        for (info, position) in glyphs.infos.iter().zip(glyphs.positions) {
             positions.push(self.position(face, down, GlyphId(info.glyph_id), position))?;
         }
         Ok(positions)
@@ -149,10 +150,10 @@ impl Scale {
         self,
         alloc: Global,
         face: &F,
-        glyphs: &GlyphBuffer,
+        infos: &[hb_glyph_info_t],
     ) -> Result<MapFace, AllocError> {
         let mut boxes = MapFace::new(alloc, face.units_per_em());
-        for info in glyphs.glyph_infos() {
+        for info in infos {
             let glyph = GlyphId(info.glyph_id);
             let extents = match face.glyph_extents(glyph) {
                 Some(extents) => Some(self.extents(extents)),

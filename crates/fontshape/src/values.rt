@@ -1,18 +1,15 @@
-//! The values of options: what each takes, and what is said of one that it doesn't take.
+//! The values of options of the input and of shaping: what each takes, and what is said of one that it doesn't take.
 ghost use Rattle.std.specs.Prelude.{◌≡◌};
 
 use crate::failure::Failure;
-use crate::look::{Look, colour_from_string, margins_from_string};
-use crate::options::{Format, Shown, Source};
+use crate::options::Source;
 use crate::size::{Size, size_from_string};
 use crate::unicodes::text_of_numbers;
 use clap::ArgMatches;
 use font_variations::coordinates::Variation;
 use shape_pipeline::{BufferClusterLevel, BufferFlags, Direction, Feature, GlyphId, Script};
 use shape_text_forms::feature::tag_value;
-use shape_text_forms::{
-    SerializeFlags, direction_from_string, feature_from_string, script_from_string,
-};
+use shape_text_forms::{direction_from_string, feature_from_string, script_from_string};
 use std::alloc::{AllocError, Global};
 
 /// Options that ask something of a run.
@@ -31,20 +28,6 @@ const RUN_FLAGS: [(&str, BufferFlags); 6] = [
     (
         "safe-to-insert-tatweel",
         BufferFlags::PRODUCE_SAFE_TO_INSERT_TATWEEL,
-    ),
-];
-
-/// Options that change what is written of glyphs.
-const FORM_FLAGS: [(&str, u32); 7] = [
-    ("no-glyph-names", SerializeFlags::NO_GLYPH_NAMES),
-    ("no-positions", SerializeFlags::NO_POSITIONS),
-    ("no-advances", SerializeFlags::NO_ADVANCES),
-    ("no-clusters", SerializeFlags::NO_CLUSTERS),
-    ("show-extents", SerializeFlags::GLYPH_EXTENTS),
-    ("show-flags", SerializeFlags::GLYPH_FLAGS),
-    (
-        "ned",
-        SerializeFlags::NO_CLUSTERS | SerializeFlags::NO_ADVANCES,
     ),
 ];
 
@@ -253,43 +236,6 @@ pub fn fallback(alloc: Global, matches: &ArgMatches) -> Result<bool, Failure> {
     Ok(list.starts_with("fallback"))
 }
 
-/// The colour of an option.
-fn colour(alloc: Global, matches: &ArgMatches, name: &str) -> Result<Option<String>, Failure> {
-    let Some(value) = matches.get_str(name) else {
-        return Ok(None);
-    };
-    match colour_from_string(alloc, value)? {
-        Some(colour) => Ok(Some(colour)),
-        None => Err(Failure::value(
-            alloc,
-            name,
-            value,
-            "three, four, six or eight hexadecimal digits such as FFD700",
-        )),
-    }
-}
-
-/// How a picture looks.
-pub fn look(alloc: Global, matches: &ArgMatches) -> Result<Look, Failure> {
-    let margins = match matches.get_str("margin") {
-        Some(value) => match margins_from_string(value) {
-            Some(margins) => Some(margins),
-            None => return Err(Failure::value(
-                alloc,
-                "margin",
-                value,
-                "one to four whole numbers up to 1000000",
-            )),
-        },
-        None => None,
-    };
-    Ok(Look {
-        background: colour(alloc, matches, "background")?,
-        foreground: colour(alloc, matches, "foreground")?,
-        margins,
-    })
-}
-
 /// How many units wide and high the em square is to be, none for those of the font.
 pub fn size(alloc: Global, matches: &ArgMatches) -> Result<Option<Size>, Failure> {
     let Some(value) = matches.get_str("font-size") else {
@@ -335,47 +281,4 @@ pub fn run_flags(matches: &ArgMatches) -> u32 {
         }
     }
     flags
-}
-
-/// What is written of glyphs.
-pub fn form_flags(matches: &ArgMatches) -> u32 {
-    let mut flags = 0;
-    for (name, flag) in FORM_FLAGS.iter() {
-        if matches.get_flag(name) {
-            flags |= *flag;
-        }
-    }
-    flags
-}
-
-/// What is written before the glyphs of a line.
-pub fn shown(matches: &ArgMatches) -> Shown {
-    let all = matches.get_flag("verbose");
-    Shown {
-        text: all || matches.get_flag("show-text"),
-        unicode: all || matches.get_flag("show-unicode"),
-        line_num: all || matches.get_flag("show-line-num"),
-    }
-}
-
-/// How lines are written: a format that is asked for, else by the ending of the output file's name.
-pub fn format(alloc: Global, matches: &ArgMatches) -> Result<Format, Failure> {
-    let asked = matches.get_str("output-format");
-    if matches.get_flag("svg") {
-        return match asked {
-            Some(_) => Err(Failure::both(alloc, "--svg", "--output-format")),
-            None => Ok(Format::Svg),
-        };
-    }
-    match asked {
-        Some("text") => Ok(Format::Text),
-        Some("json") => Ok(Format::Json),
-        Some(other) => Err(Failure::value(alloc, "output-format", other, "text or json")),
-        None
-            if matches
-                .get_str("output-file")
-                .unwrap_or("")
-                .ends_with(".json") => Ok(Format::Json),
-        None => Ok(Format::Text),
-    }
 }

@@ -1,6 +1,6 @@
 //! What is said of a font that doesn't have what is asked for, in a line of standard error.
 use crate::failure::Failure;
-use crate::options::{Format, Options};
+use crate::options::Options;
 use glyph_outlines::Outlines;
 use shape_font::bytes::{u16_at, u32_at};
 use shape_font::directory::Directory;
@@ -51,20 +51,12 @@ const VORG: u32 = 0x564F_5247;
 
 const GPOS: u32 = 0x4750_4F53;
 
-const GSUB: u32 = 0x4753_5542;
-
 const GDEF: u32 = 0x4744_4546;
 
 /// Whether GDEF has a store of variations, which positions of GPOS may refer to.
 fn has_store(font: &Directory<'_>) -> bool {
     let gdef = font.table_or_empty(GDEF);
     u16_at(gdef, 2) >= 3 && u32_at(gdef, 14) != 0
-}
-
-/// Whether a table of lookups has features that stand for others at some coordinates.
-fn has_variations(font: &Directory<'_>, tag: u32) -> bool {
-    let table = font.table_or_empty(tag);
-    u16_at(table, 2) >= 1 && u32_at(table, 10) != 0
 }
 
 /// What is not varied that is asked for: its names, with commas between them.
@@ -74,12 +66,8 @@ fn unvaried(alloc: Global, options: &Options, font: &Directory<'_>) -> Result<St
     let parts = [
         (!font.has(HVAR), "advances (it has no table HVAR)"),
         (font.has(GPOS) && has_store(font), "positions (GPOS)"),
-        (
-            has_variations(font, GSUB) || has_variations(font, GPOS),
-            "features",
-        ),
         (boxes, "boxes"),
-        (options.format() == Format::Svg, "outlines"),
+        (options.draws(), "outlines"),
         (
             upright && !font.has(VVAR),
             "vertical advances (it has no table VVAR)",

@@ -1,9 +1,10 @@
 //! What is written of a line.
 use crate::failure::Failure;
+use crate::glyphs::Glyphs;
 use crate::line::Line;
 use crate::options::{Format, Options};
-use crate::output::Output;
-use crate::size::Scale;
+use crate::output::{Output, sink};
+use crate::size::{Scale, Size};
 use shape_font::FontFace;
 use shape_pipeline::{GlyphBuffer, GlyphPosition, hb_font_t, hb_glyph_info_t};
 use shape_text_forms::{
@@ -30,12 +31,18 @@ impl<'a> Font<'a> {
         face: FontFace<'a>,
     ) -> Result<Font<'a>, AllocError> {
         let numbers = options.form().asks(SerializeFlags::NO_GLYPH_NAMES);
-        let names = if numbers || options.format() == Format::Svg {
+        let unwritten = options.format() == Format::Svg && !options.traced();
+        let names = if numbers || unwritten {
             None
         } else {
             Some(OpenedNames::new(alloc, face)?)
         };
         Ok(Font { face, names })
+    }
+
+    /// The names of its glyphs, none if they aren't written.
+    pub fn names(&self) -> Option<&OpenedNames<'a>> {
+        self.names.as_ref()
     }
 }
 
@@ -54,10 +61,42 @@ fn unicode_text(alloc: Global, line: &Line) -> Result<String, AllocError> {
     Ok(out)
 }
 
+/// How a list of glyphs is written.
+#[derive(Clone, Copy)]
+pub struct Style {
+    form: ListForm,
+    flags: SerializeFlags,
+    size: Option<Size>,
+}
+
+impl Style {
+    /// As the options ask.
+    pub fn new(options: &Options) -> Style {
+        let form = match options.format() {
+            Format::Json => ListForm::Json,
+            _ => ListForm::Text,
+        };
+        Style {
+            form,
+            flags: options.form(),
+            size: options.size(),
+        }
+    }
+
+    /// The same without positions, for a list whose glyphs have none.
+    pub fn unplaced(self) -> Style {
+        Style {
+            form: self.form,
+            flags: SerializeFlags(self.flags.0 | SerializeFlags::NO_POSITIONS),
+            size: self.size,
+        }
+    }
+}
+
 /// Writes a part of a list of glyphs. Returns where the next part begins.
-fn write_part<W: Write + Drop, F: hb_font_t, N: glyph_names>(
+fn write_part<S: sink, F: hb_font_t, N: glyph_names>(
     alloc: Global,
-    output: &mut Output<W>,
+    output: &mut S,
     content: &Content<'_, F, N>,
     spot: Spot,
     infos: &[hb_glyph_info_t],
@@ -68,14 +107,14 @@ fn write_part<W: Write + Drop, F: hb_font_t, N: glyph_names>(
     }
     let mut part = String::new(alloc);
     let spot = append_part(alloc, &mut part, content, spot, infos, positions)?;
-    output.write(alloc, part.as_bytes())?;
+    output.put(alloc, part.as_str())?;
     Ok(spot)
 }
 
 /// Writes a list of glyphs part by part; nothing for no glyphs.
-fn write_list<W: Write + Drop, F: hb_font_t, N: glyph_names>(
+fn write_list<S: sink, F: hb_font_t, N: glyph_names>(
     alloc: Global,
-    output: &mut Output<W>,
+    output: &mut S,
     content: &Content<'_, F, N>,
     infos: &[hb_glyph_info_t],
     positions: &[GlyphPosition],
@@ -87,36 +126,31 @@ fn write_list<W: Write + Drop, F: hb_font_t, N: glyph_names>(
     for (infos, positions) in infos.chunks(PART).zip(positions.chunks(PART)) {
         spot = write_part(alloc, output, content, spot, infos, positions)?;
     }
-    output.write(alloc, b"]")
+    output.put(alloc, "]")
 }
 
-/// Writes the glyphs of a line with these names, in the size that is asked for.
-fn write_named<W: Write + Drop, N: glyph_names>(
+/// Writes a list of glyphs with these names.
+fn write_named<S: sink, N: glyph_names>(
     alloc: Global,
-    output: &mut Output<W>,
-    options: &Options,
+    output: &mut S,
     face: &FontFace,
     names: &N,
-    glyphs: &GlyphBuffer,
+    style: Style,
+    glyphs: Glyphs,
 ) -> Result<(), Failure> {
-    let form = match options.format() {
-        Format::Json => ListForm::Json,
-        _ => ListForm::Text,
-    };
-    let flags = options.form();
-    let infos = glyphs.glyph_infos();
-    match options.size() {
+    let (form, flags) = (style.form, style.flags);
+    match style.size {
         Some(size) => {
             let scale = Scale::new(size, face.units_per_em());
             let positions = scale.positions(alloc, face, glyphs)?;
-            let face = &scale.boxes(alloc, face, glyphs)?;
+            let face = &scale.boxes(alloc, face, glyphs.infos)?;
             let content = Content {
                 form,
                 flags,
                 face,
                 names,
             };
-            write_list(alloc, output, &content, infos, positions.as_slice())
+            write_list(alloc, output, &content, glyphs.infos, positions.as_slice())
         }
         None => {
             let content = Content {
@@ -125,29 +159,29 @@ fn write_named<W: Write + Drop, N: glyph_names>(
                 face,
                 names,
             };
-            write_list(alloc, output, &content, infos, glyphs.glyph_positions())
+            write_list(alloc, output, &content, glyphs.infos, glyphs.positions)
         }
     }
 }
 
-/// Writes the glyphs of a line, in the size that is asked for, by name if names are written.
-fn write_glyphs<W: Write + Drop>(
+/// Writes a list of glyphs, by name if names are written.
+pub fn write_glyphs<S: sink>(
     alloc: Global,
-    output: &mut Output<W>,
-    options: &Options,
+    output: &mut S,
     font: &Font,
-    glyphs: &GlyphBuffer,
+    style: Style,
+    glyphs: Glyphs,
 ) -> Result<(), Failure> {
     match &font.names {
-        Some(names) => write_named(alloc, output, options, &font.face, names, glyphs),
-        None => write_named(alloc, output, options, &font.face, &NoNames, glyphs),
+        Some(names) => write_named(alloc, output, &font.face, names, style, glyphs),
+        None => write_named(alloc, output, &font.face, &NoNames, style, glyphs),
     }
 }
 
 /// Writes the number of a line, if numbers are asked for.
-fn write_number<W: Write + Drop>(
+pub fn write_number<S: sink>(
     alloc: Global,
-    output: &mut Output<W>,
+    output: &mut S,
     options: &Options,
     number: usize,
 ) -> Result<(), Failure> {
@@ -155,7 +189,7 @@ fn write_number<W: Write + Drop>(
         return Ok(());
     }
     let number = format!(in alloc; "{number}: ")?;
-    output.write(alloc, number.as_bytes())
+    output.put(alloc, number.as_str())
 }
 
 /// A line as it came: its bytes, its number, counted from 1, and its characters.
@@ -199,6 +233,7 @@ pub fn write_line<W: Write + Drop>(
 ) -> Result<(), Failure> {
     write_given(alloc, output, options, given)?;
     write_number(alloc, output, options, given.number)?;
-    write_glyphs(alloc, output, options, font, glyphs)?;
+    let glyphs = Glyphs::of_line(glyphs);
+    write_glyphs(alloc, output, font, Style::new(options), glyphs)?;
     output.write(alloc, b"\n")
 }

@@ -13,7 +13,8 @@ pub struct Margins {
     pub left: u32,
 }
 
-/// The colours of a picture as they are written, and its margins; none for those that it has by itself.
+/// The colours of a picture as they are written, and its margins; none for those that it has by
+/// itself.
 #[derive(Drop)]
 pub struct Look {
     pub background: Option<String>,
@@ -21,7 +22,8 @@ pub struct Look {
     pub margins: Option<Margins>,
 }
 
-/// A colour in three, four, six or eight hexadecimal digits, with or without a `#` before them, as SVG writes it.
+/// A colour in three, four, six or eight hexadecimal digits, with or without a `#` before them,
+/// as SVG writes it.
 pub fn colour_from_string(alloc: Global, text: &str) -> Result<Option<String>, AllocError> {
     let digits = text.strip_prefix('#').unwrap_or(text);
     let right = matches!(digits.len(), 3 | 4 | 6 | 8);
@@ -31,7 +33,8 @@ pub fn colour_from_string(alloc: Global, text: &str) -> Result<Option<String>, A
     Ok(Some(format!(in alloc; "#{digits}")?))
 }
 
-/// Up to four numbers, with commas or spaces between them, and how many there are; none if one is none, or too large.
+/// Up to four numbers, with commas or spaces between them, and how many there are; none if one is
+/// none, or too large.
 fn numbers(text: &str) -> Option<([u32; 4], usize)> {
     let mut found: [u32; 4] = [0; 4];
     let mut count: usize = 0;
@@ -48,8 +51,8 @@ fn numbers(text: &str) -> Option<([u32; 4], usize)> {
     Some((found, count))
 }
 
-/// Margins: one number for all sides; two for those above and below, and those beside; three for the one above, those
-/// beside, and the one below; or four, from the one above on clockwise.
+/// Margins: one number for all sides; two for those above and below, and those beside; three for
+/// the one above, those beside, and the one below; or four, from the one above on clockwise.
 pub fn margins_from_string(text: &str) -> Option<Margins> {
     let ([top, second, third, fourth], count) = numbers(text)?;
     let (right, bottom, left) = match count {
