@@ -306,6 +306,30 @@ refusals_of_others(void)
   IS("a run over no font", outcome.code == LUTHGARN_FONT && outcome.runs == 0 && outcome.glyphs == 0);
 }
 
+/* NULL with count 0 is an empty array, and clusters count from the start of the text if that is asked for. */
+static void
+empty_arrays(void)
+{
+  luthgarn_font font = {0};
+  luthgarn_run runs[2] = {run_of(0, 1), run_of(1, 3)};
+  luthgarn_glyph glyphs[3];
+  const uint8_t *text = (const uint8_t *) "AVA";
+  IS("a font", luthgarn_font_new(whole_font, whole_size, 0, &font) == LUTHGARN_DONE);
+  luthgarn_outcome o = luthgarn_shape_font(&font, NULL, 0, NULL, 0, NULL, 0, NULL, 0);
+  IS("nothing at all", o.code == LUTHGARN_DONE && o.runs == 0 && o.glyphs == 0);
+  o = luthgarn_shape(whole_font, whole_size, 0, NULL, 0, NULL, 0, NULL, 0, NULL, 0);
+  IS("nothing of bytes", o.code == LUTHGARN_DONE && o.runs == 0 && o.glyphs == 0);
+  o = luthgarn_shape_font(&font, NULL, 0, text, 3, runs, 2, NULL, 0);
+  IS("no room", o.code == LUTHGARN_ROOM && o.needed == 1);
+  IS("the size of a name", luthgarn_font_glyph_name(&font, 3, NULL, 0) == 5);
+  o = luthgarn_shape_font(&font, NULL, 0, text, 3, runs, 2, glyphs, 3);
+  IS("two runs", o.code == LUTHGARN_DONE && glyphs[0].cluster == 0 && glyphs[1].cluster == 0 && glyphs[2].cluster == 1);
+  luthgarn_count_from_text(runs, o.runs, glyphs);
+  IS("clusters of the text", glyphs[0].cluster == 0 && glyphs[1].cluster == 1 && glyphs[2].cluster == 2);
+  luthgarn_font_free(&font);
+  IS("all is freed", held == 0);
+}
+
 /* Fonts that are kept: none, one, one in place of another, one of two that share. */
 static void
 kept_fonts(void)
@@ -449,6 +473,7 @@ main(int argc, char **argv)
   name_room = room_for(8);
   refusals_of_a_run();
   refusals_of_others();
+  empty_arrays();
   kept_fonts();
   refused_blocks();
   refused_fonts();

@@ -8,7 +8,9 @@
  *
  * What the caller owes, which nothing checks:
  *   - A pointer and its count name as many elements, which the call may read, and write where they aren't const. With
- *     count 0 the pointer isn't read, but it must not be NULL.
+ *     count 0 the pointer isn't read, and features, text, runs, glyphs and a name may be NULL. (The library itself takes no
+ *     NULL: the functions of this header that shape and name put another pointer in its place. Who calls the library
+ *     without this header does the same.)
  *   - What a call writes (`font`, `copy`, `runs`, `glyphs`, `feature`) overlaps nothing else that the call is given.
  *   - A `luthgarn_font` begins as zeros, and is written by these calls alone. It may be moved in memory; of two copies one
  *     is used.
@@ -87,7 +89,8 @@ typedef struct {
   size_t glyphs;
 } luthgarn_run;
 
-/* A glyph, by its number in the font. `cluster` is the first byte of its characters, counted from the start of the run.
+/* A glyph, by its number in the font. `cluster` is the first byte of its characters, counted from the start of the run
+ * (luthgarn_count_from_text makes it count from the start of the text).
  * Advances and offsets count in units of the font. */
 typedef struct {
   uint32_t glyph, cluster, flags;
@@ -160,6 +163,54 @@ luthgarn_outcome luthgarn_shape_font(luthgarn_font *font, const luthgarn_feature
                                      const uint8_t *text, size_t text_size,
                                      luthgarn_run *runs, size_t run_count,
                                      luthgarn_glyph *glyphs, size_t glyph_count);
+
+/* Makes the clusters of glyphs count from the start of the text, of the first runs, so many, that a call has done, and their
+ * glyphs: once for each call. */
+static inline void
+luthgarn_count_from_text(const luthgarn_run *runs, size_t done, luthgarn_glyph *glyphs)
+{
+  size_t at = 0;
+  for (size_t k = 0; k < done; k++)
+    for (; at < runs[k].glyphs; at++) glyphs[at].cluster += runs[k].start;
+}
+
+/* Below are the calls as this header makes them: a NULL with count 0 becomes another pointer. */
+static const uint64_t luthgarn_nothing = 0;
+#define LUTHGARN_SOME(type, array) ((array) ? (array) : (type *) &luthgarn_nothing)
+
+static inline luthgarn_outcome
+luthgarn_shape_some(const uint8_t *font, size_t font_size, uint32_t index,
+                    const luthgarn_feature *features, size_t feature_count,
+                    const uint8_t *text, size_t text_size,
+                    luthgarn_run *runs, size_t run_count,
+                    luthgarn_glyph *glyphs, size_t glyph_count)
+{
+  return luthgarn_shape(font, font_size, index, LUTHGARN_SOME(const luthgarn_feature, features), feature_count,
+                        LUTHGARN_SOME(const uint8_t, text), text_size, LUTHGARN_SOME(luthgarn_run, runs), run_count,
+                        LUTHGARN_SOME(luthgarn_glyph, glyphs), glyph_count);
+}
+
+static inline luthgarn_outcome
+luthgarn_shape_font_some(luthgarn_font *font, const luthgarn_feature *features, size_t feature_count,
+                         const uint8_t *text, size_t text_size,
+                         luthgarn_run *runs, size_t run_count,
+                         luthgarn_glyph *glyphs, size_t glyph_count)
+{
+  return luthgarn_shape_font(font, LUTHGARN_SOME(const luthgarn_feature, features), feature_count,
+                             LUTHGARN_SOME(const uint8_t, text), text_size, LUTHGARN_SOME(luthgarn_run, runs), run_count,
+                             LUTHGARN_SOME(luthgarn_glyph, glyphs), glyph_count);
+}
+
+static inline size_t
+luthgarn_font_glyph_name_some(luthgarn_font *font, uint32_t glyph, uint8_t *name, size_t size)
+{
+  return luthgarn_font_glyph_name(font, glyph, LUTHGARN_SOME(uint8_t, name), size);
+}
+
+#undef LUTHGARN_SOME
+#define luthgarn_shape luthgarn_shape_some
+#define luthgarn_shape_font luthgarn_shape_font_some
+#define luthgarn_font_glyph_name luthgarn_font_glyph_name_some
 
 #ifdef __cplusplus
 }

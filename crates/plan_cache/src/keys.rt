@@ -10,7 +10,8 @@ use shape_buffer::interfaces::hb_unicode_funcs_t;
 use shape_plan::hb_ot_shape_plan_t;
 use std::alloc::Global;
 
-/// All that a plan depends on. `face` is the caller's number of the face.
+/// All that a plan depends on. `face` is the caller's number of the face; at other coordinates of a variable font it is
+/// another face, with a number of its own.
 #[derive(Drop, Debug)]
 pub struct PlanKey {
     pub face: u32,

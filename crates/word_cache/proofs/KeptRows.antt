@@ -16,9 +16,11 @@ use Rattle.word_cache.specs.Worked.Kept.{WorkedKeys, WorkedBytes, WorkedKeeps, W
 use Rattle.word_cache.specs.declared.words.Word.{Word}
 
 keys : (run : Run) (text : Buffer) (spelling : List ℕ) → WorkedKeys run text spelling
+unfolding chars
 keys run text spelling = record {
   number = refl;
   characters = refl;
+  as_spelled = refl;
   items = refl;
   positions = length-replicate (length (text_items spelling)) zero_position;
 }

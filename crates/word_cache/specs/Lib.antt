@@ -1,5 +1,6 @@
 pub mod Keys
 pub mod Words
 pub mod Shaping
+pub mod Spellings
 pub mod Laws
 pub mod Worked

@@ -11,9 +11,11 @@ mod evicting;
 pub mod key;
 pub mod laws;
 pub mod shaping;
+pub mod spelling;
 pub mod words;
 pub mod worked;
 
 pub use key::{WordKey, word_key};
 pub use shaping::shape_word;
+pub use spelling::{shape_spelling, spelling_key};
 pub use words::{Word, WordCache};

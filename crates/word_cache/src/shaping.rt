@@ -85,7 +85,11 @@ fn shaped<T: ShapingTypes>(
 }
 
 /// A spelling with its glyphs.
-fn word_of(alloc: Global, spelling: &str, glyphs: GlyphBuffer) -> Result<Word, AllocError>
+pub(crate) fn word_of(
+    alloc: Global,
+    spelling: &str,
+    glyphs: GlyphBuffer,
+) -> Result<Word, AllocError>
     ensures spelling { IfOk result (λ word. string_bytes word.spelling ≡ spelling.now) }
     ensures glyphs { IfOk result (λ word. word.glyphs ≡ glyphs) }
 {
@@ -95,7 +99,7 @@ fn word_of(alloc: Global, spelling: &str, glyphs: GlyphBuffer) -> Result<Word, A
 
 /// The text of a spelling, with nothing else set. Refuses with `Memory` if a growth was refused, and with `Length` if
 /// the spelling has 4 GiB or more.
-fn spelled(alloc: Global, spelling: &str) -> Result<UnicodeBuffer, ShapeError>
+pub(crate) fn spelled(alloc: Global, spelling: &str) -> Result<UnicodeBuffer, ShapeError>
     ensures ok { IfOk result (λ text. text ≡ Keys.spelled spelling.now) }
     ensures length { (result ≡ Err ShapeError.Length) ↔ (2 ^ 32 ≤ length spelling.now) }
 {

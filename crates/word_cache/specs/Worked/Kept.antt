@@ -7,7 +7,7 @@ use Rattle.shape_pipeline.specs.Canonical.{normalised_characters}
 use Rattle.shape_pipeline.specs.Headline.{target_of}
 use Rattle.shape_pipeline.specs.Shaped.{NormalisingPasses, ShapingPasses, shaped}
 use Rattle.shape_plan.specs.Run.{Run}
-use Rattle.word_cache.specs.Keys.{key_of, spelled}
+use Rattle.word_cache.specs.Keys.{key_of, spelling_key, spelled}
 use Rattle.word_cache.specs.Shaping.{IsShapedTo, HoldsShaped, IsTooLongForKey, IsTooLongToShape, IsTooLong}
 use Rattle.word_cache.specs.Words.{Entry, entry, entry_bytes, made, total, HasKey, Keeps}
 use Rattle.word_cache.specs.declared.words.Word.{Word}
@@ -16,6 +16,8 @@ use Rattle.word_cache.specs.declared.words.Word.{Word}
 pub record WorkedKeys (run : Run) (text : Buffer) (spelling : List ℕ) : Type 0 where
   pub number : slice_get (key_of run 7 text) 0 ≡ Some 7
   pub characters : drop 1 (key_of run 7 text) ≡ normalised_characters run text
+  -- `qé` in three bytes, under plan 7, is 7 and two characters
+  pub as_spelled : spelling_key 7 (0x71 ∷ 0xC3 ∷ 0xA9 ∷ []) ≡ 7 ∷ 0x71 ∷ 0xE9 ∷ []
   pub items : (spelled spelling).items ≡ text_items spelling
   pub positions : length (spelled spelling).positions ≡ length (text_items spelling)
 
