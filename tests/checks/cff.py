@@ -1,8 +1,9 @@
 """Fonts in CFF and CFF2 that mean harm: bombs made by hand, and small fonts with bytes changed.
 
 A bomb runs with 5,000 letters and as many marks, which no table places, so that each glyph's box is
-asked for; it must not take more than six seconds of processor time (the gate's machine may be slow)
-or more than 200 MB, nor end by a signal. Mutated fonts run with 60 characters: 20,000 at night.
+asked for, and once more where boxes are printed; it must not take more than 12 seconds of processor
+time (the gate's machine may be slow) or more than 200 MB, nor end by a signal. Mutated fonts run
+with 60 characters: 20,000 at night.
 """
 import random
 
@@ -15,7 +16,7 @@ from checks.hostile_runs import SECONDS, Runs, add_run_options
 from checks.programs import need_fontshape
 
 LETTER, MARK = 0x61, 0x301
-LENGTH, GATE_SECONDS = 10_000, 3 * SECONDS
+LENGTH, GATE_SECONDS = 10_000, 6 * SECONDS
 FORMS = [], ["--show-extents"], ["--svg"]
 MANY = 65_000
 PLAIN = program(0, op(HMOVETO), 100, 50, op(HLINETO), op(ENDCHAR))

@@ -181,8 +181,8 @@ def characters_of_fonts(patterns):
         try:
             font = TTFont(path, lazy=True)
             known[path] = font.getBestCmap() or {}, "morx" in font or "mort" in font
-        except (TTLibError, AssertionError):
-            continue
+        except (TTLibError, AssertionError, KeyError, OSError):
+            continue  # broken, or without a character map
     return known
 
 

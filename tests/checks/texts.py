@@ -18,7 +18,7 @@ from checks.characters import assigned
 from checks.comparison import Comparison, add_common_options
 from checks.fonts import DEJAVU, LOOKUPS, need_dejavu, save_without
 from checks.programs import harfbuzz_ten, need_fonttools, need_fontshape, need_harfbuzz
-from checks.whole_fonts import BETWEEN, compare_whole
+from checks.whole_fonts import BETWEEN, compare_whole, selector_is_a_mark
 
 SCRIPTS = {
     "ASCII": [(0x41, 0x5B), (0x61, 0x7B), (0x2C, 0x2F)],
@@ -166,9 +166,10 @@ def run(args):
         for kind in ("plain", "kern"):
             font, known = copy_of_dejavu(folder, kind)
             compare_font(comparison, random.Random(args.seed), kind, font, known, args)
+    comparison.known = selector_is_a_mark
     with harfbuzz_ten(args.hb) as comparison.beside:
         compare_whole(comparison, random.Random(args.seed), args.fonts, args.lists)
     print_counts(comparison)
     texts, differ = comparison.totals()
-    print(f"{texts} texts compared with hb-shape, {differ} differ")
+    print(f"{texts} texts compared with hb-shape, {differ} differ, {comparison.explained} as named")
     return differ == 0

@@ -6,9 +6,11 @@ characters as Latin. Features are drawn from those of the font, too.
 """
 import collections
 import os
+import re
 import unicodedata
 
 from checks.characters import is_mark
+from checks.comparison import UNSAFE_TO_BREAK, without_flag
 from checks.fonts import DEJAVU_FONTS, NOTO_FONTS, installed
 
 # scripts for which HarfBuzz has a shaper of its own, and what is of no script
@@ -26,6 +28,18 @@ REQUESTED = ["", "", "", "kern=0", "-liga", "smcp", "frac", "salt[1:3]=2", "aalt
              "onum,pnum", "-ccmp", "-calt", "locl=0", "sups"]
 SYSTEMS = ["", "", "", "tr", "ro", "sr", "nl", "vi", "bg", "ca", "el-polyton", "sah"]
 UNUSED = ("Cn", "Cc", "Cs", "Zl", "Zp")
+
+
+def selector_is_a_mark(options, text, theirs, ours):
+    """A selector that the font has no glyph for stays a mark here, placed with its letter, and is a
+    letter in HarfBuzz 10.2.0. So the letter is unsafe to break here alone, and a mark behind the
+    selector stands elsewhere (docs/DIFFERENCES.md)."""
+    if "\ufe0f" not in text:
+        return False
+    sides = [without_flag(line, UNSAFE_TO_BREAK) for line in (ours, theirs)]
+    if any(map(is_mark, map(ord, re.findall("\ufe0f(.)", text)))):
+        sides = [re.sub("[@+][^|]*", "", line) for line in sides]
+    return sides[0] == sides[1]
 
 
 class WholeFont:
