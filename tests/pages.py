@@ -3,7 +3,8 @@
 
     tests/pages.py                     ends with status 1 if a must-fail edit doesn't say what it
                                        stands for, if docs/SAFE_AND_TOTAL.md lacks a public function
-                                       that requires something, or if a wrong rule of tests/rules
+                                       that requires something, if an option of fontshape is in its
+                                       manual or README no more, or if a wrong rule of tests/rules
                                        can't be planted
     tests/pages.py --edits [CRATE ..]  prints the must-fail edits of these crates, or of all, and
                                        what each stands for
@@ -323,11 +324,22 @@ def stale_plants():
                 texts[file] = texts[file].replace(old, value)
 
 
+def lacking_options():
+    """The options of `fontshape` that its manual or its README doesn't name."""
+    folder = ROOT / "crates" / "fontshape"
+    options = re.findall(r'Choice\(\s*"([a-z0-9-]+)"', (folder / "src" / "command.rt").read_text())
+    pages = {"fontshape.1": (folder / "fontshape.1").read_text().replace("\\-", "-"),
+             "README.md": (folder / "README.md").read_text()}
+    return [f"crates/fontshape/{page} lacks --{option}" for page, text in pages.items()
+            for option in options if not re.search(rf"--{option}(?![\w-])", text)]
+
+
 def check():
     """What is stale, a line each."""
     stale = [f"crates/{crate}/must-fail/{name}.edit begins with no line 'stands for: ..'"
              for crate, name, said in edits() if not said]
     stale += [f"docs/SAFE_AND_TOTAL.md lacks {line}" for line in lacking_conditions()]
+    stale += lacking_options()
     stale += [f"tests/rules/{name}.plant: its old text doesn't stand once" for name in stale_plants()]
     return stale
 
