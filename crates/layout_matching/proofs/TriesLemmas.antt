@@ -15,7 +15,7 @@ use Rattle.layout_matching.specs.Rules.{rule_place, rules_at as rules_from}
 use Rattle.layout_matching.specs.Skipping.{nth, is_transparent}
 use Rattle.layout_matching.specs.Sought.{unfound, unless_found, is_idle, rule_paid, tried_sought, place_sought, rule_sought, rules_in, set_paid, rules_sought, set_sought, numbered_sought, sets_sought, first_sought, whole_sought, subtable_sought, sought_at_subtable, sought}
 use Rattle.layout_matching.specs.Tries.{counted_along, counted_to_first, each_one, rules_of_set, rules_by_number, whole_rules, rules_of, rules_at, rules_tried, subtables_sought}
-use Rattle.layout_matching.specs.Work.{one_if, charged, counts_tallied, counts_of, counts_at, counts_work, counted, rule_counted, null_counted, passed_charged, part_rule, part_counted, set_passed, set_counted, set_charged, uncounted, beside, has_classes, SUBTABLE_WORK, backward_rule, is_backward, is_ligature, parts_for, whole_list, begun_charged, parts_charged, numbered_charged, whole_charged, subtable_charged, charged_at_subtable, subtables_charged, rule_charged, walk_work, steps_work, is_plain, is_paid}
+use Rattle.layout_matching.specs.Work.{one_if, devices_work, charged, counts_tallied, counts_of, counts_at, counts_work, counted, rule_counted, null_counted, passed_charged, part_rule, part_counted, set_passed, set_counted, set_charged, uncounted, beside, has_classes, SUBTABLE_WORK, backward_rule, is_backward, is_ligature, parts_for, whole_list, begun_charged, parts_charged, numbered_charged, whole_charged, subtable_charged, charged_at_subtable, subtables_charged, rule_charged, walk_work, steps_work, is_plain, is_paid}
 use Rattle.layout_matching.specs.declared.found.Found.{Found}
 use Rattle.layout_matching.specs.declared.lookup.Lookup.{Lookup}
 use Rattle.layout_matching.specs.declared.rules.Rule.{Rule}
@@ -475,9 +475,17 @@ subtables-few l items origin = to-first-few (found_at_subtable l items origin) (
 pub steps-cover : (l : Lookup) → subtable_count_of l.table.now l.place ≤ steps_work l
 steps-cover l = by_plain (is_plain l)
   where
-    by_plain : (t : Bool) → subtable_count_of l.table.now l.place ≤ max (subtable_count_of l.table.now l.place) 1 * (if t then 16 else 8)
-    by_plain true = omega arith
-    by_plain false = omega arith
+    n : ℕ
+    n = subtable_count_of l.table.now l.place
+
+    several : (work : ℕ) → 1 ≤ work → n ≤ max n 1 * work
+    several work some =
+        let all : max n 1 * 1 ≤ max n 1 * work = mul-le-mul_left (max n 1) some in
+        omega (arith, all)
+
+    by_plain : (t : Bool) → n ≤ max n 1 * (if t then 16 + devices_work l else 8)
+    by_plain true = several (16 + devices_work l) (omega arith)
+    by_plain false = several 8 (omega arith)
 
 -- a walk over so many items pays for each of the subtables at each item
 pub walk-covers : (l : Lookup) (n subtables : ℕ) → subtables ≤ n * subtable_count_of l.table.now l.place

@@ -299,8 +299,12 @@ STEP_WORK = 8
 abbrev pub PLAIN_WORK : ℕ
 PLAIN_WORK = 16
 
+-- at the coordinates of a variable font, devices of values and anchors add what sets of deltas say
+abbrev pub devices_work : Lookup → ℕ
+devices_work l = if l.positioning then l.device_work else 0
+
 abbrev pub step_work : Lookup → ℕ
-step_work l = if is_plain l then PLAIN_WORK else STEP_WORK
+step_work l = if is_plain l then PLAIN_WORK + devices_work l else STEP_WORK
 
 -- for all of them; a lookup without subtables costs as much as one with one, since its walk looks at the list too
 abbrev pub steps_work : Lookup → ℕ

@@ -7,6 +7,10 @@ pub struct Lookup<'a> {
     pub table: &'a [u8],
     /// The table `GDEF`.
     pub gdef: &'a [u8],
+    /// The coordinates of the font, normalized, in units of 1/16384; none for its default instance.
+    pub coordinates: &'a [i32],
+    /// What devices of `GPOS` may cost at each item for each subtable; 0 for the default instance.
+    pub device_work: u32,
     /// Where the lookup stands in `table`, in bytes.
     pub place: usize,
     /// Its flags: which classes of glyphs it skips.

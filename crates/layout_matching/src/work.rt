@@ -27,7 +27,7 @@ pub(crate) const SUBTABLE_WORK: usize = 8;
 /// What a subtable costs at each item of a list, whether it begins there or not.
 pub const STEP_WORK: usize = 8;
 
-/// The same if the lookup is plain, which is paid by that alone.
+/// The same if the lookup is plain, which is paid by that alone; without what its devices cost.
 pub const PLAIN_WORK: usize = 16;
 
 /// What a lookup costs that a rule names.
@@ -324,19 +324,29 @@ pub fn lookup_charged(
     }
 }
 
-/// What the subtables of the lookup cost at each item of a list, whether they begin there or not. One without subtables costs as
-/// much as one with one.
+/// What a subtable costs at each item of a list, whether it begins there or not.
+fn step_work(lookup: &Lookup<'_>) -> usize
+    requires { lookup.now.place < 2 ^ 17 }
+    ensures value { result ≡ Work.step_work lookup.now }
+    ensures near { result < 2 ^ 33 }
+{
+    if !is_plain(lookup) {
+        STEP_WORK
+    } else if lookup.positioning {
+        PLAIN_WORK + lookup.device_work as usize
+    } else {
+        PLAIN_WORK
+    }
+}
+
+/// The same of all its subtables. A lookup without subtables costs as much as one with one.
 fn steps_work(lookup: &Lookup<'_>) -> usize
     requires { lookup.now.place < 2 ^ 17 }
     ensures value { result ≡ Work.steps_work lookup.now }
-    ensures near { result < 2 ^ 21 }
+    ensures near { result < 2 ^ 49 }
 {
     let count = (subtable_count(lookup.table, lookup.place) as usize).max(1);
-    if is_plain(lookup) {
-        count * PLAIN_WORK
-    } else {
-        count * STEP_WORK
-    }
+    count * step_work(lookup)
 }
 
 /// What is left after a lookup that a rule names was charged for all of its subtables.

@@ -9,7 +9,7 @@ use Rattle.shape_items.specs.Items.{Item}
 use Rattle.layout_tables.specs.Lookups.{subtable_count_of}
 use Rattle.layout_matching.specs.Loops.{times}
 use Rattle.layout_matching.specs.Skipping.{nth}
-use Rattle.layout_matching.specs.Work.{is_plain, walk_work, PLAIN_WORK, STEP_WORK}
+use Rattle.layout_matching.specs.Work.{is_plain, walk_work, devices_work, PLAIN_WORK, STEP_WORK}
 use Rattle.layout_matching.specs.declared.lookup.Lookup.{Lookup}
 use Rattle.layout_digests.specs.Digests.{has, IsWithin}
 use Rattle.layout_digests.specs.declared.digest.Digest.{Digest}
@@ -85,8 +85,8 @@ walk_costs l count some = by_step (is_plain l)
     parts : ℕ
     parts = max (subtable_count_of l.table.now l.place) 1
 
-    by_step : (t : Bool) → 0 < min (count * (parts * (if t then PLAIN_WORK else STEP_WORK))) most_countable
-    by_step true = product-some count parts PLAIN_WORK some (omega arith) (omega arith)
+    by_step : (t : Bool) → 0 < min (count * (parts * (if t then PLAIN_WORK + devices_work l else STEP_WORK))) most_countable
+    by_step true = product-some count parts (PLAIN_WORK + devices_work l) some (omega arith) (omega arith)
     by_step false = product-some count parts STEP_WORK some (omega arith) (omega arith)
 
 unpaid : (left work : ℕ) → left ≡ 0 → 0 < work → nat_lt left work ≡ true

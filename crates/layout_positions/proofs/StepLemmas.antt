@@ -58,7 +58,7 @@ module _ (P : Buffer → Buffer → Type 0) (same : (b : Buffer) → P b b) (aft
 
   pub step-single : (l : Lookup) (start i : ℕ) (b : Buffer) → P b (single_applied l start i b).buffer
   step-single l start i b =
-      step-or (single_put i b) b b (λ v. step-adjusted v i b) (same b) (single_of l.table.now start (nth b.items i).glyph_id)
+      step-or (single_put i b) b b (λ v. step-adjusted v i b) (same b) (single_of l start (nth b.items i).glyph_id)
 
   step-marked : (listed moved : Bool) (i j : ℕ) (b : Buffer) → P b (pair_marked listed moved i j b)
   step-marked listed moved i j b =
@@ -83,7 +83,7 @@ module _ (P : Buffer → Buffer → Type 0) (same : (b : Buffer) → P b b) (aft
   step-pair_with l start i number b j =
       step-or (pair_put (nat_eq (u16_of l.table.now start) 1) i j b) b (concat_marked i (j + 1) b)
       (step-pair_put (nat_eq (u16_of l.table.now start) 1) i j b) (by_concat i (j + 1) b)
-      (pair_of l.table.now start number (nth b.items i).glyph_id (nth b.items j).glyph_id)
+      (pair_of l start number (nth b.items i).glyph_id (nth b.items j).glyph_id)
 
   step-pair_at : (l : Lookup) (start i : ℕ) (b : Buffer) (number : ℕ) → P b (pair_at_number l start i b number).buffer
   step-pair_at l start i b number =
@@ -136,7 +136,7 @@ module _ (P : Buffer → Buffer → Type 0) (same : (b : Buffer) → P b b) (aft
   step-cursive_with : (l : Lookup) (start j : ℕ) (entry : Anchor) (b : Buffer) (i : ℕ) → P b (cursive_with l start j entry b i).buffer
   step-cursive_with l start j entry b i =
       step-or (cursive_put l i j entry b) b (concat_marked i (j + 1) b) (step-cursive_put l i j entry b) (by_concat i (j + 1) b)
-      (exit_of l.table.now start (nth b.items i).glyph_id)
+      (exit_of l start (nth b.items i).glyph_id)
 
   step-cursive_at : (l : Lookup) (start j : ℕ) (b : Buffer) (entry : Anchor) → P b (cursive_at l start j b entry).buffer
   step-cursive_at l start j b entry =
@@ -145,7 +145,7 @@ module _ (P : Buffer → Buffer → Type 0) (same : (b : Buffer) → P b b) (aft
 
   pub step-cursive : (l : Lookup) (start j : ℕ) (b : Buffer) → P b (cursive_applied l start j b).buffer
   step-cursive l start j b =
-      step-or (cursive_at l start j b) b b (step-cursive_at l start j b) (same b) (entry_of l.table.now start (nth b.items j).glyph_id)
+      step-or (cursive_at l start j b) b b (step-cursive_at l start j b) (same b) (entry_of l start (nth b.items j).glyph_id)
 
   -- ---- marks
 
@@ -156,9 +156,9 @@ module _ (P : Buffer → Buffer → Type 0) (same : (b : Buffer) → P b b) (aft
   step-attach_mark : (l : Lookup) (start i j number row : ℕ) (matrix : Option ℕ) (b : Buffer)
       → P b (mark_attached l start i j number row matrix b).buffer
   step-attach_mark l start i j number row matrix b =
-      let mark = anchor_of_mark l.table.now number (mark_array l.table.now start) in
+      let mark = anchor_of_mark l number (mark_array l.table.now start) in
       step-or (mark_put i j mark b) b b (step-mark_put i j mark b) (same b)
-      (option_and_then (base_anchor l.table.now start number row) matrix)
+      (option_and_then (base_anchor l start number row) matrix)
 
   step-on_glyph : (l : Lookup) (start i number : ℕ) (b : Buffer) (j : ℕ) → P b (mark_on_glyph l start i number b j).buffer
   step-on_glyph l start i number b j =

@@ -9,7 +9,7 @@ use Rattle.layout_tables.specs.Offsets.{offset16_of}
 use Rattle.layout_tables.specs.declared.lookups.LookupSubtable.{LookupSubtable}
 use Rattle.layout_matching.specs.Found.{extension_kind, is_context_subtable, subtable_at, is_context}
 use Rattle.layout_matching.specs.Loops.{first_some}
-use Rattle.layout_matching.specs.Work.{is_plain, PLAIN_WORK, STEP_WORK, walk_work}
+use Rattle.layout_matching.specs.Work.{is_plain, PLAIN_WORK, STEP_WORK, devices_work, walk_work}
 use Rattle.layout_matching.specs.declared.lookup.Lookup.{Lookup}
 
 abbrev not-context : Lookup → Option LookupSubtable → Type 0
@@ -43,11 +43,12 @@ plain_kind l gpos small = first-not l (subtable_at l) (λ k. at-offset l gpos sm
 
 -- so each subtable costs as much as one of a plain lookup
 pub plain_walk : (l : Lookup) (count parts total : ℕ) → l.positioning ≡ true → is_context l ≡ false
-    → parts ≡ max (subtable_count_of l.table.now l.place) 1 → total ≡ min (count * (parts * PLAIN_WORK)) most_countable
+    → parts ≡ max (subtable_count_of l.table.now l.place) 1 → total ≡ min (count * (parts * (PLAIN_WORK + l.device_work))) most_countable
     → total ≡ walk_work l count
 plain_walk l count parts total gpos none many is =
     let type = lookup_type_of l.table.now l.place in
     let plain : is_plain l ≡ true =
     ap (λ t. if t then not (is_context l) else nat_eq type 1 || nat_eq type 2 || (nat_eq type 3 && not l.random)) gpos ∙ ap not none in
-    is ∙ ap (λ p. min (count * (p * PLAIN_WORK)) most_countable) many
-    ∙ ap (λ t. min (count * (max (subtable_count_of l.table.now l.place) 1 * (if t then PLAIN_WORK else STEP_WORK))) most_countable) (sym plain)
+    is ∙ ap (λ p. min (count * (p * (PLAIN_WORK + l.device_work))) most_countable) many
+    ∙ ap (λ t. min (count * (max (subtable_count_of l.table.now l.place) 1 * (PLAIN_WORK + (if t then l.device_work else 0)))) most_countable) (sym gpos)
+    ∙ ap (λ t. min (count * (max (subtable_count_of l.table.now l.place) 1 * (if t then PLAIN_WORK + devices_work l else STEP_WORK))) most_countable) (sym plain)

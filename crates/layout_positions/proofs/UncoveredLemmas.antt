@@ -51,11 +51,11 @@ kind-un l subtable base i b none =
     let t = l.table.now in
     let s = subtable.start in
     let single : single_applied l s i b ≡ unapplied b =
-    ap (λ o. option_map_or (single_put i b) (option_and_then (single_value t s) o) (unapplied b)) none in
+    ap (λ o. option_map_or (single_put i b) (option_and_then (single_value l s) o) (unapplied b)) none in
     let pair : pair_applied l s i b ≡ unapplied b =
     same-if (has_pairs t s) _ (unapplied b) (unapplied b) (ap (λ o. option_map_or (pair_at_number l s i b) o (unapplied b)) none) refl in
     let cursive : cursive_applied l s i b ≡ unapplied b =
-    ap (λ o. option_map_or (cursive_at l s i b) (option_and_then (entry_in t s) o) (unapplied b)) none in
+    ap (λ o. option_map_or (cursive_at l s i b) (option_and_then (entry_in l s) o) (unapplied b)) none in
     let on_base : mark_base_applied l s base i b ≡ unapplied b = ap (λ o. option_map_or (mark_base_at l s base i b) o (unapplied b)) none in
     let on_ligature : mark_ligature_applied l s base i b ≡ unapplied b =
     ap (λ o. option_map_or (mark_ligature_at l s base i b) o (unapplied b)) none in
@@ -137,7 +137,7 @@ links-un l subtable i b gpos un third = by_kind (is_context_subtable l subtable)
         cc
     by_kind false is none =
         same-if (nat_eq (u16_of l.table.now subtable.start) 1) (cursive_links l subtable.start i b) 0 0
-        (ap (λ o. option_map_or (links_at l subtable.start i b) (option_and_then (entry_in l.table.now subtable.start) o) 0)
+        (ap (λ o. option_map_or (links_at l subtable.start i b) (option_and_then (entry_in l subtable.start) o) 0)
         (none_of (number_at l.table.now subtable.start (subtable.start + 2) (nth b.items i).glyph_id) none)) refl
 
 -- so that what is left stays

@@ -17,19 +17,20 @@ use Rattle.layout_positions.specs.Turning.{attached, links_turned}
 use Rattle.layout_positions.specs.declared.anchors.Anchor.{Anchor}
 
 -- for each glyph the anchor where it is entered, and the one where it is left
-abbrev pub entry_in : List ℕ → ℕ → ℕ → Option Anchor
-entry_in t start number = if nat_lt number (fitting t (u16_of t (start + 4)) (start + 6) 4)
-    then anchor_by t start (start + 6 + 4 * number) else None
+abbrev pub has_anchors : List ℕ → ℕ → ℕ → Bool
+has_anchors t start number = nat_lt number (fitting t (u16_of t (start + 4)) (start + 6) 4)
 
-abbrev pub exit_in : List ℕ → ℕ → ℕ → Option Anchor
-exit_in t start number = if nat_lt number (fitting t (u16_of t (start + 4)) (start + 6) 4)
-    then anchor_by t start (start + 8 + 4 * number) else None
+abbrev pub entry_in : Lookup → ℕ → ℕ → Option Anchor
+entry_in l start number = if has_anchors l.table.now start number then anchor_by l start (start + 6 + 4 * number) else None
 
-abbrev pub entry_of : List ℕ → ℕ → ℕ → Option Anchor
-entry_of t start glyph = option_and_then (entry_in t start) (number_at t start (start + 2) glyph)
+abbrev pub exit_in : Lookup → ℕ → ℕ → Option Anchor
+exit_in l start number = if has_anchors l.table.now start number then anchor_by l start (start + 8 + 4 * number) else None
 
-abbrev pub exit_of : List ℕ → ℕ → ℕ → Option Anchor
-exit_of t start glyph = option_and_then (exit_in t start) (number_at t start (start + 2) glyph)
+abbrev pub entry_of : Lookup → ℕ → ℕ → Option Anchor
+entry_of l start glyph = option_and_then (entry_in l start) (number_at l.table.now start (start + 2) glyph)
+
+abbrev pub exit_of : Lookup → ℕ → ℕ → Option Anchor
+exit_of l start glyph = option_and_then (exit_in l start) (number_at l.table.now start (start + 2) glyph)
 
 -- ---- along the line: the pen leaves the first glyph at its exit, where the second one is entered
 
@@ -86,7 +87,7 @@ cursive_put l i j entry b exit = record {
 
 abbrev pub cursive_with : Lookup → ℕ → ℕ → Anchor → Buffer → ℕ → Applied
 cursive_with l start j entry b i =
-    option_map_or (cursive_put l i j entry b) (exit_of l.table.now start (nth b.items i).glyph_id) (unapplied (concat_marked i (j + 1) b))
+    option_map_or (cursive_put l i j entry b) (exit_of l start (nth b.items i).glyph_id) (unapplied (concat_marked i (j + 1) b))
 
 abbrev pub cursive_at : Lookup → ℕ → ℕ → Buffer → Anchor → Applied
 cursive_at l start j b entry = option_map_or (cursive_with l start j entry b) (glyph_before l b.items j)
@@ -95,7 +96,7 @@ cursive_at l start j b entry = option_map_or (cursive_with l start j entry b) (g
 -- the glyph at a place and the one before it
 abbrev pub cursive_applied : Lookup → ℕ → ℕ → Buffer → Applied
 cursive_applied l start j b =
-    option_map_or (cursive_at l start j b) (entry_of l.table.now start (nth b.items j).glyph_id) (unapplied b)
+    option_map_or (cursive_at l start j b) (entry_of l start (nth b.items j).glyph_id) (unapplied b)
 
 -- ---- how many links of chains that turns round
 
@@ -108,10 +109,10 @@ links_put l i j entry b exit = links_across (shares l.flags 1) i j (joined_along
 
 abbrev pub links_with : Lookup → ℕ → ℕ → Anchor → Buffer → ℕ → ℕ
 links_with l start j entry b i =
-    option_map_or (links_put l i j entry b) (exit_of l.table.now start (nth b.items i).glyph_id) 0
+    option_map_or (links_put l i j entry b) (exit_of l start (nth b.items i).glyph_id) 0
 
 abbrev pub links_at : Lookup → ℕ → ℕ → Buffer → Anchor → ℕ
 links_at l start j b entry = option_map_or (links_with l start j entry b) (glyph_before l b.items j) 0
 
 abbrev pub cursive_links : Lookup → ℕ → ℕ → Buffer → ℕ
-cursive_links l start j b = option_map_or (links_at l start j b) (entry_of l.table.now start (nth b.items j).glyph_id) 0
+cursive_links l start j b = option_map_or (links_at l start j b) (entry_of l start (nth b.items j).glyph_id) 0

@@ -42,14 +42,14 @@ mark_put i j mark b base = record {
 abbrev pub mark_array : List ℕ → ℕ → Option ℕ
 mark_array t start = offset16_of t start (start + 8)
 
-abbrev pub base_anchor : List ℕ → ℕ → ℕ → ℕ → ℕ → Option Anchor
-base_anchor t start number row matrix =
-    anchor_in t (u16_of t (start + 6)) row (class_of_mark t number (mark_array t start)) matrix
+abbrev pub base_anchor : Lookup → ℕ → ℕ → ℕ → ℕ → Option Anchor
+base_anchor l start number row matrix = let t = l.table.now in
+    anchor_in l (u16_of t (start + 6)) row (class_of_mark t number (mark_array t start)) matrix
 
 abbrev pub mark_attached : Lookup → ℕ → ℕ → ℕ → ℕ → ℕ → Option ℕ → Buffer → Applied
 mark_attached l start i j number row matrix b =
-    option_map_or (mark_put i j (anchor_of_mark l.table.now number (mark_array l.table.now start)) b)
-    (option_and_then (base_anchor l.table.now start number row) matrix) (unapplied b)
+    option_map_or (mark_put i j (anchor_of_mark l number (mark_array l.table.now start)) b)
+    (option_and_then (base_anchor l start number row) matrix) (unapplied b)
 
 -- ---- bases and ligatures
 

@@ -20,14 +20,15 @@ use Rattle.layout_positions.specs.declared.values.Adjustment.{Adjustment}
 -- ---- single
 
 -- format 1: the same for all glyphs; format 2: one for each
-abbrev pub single_value : List ℕ → ℕ → ℕ → Option Adjustment
-single_value t start number = let format = u16_of t (start + 4) in
-    (if nat_eq (u16_of t start) 1 then value_in t format (start + 6)
+abbrev pub single_value : Lookup → ℕ → ℕ → Option Adjustment
+single_value l start number = let t = l.table.now in
+    let format = u16_of t (start + 4) in
+    (if nat_eq (u16_of t start) 1 then value_in l format start (start + 6)
     else (if nat_eq (u16_of t start) 2 && nat_lt number (u16_of t (start + 6))
-    then value_in t format (start + 8 + number * value_size format) else None))
+    then value_in l format start (start + 8 + number * value_size format) else None))
 
-abbrev pub single_of : List ℕ → ℕ → ℕ → Option Adjustment
-single_of t start glyph = option_and_then (single_value t start) (number_at t start (start + 2) glyph)
+abbrev pub single_of : Lookup → ℕ → ℕ → Option Adjustment
+single_of l start glyph = option_and_then (single_value l start) (number_at l.table.now start (start + 2) glyph)
 
 abbrev pub glyph_adjusted : Adjustment → ℕ → Buffer → Buffer
 glyph_adjusted v i b = position_changed (adjusted (is_horizontal b.direction) v) i b
@@ -36,30 +37,34 @@ abbrev pub single_put : ℕ → Buffer → Adjustment → Applied
 single_put i b v = record { buffer = glyph_adjusted v i b; next = Some (i + 1) }
 
 abbrev pub single_applied : Lookup → ℕ → ℕ → Buffer → Applied
-single_applied l start i b = option_map_or (single_put i b) (single_of l.table.now start (nth b.items i).glyph_id) (unapplied b)
+single_applied l start i b = option_map_or (single_put i b) (single_of l start (nth b.items i).glyph_id) (unapplied b)
 
 -- ---- pairs
 
--- the two records of a pair, of these formats, one after the other
-abbrev pub records_at : List ℕ → ℕ → ℕ → ℕ → PairValues
-records_at t first second at =
-    record { first = value_at t first at; second = value_at t second (at + value_size first); has_second = not (nat_eq second 0) }
+-- the two records of a pair, of these formats, one after the other; offsets of devices count from `base`
+abbrev pub records_at : Lookup → ℕ → ℕ → ℕ → ℕ → PairValues
+records_at l first second base at = record {
+  first = value_at l first base at;
+  second = value_at l second base (at + value_size first);
+  has_second = not (nat_eq second 0);
+}
 
 abbrev pub records_size : ℕ → ℕ → ℕ
 records_size first second = value_size first + value_size second
 
-abbrev pub records_if : List ℕ → ℕ → ℕ → ℕ → Option PairValues
-records_if t first second at = if has_bytes t at (records_size first second) then Some (records_at t first second at) else None
+abbrev pub records_if : Lookup → ℕ → ℕ → ℕ → ℕ → Option PairValues
+records_if l first second base at =
+    if has_bytes l.table.now at (records_size first second) then Some (records_at l first second base at) else None
 
 -- in the formats of the subtable
-abbrev pub pair_at : List ℕ → ℕ → ℕ → PairValues
-pair_at t start at = records_at t (u16_of t (start + 4)) (u16_of t (start + 6)) at
+abbrev pub pair_at : Lookup → ℕ → ℕ → ℕ → PairValues
+pair_at l start base at = let t = l.table.now in records_at l (u16_of t (start + 4)) (u16_of t (start + 6)) base at
 
 abbrev pub pair_size : List ℕ → ℕ → ℕ
 pair_size t start = records_size (u16_of t (start + 4)) (u16_of t (start + 6))
 
-abbrev pub pair_if : List ℕ → ℕ → ℕ → Option PairValues
-pair_if t start at = records_if t (u16_of t (start + 4)) (u16_of t (start + 6)) at
+abbrev pub pair_if : Lookup → ℕ → ℕ → Option PairValues
+pair_if l start at = let t = l.table.now in records_if l (u16_of t (start + 4)) (u16_of t (start + 6)) start at
 
 -- format 1: for each first glyph a set of second ones in order, each with the two records
 abbrev pub pair_set : List ℕ → ℕ → ℕ → Option ℕ
@@ -72,26 +77,27 @@ side_of_second t size set glyph r = let there = u16_of t (set + 2 + r * size) in
 abbrev pub second_in : List ℕ → ℕ → ℕ → ℕ → Option ℕ
 second_in t size glyph set = found_by (side_of_second t size set glyph) (fitting t (u16_of t set) (set + 2) size)
 
-abbrev pub pair_in_set : List ℕ → ℕ → ℕ → ℕ → Option PairValues
-pair_in_set t start glyph set = let size = 2 + pair_size t start in
-    option_map (λ r. pair_at t start (set + 4 + r * size)) (second_in t size glyph set)
+abbrev pub pair_in_set : Lookup → ℕ → ℕ → ℕ → Option PairValues
+pair_in_set l start glyph set = let size = 2 + pair_size l.table.now start in
+    option_map (λ r. pair_at l start set (set + 4 + r * size)) (second_in l.table.now size glyph set)
 
-abbrev pub listed_pair : List ℕ → ℕ → ℕ → ℕ → Option PairValues
-listed_pair t start number glyph = option_and_then (pair_in_set t start glyph) (pair_set t start number)
+abbrev pub listed_pair : Lookup → ℕ → ℕ → ℕ → Option PairValues
+listed_pair l start number glyph = option_and_then (pair_in_set l start glyph) (pair_set l.table.now start number)
 
 -- format 2: for each class of the first glyph a row of those of the second one, class 0 first
 abbrev pub class_at : List ℕ → ℕ → ℕ → ℕ → ℕ
 class_at t start at glyph = option_map_or (λ classes. class_of t classes glyph) (offset16_of t start at) 0
 
-abbrev pub classed_pair : List ℕ → ℕ → ℕ → ℕ → Option PairValues
-classed_pair t start left right = let first = class_at t start (start + 8) left in
+abbrev pub classed_pair : Lookup → ℕ → ℕ → ℕ → Option PairValues
+classed_pair l start left right = let t = l.table.now in
+    let first = class_at t start (start + 8) left in
     let second = class_at t start (start + 10) right in
     (if nat_le (u16_of t (start + 12)) first || nat_le (u16_of t (start + 14)) second then None
-    else pair_if t start (start + 16 + (first * u16_of t (start + 14) + second) * pair_size t start))
+    else pair_if l start (start + 16 + (first * u16_of t (start + 14) + second) * pair_size t start))
 
-abbrev pub pair_of : List ℕ → ℕ → ℕ → ℕ → ℕ → Option PairValues
-pair_of t start number left right = if nat_eq (u16_of t start) 1 then listed_pair t start number right
-    else (if nat_eq (u16_of t start) 2 then classed_pair t start left right else None)
+abbrev pub pair_of : Lookup → ℕ → ℕ → ℕ → ℕ → Option PairValues
+pair_of l start number left right = if nat_eq (u16_of l.table.now start) 1 then listed_pair l start number right
+    else (if nat_eq (u16_of l.table.now start) 2 then classed_pair l start left right else None)
 
 -- glyphs that a pair moves are unsafe to break; those of classes that it doesn't move are unsafe to concat
 abbrev pub pair_marked : Bool → Bool → ℕ → ℕ → Buffer → Buffer
@@ -112,7 +118,7 @@ pair_put listed i j b v = pair_ended v i j
 -- the glyph at a place and the next one that the lookup sees
 abbrev pub pair_with : Lookup → ℕ → ℕ → ℕ → Buffer → ℕ → Applied
 pair_with l start i number b j = option_map_or (pair_put (nat_eq (u16_of l.table.now start) 1) i j b)
-    (pair_of l.table.now start number (nth b.items i).glyph_id (nth b.items j).glyph_id) (unapplied (concat_marked i (j + 1) b))
+    (pair_of l start number (nth b.items i).glyph_id (nth b.items j).glyph_id) (unapplied (concat_marked i (j + 1) b))
 
 abbrev pub pair_at_number : Lookup → ℕ → ℕ → Buffer → ℕ → Applied
 pair_at_number l start i b number =

@@ -1,6 +1,6 @@
 -- What positioning tries, as a count over the steps of its definitions.
 use Prim.Native.Nat.{zero}
-use Rattle.std.specs.Prelude.{ℕ, suc, List, [], ◌∷◌, Option, None, ◌+◌, min, length, is_some, nat_eq, nat_lt, if◌then◌else◌}
+use Rattle.std.specs.Prelude.{ℕ, suc, List, [], ◌∷◌, None, ◌+◌, min, length, is_some, nat_eq, nat_lt, if◌then◌else◌}
 use Rattle.std.specs.Option.{option_map_or}
 use Rattle.shape_items.specs.Buffer.{Buffer, most_countable}
 use Rattle.layout_tables.specs.Lookups.{subtable_count_of}

@@ -4,31 +4,70 @@ use Rattle.std.specs.Int.RustNames.{bit_and, count_ones}
 use Rattle.std.specs.Ordering.{int_eq}
 use Rattle.shape_common.specs.Wrapping.{◌+ʷ◌, ◌-ʷ◌}
 use Rattle.shape_common.specs.declared.positions.GlyphPosition.{GlyphPosition}
-use Rattle.shape_font.specs.Bytes.{i16_of}
+use Rattle.shape_font.specs.Bytes.{u16_of, i16_of}
+use Rattle.layout_matching.specs.declared.lookup.Lookup.{Lookup}
+use Rattle.layout_positions.specs.Devices.{is_default, delta_by}
 use Rattle.layout_positions.specs.declared.values.Adjustment.{Adjustment}
+use Rattle.layout_positions.specs.declared.values.Devices.{Devices}
 
 -- a record has a number of two bytes for each bit of its format, those of the lower bits first
 abbrev pub value_size : ℕ → ℕ
 value_size format = 2 * count_ones format
 
+-- the number for a bit of the format; 0 if the format doesn't have it
 abbrev pub number_for : List ℕ → ℕ → ℕ → ℕ → ℤ
 number_for t format at bit = if nat_eq (bit_and format bit) 0 then pos 0 else i16_of t (at + 2 * count_ones (bit_and format (bit - 1)))
 
--- bits 1 and 2 move the glyph, 4 and 8 change its advance; those above are of devices and of variations
-abbrev pub value_at : List ℕ → ℕ → ℕ → Adjustment
-value_at t format at = record {
+-- no device was read
+abbrev pub no_devices : Devices
+no_devices = record { placement = false; x_advance = false; y_advance = false }
+
+-- bits 1 and 2 move the glyph, 4 and 8 change its advance
+abbrev pub plain_value : List ℕ → ℕ → ℕ → Adjustment
+plain_value t format at = record {
   x_placement = number_for t format at 1;
   y_placement = number_for t format at 2;
   x_advance = number_for t format at 4;
   y_advance = number_for t format at 8;
+  devices = no_devices;
 }
+
+-- bits 0x10 to 0x80 are offsets of devices for these four, which count from `base`
+abbrev pub device_for : List ℕ → ℕ → ℕ → ℕ → ℕ
+device_for t format at bit = if nat_eq (bit_and format bit) 0 then 0 else u16_of t (at + 2 * count_ones (bit_and format (bit - 1)))
+
+abbrev pub delta_for : Lookup → ℕ → ℕ → ℕ → ℕ → ℤ
+delta_for l format base at bit = delta_by l base (device_for l.table.now format at bit)
+
+abbrev pub has_device : List ℕ → ℕ → ℕ → ℕ → Bool
+has_device t format at bit = not (nat_eq (device_for t format at bit) 0)
+
+abbrev pub devices_at : List ℕ → ℕ → ℕ → Devices
+devices_at t format at = record {
+  placement = has_device t format at 0x10 || has_device t format at 0x20;
+  x_advance = has_device t format at 0x40;
+  y_advance = has_device t format at 0x80;
+}
+
+abbrev pub varied_value : Lookup → ℕ → ℕ → ℕ → Adjustment → Adjustment
+varied_value l format base at v = record {
+  x_placement = v.x_placement +ʷ delta_for l format base at 0x10;
+  y_placement = v.y_placement +ʷ delta_for l format base at 0x20;
+  x_advance = v.x_advance +ʷ delta_for l format base at 0x40;
+  y_advance = v.y_advance +ʷ delta_for l format base at 0x80;
+  devices = devices_at l.table.now format at;
+}
+
+abbrev pub value_at : Lookup → ℕ → ℕ → ℕ → Adjustment
+value_at l format base at = let v = plain_value l.table.now format at in
+    (if nat_eq (bit_and format 0xF0) 0 || is_default l then v else varied_value l format base at v)
 
 -- a record that leads past the end of the table is none
 abbrev pub has_bytes : List ℕ → ℕ → ℕ → Bool
 has_bytes t at size = nat_le (at + size) (length t)
 
-abbrev pub value_in : List ℕ → ℕ → ℕ → Option Adjustment
-value_in t format at = if has_bytes t at (value_size format) then Some (value_at t format at) else None
+abbrev pub value_in : Lookup → ℕ → ℕ → ℕ → Option Adjustment
+value_in l format base at = if has_bytes l.table.now at (value_size format) then Some (value_at l format base at) else None
 
 -- the advance along the line alone changes; down a vertical line an advance is negative
 abbrev pub adjusted : Bool → Adjustment → GlyphPosition → GlyphPosition
@@ -46,7 +85,14 @@ adjusted false v p = record p {
 abbrev pub advance_along : Bool → Adjustment → ℤ
 advance_along horizontal v = if horizontal then v.x_advance else v.y_advance
 
+abbrev pub has_number : Bool → Adjustment → Bool
+has_number horizontal v = not (int_eq v.x_placement (pos 0)) || not (int_eq v.y_placement (pos 0))
+    || not (int_eq (advance_along horizontal v) (pos 0))
+
+-- a device that was read counts, whatever it adds
+abbrev pub was_read : Bool → Devices → Bool
+was_read horizontal d = d.placement || (if horizontal then d.x_advance else d.y_advance)
+
 -- whether an adjustment changes something
 abbrev pub has_effect : Bool → Adjustment → Bool
-has_effect horizontal v = not (int_eq v.x_placement (pos 0)) || not (int_eq v.y_placement (pos 0))
-    || not (int_eq (advance_along horizontal v) (pos 0))
+has_effect horizontal v = has_number horizontal v || was_read horizontal v.devices

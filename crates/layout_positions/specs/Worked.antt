@@ -1,6 +1,7 @@
 -- The definitions, computed on tables and buffers that were read by hand.
 pub mod Lines
 pub mod Values
+pub mod Devices
 pub mod Pairs
 pub mod Marks
 pub mod Cursive

@@ -38,7 +38,7 @@ pub fn apply_single(
     ensures next { result ≡ (Pairs.single_applied lookup.now start i buffer.old).next }
 {
     let count = buffer.len();
-    match single(lookup.table, start, item_at(buffer.infos(), i).glyph_id) {
+    match single(lookup, start, item_at(buffer.infos(), i).glyph_id) {
         Some(value) => {
             adjust(buffer, i, &value);
             Some(after(count, i))
@@ -120,7 +120,7 @@ fn pair_with(
     let count = buffer.len();
     let left = item_at(buffer.infos(), i).glyph_id;
     let right = item_at(buffer.infos(), j).glyph_id;
-    match pair(lookup.table, start, number, left, right) {
+    match pair(lookup, start, number, left, right) {
         Some(values) => put_pair(buffer, u16_at(lookup.table, start) == 1, i, j, &values),
         None => {
             concat_between(buffer, i, after(count, j));

@@ -4,9 +4,12 @@ ghost use Rattle.std.specs.Prelude.{◌≡◌, ◌<◌, ◌≤◌, ◌^◌};
 ghost use Rattle.std.specs.Option.{IfSome};
 ghost use Rattle.layout_positions.specs.Anchors;
 
+use crate::devices::{delta_by, is_default};
 use crate::places::cell;
+use layout_matching::lookup::Lookup;
 use layout_tables::coverage::coverage_index;
 use layout_tables::offsets::offset16;
+use shape_buffer::wrapping::sum;
 use shape_font::bytes::{i16_at, records, u16_at};
 
 /// A point of a glyph, in units of the face: x to the right, y upwards.
@@ -16,16 +19,45 @@ pub struct Anchor {
     pub y: i32,
 }
 
-/// The anchor at `start`, of format 1, 2 or 3; one of another format is the origin.
-fn anchor_from(table: &[u8], start: usize) -> Anchor
+/// The coordinates of the anchor at `start`.
+fn point(table: &[u8], start: usize) -> Anchor
     requires { start < 2 ^ 39 }
-    ensures { result ≡ Anchors.anchor_at table.now start }
+    ensures { result ≡ Anchors.point_at table.now start }
 {
-    match u16_at(table, start) {
-        1 | 2 | 3 => Anchor {
-            x: i16_at(table, start + 2),
-            y: i16_at(table, start + 4),
-        },
+    Anchor {
+        x: i16_at(table, start + 2),
+        y: i16_at(table, start + 4),
+    }
+}
+
+/// The same with what the devices of an anchor of format 3 add at the coordinates of the font.
+fn varied_point(lookup: &Lookup<'_>, start: usize) -> Anchor
+    requires { start < 2 ^ 39 }
+    ensures { result ≡ Anchors.varied_point lookup.now start
+        (Anchors.point_at lookup.now.table.now start) }
+{
+    let point = point(lookup.table, start);
+    Anchor {
+        x: sum(
+            point.x,
+            delta_by(lookup, start, u16_at(lookup.table, start + 6)),
+        ),
+        y: sum(
+            point.y,
+            delta_by(lookup, start, u16_at(lookup.table, start + 8)),
+        ),
+    }
+}
+
+/// The anchor at `start`, of format 1, 2 or 3; one of another format is the origin.
+fn anchor_from(lookup: &Lookup<'_>, start: usize) -> Anchor
+    requires { start < 2 ^ 39 }
+    ensures { result ≡ Anchors.anchor_at lookup.now start }
+{
+    match u16_at(lookup.table, start) {
+        1 | 2 => point(lookup.table, start),
+        3 if is_default(lookup) => point(lookup.table, start),
+        3 => varied_point(lookup, start),
         _ => Anchor { x: 0, y: 0 },
     }
 }
@@ -44,12 +76,13 @@ fn anchor_size(format: u16) -> usize
 }
 
 /// The anchor at `start`, if the table has room for it.
-fn anchor_if(table: &[u8], start: usize) -> Option<Anchor>
+fn anchor_if(lookup: &Lookup<'_>, start: usize) -> Option<Anchor>
     requires { start < 2 ^ 39 }
-    ensures { result ≡ Anchors.anchor_if table.now start }
+    ensures { result ≡ Anchors.anchor_if lookup.now start }
 {
+    let table = lookup.table;
     if start + anchor_size(u16_at(table, start)) <= table.len() {
-        Some(anchor_from(table, start))
+        Some(anchor_from(lookup, start))
     } else {
         None
     }
@@ -57,31 +90,31 @@ fn anchor_if(table: &[u8], start: usize) -> Option<Anchor>
 
 /// The anchor whose offset stands at `at` and counts from `start`; none if the offset is 0, or leads
 /// past the end of the table.
-pub fn anchor_there(table: &[u8], start: usize, at: usize) -> Option<Anchor>
+pub fn anchor_there(lookup: &Lookup<'_>, start: usize, at: usize) -> Option<Anchor>
     requires start { start < 2 ^ 38 }
     requires at { at < 2 ^ 40 }
-    ensures { result ≡ Anchors.anchor_by table.now start at }
+    ensures { result ≡ Anchors.anchor_by lookup.now start at }
 {
-    let place = offset16(table, start, at)?;
-    anchor_if(table, place)
+    let place = offset16(lookup.table, start, at)?;
+    anchor_if(lookup, place)
 }
 
 /// The anchor for a class of marks in a row of the matrix at `matrix`.
 pub fn anchor_of_class(
-    table: &[u8],
+    lookup: &Lookup<'_>,
     matrix: usize,
     classes: u16,
     row: u32,
     class: u16,
 ) -> Option<Anchor>
     requires near { matrix < 2 ^ 37 }
-    ensures { result ≡ Anchors.anchor_in table.now classes row class matrix }
+    ensures { result ≡ Anchors.anchor_in lookup.now classes row class matrix }
 {
-    if u32::from(u16_at(table, matrix)) <= row || classes <= class {
+    if u32::from(u16_at(lookup.table, matrix)) <= row || classes <= class {
         return None;
     }
     let at = cell(row, u32::from(classes), u32::from(class));
-    anchor_there(table, matrix, matrix + 2 + 2 * at)
+    anchor_there(lookup, matrix, matrix + 2 + 2 * at)
 }
 
 /// Whether an array of marks has mark number `i`.
@@ -104,13 +137,13 @@ pub fn mark_class(table: &[u8], array: Option<usize>, i: u32) -> u16
 }
 
 /// The anchor of mark number `i` in an array; the origin past its end, and where there is none.
-pub fn mark_anchor(table: &[u8], array: Option<usize>, i: u32) -> Anchor
+pub fn mark_anchor(lookup: &Lookup<'_>, array: Option<usize>, i: u32) -> Anchor
     requires near { IfSome array (λ a. a < 2 ^ 37) }
-    ensures { result ≡ Anchors.anchor_of_mark table.now i array }
+    ensures { result ≡ Anchors.anchor_of_mark lookup.now i array }
 {
     let found = match array {
-        Some(array) if has_mark(table, array, i) => {
-            anchor_there(table, array, array + 4 + 4 * i as usize)
+        Some(array) if has_mark(lookup.table, array, i) => {
+            anchor_there(lookup, array, array + 4 + 4 * i as usize)
         }
         _ => None,
     };

@@ -1,6 +1,5 @@
 //! Cursive attachment (OpenType, `GPOS`, lookup type 3).
-ghost use Rattle.std.specs.Prelude.{◌≡◌, ◌<◌, ◌+◌, ◌^◌, length, nat_lt};
-ghost use Rattle.shape_font.specs.Bytes.{u16_of, fitting};
+ghost use Rattle.std.specs.Prelude.{◌≡◌, ◌<◌, ◌+◌, ◌^◌, length};
 ghost use Rattle.layout_positions.specs.Cursive;
 
 use crate::anchors::{Anchor, anchor_there, number_there};
@@ -31,33 +30,32 @@ pub(crate) const UNJOINED: Joined = Joined {
 /// Whether the subtable has anchors for glyph number `number`.
 fn has_anchors(table: &[u8], start: usize, number: u32) -> bool
     requires { start < 2 ^ 34 }
-    ensures { result
-        ≡ nat_lt number (fitting table.now (u16_of table.now (start + 4)) (start + 6) 4) }
+    ensures { result ≡ Cursive.has_anchors table.now start number }
 {
     number < records(table, u32::from(u16_at(table, start + 4)), start + 6, 4)
 }
 
 /// Where a glyph is entered.
-fn entry(table: &[u8], start: usize, glyph: u32) -> Option<Anchor>
+fn entry(lookup: &Lookup<'_>, start: usize, glyph: u32) -> Option<Anchor>
     requires { start < 2 ^ 34 }
-    ensures { result ≡ Cursive.entry_of table.now start glyph }
+    ensures { result ≡ Cursive.entry_of lookup.now start glyph }
 {
-    let number = number_there(table, start, start + 2, glyph)?;
-    if has_anchors(table, start, number) {
-        anchor_there(table, start, start + 6 + 4 * number as usize)
+    let number = number_there(lookup.table, start, start + 2, glyph)?;
+    if has_anchors(lookup.table, start, number) {
+        anchor_there(lookup, start, start + 6 + 4 * number as usize)
     } else {
         None
     }
 }
 
 /// Where a glyph is left.
-fn exit(table: &[u8], start: usize, glyph: u32) -> Option<Anchor>
+fn exit(lookup: &Lookup<'_>, start: usize, glyph: u32) -> Option<Anchor>
     requires { start < 2 ^ 34 }
-    ensures { result ≡ Cursive.exit_of table.now start glyph }
+    ensures { result ≡ Cursive.exit_of lookup.now start glyph }
 {
-    let number = number_there(table, start, start + 2, glyph)?;
-    if has_anchors(table, start, number) {
-        anchor_there(table, start, start + 8 + 4 * number as usize)
+    let number = number_there(lookup.table, start, start + 2, glyph)?;
+    if has_anchors(lookup.table, start, number) {
+        anchor_there(lookup, start, start + 8 + 4 * number as usize)
     } else {
         None
     }
@@ -198,7 +196,7 @@ fn cursive_with(
     ensures links { result.links ≡ Cursive.links_with lookup.now start j entry buffer.old i }
 {
     let count = buffer.len();
-    match exit(lookup.table, start, item_at(buffer.infos(), i).glyph_id) {
+    match exit(lookup, start, item_at(buffer.infos(), i).glyph_id) {
         Some(exit) => {
             join_along(buffer, i, j, entry, exit);
             let links = join_across(buffer, lookup.flags & 1 != 0, i, j, entry, exit);
@@ -229,7 +227,7 @@ pub fn apply_cursive(
 {
     let count = buffer.len();
     let glyph = item_at(buffer.infos(), j).glyph_id;
-    let Some(entry) = entry(lookup.table, start, glyph) else {
+    let Some(entry) = entry(lookup, start, glyph) else {
         return UNJOINED;
     };
     let stop = stop_before(lookup, buffer.infos(), j);

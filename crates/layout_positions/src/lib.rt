@@ -3,8 +3,9 @@
 //!
 //! A lookup moves glyphs, changes advances along the line, and attaches glyphs to others; items,
 //! their number and their clusters stay, and flags change only by what is unsafe to break or to
-//! concat. [`values`] and [`anchors`] read the table, [`edits`] change a buffer at a place. Any
-//! bytes are taken: what lies past the end of the table reads as 0.
+//! concat. [`values`] and [`anchors`] read the table, with what `devices` add at the coordinates of
+//! a variable font; [`edits`] change a buffer at a place. Any bytes are taken: what lies past the
+//! end of the table reads as 0.
 #![tactic(auto)]
 #![allow(non_camel_case_types)]
 
@@ -13,6 +14,7 @@ pub mod anchors;
 pub mod attachment;
 pub mod bases;
 pub mod cursive;
+pub mod devices;
 pub mod edits;
 pub mod flagged;
 pub mod known;

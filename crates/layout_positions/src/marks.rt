@@ -84,7 +84,7 @@ fn mark_array(table: &[u8], start: usize) -> Option<usize>
 
 /// The anchor of a row of a matrix for the class of mark number `number`.
 fn base_anchor(
-    table: &[u8],
+    lookup: &Lookup<'_>,
     start: usize,
     number: u32,
     row: u32,
@@ -92,10 +92,11 @@ fn base_anchor(
 ) -> Option<Anchor>
     requires start { start < 2 ^ 34 }
     requires matrix { IfSome matrix (λ m. m < 2 ^ 36) }
-    ensures { result ≡ option_and_then (Marks.base_anchor table.now start number row) matrix }
+    ensures { result ≡ option_and_then (Marks.base_anchor lookup.now start number row) matrix }
 {
+    let table = lookup.table;
     let class = mark_class(table, mark_array(table, start), number);
-    anchor_of_class(table, matrix?, u16_at(table, start + 6), row, class)
+    anchor_of_class(lookup, matrix?, u16_at(table, start + 6), row, class)
 }
 
 /// Attaches a mark to a glyph by a row of a matrix, if that has an anchor for the mark's class.
@@ -118,10 +119,10 @@ fn attach_mark(
         row matrix buffer.old).next }
     ensures flagged { IsFlagged result.flagged buffer.new.items }
 {
-    match base_anchor(lookup.table, start, at.number, row, matrix) {
+    match base_anchor(lookup, start, at.number, row, matrix) {
         Some(base) => {
             let marks = mark_array(lookup.table, start);
-            let mark = mark_anchor(lookup.table, marks, at.number);
+            let mark = mark_anchor(lookup, marks, at.number);
             put_mark(buffer, at, mark, base)
         }
         None => Attached {

@@ -7,6 +7,7 @@ ghost use Rattle.layout_positions.specs.Pairs;
 use crate::anchors::number_there;
 use crate::places::{cell, record_offset};
 use crate::values::{Adjustment, has_bytes, size, value_in, value_record};
+use layout_matching::lookup::Lookup;
 use layout_tables::classes::class;
 use layout_tables::offsets::offset16;
 use shape_font::bytes::{records, u16_at};
@@ -22,39 +23,41 @@ pub struct PairValues {
 }
 
 /// The record for glyph number `number` of a subtable of single adjustment.
-fn single_record(table: &[u8], start: usize, number: u32) -> Option<Adjustment>
+fn single_record(lookup: &Lookup<'_>, start: usize, number: u32) -> Option<Adjustment>
     requires { start < 2 ^ 34 }
-    ensures { result ≡ Pairs.single_value table.now start number }
+    ensures { result ≡ Pairs.single_value lookup.now start number }
 {
+    let table = lookup.table;
     let format = u16_at(table, start + 4);
     match u16_at(table, start) {
-        1 => value_in(table, format, start + 6),
+        1 => value_in(lookup, format, start, start + 6),
         2 if number < u32::from(u16_at(table, start + 6)) => {
             let offset = record_offset(number as usize, size(format));
-            value_in(table, format, start + 8 + offset)
+            value_in(lookup, format, start, start + 8 + offset)
         }
         _ => None,
     }
 }
 
 /// What the subtable of single adjustment at `start` has for a glyph.
-pub fn single(table: &[u8], start: usize, glyph: u32) -> Option<Adjustment>
+pub fn single(lookup: &Lookup<'_>, start: usize, glyph: u32) -> Option<Adjustment>
     requires { start < 2 ^ 34 }
-    ensures { result ≡ Pairs.single_of table.now start glyph }
+    ensures { result ≡ Pairs.single_of lookup.now start glyph }
 {
-    let number = number_there(table, start, start + 2, glyph)?;
-    single_record(table, start, number)
+    let number = number_there(lookup.table, start, start + 2, glyph)?;
+    single_record(lookup, start, number)
 }
 
-/// The two records of a pair at `at`, of these formats. The subtable says them once for all its pairs, so they are read once for
-/// each.
-fn records_at(table: &[u8], first: u16, second: u16, at: usize) -> PairValues
-    requires { at < 480000000000 }
-    ensures { result ≡ Pairs.records_at table.now first second at }
+/// The two records of a pair at `at`, of these formats, which the subtable says once for all its
+/// pairs. Offsets of their devices count from `base`.
+fn records_at(lookup: &Lookup<'_>, first: u16, second: u16, base: usize, at: usize) -> PairValues
+    requires base { base < 2 ^ 35 }
+    requires at { at < 480000000000 }
+    ensures { result ≡ Pairs.records_at lookup.now first second base at }
 {
     PairValues {
-        first: value_record(table, first, at),
-        second: value_record(table, second, at + size(first)),
+        first: value_record(lookup, first, base, at),
+        second: value_record(lookup, second, base, at + size(first)),
         has_second: second != 0,
     }
 }
@@ -68,12 +71,19 @@ fn records_size(first: u16, second: u16) -> usize
 }
 
 /// The two records at `at`, if the table has room for them.
-fn records_if(table: &[u8], first: u16, second: u16, at: usize) -> Option<PairValues>
-    requires { at < 480000000000 }
-    ensures { result ≡ Pairs.records_if table.now first second at }
+fn records_if(
+    lookup: &Lookup<'_>,
+    first: u16,
+    second: u16,
+    base: usize,
+    at: usize,
+) -> Option<PairValues>
+    requires base { base < 2 ^ 35 }
+    requires at { at < 480000000000 }
+    ensures { result ≡ Pairs.records_if lookup.now first second base at }
 {
-    if has_bytes(table, at, records_size(first, second)) {
-        Some(records_at(table, first, second, at))
+    if has_bytes(lookup.table, at, records_size(first, second)) {
+        Some(records_at(lookup, first, second, base, at))
     } else {
         None
     }
@@ -113,30 +123,31 @@ fn second_in(table: &[u8], size: usize, set: usize, glyph: u32) -> Option<u32>
 }
 
 /// The pair with this second glyph in a set.
-fn pair_within(table: &[u8], start: usize, set: usize, glyph: u32) -> Option<PairValues>
+fn pair_within(lookup: &Lookup<'_>, start: usize, set: usize, glyph: u32) -> Option<PairValues>
     requires start { start < 2 ^ 34 }
     requires set { set < 2 ^ 35 }
-    ensures { result ≡ Pairs.pair_in_set table.now start glyph set }
+    ensures { result ≡ Pairs.pair_in_set lookup.now start glyph set }
 {
+    let table = lookup.table;
     let first = u16_at(table, start + 4);
     let second = u16_at(table, start + 6);
     let size = 2 + records_size(first, second);
     match second_in(table, size, set, glyph) {
         Some(r) => {
             let at = set + 4 + record_offset(r as usize, size);
-            Some(records_at(table, first, second, at))
+            Some(records_at(lookup, first, second, set, at))
         }
         None => None,
     }
 }
 
 /// The pair of glyph number `number` and of this second glyph, by format 1.
-fn listed_pair(table: &[u8], start: usize, number: u32, glyph: u32) -> Option<PairValues>
+fn listed_pair(lookup: &Lookup<'_>, start: usize, number: u32, glyph: u32) -> Option<PairValues>
     requires { start < 2 ^ 34 }
-    ensures { result ≡ Pairs.listed_pair table.now start number glyph }
+    ensures { result ≡ Pairs.listed_pair lookup.now start number glyph }
 {
-    let set = pair_set(table, start, number)?;
-    pair_within(table, start, set, glyph)
+    let set = pair_set(lookup.table, start, number)?;
+    pair_within(lookup, start, set, glyph)
 }
 
 /// The class of a glyph by the classes whose offset stands at `at`, 0 without them.
@@ -152,10 +163,11 @@ fn class_at(table: &[u8], start: usize, at: usize, glyph: u32) -> u16
 }
 
 /// The pair of the classes of two glyphs, by format 2.
-fn classed_pair(table: &[u8], start: usize, left: u32, right: u32) -> Option<PairValues>
+fn classed_pair(lookup: &Lookup<'_>, start: usize, left: u32, right: u32) -> Option<PairValues>
     requires { start < 2 ^ 34 }
-    ensures { result ≡ Pairs.classed_pair table.now start left right }
+    ensures { result ≡ Pairs.classed_pair lookup.now start left right }
 {
+    let table = lookup.table;
     let row = class_at(table, start, start + 8, left);
     let column = class_at(table, start, start + 10, right);
     let columns = u16_at(table, start + 14);
@@ -166,18 +178,24 @@ fn classed_pair(table: &[u8], start: usize, left: u32, right: u32) -> Option<Pai
     let first = u16_at(table, start + 4);
     let second = u16_at(table, start + 6);
     let offset = record_offset(n, records_size(first, second));
-    records_if(table, first, second, start + 16 + offset)
+    records_if(lookup, first, second, start, start + 16 + offset)
 }
 
 /// What the subtable of pair adjustment at `start` has for two glyphs; `number` is that of the
 /// first one in its list.
-pub fn pair(table: &[u8], start: usize, number: u32, left: u32, right: u32) -> Option<PairValues>
+pub fn pair(
+    lookup: &Lookup<'_>,
+    start: usize,
+    number: u32,
+    left: u32,
+    right: u32,
+) -> Option<PairValues>
     requires { start < 2 ^ 34 }
-    ensures { result ≡ Pairs.pair_of table.now start number left right }
+    ensures { result ≡ Pairs.pair_of lookup.now start number left right }
 {
-    match u16_at(table, start) {
-        1 => listed_pair(table, start, number, right),
-        2 => classed_pair(table, start, left, right),
+    match u16_at(lookup.table, start) {
+        1 => listed_pair(lookup, start, number, right),
+        2 => classed_pair(lookup, start, left, right),
         _ => None,
     }
 }

@@ -8,7 +8,7 @@ use layout_matching::lookup::Lookup;
 use layout_matching::work::walk_work;
 use layout_tables::lookups::{lookup_type, subtable_count};
 
-/// What a subtable costs at each item of a list if the lookup names no other.
+/// What a subtable costs at each item of a list if the lookup names no other, without what its devices cost.
 const PLAIN_WORK: usize = 16;
 
 /// Whether the lookup's type says that it names no other. Of one whose subtables stand far away it says nothing.
@@ -42,7 +42,7 @@ fn plain_toll(lookup: &Lookup<'_>, count: usize) -> usize
     ensures { result ≡ Work.walk_work lookup.now count }
 {
     let parts = (subtable_count(lookup.table, lookup.place) as usize).max(1);
-    count.saturating_mul(parts * PLAIN_WORK)
+    count.saturating_mul(parts * (PLAIN_WORK + lookup.device_work as usize))
 }
 
 /// What a lookup costs that goes over so many items.

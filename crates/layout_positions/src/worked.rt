@@ -1,5 +1,6 @@
 //! The definitions, computed on tables and buffers that were read by hand.
 ghost use Rattle.layout_positions.specs.Worked.Values.{WorkedValues, WorkedAnchors};
+ghost use Rattle.layout_positions.specs.Worked.Devices.{WorkedDevices};
 ghost use Rattle.layout_positions.specs.Worked.Pairs.{WorkedTables, WorkedLines};
 ghost use Rattle.layout_positions.specs.Worked.Marks.{WorkedMarks, WorkedBases, WorkedBaseWork, WorkedSearchWork, WorkedMultiplied, WorkedComponents};
 ghost use Rattle.layout_positions.specs.Worked.Cursive.{WorkedCursive};
@@ -10,10 +11,11 @@ ghost use Rattle.layout_positions.specs.Worked.Stage.{WorkedStage};
 ghost use Rattle.layout_positions.specs.Worked.Tries.{WorkedTries};
 ghost use Rattle.layout_positions.specs.Worked.Types.{WorkedFarMarks, WorkedMarkClasses, WorkedPairsDown, WorkedFlags};
 
-/// Value records, anchors, single and pair adjustment.
+/// Value records, anchors, devices, single and pair adjustment.
 pub fn adjustment_meets_worked_cases()
     ensures values { WorkedValues }
     ensures anchors { WorkedAnchors }
+    ensures devices { WorkedDevices }
     ensures tables { WorkedTables }
     ensures lines { WorkedLines }
 {}

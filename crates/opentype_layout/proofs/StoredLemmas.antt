@@ -1,5 +1,5 @@
 -- a lookup made of what is stored is the lookup of the table
-use Rattle.std.proofs.Common.{◌≡◌, ◌*◌, ℕ, Bool, true, false, Option, Some, None, max, not, nat_eq, ◌&&◌, ◌||◌, refl, sym, ap, ◌∙◌, subst, if◌then◌else◌}
+use Rattle.std.proofs.Common.{◌≡◌, ◌+◌, ◌*◌, ℕ, Bool, true, false, Option, Some, None, max, not, nat_eq, ◌&&◌, ◌||◌, refl, sym, ap, ◌∙◌, subst, if◌then◌else◌}
 use Rattle.std.specs.Option.{IfSome, option_map}
 use Rattle.std.specs.Prelude.{List}
 use Rattle.layout_tables.specs.Lookups as tables
@@ -72,4 +72,5 @@ work_of t m h head gsub =
     let plain : ℕ → Bool = λ kind. nat_eq kind 1 || nat_eq kind 2 || (nat_eq kind 3 && not m.random) in
     ap (λ x. max x 1 * (if plain h.kind then PLAIN_WORK else STEP_WORK)) head.subtables
     ∙ ap (λ kind. max n 1 * (if plain kind then PLAIN_WORK else STEP_WORK)) head.kind
-    ∙ sym (ap (λ p. max n 1 * (if (if p then not (is_context (lookup_by t m h)) else plain k) then PLAIN_WORK else STEP_WORK)) gsub)
+    ∙ sym (ap (λ p. max n 1 * (if (if p then not (is_context (lookup_by t m h)) else plain k)
+    then PLAIN_WORK + (if p then t.device_work else 0) else STEP_WORK)) gsub)

@@ -25,10 +25,10 @@ table_of f GSUB = f.gsub.now
 table_of f GPOS = f.gpos.now
 
 abbrev pub gsub_tables : OpenTypeFace → LookupTables
-gsub_tables f = record { table = f.gsub; gdef = f.gdef; positioning = false }
+gsub_tables f = record { table = f.gsub; gdef = f.gdef; coordinates = f.coordinates; device_work = 0; positioning = false }
 
 abbrev pub gpos_tables : OpenTypeFace → LookupTables
-gpos_tables f = record { table = f.gpos; gdef = f.gdef; positioning = true }
+gpos_tables f = record { table = f.gpos; gdef = f.gdef; coordinates = f.coordinates; device_work = f.device_work; positioning = true }
 
 -- the lookups of positioning, one after the other
 unfoldable pub positioned_by : LookupTables → List LookupMap → Buffer → Buffer
@@ -36,7 +36,7 @@ positioned_by t maps = positioned (lookups_of t maps)
 
 -- requests, compiled for the scripts that were chosen and the language of the text, at the coordinates of the font
 abbrev pub map_of : OpenTypeFace → Builder → OtMap
-map_of f builder = let coordinates = f.font.coordinates.now in
+map_of f builder = let coordinates = f.coordinates.now in
     compiled (chosen_in f.gsub.now coordinates builder.gsub_script builder.language)
     (chosen_in f.gpos.now coordinates builder.gpos_script builder.language) builder.requests
 

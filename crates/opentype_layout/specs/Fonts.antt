@@ -45,9 +45,11 @@ pub record IsFontOf (bytes : List ℕ) (index : ℕ) (font : FontFace) : Type 0 
   pub vvar : font.vvar.now ≡ bytes_of bytes index 0x56564152
   pub coordinates : font.coordinates.now ≡ []
 
--- a face is that of a font with its three tables of layout
+-- a face is that of a font with its three tables of layout, at the default instance
 pub record IsFaceOf (bytes : List ℕ) (index : ℕ) (face : OpenTypeFace) : Type 0 where
   pub font : IsFontOf bytes index face.font
   pub gdef : face.gdef.now ≡ bytes_of bytes index 0x47444546
   pub gsub : face.gsub.now ≡ bytes_of bytes index 0x47535542
   pub gpos : face.gpos.now ≡ bytes_of bytes index 0x47504F53
+  pub coordinates : face.coordinates.now ≡ []
+  pub device_work : face.device_work ≡ 0

@@ -19,6 +19,8 @@ abbrev pub lookup_at : LookupTables → LookupMap → ℕ → Lookup
 lookup_at t m place = record {
   table = t.table;
   gdef = t.gdef;
+  coordinates = t.coordinates;
+  device_work = t.device_work;
   place = place;
   flags = tables.lookup_flag_of t.table.now place;
   mark_set = tables.mark_filtering_set_of t.table.now place;
@@ -36,6 +38,8 @@ abbrev pub lookup_by : LookupTables → LookupMap → Head → Lookup
 lookup_by t m h = record {
   table = t.table;
   gdef = t.gdef;
+  coordinates = t.coordinates;
+  device_work = t.device_work;
   place = h.place;
   flags = h.flags;
   mark_set = h.mark_set;

@@ -47,6 +47,8 @@ pub(crate) fn gsub_tables<'a>(face: &OpenTypeFace<'a>) -> LookupTables<'a>
     LookupTables {
         table: face.gsub(),
         gdef: face.gdef(),
+        coordinates: face.coordinates(),
+        device_work: 0,
         positioning: false,
     }
 }
@@ -58,6 +60,8 @@ pub(crate) fn gpos_tables<'a>(face: &OpenTypeFace<'a>) -> LookupTables<'a>
     LookupTables {
         table: face.gpos(),
         gdef: face.gdef(),
+        coordinates: face.coordinates(),
+        device_work: face.device_work(),
         positioning: true,
     }
 }

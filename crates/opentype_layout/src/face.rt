@@ -1,8 +1,10 @@
 //! The face that the engine is over.
 ghost use Rattle.std.specs.Prelude.{◌≡◌, is_some, nat_lt, IfSome};
+ghost use Rattle.layout_positions.specs.Devices;
 ghost use Rattle.opentype_layout.specs.Fonts.{IsFaceOf, IsFontOf, units_of};
 ghost use Rattle.opentype_layout.specs.Face;
 
+use layout_positions::devices::device_work;
 use shape_buffer::{GlyphId, hb_font_t, hb_glyph_extents_t, hb_tables_t};
 use shape_font::FontFace;
 use shape_font::bytes::u16_at;
@@ -16,6 +18,8 @@ pub struct OpenTypeFace<'a> {
     gdef: &'a [u8],
     gsub: &'a [u8],
     gpos: &'a [u8],
+    coordinates: &'a [i32],
+    device_work: u32,
 }
 
 /// Whether a table of lookups is read: it is of major version 1.
@@ -40,12 +44,18 @@ impl<'a> OpenTypeFace<'a> {
         ensures gdef { result.gdef.now ≡ font.entry.gdef.now }
         ensures gsub { result.gsub.now ≡ font.entry.gsub.now }
         ensures gpos { result.gpos.now ≡ font.entry.gpos.now }
+        ensures coordinates { result.coordinates.now ≡ font.entry.coordinates.now }
+        ensures devices { result.device_work
+            ≡ Devices.work_of font.entry.gdef.now font.entry.coordinates.now }
     {
+        let gdef = font.gdef_table();
         OpenTypeFace {
             font,
-            gdef: font.gdef_table(),
+            gdef,
             gsub: font.gsub_table(),
             gpos: font.gpos_table(),
+            coordinates: font.coordinates(),
+            device_work: device_work(gdef, font.coordinates()),
         }
     }
 
@@ -91,9 +101,16 @@ impl<'a> OpenTypeFace<'a> {
 
     /// The coordinates of the font.
     pub(crate) fn coordinates(&self) -> &'a [i32]
-        ensures { result.now ≡ self.now.font.coordinates.now }
+        ensures { result ≡ self.now.coordinates }
     {
-        self.font.coordinates()
+        self.coordinates
+    }
+
+    /// What devices of `GPOS` may cost at an item.
+    pub(crate) fn device_work(&self) -> u32
+        ensures { result ≡ self.now.device_work }
+    {
+        self.device_work
     }
 
     /// The table `kern`.

@@ -18,11 +18,14 @@ use layout_tables::offsets::{header_offset, offset16};
 use shape_buffer::ShapeError;
 use std::alloc::Global;
 
-/// The tables that lookups read: `GSUB`, or `GPOS` if `positioning`, and `GDEF`.
+/// The tables that lookups read: `GSUB`, or `GPOS` if `positioning`, and `GDEF`; and the coordinates
+/// of the font, with what devices of `GPOS` may cost there.
 #[derive(Clone, Copy)]
 pub struct LookupTables<'a> {
     pub table: &'a [u8],
     pub gdef: &'a [u8],
+    pub coordinates: &'a [i32],
+    pub device_work: u32,
     pub positioning: bool,
 }
 
@@ -83,6 +86,8 @@ fn made_ready<'a>(tables: LookupTables<'a>, map: &LookupMap, head: &Head) -> Loo
     Lookup {
         table: tables.table,
         gdef: tables.gdef,
+        coordinates: tables.coordinates,
+        device_work: tables.device_work,
         place: head.place,
         flags: head.flags,
         mark_set: head.mark_set,

@@ -166,6 +166,13 @@ pub record WorkedWork : Type 0 where
   pub walk_of_singles : (l : Lookup) → l.table.now ≡ two_subtables → walk_work (over_marks l) 3 ≡ 96
   -- 8, as for one subtable
   pub walk_of_none : (l : Lookup) → l.table.now ≡ no_subtables → walk_work (over_marks l) 3 ≡ 24
+  -- in `GPOS` 10 more for the devices of each subtable, but where it isn't plain
+  pub walk_of_devices : (l : Lookup) → l.table.now ≡ two_subtables → walk_work (record (of_positions l) { device_work = 10 }) 3 ≡ 156
+  pub walk_of_gsub : (l : Lookup) → l.table.now ≡ two_subtables → walk_work (record (over_marks l) { device_work = 10 }) 3 ≡ 96
+  pub walk_of_context : (l : Lookup) → l.table.now ≡ context_of_positions
+      → walk_work (record (of_positions l) { device_work = 10 }) 3 ≡ 24
+  pub nested_devices : (l : Lookup) → l.table.now ≡ two_subtables
+      → nested_charged (record (of_positions l) { device_work = 10 }) (plain 5 ∷ []) 0 110 ≡ Some 10
   -- 48 for each lookup, and nothing is left where that doesn't suffice
   pub walks : (l : Lookup) → l.table.now ≡ two_of_ligatures → walks_charged (over_marks l ∷ over_marks l ∷ []) 3 100 ≡ 4
   pub walks_too_dear : (l : Lookup) → l.table.now ≡ two_of_ligatures → walks_charged (over_marks l ∷ over_marks l ∷ []) 3 95 ≡ 0
@@ -216,6 +223,10 @@ worked_work = record {
   walk = λ l t. rw t refl;
   walk_of_singles = λ l t. rw t refl;
   walk_of_none = λ l t. rw t refl;
+  walk_of_devices = λ l t. rw t refl;
+  walk_of_gsub = λ l t. rw t refl;
+  walk_of_context = λ l t. rw t refl;
+  nested_devices = λ l t. rw t refl;
   walks = λ l t. rw t refl;
   walks_too_dear = λ l t. rw t refl;
 }

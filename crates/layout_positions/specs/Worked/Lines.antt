@@ -5,6 +5,16 @@ use Rattle.shape_common.specs.declared.positions.GlyphPosition.{GlyphPosition}
 use Rattle.shape_common.specs.declared.text_types.Direction.{Direction}
 use Rattle.shape_items.specs.Buffer.{Buffer, new_buffer}
 use Rattle.shape_items.specs.Items.{Item, new_item, new_properties}
+use Rattle.layout_matching.specs.declared.lookup.Lookup.{Lookup}
+
+-- a lookup over this table, whatever else it is
+abbrev pub over : List ℕ → Lookup → Lookup
+over t l = record l { table = record l.table { now = t } }
+
+-- the same with this `GDEF`, at these coordinates
+abbrev pub varying : List ℕ → List ℕ → List ℤ → Lookup → Lookup
+varying t gdef coordinates l =
+    record (over t l) { gdef = record l.gdef { now = gdef }; coordinates = record l.coordinates { now = coordinates } }
 
 -- a base, a ligature and a mark, for which bit 16 of the mask is on
 abbrev pub base : ℕ → ℕ → Item

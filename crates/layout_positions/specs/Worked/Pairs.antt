@@ -10,7 +10,8 @@ use Rattle.shape_items.specs.Items.{Item}
 use Rattle.layout_matching.specs.declared.lookup.Lookup.{Lookup}
 use Rattle.layout_positions.specs.Lookups.{Applied}
 use Rattle.layout_positions.specs.Pairs.{single_of, single_applied, pair_of, pair_applied}
-use Rattle.layout_positions.specs.Worked.Lines.{base, mark, ignorable, line, advances, offsets, masks}
+use Rattle.layout_positions.specs.Values.{no_devices}
+use Rattle.layout_positions.specs.Worked.Lines.{over, base, mark, ignorable, line, advances, offsets, masks}
 use Rattle.layout_positions.specs.declared.values.Adjustment.{Adjustment}
 
 -- a list of glyphs 2 and 3
@@ -26,10 +27,10 @@ abbrev pub single_two : List ℕ
 single_two = 0 ∷ 2 ∷ 0 ∷ 12 ∷ 0 ∷ 2 ∷ 0 ∷ 2 ∷ 0 ∷ 10 ∷ 0 ∷ 20 ∷ 0 ∷ 1 ∷ 0 ∷ 3 ∷ 0 ∷ 2 ∷ 0 ∷ 3 ∷ 0 ∷ 4 ∷ []
 
 abbrev upwards : ℤ → Adjustment
-upwards y = record { x_placement = pos 0; y_placement = y; x_advance = pos 0; y_advance = pos 0 }
+upwards y = record { x_placement = pos 0; y_placement = y; x_advance = pos 0; y_advance = pos 0; devices = no_devices }
 
 abbrev wider : ℤ → Adjustment
-wider w = record { x_placement = pos 0; y_placement = pos 0; x_advance = w; y_advance = pos 0 }
+wider w = record { x_placement = pos 0; y_placement = pos 0; x_advance = w; y_advance = pos 0; devices = no_devices }
 
 -- format 1: 2 then 3 by -50, 2 then 5 by -60, 3 then 3 by -70, on the advance of the first glyph
 abbrev pub pairs_one : List ℕ
@@ -55,57 +56,64 @@ abbrev without_classes : List ℕ
 without_classes = 0 ∷ 2 ∷ 0 ∷ 0 ∷ 0 ∷ 4 ∷ 0 ∷ 0 ∷ 0 ∷ 0 ∷ 0 ∷ 0 ∷ 0 ∷ 1 ∷ 0 ∷ 1 ∷ []
 
 pub record WorkedTables : Type 0 where
-  pub same_for_all : single_of single_one 0 3
-      ≡ Some (record { x_placement = pos 10; y_placement = pos 0; x_advance = negsuc 49; y_advance = pos 0 })
-  pub not_covered : single_of single_one 0 4 ≡ None
-  pub one_for_each : single_of single_two 0 3 ≡ Some (upwards (pos 20))
-  pub past_the_records : single_of single_two 0 4 ≡ None
-  pub listed : pair_of pairs_one 0 0 2 3 ≡ Some (record { first = wider (negsuc 49); second = wider (pos 0); has_second = false })
-  pub listed_after_it : pair_of pairs_one 0 0 2 5 ≡ Some (record { first = wider (negsuc 59); second = wider (pos 0); has_second = false })
-  pub listed_in_the_second_set : pair_of pairs_one 0 1 3 3
+  pub same_for_all : (l : Lookup) → single_of (over single_one l) 0 3
+      ≡ Some (record { x_placement = pos 10; y_placement = pos 0; x_advance = negsuc 49; y_advance = pos 0; devices = no_devices })
+  pub not_covered : (l : Lookup) → single_of (over single_one l) 0 4 ≡ None
+  pub one_for_each : (l : Lookup) → single_of (over single_two l) 0 3 ≡ Some (upwards (pos 20))
+  pub past_the_records : (l : Lookup) → single_of (over single_two l) 0 4 ≡ None
+  pub listed : (l : Lookup) → pair_of (over pairs_one l) 0 0 2 3
+      ≡ Some (record { first = wider (negsuc 49); second = wider (pos 0); has_second = false })
+  pub listed_after_it : (l : Lookup) → pair_of (over pairs_one l) 0 0 2 5
+      ≡ Some (record { first = wider (negsuc 59); second = wider (pos 0); has_second = false })
+  pub listed_in_the_second_set : (l : Lookup) → pair_of (over pairs_one l) 0 1 3 3
       ≡ Some (record { first = wider (negsuc 69); second = wider (pos 0); has_second = false })
-  pub not_listed : pair_of pairs_one 0 0 2 4 ≡ None
-  pub past_the_sets : pair_of pairs_one 0 2 4 3 ≡ None
-  pub second_record : pair_of pairs_both 0 0 2 3 ≡ Some (record {
+  pub not_listed : (l : Lookup) → pair_of (over pairs_one l) 0 0 2 4 ≡ None
+  pub past_the_sets : (l : Lookup) → pair_of (over pairs_one l) 0 2 4 3 ≡ None
+  pub second_record : (l : Lookup) → pair_of (over pairs_both l) 0 0 2 3 ≡ Some (record {
     first = wider (negsuc 49);
-    second = record { x_placement = pos 30; y_placement = pos 0; x_advance = pos 0; y_advance = pos 0 };
+    second = record { x_placement = pos 30; y_placement = pos 0; x_advance = pos 0; y_advance = pos 0; devices = no_devices };
     has_second = true;
   })
-  pub class_0_of_both : pair_of pairs_two 0 0 2 7 ≡ Some (record { first = wider (pos 1); second = wider (pos 0); has_second = false })
-  pub class_0_then_1 : pair_of pairs_two 0 0 2 5 ≡ Some (record { first = wider (pos 2); second = wider (pos 0); has_second = false })
-  pub class_1_then_0 : pair_of pairs_two 0 1 3 7 ≡ Some (record { first = wider (pos 3); second = wider (pos 0); has_second = false })
-  pub class_1_then_1 : pair_of pairs_two 0 1 3 5 ≡ Some (record { first = wider (pos 4); second = wider (pos 0); has_second = false })
-  pub other_format_of_single : single_of (0 ∷ 3 ∷ 0 ∷ 10 ∷ 0 ∷ 5 ∷ 0 ∷ 10 ∷ 0xFF ∷ 0xCE ∷ list) 0 3 ≡ None
-  pub past_the_first_classes : pair_of (pairs_of_classes 1 2) 0 1 3 5 ≡ None
-  pub past_the_second_classes : pair_of (pairs_of_classes 2 1) 0 0 2 5 ≡ None
-  pub all_of_class_0 : pair_of (without_classes ++ 0 ∷ 9 ∷ []) 0 0 2 5
+  pub class_0_of_both : (l : Lookup) → pair_of (over pairs_two l) 0 0 2 7
+      ≡ Some (record { first = wider (pos 1); second = wider (pos 0); has_second = false })
+  pub class_0_then_1 : (l : Lookup) → pair_of (over pairs_two l) 0 0 2 5
+      ≡ Some (record { first = wider (pos 2); second = wider (pos 0); has_second = false })
+  pub class_1_then_0 : (l : Lookup) → pair_of (over pairs_two l) 0 1 3 7
+      ≡ Some (record { first = wider (pos 3); second = wider (pos 0); has_second = false })
+  pub class_1_then_1 : (l : Lookup) → pair_of (over pairs_two l) 0 1 3 5
+      ≡ Some (record { first = wider (pos 4); second = wider (pos 0); has_second = false })
+  pub other_format_of_single : (l : Lookup) → single_of (over (0 ∷ 3 ∷ 0 ∷ 10 ∷ 0 ∷ 5 ∷ 0 ∷ 10 ∷ 0xFF ∷ 0xCE ∷ list) l) 0 3 ≡ None
+  pub past_the_first_classes : (l : Lookup) → pair_of (over (pairs_of_classes 1 2) l) 0 1 3 5 ≡ None
+  pub past_the_second_classes : (l : Lookup) → pair_of (over (pairs_of_classes 2 1) l) 0 0 2 5 ≡ None
+  pub all_of_class_0 : (l : Lookup) → pair_of (over (without_classes ++ 0 ∷ 9 ∷ []) l) 0 0 2 5
       ≡ Some (record { first = wider (pos 9); second = wider (pos 0); has_second = false })
-  pub value_past_the_end : pair_of (without_classes ++ 0 ∷ []) 0 0 2 5 ≡ None
-  pub other_format_of_pairs : pair_of (0 ∷ 3 ∷ 0 ∷ 0 ∷ 0 ∷ 4 ∷ 0 ∷ 0 ∷ 0 ∷ 0 ∷ 0 ∷ 0 ∷ 0 ∷ 1 ∷ 0 ∷ 1 ∷ 0 ∷ 9 ∷ []) 0 0 2 5 ≡ None
+  pub value_past_the_end : (l : Lookup) → pair_of (over (without_classes ++ 0 ∷ []) l) 0 0 2 5 ≡ None
+  pub other_format_of_pairs : (l : Lookup) → pair_of (over (0 ∷ 3 ∷ 0 ∷ 0 ∷ 0 ∷ 4 ∷ 0 ∷ 0 ∷ 0 ∷ 0 ∷ 0 ∷ 0 ∷ 0 ∷ 1 ∷ 0 ∷ 1 ∷ 0 ∷ 9 ∷ []) l) 0 0 2 5
+      ≡ None
 
 pub worked_tables : WorkedTables
 unfolding i16_of ones
 worked_tables = record {
-  same_for_all = refl;
-  not_covered = refl;
-  one_for_each = refl;
-  past_the_records = refl;
-  listed = refl;
-  listed_after_it = refl;
-  listed_in_the_second_set = refl;
-  not_listed = refl;
-  past_the_sets = refl;
-  second_record = refl;
-  class_0_of_both = refl;
-  class_0_then_1 = refl;
-  class_1_then_0 = refl;
-  class_1_then_1 = refl;
-  other_format_of_single = refl;
-  past_the_first_classes = refl;
-  past_the_second_classes = refl;
-  all_of_class_0 = refl;
-  value_past_the_end = refl;
-  other_format_of_pairs = refl;
+  same_for_all = λ _. refl;
+  not_covered = λ _. refl;
+  one_for_each = λ _. refl;
+  past_the_records = λ _. refl;
+  listed = λ _. refl;
+  listed_after_it = λ _. refl;
+  listed_in_the_second_set = λ _. refl;
+  not_listed = λ _. refl;
+  past_the_sets = λ _. refl;
+  second_record = λ _. refl;
+  class_0_of_both = λ _. refl;
+  class_0_then_1 = λ _. refl;
+  class_1_then_0 = λ _. refl;
+  class_1_then_1 = λ _. refl;
+  other_format_of_single = λ _. refl;
+  past_the_first_classes = λ _. refl;
+  past_the_second_classes = λ _. refl;
+  all_of_class_0 = λ _. refl;
+  value_past_the_end = λ _. refl;
+  other_format_of_pairs = λ _. refl;
 }
 
 -- ---- over lines, by a lookup for bit 16 that passes over default ignorables

@@ -5,7 +5,6 @@ use Rattle.std.specs.Int.Count.{ones}
 use Rattle.shape_common.specs.Wrapping.{◌+ʷ◌, ◌-ʷ◌, neg_w}
 use Rattle.shape_font.specs.Bytes.{i16_of}
 use Rattle.shape_common.specs.declared.text_types.Direction.TheVariants.{LeftToRight}
-use Rattle.shape_items.specs.Buffer.{Buffer}
 use Rattle.shape_items.specs.Items.{Item}
 use Rattle.layout_matching.specs.Tries.{Trace, all_tried}
 use Rattle.layout_matching.specs.declared.lookup.Lookup.{Lookup}

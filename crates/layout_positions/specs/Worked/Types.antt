@@ -22,20 +22,20 @@ abbrev pub far_of : ℕ → List ℕ → List ℕ
 far_of kind subtable = one_subtable 9 (0 ∷ 1 ∷ 0 ∷ kind ∷ 0 ∷ 0 ∷ 0 ∷ 8 ∷ subtable)
 
 pub record WorkedFarMarks : Type 0 where
-  pub on_a_component : (l : Lookup) → IsLookup l (far_of 5 on_ligatures) 0 → l.place ≡ 0
+  pub on_a_component : (l : Lookup) → IsLookup l (far_of 5 on_ligatures) 0 → l.place ≡ 0 → l.device_work ≡ 0
       → offsets (over l (ligature 4 5 0 ∷ mark_on 8 5 2 0 ∷ [])) ≡ still ∷ (pos 190, pos 0) ∷ []
-  pub on_a_mark : (l : Lookup) → IsLookup l (far_of 6 on_bases) 0 → l.place ≡ 0
+  pub on_a_mark : (l : Lookup) → IsLookup l (far_of 6 on_bases) 0 → l.place ≡ 0 → l.device_work ≡ 0
       → offsets (over l (mark 2 0 ∷ mark 8 0 ∷ [])) ≡ still ∷ (pos 290, pos 480) ∷ []
   -- a mark is no base for type 6, and a base no mark
-  pub of_its_own_type : (l : Lookup) → IsLookup l (far_of 6 on_bases) 0 → l.place ≡ 0
+  pub of_its_own_type : (l : Lookup) → IsLookup l (far_of 6 on_bases) 0 → l.place ≡ 0 → l.device_work ≡ 0
       → offsets (over l (base 2 0 ∷ mark 8 0 ∷ [])) ≡ still ∷ still ∷ []
 
 pub worked_far_marks : WorkedFarMarks
 unfolding i16_of ◌-ʷ◌ int_wrap
 worked_far_marks = record {
-  on_a_component = λ l is p. rw (is.table, is.flags, is.mask, is.positioning, p) refl;
-  on_a_mark = λ l is p. rw (is.table, is.flags, is.mask, is.positioning, p) refl;
-  of_its_own_type = λ l is p. rw (is.table, is.flags, is.mask, is.positioning, p) refl;
+  on_a_component = λ l is p d. rw (is.table, is.flags, is.mask, is.positioning, p, d) refl;
+  on_a_mark = λ l is p d. rw (is.table, is.flags, is.mask, is.positioning, p, d) refl;
+  of_its_own_type = λ l is p d. rw (is.table, is.flags, is.mask, is.positioning, p, d) refl;
 }
 
 -- mark 7 of class 0, its anchor at 5, 6, and mark 8 of class 1, at 10, 20; glyph 2 with anchors at 100, 200 for class 0 and at

@@ -109,6 +109,7 @@ over_table table flags place l = record l {
   auto_zwj = true;
   per_syllable = false;
   positioning = true;
+  device_work = 0;
 }
 
 abbrev pub Over : List ℕ → ℕ → ℕ → (Lookup → Type 0) → Type 0
