@@ -2,7 +2,6 @@
 use crate::failure::Failure;
 use crate::options::Options;
 use glyph_outlines::Outlines;
-use shape_font::bytes::{u16_at, u32_at};
 use shape_font::directory::Directory;
 use shape_text_forms::SerializeFlags;
 use std::alloc::{AllocError, Global};
@@ -51,21 +50,12 @@ const VORG: u32 = 0x564F_5247;
 
 const GPOS: u32 = 0x4750_4F53;
 
-const GDEF: u32 = 0x4744_4546;
-
-/// Whether GDEF has a store of variations, which positions of GPOS may refer to.
-fn has_store(font: &Directory<'_>) -> bool {
-    let gdef = font.table_or_empty(GDEF);
-    u16_at(gdef, 2) >= 3 && u32_at(gdef, 14) != 0
-}
-
 /// What is not varied that is asked for: its names, with commas between them.
 fn unvaried(alloc: Global, options: &Options, font: &Directory<'_>) -> Result<String, AllocError> {
     let upright = options.direction().is_vertical();
     let boxes = options.form().asks(SerializeFlags::GLYPH_EXTENTS) || !font.has(GPOS);
     let parts = [
         (!font.has(HVAR), "advances (it has no table HVAR)"),
-        (font.has(GPOS) && has_store(font), "positions (GPOS)"),
         (boxes, "boxes"),
         (options.draws(), "outlines"),
         (
