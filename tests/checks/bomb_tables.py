@@ -61,6 +61,28 @@ def variations(count):
     return body + words(1, 0) + struct.pack(">III", count, 16, 0) + condition
 
 
+# an axis `wght` from 100 to 900, 400 by default
+ONE_AXIS = (words(1, 0, 16, 2, 1, 20, 0, 8) + b"wght"
+            + struct.pack(">III", 100 << 16, 400 << 16, 900 << 16) + words(0, 256))
+
+
+def stored_deltas(columns, axes):
+    """GDEF with one set of deltas, of so many columns, whose region takes all coordinates of so
+    many axes."""
+    regions = words(axes, 1) + words(0, 0, 0) * axes
+    data = words(1, 0, columns, *[0] * columns) + b"\1" * columns
+    store = words(1) + struct.pack(">IHI", 12, 1, 12 + len(regions)) + regions + data
+    return words(1, 3, 0, 0, 0, 0, 0) + struct.pack(">I", 18) + store
+
+
+def varied_pairs():
+    """Pairs of all glyphs, whose two values have four devices each, the first set of deltas."""
+    device = 48 + len(EVERY) + 4
+    value = [1, 1, 1, 1, *[device] * 4]
+    head = words(2, 48, 0xFF, 0xFF, device - 4, device - 4, 1, 1, *value, *value)
+    return head + EVERY + words(2, 0) + words(0, 0, 0x8000)
+
+
 def features(count):
     """GSUB whose list of features has many of one tag, and whose language names each."""
     scripts = words(1) + b"DFLT" + words(8) + words(4, 0) + words(0, 0xFFFF, count, *range(count))

@@ -9,12 +9,13 @@ of it. Texts that are hard to cut into syllables, or to put in order, are those 
 
 The worst fonts of earlier searches are named in tests/hostile/worst.txt (`search`).
 """
-from checks.bomb_tables import (EVERY, LOOP, ROW, all_null, alternates, among_none, apart, becomes,
-                                class_behind, context, cursive, deletes, features, gdef,
+from checks.bomb_tables import (EVERY, LOOP, ONE_AXIS, ROW, all_null, alternates, among_none, apart,
+                                becomes, class_behind, context, cursive, deletes, features, gdef,
                                 gdef_of_set, grows, joins, kern, kern_heads, layout,
                                 ligature_of_two, ligatures, list_behind, lookup, marks_on, names,
                                 nulls, only_a, origins, pairs, row_before, row_behind, rules,
-                                rules_past, swallows, vain, variations, words)
+                                rules_past, stored_deltas, swallows, vain, variations,
+                                varied_pairs, words)
 from checks.fonts import add_table, bytes_of, new_font
 from checks.hostile_runs import LENGTH, SECONDS, Runs, add_run_options, need_all
 from checks.mutated import load_bases, mutated_font
@@ -104,6 +105,12 @@ def marks(lookups, shared=0):
     return {"GPOS": layout(lookups, b"mark", shared=shared), "GDEF": gdef(0)}
 
 
+def varied(columns, axes):
+    """A variable font of 2,000 lookups of pairs with devices."""
+    return {"GPOS": layout([lookup(2, [varied_pairs()])], b"kern", shared=2000),
+            "GDEF": stored_deltas(columns, axes), "fvar": ONE_AXIS}
+
+
 GROWS_FIRST = {
     "GSUB": layout([lookup(2, [grows(60)])]),
     "GPOS": layout([lookup(7, [rules(31000, words(2, 0, 42))])], b"kern", shared=100),
@@ -165,6 +172,9 @@ BOMBS = {
         {"GPOS": layout([lookup(2, [(20, pairs(100))])], b"kern", shared=1000)}, "a"),
     "pairs over the rest of the text, 50 lookups": (
         {"GPOS": layout([lookup(2, [(20, pairs(1, 43))])], b"kern", shared=50)}, "z"),
+    "devices of 200 columns, 2,000 lookups": (varied(200, 1), "d"),
+    "devices of 65,000 columns, 2,000 lookups": (varied(65000, 1), "d"),
+    "devices of 5,000 axes, 2,000 lookups": (varied(1, 5000), "d"),
     "positions that call themselves twice": (
         {"GPOS": layout([lookup(7, [context(1, [(0, 0), (0, 0)])])], b"kern")}, "a"),
     "variations without end": ({"GSUB": variations(0xFFFFFFFF)}, "a"),
@@ -234,7 +244,9 @@ SPENT = {
     "31,000 ligatures of two glyphs, 100 lookups", "rules past the table, 100 lookups",
     "sets without rules, nested, over marks", "skips half of the text, nested",
     "rows of 10,000 glyphs, backwards", "30,000 NULL subtables",
-    "records that name nothing", "pairs, 1,000 lookups", "positions that call themselves twice",
+    "devices of 200 columns, 2,000 lookups", "devices of 5,000 axes, 2,000 lookups",
+    "records that name nothing", "pairs, 1,000 lookups",
+    "positions that call themselves twice",
     "pairs over the rest of the text, 50 lookups", "marks on one base, 1,000 lookups",
     "marks on one base, nested, back and forth", "rules of marks on one ligature",
     "marks that follow a ligature", "kern of 65,535 parts of six bytes",
@@ -266,12 +278,12 @@ def bomb_font(tables, kind):
 def bomb_text(kind, length):
     """Letters, in eight lines too, marks, or one half of each, letters first; a letter and ten
     times as many marks; marks between two letters, and one mark more or none; ZWNJ, after one
-    letter; letters that join; letters by the stages of Arabic, downwards, or written as JSON;
-    letters right to left, of which the last is another one, or three quarters as many; or ZWJ in
-    Arabic, after one letter or each, of which the last is a letter a; or Arabic after a letter a
-    between two b."""
+    letter; letters that join; letters by the stages of Arabic, downwards, written as JSON, or at
+    coordinates of a variable font; letters right to left, of which the last is another one, or
+    three quarters as many; or ZWJ in Arabic, after one letter or each, of which the last is a
+    letter a; or Arabic after a letter a between two b."""
     half = length // 2
-    texts = {"a": "a" * length, "json": "a" * length,
+    texts = {"a": "a" * length, "json": "a" * length, "d": "a" * length,
              "m": "\u0301" * length, "z": "a" + chr(ZWNJ) * (length - 1),
              "ama": "a" + "\u0301" * (length - 67) + "\u0302" * 64 + "a\u0303",
              "t": "dcadcb" * (length // 6) + "ab",
@@ -293,6 +305,8 @@ def take_bomb(runs, name, length):
     options = ["--direction=" + direction, "--script=" + script]
     if kind == "json":
         options.append("--output-format=json")
+    if kind == "d":
+        options.append("--variations=wght=900")
     runs.take(name, bomb_font(tables, kind), bomb_text(kind, length), options)
 
 
