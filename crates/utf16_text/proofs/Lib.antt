@@ -1,0 +1,3 @@
+pub mod BesideLemmas
+pub mod UnitLemmas
+mod WorkedRows
