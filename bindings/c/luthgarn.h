@@ -9,7 +9,7 @@
  * What the caller owes, which nothing checks:
  *   - A pointer and its count name as many elements, which the call may read, and write where they aren't const. With
  *     count 0 the pointer isn't read, and features, text, runs, glyphs and a name may be NULL. (The library itself takes no
- *     NULL: the functions of this header that shape and name put another pointer in its place. Who calls the library
+ *     NULL: the functions of this header put another pointer in its place. Who calls the library
  *     without this header does the same.)
  *   - What a call writes (`font`, `copy`, `runs`, `glyphs`, `feature`) overlaps nothing else that the call is given.
  *   - A `luthgarn_font` begins as zeros, and is written by these calls alone. It may be moved in memory; of two copies one
@@ -40,7 +40,7 @@ enum {
   LUTHGARN_MEMORY = 1, /* malloc or realloc returned NULL */
   LUTHGARN_LENGTH = 2, /* a list would have passed the run's limit: 64 glyphs a character, or 16384 */
   LUTHGARN_FONT = 3,   /* the bytes have no font with this number; or no font is kept */
-  LUTHGARN_TEXT = 4,   /* the text of a run, or what stands beside it, isn't UTF-8; or a text is no feature */
+  LUTHGARN_TEXT = 4,   /* the text of a run, or what stands beside it, isn't UTF-8; a text is no feature, or too long a language */
   LUTHGARN_RUN = 5,    /* a run's places aren't in order or not in the text, or it has no such direction or level */
   LUTHGARN_ROOM = 6    /* the array of glyphs is too short */
 };
@@ -50,7 +50,7 @@ static inline const char *
 luthgarn_error_name(uint32_t code)
 {
   static const char *const names[] = {
-    "done", "no memory", "too many glyphs", "no such font", "not UTF-8, or no feature", "no such run", "no room for glyphs"};
+    "done", "no memory", "too many glyphs", "no such font", "not UTF-8, no feature, or too long a language", "no such run", "no room for glyphs"};
   return code <= LUTHGARN_ROOM ? names[code] : "no such code";
 }
 
@@ -76,12 +76,12 @@ typedef struct {
   uint32_t tag, value, start, end;
 } luthgarn_feature;
 
-/* A run of the text: the bytes from `start` up to `end`, of one direction, script and language. The bytes from `before`
- * up to `start`, and from `end` up to `after`, are looked at (five characters at most) and not shaped; for a text of
- * its own before = start and end = after. Each of these places stands between two characters.
- * `direction` and `script` 0 ask for a guess. `level` is 0, 1 or 2: how far clusters are merged. `language` is a name
- * of BCP 47, filled up with zeros; all zeros name none. A call writes `glyphs`: how many glyphs there are up to the end
- * of this run. */
+/* A run of the text: the units from `start` up to `end`, of one direction, script and language. The units of a text in
+ * UTF-8 are its bytes. Those from `before` up to `start`, and from `end` up to `after`, are looked at (five characters at
+ * most) and not shaped; for a text of its own before = start and end = after. Each of these places stands between two
+ * characters. `direction` and `script` 0 ask for a guess. `level` is 0, 1 or 2: how far clusters are merged. `language` is
+ * a name of BCP 47, filled up with zeros, as luthgarn_set_language writes it; all zeros name none. A call writes `glyphs`:
+ * how many glyphs there are up to the end of this run. */
 typedef struct {
   uint32_t before, start, end, after;
   uint32_t direction, script, flags, level;
@@ -89,7 +89,7 @@ typedef struct {
   size_t glyphs;
 } luthgarn_run;
 
-/* A glyph, by its number in the font. `cluster` is the first byte of its characters, counted from the start of the run
+/* A glyph, by its number in the font. `cluster` is the first unit of its characters, counted from the start of the run
  * (luthgarn_count_from_text makes it count from the start of the text).
  * Advances and offsets count in units of the font. */
 typedef struct {
@@ -127,6 +127,10 @@ uint32_t luthgarn_parse_direction(const uint8_t *text, size_t size);
 /* A script by its name of ISO 15924, in any case; 0 for an empty text. */
 uint32_t luthgarn_parse_script(const uint8_t *text, size_t size);
 
+/* Makes a run ask for the language with this name of BCP 47, of at most 64 bytes. Returns LUTHGARN_DONE, or LUTHGARN_TEXT for
+ * a longer name, and leaves `run` as it was then. (A name that isn't UTF-8 is refused by the call that shapes.) */
+uint32_t luthgarn_set_language(luthgarn_run *run, const uint8_t *name, size_t size);
+
 /* Shapes the runs of a text, by the shaper of each script, with the tables GDEF, GSUB, GPOS and kern of the font. The
  * glyphs of run k are glyphs[k ? runs[k - 1].glyphs : 0] up to glyphs[runs[k].glyphs - 1], from left to right or from top
  * to bottom. A call opens the font, in time in step with its tables (luthgarn_shape_font opens nothing), and runs of one
@@ -139,6 +143,14 @@ luthgarn_outcome luthgarn_shape(const uint8_t *font, size_t font_size, uint32_t 
                                 const uint8_t *text, size_t text_size,
                                 luthgarn_run *runs, size_t run_count,
                                 luthgarn_glyph *glyphs, size_t glyph_count);
+
+/* As luthgarn_shape, of a text in UTF-16: the places of runs and features and the clusters count its units. Any units are a
+ * text: a surrogate without its partner stands for U+FFFD, and so do both where a run begins or ends between them. */
+luthgarn_outcome luthgarn_shape_utf16(const uint8_t *font, size_t font_size, uint32_t index,
+                                      const luthgarn_feature *features, size_t feature_count,
+                                      const uint16_t *text, size_t text_size,
+                                      luthgarn_run *runs, size_t run_count,
+                                      luthgarn_glyph *glyphs, size_t glyph_count);
 
 /* Opens the font with this number in the file (0, if it isn't a collection), in time in step with its tables. Returns
  * LUTHGARN_DONE, and `font` keeps it, in place of what it kept; else LUTHGARN_FONT or LUTHGARN_MEMORY, and leaves `font`. */
@@ -163,6 +175,12 @@ luthgarn_outcome luthgarn_shape_font(luthgarn_font *font, const luthgarn_feature
                                      const uint8_t *text, size_t text_size,
                                      luthgarn_run *runs, size_t run_count,
                                      luthgarn_glyph *glyphs, size_t glyph_count);
+
+/* As luthgarn_shape_utf16, with the font that is kept; LUTHGARN_FONT if none is. */
+luthgarn_outcome luthgarn_shape_font_utf16(luthgarn_font *font, const luthgarn_feature *features, size_t feature_count,
+                                           const uint16_t *text, size_t text_size,
+                                           luthgarn_run *runs, size_t run_count,
+                                           luthgarn_glyph *glyphs, size_t glyph_count);
 
 /* Makes the clusters of glyphs count from the start of the text, of the first runs, so many, that a call has done, and their
  * glyphs: once for each call. */
@@ -201,16 +219,69 @@ luthgarn_shape_font_some(luthgarn_font *font, const luthgarn_feature *features, 
                              LUTHGARN_SOME(luthgarn_glyph, glyphs), glyph_count);
 }
 
+static inline luthgarn_outcome
+luthgarn_shape_utf16_some(const uint8_t *font, size_t font_size, uint32_t index,
+                          const luthgarn_feature *features, size_t feature_count,
+                          const uint16_t *text, size_t text_size,
+                          luthgarn_run *runs, size_t run_count,
+                          luthgarn_glyph *glyphs, size_t glyph_count)
+{
+  return luthgarn_shape_utf16(font, font_size, index, LUTHGARN_SOME(const luthgarn_feature, features), feature_count,
+                              LUTHGARN_SOME(const uint16_t, text), text_size, LUTHGARN_SOME(luthgarn_run, runs), run_count,
+                              LUTHGARN_SOME(luthgarn_glyph, glyphs), glyph_count);
+}
+
+static inline luthgarn_outcome
+luthgarn_shape_font_utf16_some(luthgarn_font *font, const luthgarn_feature *features, size_t feature_count,
+                               const uint16_t *text, size_t text_size,
+                               luthgarn_run *runs, size_t run_count,
+                               luthgarn_glyph *glyphs, size_t glyph_count)
+{
+  return luthgarn_shape_font_utf16(font, LUTHGARN_SOME(const luthgarn_feature, features), feature_count,
+                                   LUTHGARN_SOME(const uint16_t, text), text_size, LUTHGARN_SOME(luthgarn_run, runs),
+                                   run_count, LUTHGARN_SOME(luthgarn_glyph, glyphs), glyph_count);
+}
+
 static inline size_t
 luthgarn_font_glyph_name_some(luthgarn_font *font, uint32_t glyph, uint8_t *name, size_t size)
 {
   return luthgarn_font_glyph_name(font, glyph, LUTHGARN_SOME(uint8_t, name), size);
 }
 
+static inline uint32_t
+luthgarn_parse_feature_some(const uint8_t *text, size_t size, luthgarn_feature *feature)
+{
+  return luthgarn_parse_feature(LUTHGARN_SOME(const uint8_t, text), size, feature);
+}
+
+static inline uint32_t
+luthgarn_parse_direction_some(const uint8_t *text, size_t size)
+{
+  return luthgarn_parse_direction(LUTHGARN_SOME(const uint8_t, text), size);
+}
+
+static inline uint32_t
+luthgarn_parse_script_some(const uint8_t *text, size_t size)
+{
+  return luthgarn_parse_script(LUTHGARN_SOME(const uint8_t, text), size);
+}
+
+static inline uint32_t
+luthgarn_set_language_some(luthgarn_run *run, const uint8_t *name, size_t size)
+{
+  return luthgarn_set_language(run, LUTHGARN_SOME(const uint8_t, name), size);
+}
+
 #undef LUTHGARN_SOME
 #define luthgarn_shape luthgarn_shape_some
 #define luthgarn_shape_font luthgarn_shape_font_some
+#define luthgarn_shape_utf16 luthgarn_shape_utf16_some
+#define luthgarn_shape_font_utf16 luthgarn_shape_font_utf16_some
 #define luthgarn_font_glyph_name luthgarn_font_glyph_name_some
+#define luthgarn_parse_feature luthgarn_parse_feature_some
+#define luthgarn_parse_direction luthgarn_parse_direction_some
+#define luthgarn_parse_script luthgarn_parse_script_some
+#define luthgarn_set_language luthgarn_set_language_some
 
 #ifdef __cplusplus
 }

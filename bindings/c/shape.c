@@ -110,9 +110,14 @@ main(int argc, char **argv)
       if (feature_count == 64 || luthgarn_parse_feature(word, size, features + feature_count)) fail("no such feature");
       feature_count++;
       break;
-    case 'd': like.direction = luthgarn_parse_direction(word, size); break;
+    case 'd':
+      like.direction = luthgarn_parse_direction(word, size);
+      if (!like.direction) fail("no such direction");
+      break;
     case 's': like.script = luthgarn_parse_script(word, size); break;
-    case 'l': memcpy(like.language, word, size < sizeof like.language ? size : sizeof like.language); break;
+    case 'l':
+      if (luthgarn_set_language(&like, word, size)) fail("too long a language");
+      break;
     default: fail("no such option");
     }
   }

@@ -5,6 +5,7 @@ use Rattle.shape_plan.specs.Run.{Run}
 use Rattle.c_runs.specs.Glyphs.{glyphs_of_run}
 use Rattle.c_runs.specs.Numbers.{code_of}
 use Rattle.c_runs.specs.Outcomes.{IsStopped, Serves, Stops}
+use Rattle.c_runs.specs.Texts.{Units}
 use Rattle.c_runs.proofs.RunLemmas.{done-none}
 use Rattle.c_runs.specs.declared.plain.luthgarn_glyph.{luthgarn_glyph}
 use Rattle.c_runs.specs.declared.plain.luthgarn_outcome.{luthgarn_outcome}
@@ -18,7 +19,7 @@ no_run = record { before = 0; start = 0; end = 0; after = 0; direction = 0; scri
 pub not-zero : (n : ℕ) → true ≡ nat_lt 0 n → n ≡ 0 → ⊥
 not-zero n is zero = absurd (let e : true ≡ nat_lt 0 0 = is ∙ ap (nat_lt 0) zero in cc)
 
-module _ (runs : Buffer → Run) (text : List ℕ) where
+module _ (runs : Buffer → Run) (text : Units) where
   -- a reason's number is neither 0 nor that of no font
   reason-code : (run : luthgarn_run) (room needed : ℕ) (e : Refusal) → IsStopped runs text run room needed e
       → (code_of e ≡ 3 → ⊥) × (code_of e ≡ 0 → ⊥)

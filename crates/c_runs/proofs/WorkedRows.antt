@@ -1,7 +1,8 @@
 -- The rows of runs and glyphs by hand.
 use Rattle.std.proofs.Common.{◌≡◌, true, false, List, refl, arith}
+use Rattle.std.specs.Char.Utf16.{utf16_chars}
 use Rattle.std.specs.Str.{chars}
-use Rattle.c_runs.specs.Worked.Runs.{TextsWorked, GlyphsWorked, WorkedRuns}
+use Rattle.c_runs.specs.Worked.Runs.{TextsWorked, UnitsWorked, GlyphsWorked, WorkedRuns}
 use Rattle.c_runs.specs.declared.plain.luthgarn_glyph.{luthgarn_glyph}
 use Rattle.c_runs.specs.declared.plain.luthgarn_run.{luthgarn_run}
 
@@ -9,8 +10,6 @@ texts : TextsWorked
 unfolding chars
 texts = record {
   own = refl;
-  before = refl;
-  after = refl;
   text = refl;
   placed = record { before = omega arith; own = omega arith; after = omega arith; within = omega arith; direction = refl; level = refl };
   past_what_follows = λ is. absurd (omega (arith, is.after));
@@ -18,6 +17,19 @@ texts = record {
   past_the_text = λ is. absurd (omega (arith, is.within));
   no_direction = λ is. absurd (let e : false ≡ true = is.direction in cc);
   no_level = λ is. absurd (let e : false ≡ true = is.level in cc);
+}
+
+units : UnitsWorked
+unfolding utf16_chars
+units = record {
+  items = refl;
+  from_the_run = refl;
+  before = refl;
+  after = refl;
+  cut = refl;
+  cut_after = refl;
+  placed = record { before = omega arith; own = omega arith; after = omega arith; within = omega arith; direction = refl; level = refl };
+  past_the_text = λ is. absurd (omega (arith, is.within));
 }
 
 glyphs_of_two : (glyphs : luthgarn_run → List luthgarn_glyph) (g h i : luthgarn_glyph) → GlyphsWorked glyphs g h i
@@ -28,4 +40,4 @@ glyphs_of_two glyphs g h i = record {
 }
 
 pub worked_runs : WorkedRuns
-worked_runs = record { texts = texts; glyphs = glyphs_of_two }
+worked_runs = record { texts = texts; units = units; glyphs = glyphs_of_two }

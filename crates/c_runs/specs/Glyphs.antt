@@ -6,7 +6,7 @@ use Rattle.shape_items.specs.Buffer.{Buffer}
 use Rattle.shape_items.specs.Items.{Item}
 use Rattle.shape_pipeline.specs.Shaped.{shaped}
 use Rattle.shape_plan.specs.Run.{Run}
-use Rattle.c_runs.specs.Texts.{text_of_run}
+use Rattle.c_runs.specs.Texts.{Units, text_of_run}
 use Rattle.c_runs.specs.declared.plain.luthgarn_glyph.{luthgarn_glyph}
 use Rattle.c_runs.specs.declared.plain.luthgarn_run.{luthgarn_run}
 
@@ -26,7 +26,7 @@ abbrev pub glyphs_of : Buffer → List luthgarn_glyph
 glyphs_of buffer = map glyph_of (zip buffer.items buffer.positions)
 
 -- the glyphs of a run, where `runs` says how a text is shaped
-abbrev pub glyphs_of_run : (Buffer → Run) → List ℕ → luthgarn_run → List luthgarn_glyph
+abbrev pub glyphs_of_run : (Buffer → Run) → Units → luthgarn_run → List luthgarn_glyph
 glyphs_of_run runs text run = glyphs_of (shaped (runs (text_of_run text run)) (text_of_run text run))
 
 -- the glyphs of all runs, one run after the other

@@ -7,7 +7,7 @@ use Rattle.shape_plan.specs.Run.{Run}
 use Rattle.c_runs.specs.Glyphs.{glyphs_of_run, joined, counted}
 use Rattle.c_runs.specs.Numbers.{code_of}
 use Rattle.c_runs.specs.Refusals.{TextPasses}
-use Rattle.c_runs.specs.Texts.{IsPlaced, IsText, text_of_run}
+use Rattle.c_runs.specs.Texts.{Units, IsPlaced, IsText, text_of_run}
 use Rattle.c_runs.specs.declared.plain.luthgarn_glyph.{luthgarn_glyph}
 use Rattle.c_runs.specs.declared.plain.luthgarn_outcome.{luthgarn_outcome}
 use Rattle.c_runs.specs.declared.plain.luthgarn_run.{luthgarn_run}
@@ -22,7 +22,7 @@ pub record IsDone (glyphs : luthgarn_run → List luthgarn_glyph) (old new : Lis
   pub runs_are : new ≡ counted glyphs 0 (take k old) ++ drop k old
 
 -- why the next run is not done, where there is room for so many glyphs: it has more, or has none
-abbrev pub IsStopped : (Buffer → Run) → List ℕ → luthgarn_run → ℕ → ℕ → Refusal → Type 0
+abbrev pub IsStopped : (Buffer → Run) → Units → luthgarn_run → ℕ → ℕ → Refusal → Type 0
 IsStopped runs text run room needed why.Room = (needed ≡ length (glyphs_of_run runs text run)) × (room < needed)
 IsStopped runs text run room needed why.Memory = Unit
 IsStopped runs text run room needed why.Length = TextPasses runs (text_of_run text run)
@@ -30,7 +30,7 @@ IsStopped runs text run room needed why.Font = ⊥
 IsStopped runs text run room needed why.Text = IsText text run → ⊥
 IsStopped runs text run room needed why.Run = IsPlaced text run → ⊥
 
-pub record Stops (runs : Buffer → Run) (text : List ℕ) (old : List luthgarn_run) (room : ℕ) (outcome : luthgarn_outcome) : Type 0 where
+pub record Stops (runs : Buffer → Run) (text : Units) (old : List luthgarn_run) (room : ℕ) (outcome : luthgarn_outcome) : Type 0 where
   pub refusal : Refusal
   pub code : outcome.code ≡ code_of refusal
   pub some : (refusal ≡ why.Memory → ⊥) → outcome.runs < length old
@@ -38,7 +38,7 @@ pub record Stops (runs : Buffer → Run) (text : List ℕ) (old : List luthgarn_
 
 -- what a call did with a font, where `runs` says how a text is shaped: the first runs are placed and text, and done; these are
 -- all, or the next one is refused
-pub record Serves (runs : Buffer → Run) (text : List ℕ) (old new : List luthgarn_run) (room written : List luthgarn_glyph) (outcome : luthgarn_outcome) : Type 0 where
+pub record Serves (runs : Buffer → Run) (text : Units) (old new : List luthgarn_run) (room written : List luthgarn_glyph) (outcome : luthgarn_outcome) : Type 0 where
   pub done : IsDone (glyphs_of_run runs text) old new room written outcome.runs outcome.glyphs
   pub placed : All (IsPlaced text) (take outcome.runs old)
   pub text_is : All (IsText text) (take outcome.runs old)
@@ -47,7 +47,7 @@ pub record Serves (runs : Buffer → Run) (text : List ℕ) (old new : List luth
 
 -- what a call did, where `runs` says how texts are shaped with a face and features: the face is the right one, and the features
 -- are those that were asked for
-pub record ServesBy (runs : OpenTypeFace → List Feature → Buffer → Run) (IsFace : OpenTypeFace → Type 0) (asked : List Feature) (text : List ℕ)
+pub record ServesBy (runs : OpenTypeFace → List Feature → Buffer → Run) (IsFace : OpenTypeFace → Type 0) (asked : List Feature) (text : Units)
     (old new : List luthgarn_run) (room written : List luthgarn_glyph) (outcome : luthgarn_outcome) : Type 0 where
   pub face : OpenTypeFace
   pub is_face : IsFace face

@@ -3,10 +3,12 @@ ghost use Rattle.std.specs.Prelude.{◌≡◌, map, IfOk, IfErr};
 ghost use Rattle.c_runs.specs.Numbers.{feature_of_c};
 ghost use Rattle.c_runs.specs.Opened.{IsNamed, name_bytes};
 ghost use Rattle.c_runs.specs.Outcomes.{ServesBy};
+ghost use Rattle.c_runs.specs.Texts.{units_of};
 
 use crate::plain::{luthgarn_feature, luthgarn_glyph, luthgarn_outcome, luthgarn_run};
 use crate::refusal::Refusal;
 use crate::shape_with;
+use crate::texts::Text;
 use crate::written::put_bytes;
 use opentype_layout::{OpenTypeFace, OpenTypeLayout, OpenedOpenTypeFace};
 use shape_buffer::GlyphId;
@@ -77,14 +79,14 @@ impl KeptFont {
         &self,
         alloc: Global,
         features: &[luthgarn_feature],
-        text: &[u8],
+        text: Text<'_>,
         runs: &mut [luthgarn_run],
         glyphs: &mut [luthgarn_glyph],
     ) -> Result<luthgarn_outcome, Refusal>
         ensures ok { IfOk result (λ outcome. ServesBy
             ⟦<by_script as ScriptRuns<UnicodeDatabase, OpenedOpenTypeFace<'static>, OpenTypeLayout>>⟧.text_run
             (λ f. f ≡ self.now) (map feature_of_c features.now)
-            text.now runs.old runs.new glyphs.old glyphs.new outcome) }
+            (units_of text.entry) runs.old runs.new glyphs.old glyphs.new outcome) }
         ensures memory { IfErr result (λ e. e ≡ Refusal.Memory) }
         ensures same { IfErr result (λ _. (runs.new ≡ runs.old) × (glyphs.new ≡ glyphs.old)) }
     {

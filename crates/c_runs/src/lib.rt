@@ -17,18 +17,20 @@ mod plans;
 pub mod refusal;
 mod runs;
 mod shaper;
-mod texts;
+pub mod texts;
 mod written;
 
 ghost use Rattle.std.specs.Prelude.{◌≡◌, map, IfOk, IfErr};
 ghost use Rattle.c_runs.specs.Numbers.{feature_of_c};
 ghost use Rattle.c_runs.specs.Outcomes.{ServesBy};
+ghost use Rattle.c_runs.specs.Texts.{units_of};
 ghost use Rattle.c_runs.specs.Worked.Runs.{WorkedRuns};
 
 use crate::plain::{features_of, luthgarn_feature, luthgarn_glyph, luthgarn_outcome, luthgarn_run};
 use crate::refusal::Refusal;
 use crate::runs::shape_runs;
 use crate::shaper::FontShaper;
+use crate::texts::Text;
 use opentype_layout::{OpenTypeFace, OpenTypeLayout, OpenedOpenTypeFace};
 use shape_unicode::UnicodeDatabase;
 use shaper_choice::choice::{ScriptRuns, by_script};
@@ -39,14 +41,14 @@ pub fn shape_opened(
     alloc: Global,
     face: OpenTypeFace<'_>,
     features: &[luthgarn_feature],
-    text: &[u8],
+    text: Text<'_>,
     runs: &mut [luthgarn_run],
     glyphs: &mut [luthgarn_glyph],
 ) -> Result<luthgarn_outcome, Refusal>
     ensures ok { IfOk result (λ outcome. ServesBy
         ⟦<by_script as ScriptRuns<UnicodeDatabase, OpenedOpenTypeFace<'static>, OpenTypeLayout>>⟧.text_run
         (λ f. f ≡ face.entry) (map feature_of_c features.now)
-        text.now runs.old runs.new glyphs.old glyphs.new outcome) }
+        (units_of text.entry) runs.old runs.new glyphs.old glyphs.new outcome) }
     ensures memory { IfErr result (λ e. e ≡ Refusal.Memory) }
     ensures same { IfErr result (λ _. (runs.new ≡ runs.old) × (glyphs.new ≡ glyphs.old)) }
 {
@@ -59,14 +61,14 @@ fn shape_with(
     alloc: Global,
     face: &OpenedOpenTypeFace<'_>,
     features: &[luthgarn_feature],
-    text: &[u8],
+    text: Text<'_>,
     runs: &mut [luthgarn_run],
     glyphs: &mut [luthgarn_glyph],
 ) -> Result<luthgarn_outcome, Refusal>
     ensures ok { IfOk result (λ outcome. ServesBy
         ⟦<by_script as ScriptRuns<UnicodeDatabase, OpenedOpenTypeFace<'static>, OpenTypeLayout>>⟧.text_run
         (λ f. f ≡ face.now) (map feature_of_c features.now)
-        text.now runs.old runs.new glyphs.old glyphs.new outcome) }
+        (units_of text.entry) runs.old runs.new glyphs.old glyphs.new outcome) }
     ensures memory { IfErr result (λ e. e ≡ Refusal.Memory) }
     ensures same { IfErr result (λ _. (runs.new ≡ runs.old) × (glyphs.new ≡ glyphs.old)) }
 {

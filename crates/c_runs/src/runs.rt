@@ -4,12 +4,12 @@ ghost use Rattle.shape_pipeline.specs.Shaped.{shaped};
 ghost use Rattle.c_runs.specs.Glyphs.{glyphs_of_run};
 ghost use Rattle.c_runs.specs.Outcomes.{IsStopped, Serves};
 ghost use Rattle.c_runs.specs.Refusals.{IsRefused, IsValid, TextPasses};
-ghost use Rattle.c_runs.specs.Texts.{text_of_run};
+ghost use Rattle.c_runs.specs.Texts.{text_of_run, units_of};
 
 use crate::plain::{luthgarn_glyph, luthgarn_outcome, luthgarn_run};
 use crate::refusal::{DONE, Refusal};
 use crate::shaper::TextShaper;
-use crate::texts::filled;
+use crate::texts::{Text, filled};
 use crate::written::{count, write};
 use shape_buffer::buffer::GlyphBuffer;
 use std::alloc::Global;
@@ -25,17 +25,17 @@ struct Stop {
 fn shape_run<S: TextShaper>(
     alloc: Global,
     shaper: &mut S,
-    text: &[u8],
+    text: Text<'_>,
     run: &luthgarn_run,
 ) -> Result<GlyphBuffer, Refusal>
     requires { S.ready shaper.old }
     ensures ready { S.ready shaper.new }
     ensures same { S.runs shaper.new ≡ S.runs shaper.old }
-    ensures glyphs { let t = text_of_run text.now run.now in
+    ensures glyphs { let t = text_of_run (units_of text.entry) run.now in
         IfOk result (λ glyphs. glyphs ≡ shaped (S.runs shaper.old t) t) }
-    ensures valid { IfOk result (λ _. IsValid text.now run.now) }
+    ensures valid { IfOk result (λ _. IsValid (units_of text.entry) run.now) }
     ensures err { IfErr result (λ e. IsRefused (TextPasses (S.runs shaper.old)
-        (text_of_run text.now run.now)) text.now run.now e) }
+        (text_of_run (units_of text.entry) run.now)) (units_of text.entry) run.now e) }
 {
     let text = filled(alloc, text, run)?;
     let glyphs = shaper.shape(alloc, text)?;
@@ -46,7 +46,7 @@ fn shape_run<S: TextShaper>(
 fn put_run<S: TextShaper>(
     alloc: Global,
     shaper: &mut S,
-    text: &[u8],
+    text: Text<'_>,
     run: &luthgarn_run,
     room: &mut [luthgarn_glyph],
     used: usize,
@@ -56,13 +56,14 @@ fn put_run<S: TextShaper>(
     ensures ready { S.ready shaper.new }
     ensures same { S.runs shaper.new ≡ S.runs shaper.old }
     ensures count { IfOk result (λ n. n
-        ≡ length (glyphs_of_run (S.runs shaper.old) text.now run.now)) }
+        ≡ length (glyphs_of_run (S.runs shaper.old) (units_of text.entry) run.now)) }
     ensures written { IfOk result (λ n. room.new ≡ take used room.old
-        ++ (glyphs_of_run (S.runs shaper.old) text.now run.now ++ drop (used + n) room.old)) }
+        ++ (glyphs_of_run (S.runs shaper.old) (units_of text.entry) run.now
+        ++ drop (used + n) room.old)) }
     ensures within { IfOk result (λ n. used + n ≤ length room.old) }
-    ensures valid { IfOk result (λ _. IsValid text.now run.now) }
+    ensures valid { IfOk result (λ _. IsValid (units_of text.entry) run.now) }
     ensures untouched { IfErr result (λ _. room.new ≡ room.old) }
-    ensures stop { IfErr result (λ stop. IsStopped (S.runs shaper.old) text.now run.now
+    ensures stop { IfErr result (λ stop. IsStopped (S.runs shaper.old) (units_of text.entry) run.now
         (length room.old - used) stop.needed stop.refusal) }
 {
     match shape_run(alloc, shaper, text, run) {
@@ -85,12 +86,13 @@ fn put_run<S: TextShaper>(
 pub fn shape_runs<S: TextShaper>(
     alloc: Global,
     shaper: &mut S,
-    text: &[u8],
+    text: Text<'_>,
     runs: &mut [luthgarn_run],
     room: &mut [luthgarn_glyph],
 ) -> luthgarn_outcome
     requires { S.ready shaper.old }
-    ensures { Serves (S.runs shaper.old) text.now runs.old runs.new room.old room.new result }
+    ensures { Serves (S.runs shaper.old) (units_of text.entry)
+        runs.old runs.new room.old room.new result }
 {
     let mut used: usize = 0;
     for k in 0..runs.len() {

@@ -1,23 +1,35 @@
 //! A run as a text to be shaped.
-ghost use Rattle.std.specs.Prelude.{◌≡◌, ◌≤◌, length, IfOk, IfErr, string_bytes};
+ghost use Rattle.std.specs.Prelude.{◌≡◌, ◌≤◌, ◌<◌, ◌^◌, ◌++◌, length, replicate, true, IfOk, IfErr, IfSome, IfNone, string_bytes};
 ghost use Rattle.std.specs.Option.{option_map};
 ghost use Rattle.std.specs.Str.{IsUtf8};
+ghost use Rattle.shape_common.specs.Positions.{zero_position};
 ghost use Rattle.shape_text_forms.specs.Names.{language_of_text};
-ghost use Rattle.c_runs.specs.Refusals.{IsNoPart, IsRefused, IsUnnamed, IsValid};
-ghost use Rattle.c_runs.specs.Texts.{part_of, text_of_run};
+ghost use Rattle.c_runs.specs.Numbers.{is_direction, is_level};
+ghost use Rattle.c_runs.specs.Refusals.{IsNoPart, IsRefused, IsUnasked, IsUnnamed, IsValid};
+ghost use Rattle.c_runs.specs.Texts.{Utf8, Utf16, asked_of, filled_up, part_of, text_of_run, units_of};
+ghost use Rattle.utf16_text.specs.Utf16.{utf16_items, utf16_before, utf16_after};
 
 use crate::plain::{self, luthgarn_run};
 use crate::refusal::Refusal;
-use shape_buffer::buffer::{BufferFlags, Language, UnicodeBuffer};
+use crate::written::put_bytes;
+use shape_buffer::buffer::{BufferFlags, Language, ShapeError, UnicodeBuffer};
 use shape_text_forms::language_from_string;
 use std::alloc::Global;
+use utf16_text::{push_utf16, set_utf16_post_context, set_utf16_pre_context};
 
-/// The part of a text from one place up to another.
-fn part(text: &[u8], from: u32, to: u32) -> Result<&str, Refusal>
+/// A text of a caller's, whose places count its units: bytes of UTF-8, or units of UTF-16, of which any are a text.
+#[derive(Clone, Copy)]
+pub enum Text<'a> {
+    Utf8(&'a [u8]),
+    Utf16(&'a [u16]),
+}
+
+/// The part of a text in UTF-8 from one place up to another.
+fn bytes_between(text: &[u8], from: u32, to: u32) -> Result<&str, Refusal>
     ensures ok { IfOk result (λ part. part.now ≡ part_of text.now from to) }
     ensures placed { IfOk result (λ _. (from ≤ to) × (to ≤ length text.now)) }
     ensures text { IfOk result (λ _. IsUtf8 (part_of text.now from to)) }
-    ensures err { IfErr result (λ e. IsNoPart text.now from to e) }
+    ensures err { IfErr result (λ e. IsNoPart (Utf8 text.now) from to e) }
 {
     let (from, to) = (from as usize, to as usize);
     if to < from || text.len() < to {
@@ -27,6 +39,19 @@ fn part(text: &[u8], from: u32, to: u32) -> Result<&str, Refusal>
         Ok(part) => Ok(part),
         Err(_) => Err(Refusal::Text),
     }
+}
+
+/// The part of a text in UTF-16 from one place up to another.
+fn units_between(text: &[u16], from: u32, to: u32) -> Result<&[u16], Refusal>
+    ensures ok { IfOk result (λ part. part.now ≡ part_of text.now from to) }
+    ensures placed { IfOk result (λ _. (from ≤ to) × (to ≤ length text.now)) }
+    ensures err { IfErr result (λ e. IsNoPart (Utf16 text.now) from to e) }
+{
+    let (from, to) = (from as usize, to as usize);
+    if to < from || text.len() < to {
+        return Err(Refusal::Run);
+    }
+    Ok(&text[from..to])
 }
 
 /// The language of a name, which zeros fill up.
@@ -42,27 +67,100 @@ fn language(alloc: Global, name: &[u8]) -> Result<Option<Language>, Refusal>
     }
 }
 
-/// A buffer with the characters of a run, what stands beside them, and what the run asks for. Refuses a run that isn't
-/// placed in the text, or whose bytes aren't text, and with `Memory` if a growth was refused.
-pub fn filled(alloc: Global, text: &[u8], run: &luthgarn_run) -> Result<UnicodeBuffer, Refusal>
-    ensures ok { IfOk result (λ buffer. buffer ≡ text_of_run text.now run.now) }
-    ensures valid { IfOk result (λ _. IsValid text.now run.now) }
-    ensures err { IfErr result (λ e. IsRefused ⊥ text.now run.now e) }
+/// A name of a language with zeros behind it, as a run has it; none if it is longer.
+pub fn language_bytes(name: &[u8]) -> Option<[u8; 64]>
+    ensures some { IfSome result (λ language. language ≡ filled_up 64 name.now) }
+    ensures none { IfNone result (64 < length name.now) }
 {
-    let before = part(text, run.before, run.start)?;
-    let own = part(text, run.start, run.end)?;
-    let after = part(text, run.end, run.after)?;
+    let mut language = [0; 64];
+    if language.len() < name.len() {
+        return None;
+    }
+    put_bytes(name, &mut language);
+    Some(language)
+}
+
+/// A buffer without text, with what a run asks for.
+fn asked(alloc: Global, run: &luthgarn_run) -> Result<UnicodeBuffer, Refusal>
+    ensures ok { IfOk result (λ buffer. buffer ≡ asked_of run.now) }
+    ensures direction { IfOk result (λ _. is_direction run.now.direction ≡ true) }
+    ensures level { IfOk result (λ _. is_level run.now.level ≡ true) }
+    ensures language { IfOk result (λ _. IsUtf8 run.now.language) }
+    ensures err { IfErr result (λ e. IsUnasked run.now e) }
+{
     let direction = plain::direction(run.direction)?;
     let level = plain::level(run.level)?;
     let language = language(alloc, &run.language)?;
     let mut buffer = UnicodeBuffer::new(alloc);
-    buffer.push_str(own)?;
     buffer.set_direction(direction);
     buffer.set_script(plain::script(run.script));
     buffer.set_language(language);
     buffer.set_flags(BufferFlags(run.flags));
     buffer.set_cluster_level(level);
+    Ok(buffer)
+}
+
+/// The run of a text in UTF-8.
+fn filled_utf8(alloc: Global, text: &[u8], run: &luthgarn_run) -> Result<UnicodeBuffer, Refusal>
+    ensures ok { IfOk result (λ buffer. buffer ≡ text_of_run (Utf8 text.now) run.now) }
+    ensures valid { IfOk result (λ _. IsValid (Utf8 text.now) run.now) }
+    ensures err { IfErr result (λ e. IsRefused ⊥ (Utf8 text.now) run.now e) }
+{
+    let before = bytes_between(text, run.before, run.start)?;
+    let own = bytes_between(text, run.start, run.end)?;
+    let after = bytes_between(text, run.end, run.after)?;
+    let mut buffer = asked(alloc, run)?;
+    buffer.push_str(own)?;
     buffer.set_pre_context(before);
     buffer.set_post_context(after);
     Ok(buffer)
+}
+
+/// A buffer without text gets one in UTF-16, and what stands beside it. Refuses with `Memory` alone.
+fn with_units(
+    alloc: Global,
+    mut buffer: UnicodeBuffer,
+    before: &[u16],
+    own: &[u16],
+    after: &[u16],
+) -> Result<UnicodeBuffer, ShapeError>
+    requires { length own.now < 2 ^ 32 }
+    ensures ok { IfOk result (λ filled. filled ≡ record buffer {
+      items = buffer.items ++ utf16_items own.now;
+      positions = buffer.positions ++ replicate (length (utf16_items own.now)) zero_position;
+      pre_context = utf16_before before.now;
+      post_context = utf16_after after.now;
+    }) }
+    ensures memory { IfErr result (λ e. e ≡ ShapeError.Memory) }
+{
+    push_utf16(alloc, &mut buffer, own)?;
+    set_utf16_pre_context(alloc, &mut buffer, before)?;
+    set_utf16_post_context(alloc, &mut buffer, after)?;
+    Ok(buffer)
+}
+
+/// The run of a text in UTF-16.
+fn filled_utf16(alloc: Global, text: &[u16], run: &luthgarn_run) -> Result<UnicodeBuffer, Refusal>
+    ensures ok { IfOk result (λ buffer. buffer ≡ text_of_run (Utf16 text.now) run.now) }
+    ensures valid { IfOk result (λ _. IsValid (Utf16 text.now) run.now) }
+    ensures err { IfErr result (λ e. IsRefused ⊥ (Utf16 text.now) run.now e) }
+{
+    let before = units_between(text, run.before, run.start)?;
+    let own = units_between(text, run.start, run.end)?;
+    let after = units_between(text, run.end, run.after)?;
+    let buffer = asked(alloc, run)?;
+    Ok(with_units(alloc, buffer, before, own, after)?)
+}
+
+/// A buffer with the characters of a run, what stands beside them, and what the run asks for. Refuses a run that isn't
+/// placed in the text, or whose units aren't text, and with `Memory` if a growth was refused.
+pub fn filled(alloc: Global, text: Text<'_>, run: &luthgarn_run) -> Result<UnicodeBuffer, Refusal>
+    ensures ok { IfOk result (λ buffer. buffer ≡ text_of_run (units_of text.entry) run.now) }
+    ensures valid { IfOk result (λ _. IsValid (units_of text.entry) run.now) }
+    ensures err { IfErr result (λ e. IsRefused ⊥ (units_of text.entry) run.now e) }
+{
+    match text {
+        Text::Utf8(bytes) => filled_utf8(alloc, bytes, run),
+        Text::Utf16(units) => filled_utf16(alloc, units, run),
+    }
 }

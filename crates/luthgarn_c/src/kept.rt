@@ -4,6 +4,8 @@ ghost use Rattle.opentype_layout.specs.Fonts.{units_of};
 ghost use Rattle.c_runs.specs.Numbers.{feature_of_c};
 ghost use Rattle.c_runs.specs.Opened.{IsNamed, IsOpened, name_kept, units_kept};
 ghost use Rattle.c_runs.specs.Outcomes.{IsUntouched, ServesBy};
+ghost use Rattle.c_runs.specs.Texts;
+ghost use Rattle.c_runs.specs.Texts.{Utf8, Utf16};
 ghost use Rattle.opentype_layout.specs.declared.face.OpenTypeFace.{OpenTypeFace as AnyFace};
 
 use c_runs::fonts::face_of;
@@ -11,6 +13,7 @@ use c_runs::handle::luthgarn_font;
 use c_runs::kept::KeptFont;
 use c_runs::plain::{luthgarn_feature, luthgarn_glyph, luthgarn_outcome, luthgarn_run};
 use c_runs::refusal::{DONE, Refusal};
+use c_runs::texts::Text;
 use opentype_layout::{OpenTypeFace, OpenTypeLayout, OpenedOpenTypeFace};
 use shape_unicode::UnicodeDatabase;
 use shaper_choice::choice::{ScriptRuns, by_script};
@@ -138,6 +141,36 @@ pub extern "C" fn luthgarn_font_share(
     }
 }
 
+/// Shapes the runs of a text with a kept font.
+fn shape_kept(
+    alloc: Global,
+    font: &mut luthgarn_font,
+    features: &[luthgarn_feature],
+    text: Text<'_>,
+    runs: &mut [luthgarn_run],
+    glyphs: &mut [luthgarn_glyph],
+) -> luthgarn_outcome
+    ensures none { font.old.kept.face ≡ None → (result.code ≡ 3)
+        × IsUntouched runs.old runs.new glyphs.old glyphs.new result }
+    ensures serves { (face : AnyFace) → font.old.kept.face ≡ Some face → ServesBy
+        ⟦<by_script as ScriptRuns<UnicodeDatabase, OpenedOpenTypeFace<'static>, OpenTypeLayout>>⟧.text_run
+        (λ f. f ≡ face) (map feature_of_c features.now)
+        (Texts.units_of text.entry) runs.old runs.new glyphs.old glyphs.new result }
+    ensures kept { font.new.kept.face ≡ font.old.kept.face }
+    ensures within { (result.runs ≤ length runs.old) × (result.glyphs ≤ length glyphs.old) }
+    ensures done { result.code ≡ 0 → result.runs ≡ length runs.old }
+{
+    let Some(kept) = font.take(alloc) else {
+        return luthgarn_outcome::refused(Refusal::Font);
+    };
+    let shaped = kept.shape(alloc, features, text, runs, glyphs);
+    *font = luthgarn_font::of(kept);
+    match shaped {
+        Ok(outcome) => outcome,
+        Err(refusal) => luthgarn_outcome::refused(refusal),
+    }
+}
+
 /// Shapes the runs of a text with a kept font, as `luthgarn_shape` does with the bytes of one; nothing is opened.
 #[unsafe(no_mangle)]
 pub extern "C" fn luthgarn_shape_font(
@@ -153,18 +186,33 @@ pub extern "C" fn luthgarn_shape_font(
     ensures serves { (face : AnyFace) → font.old.kept.face ≡ Some face → ServesBy
         ⟦<by_script as ScriptRuns<UnicodeDatabase, OpenedOpenTypeFace<'static>, OpenTypeLayout>>⟧.text_run
         (λ f. f ≡ face) (map feature_of_c features.now)
-        text.now runs.old runs.new glyphs.old glyphs.new result }
+        (Utf8 text.now) runs.old runs.new glyphs.old glyphs.new result }
     ensures kept { font.new.kept.face ≡ font.old.kept.face }
     ensures within { (result.runs ≤ length runs.old) × (result.glyphs ≤ length glyphs.old) }
     ensures done { result.code ≡ 0 → result.runs ≡ length runs.old }
 {
-    let Some(kept) = font.take(alloc) else {
-        return luthgarn_outcome::refused(Refusal::Font);
-    };
-    let shaped = kept.shape(alloc, features, text, runs, glyphs);
-    *font = luthgarn_font::of(kept);
-    match shaped {
-        Ok(outcome) => outcome,
-        Err(refusal) => luthgarn_outcome::refused(refusal),
-    }
+    shape_kept(alloc, font, features, Text::Utf8(text), runs, glyphs)
+}
+
+/// As `luthgarn_shape_font`, of a text in UTF-16, as `luthgarn_shape_utf16` has it.
+#[unsafe(no_mangle)]
+pub extern "C" fn luthgarn_shape_font_utf16(
+    alloc: Global,
+    font: &mut luthgarn_font,
+    features: &[luthgarn_feature],
+    text: &[u16],
+    runs: &mut [luthgarn_run],
+    glyphs: &mut [luthgarn_glyph],
+) -> luthgarn_outcome
+    ensures none { font.old.kept.face ≡ None → (result.code ≡ 3)
+        × IsUntouched runs.old runs.new glyphs.old glyphs.new result }
+    ensures serves { (face : AnyFace) → font.old.kept.face ≡ Some face → ServesBy
+        ⟦<by_script as ScriptRuns<UnicodeDatabase, OpenedOpenTypeFace<'static>, OpenTypeLayout>>⟧.text_run
+        (λ f. f ≡ face) (map feature_of_c features.now)
+        (Utf16 text.now) runs.old runs.new glyphs.old glyphs.new result }
+    ensures kept { font.new.kept.face ≡ font.old.kept.face }
+    ensures within { (result.runs ≤ length runs.old) × (result.glyphs ≤ length glyphs.old) }
+    ensures done { result.code ≡ 0 → result.runs ≡ length runs.old }
+{
+    shape_kept(alloc, font, features, Text::Utf16(text), runs, glyphs)
 }

@@ -8,11 +8,13 @@
 
 mod kept;
 
-ghost use Rattle.std.specs.Prelude.{◌≡◌, ◌↔◌, ◌≤◌, Some, None, length, map};
+ghost use Rattle.std.specs.Prelude.{◌≡◌, ◌↔◌, ◌≤◌, ◌<◌, Some, None, length, map};
 ghost use Rattle.std.specs.Str.{IsUtf8};
 ghost use Rattle.opentype_layout.specs.Fonts.{IsFaceOf, units_of};
 ghost use Rattle.c_runs.specs.Numbers.{direction_number, feature_of_c, script_number};
 ghost use Rattle.c_runs.specs.Outcomes.{IsUntouched, ServesBy};
+ghost use Rattle.c_runs.specs.Texts;
+ghost use Rattle.c_runs.specs.Texts.{Utf8, Utf16, filled_up};
 ghost use Rattle.shape_text_forms.specs.Feature.{feature_of};
 ghost use Rattle.shape_text_forms.specs.Names.{direction_of_text, script_of_text};
 
@@ -22,6 +24,7 @@ use c_runs::plain::{
 };
 use c_runs::refusal::{DONE, Refusal};
 use c_runs::shape_opened;
+use c_runs::texts::{Text, language_bytes};
 use opentype_layout::{OpenTypeLayout, OpenedOpenTypeFace};
 use shape_buffer::interfaces::hb_font_t;
 use shape_text_forms::{direction_from_string, feature_from_string, script_from_string};
@@ -98,6 +101,51 @@ pub extern "C" fn luthgarn_parse_script(text: &[u8]) -> u32
     }
 }
 
+/// Makes a run ask for the language of a name of BCP 47, of at most 64 bytes. A longer name leaves the run as it was.
+#[unsafe(no_mangle)]
+pub extern "C" fn luthgarn_set_language(run: &mut luthgarn_run, name: &[u8]) -> u32
+    ensures set { result ≡ 0 → run.new ≡ record run.old { language = filled_up 64 name.now } }
+    ensures longer { (result ≡ 0 → ⊥)
+        → (result ≡ 4) × (64 < length name.now) × (run.new ≡ run.old) }
+{
+    match language_bytes(name) {
+        Some(language) => {
+            run.language = language;
+            DONE
+        }
+        None => Refusal::Text.code(),
+    }
+}
+
+/// Shapes the runs of a text with the font that has this number in a file.
+fn shape_bytes(
+    alloc: Global,
+    font: &[u8],
+    index: u32,
+    features: &[luthgarn_feature],
+    text: Text<'_>,
+    runs: &mut [luthgarn_run],
+    glyphs: &mut [luthgarn_glyph],
+) -> luthgarn_outcome
+    ensures font { (result.code ≡ 3) ↔ (units_of font.now index ≡ 0) }
+    ensures untouched { units_of font.now index ≡ 0
+        → IsUntouched runs.old runs.new glyphs.old glyphs.new result }
+    ensures serves { (units_of font.now index ≡ 0 → ⊥) → ServesBy
+        ⟦<by_script as ScriptRuns<UnicodeDatabase, OpenedOpenTypeFace<'static>, OpenTypeLayout>>⟧.text_run
+        (IsFaceOf font.now index) (map feature_of_c features.now)
+        (Texts.units_of text.entry) runs.old runs.new glyphs.old glyphs.new result }
+    ensures within { (result.runs ≤ length runs.old) × (result.glyphs ≤ length glyphs.old) }
+    ensures done { result.code ≡ 0 → result.runs ≡ length runs.old }
+{
+    let Some(face) = face_of(font, index) else {
+        return luthgarn_outcome::refused(Refusal::Font);
+    };
+    match shape_opened(alloc, face, features, text, runs, glyphs) {
+        Ok(outcome) => outcome,
+        Err(refusal) => luthgarn_outcome::refused(refusal),
+    }
+}
+
 /// Shapes the runs of a text, one after the other, and writes their glyphs one after the other: of each run those that
 /// `shape_by_script` makes of its text. One plan serves all runs of one direction, script and language. Stops at the
 /// first run that is refused; those before it are done, and nothing is written past their glyphs.
@@ -117,15 +165,42 @@ pub extern "C" fn luthgarn_shape(
     ensures serves { (units_of font.now index ≡ 0 → ⊥) → ServesBy
         ⟦<by_script as ScriptRuns<UnicodeDatabase, OpenedOpenTypeFace<'static>, OpenTypeLayout>>⟧.text_run
         (IsFaceOf font.now index) (map feature_of_c features.now)
-        text.now runs.old runs.new glyphs.old glyphs.new result }
+        (Utf8 text.now) runs.old runs.new glyphs.old glyphs.new result }
     ensures within { (result.runs ≤ length runs.old) × (result.glyphs ≤ length glyphs.old) }
     ensures done { result.code ≡ 0 → result.runs ≡ length runs.old }
 {
-    let Some(face) = face_of(font, index) else {
-        return luthgarn_outcome::refused(Refusal::Font);
-    };
-    match shape_opened(alloc, face, features, text, runs, glyphs) {
-        Ok(outcome) => outcome,
-        Err(refusal) => luthgarn_outcome::refused(refusal),
-    }
+    shape_bytes(alloc, font, index, features, Text::Utf8(text), runs, glyphs)
+}
+
+/// As `luthgarn_shape`, of a text in UTF-16: the places of runs, clusters and features count its units, and a surrogate in
+/// no pair is U+FFFD.
+#[unsafe(no_mangle)]
+pub extern "C" fn luthgarn_shape_utf16(
+    alloc: Global,
+    font: &[u8],
+    index: u32,
+    features: &[luthgarn_feature],
+    text: &[u16],
+    runs: &mut [luthgarn_run],
+    glyphs: &mut [luthgarn_glyph],
+) -> luthgarn_outcome
+    ensures font { (result.code ≡ 3) ↔ (units_of font.now index ≡ 0) }
+    ensures untouched { units_of font.now index ≡ 0
+        → IsUntouched runs.old runs.new glyphs.old glyphs.new result }
+    ensures serves { (units_of font.now index ≡ 0 → ⊥) → ServesBy
+        ⟦<by_script as ScriptRuns<UnicodeDatabase, OpenedOpenTypeFace<'static>, OpenTypeLayout>>⟧.text_run
+        (IsFaceOf font.now index) (map feature_of_c features.now)
+        (Utf16 text.now) runs.old runs.new glyphs.old glyphs.new result }
+    ensures within { (result.runs ≤ length runs.old) × (result.glyphs ≤ length glyphs.old) }
+    ensures done { result.code ≡ 0 → result.runs ≡ length runs.old }
+{
+    shape_bytes(
+        alloc,
+        font,
+        index,
+        features,
+        Text::Utf16(text),
+        runs,
+        glyphs,
+    )
 }

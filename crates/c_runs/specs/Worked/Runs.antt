@@ -1,4 +1,4 @@
--- Runs of the text "abc", and their glyphs, by hand.
+-- Runs of the text "abc", of one in UTF-16, and their glyphs, by hand.
 use Rattle.std.specs.Prelude.{◌≡◌, ℕ, pos, List, [], ◌∷◌, Some, map}
 use Rattle.shape_common.specs.Positions.{zero_position}
 use Rattle.shape_common.specs.declared.text_types.BufferClusterLevel.TheVariants.{MonotoneCharacters}
@@ -6,7 +6,7 @@ use Rattle.shape_common.specs.declared.text_types.Direction.TheVariants.{LeftToR
 use Rattle.shape_items.specs.Buffer.{new_buffer}
 use Rattle.shape_items.specs.Items.{new_item}
 use Rattle.c_runs.specs.Glyphs.{glyph_of, joined, counted}
-use Rattle.c_runs.specs.Texts.{own_part, part_before, part_after, IsPlaced, text_of_run}
+use Rattle.c_runs.specs.Texts.{Utf8, Utf16, IsPlaced, part_of, text_of_run}
 use Rattle.c_runs.specs.declared.plain.luthgarn_glyph.{luthgarn_glyph}
 use Rattle.c_runs.specs.declared.plain.luthgarn_run.{luthgarn_run}
 
@@ -30,10 +30,8 @@ run_of start end = record {
 
 -- the b of it
 pub record TextsWorked : Type 0 where
-  pub own : own_part abc (run_of 1 2) ≡ 98 ∷ []
-  pub before : part_before abc (run_of 1 2) ≡ 97 ∷ []
-  pub after : part_after abc (run_of 1 2) ≡ 99 ∷ []
-  pub text : text_of_run abc (run_of 1 2) ≡ record new_buffer {
+  pub own : part_of abc 1 2 ≡ 98 ∷ []
+  pub text : text_of_run (Utf8 abc) (run_of 1 2) ≡ record new_buffer {
     items = new_item 98 0 ∷ [];
     positions = zero_position ∷ [];
     direction = LeftToRight;
@@ -43,12 +41,29 @@ pub record TextsWorked : Type 0 where
     pre_context = 97 ∷ [];
     post_context = 99 ∷ [];
   }
-  pub placed : IsPlaced abc (run_of 1 2)
-  pub past_what_follows : IsPlaced abc (run_of 1 4) → ⊥
-  pub backward : IsPlaced abc (run_of 2 1) → ⊥
-  pub past_the_text : IsPlaced abc (record (run_of 1 2) { after = 4 }) → ⊥
-  pub no_direction : IsPlaced abc (record (run_of 1 2) { direction = 3 }) → ⊥
-  pub no_level : IsPlaced abc (record (run_of 1 2) { level = 3 }) → ⊥
+  pub placed : IsPlaced (Utf8 abc) (run_of 1 2)
+  pub past_what_follows : IsPlaced (Utf8 abc) (run_of 1 4) → ⊥
+  pub backward : IsPlaced (Utf8 abc) (run_of 2 1) → ⊥
+  pub past_the_text : IsPlaced (Utf8 abc) (record (run_of 1 2) { after = 4 }) → ⊥
+  pub no_direction : IsPlaced (Utf8 abc) (record (run_of 1 2) { direction = 3 }) → ⊥
+  pub no_level : IsPlaced (Utf8 abc) (record (run_of 1 2) { level = 3 }) → ⊥
+
+-- the pair of units of U+1F600, between two letters, and a run that cuts it
+abbrev pub smile : List ℕ
+smile = 97 ∷ 0xD83D ∷ 0xDE00 ∷ 99 ∷ []
+
+abbrev pub run_of_smile : ℕ → ℕ → luthgarn_run
+run_of_smile start end = record (run_of start end) { after = 4 }
+
+pub record UnitsWorked : Type 0 where
+  pub items : (text_of_run (Utf16 smile) (run_of_smile 0 4)).items ≡ new_item 97 0 ∷ new_item 0x1F600 1 ∷ new_item 99 3 ∷ []
+  pub from_the_run : (text_of_run (Utf16 smile) (run_of_smile 1 3)).items ≡ new_item 0x1F600 0 ∷ []
+  pub before : (text_of_run (Utf16 smile) (run_of_smile 3 4)).pre_context ≡ 97 ∷ 0x1F600 ∷ []
+  pub after : (text_of_run (Utf16 smile) (run_of_smile 0 1)).post_context ≡ 0x1F600 ∷ 99 ∷ []
+  pub cut : (text_of_run (Utf16 smile) (run_of_smile 0 2)).items ≡ new_item 97 0 ∷ new_item 0xFFFD 1 ∷ []
+  pub cut_after : (text_of_run (Utf16 smile) (run_of_smile 0 2)).post_context ≡ 0xFFFD ∷ 99 ∷ []
+  pub placed : IsPlaced (Utf16 smile) (run_of_smile 1 3)
+  pub past_the_text : IsPlaced (Utf16 smile) (record (run_of_smile 1 3) { after = 5 }) → ⊥
 
 -- the a of it with one glyph, and the rest with two
 pub record GlyphsWorked (glyphs : luthgarn_run → List luthgarn_glyph) (g h i : luthgarn_glyph) : Type 0 where
@@ -61,4 +76,5 @@ pub record GlyphsWorked (glyphs : luthgarn_run → List luthgarn_glyph) (g h i :
 
 pub record WorkedRuns : Type 0 where
   pub texts : TextsWorked
+  pub units : UnitsWorked
   pub glyphs : (glyphs : luthgarn_run → List luthgarn_glyph) (g h i : luthgarn_glyph) → GlyphsWorked glyphs g h i

@@ -1,14 +1,14 @@
 use Rattle.std.proofs.Common.{subst}
 use Rattle.shape_items.specs.Buffer.{Buffer}
 use Rattle.c_runs.specs.Refusals.{TextPasses}
-use Rattle.c_runs.specs.Texts.{text_of_run}
+use Rattle.c_runs.specs.Texts.{text_of_run, units_of}
 use Rattle.c_runs.proofs.RefusalLemmas.{refused-by}
 use Rattle.c_runs.proofs.runs.shape_run.Goals as goal
 
 pub returns-in_err-glyphs-clause-err : goal.returns-in_err-glyphs-clause-err
 returns-in_err-glyphs-clause-err g c =
     let runs = g.S.TextShaper.runs c.args.shaper.now in
-    refused-by (TextPasses runs (text_of_run c.args.text.now c.args.run.now)) c.args.text.now c.args.run.now c.in_err-glyphs.field-0.0
+    refused-by (TextPasses runs (text_of_run (units_of c.args.text) c.args.run.now)) (units_of c.args.text) c.args.run.now c.in_err-glyphs.field-0.0
     c.from_residual-in_err-glyphs.result
     (λ is. subst (λ (b : Buffer). TextPasses runs b) c.in_ok-text.ensures.ok (c.in_err-glyphs.ensures.length is))
     c.from_residual-in_err-glyphs.ensures.1

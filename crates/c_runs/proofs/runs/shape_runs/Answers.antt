@@ -6,7 +6,7 @@ use Rattle.shape_items.specs.Buffer.{Buffer}
 use Rattle.shape_plan.specs.Run.{Run}
 use Rattle.c_runs.specs.Glyphs.{glyphs_of_run}
 use Rattle.c_runs.specs.Outcomes.{IsDone}
-use Rattle.c_runs.specs.Texts.{IsPlaced, IsText}
+use Rattle.c_runs.specs.Texts.{IsPlaced, IsText, units_of}
 use Rattle.c_runs.specs.declared.plain.luthgarn_glyph.{luthgarn_glyph}
 use Rattle.c_runs.specs.declared.plain.luthgarn_run.{luthgarn_run}
 use Rattle.c_runs.proofs.RefusalLemmas.{stopped-same}
@@ -21,7 +21,7 @@ pub returns-in-Err : goal.returns-in-Err
 unfolding no_run
 returns-in-Err g c =
     let runs = g.S.TextShaper.runs c.args.shaper.now in
-    let text = c.args.text.now in
+    let text = units_of c.args.text in
     let glyphs = glyphs_of_run runs text in
     let old = c.args.runs.now in
     let k = c.loop-k.k in
@@ -49,7 +49,7 @@ pub loop-k-preserved : goal.loop-k-preserved
 unfolding no_run
 loop-k-preserved g c =
     let runs = g.S.TextShaper.runs c.args.shaper.now in
-    let text = c.args.text.now in
+    let text = units_of c.args.text in
     let glyphs = glyphs_of_run runs text in
     let old = c.args.runs.now in
     let k = c.loop-k.k in
@@ -74,7 +74,7 @@ loop-k-preserved g c =
 pub returns : goal.returns
 returns g c =
     let runs = g.S.TextShaper.runs c.args.shaper.now in
-    let text = c.args.text.now in
+    let text = units_of c.args.text in
     let old = c.args.runs.now in
     let inv = c.loop-k.invariant in
     let all : c.loop-k.k ≡ length c.loop-k.runs = omega arith in

@@ -2,7 +2,7 @@ use Rattle.std.proofs.Common.{◌≡◌, ◌∙◌, map, refl, ap, sym, subst, a
 use Rattle.opentype_layout.specs.Fonts.{IsFaceOf, units_of}
 use Rattle.c_runs.specs.Numbers.{code_of, feature_of_c}
 use Rattle.c_runs.proofs.OutcomeLemmas.{not-zero, serves-code, serves-none}
-use Rattle.luthgarn_c.proofs.luthgarn_shape.Goals as goal
+use Rattle.luthgarn_c.proofs.shape_bytes.Goals as goal
 
 pub returns-in-Ok : goal.returns-in-Ok
 returns-in-Ok c =
