@@ -164,8 +164,9 @@ def compare(programs, rng):
 def refusals(programs):
     """Wrong words: each program says why it stops, and writes no glyphs."""
     for name, program in programs.items():
-        for words, text in (([DEJAVU, "-f", "===="], b"a\n"), ([os.path.join(HERE, "bindings.py")], b"a\n")):
-            done = subprocess.run(program + words, input=text, stdout=subprocess.PIPE, stderr=subprocess.PIPE)
+        for words in ([DEJAVU, "-f", "===="], [os.path.join(HERE, "bindings.py")], [DEJAVU, "-d", "sideways"],
+                      [DEJAVU, "-l", "x-" + "a" * 63]):
+            done = subprocess.run(program + words, input=b"a\n", stdout=subprocess.PIPE, stderr=subprocess.PIPE)
             if done.returncode in (0, 9) or done.returncode < 0 or done.stdout or not done.stderr:
                 sys.exit("bindings: %s on %s: status %d" % (name, words, done.returncode))
 

@@ -96,7 +96,7 @@ fenced(struct room room, const void *from, size_t size)
   return room.end - size;
 }
 
-static struct room font_room, text_room, feature_room, run_room, glyph_room, name_room;
+static struct room font_room, text_room, unit_room, feature_room, run_room, glyph_room, name_room;
 static uint8_t *whole_font;
 static size_t whole_size;
 
@@ -437,6 +437,128 @@ threads(void)
   IS("all is freed", held == 0);
 }
 
+/* A language's name of at most 64 bytes is written whole, and a longer one leaves the run. */
+static void
+names_of_languages(void)
+{
+  luthgarn_run run = run_of(0, 2), same = run;
+  char name[66];
+  memset(name, 'a', sizeof name);
+  IS("a name", luthgarn_set_language(&run, (const uint8_t *) "sr", 2) == LUTHGARN_DONE);
+  IS("its bytes", !memcmp(run.language, "sr\0", 3) && run.language[63] == 0 && run.end == 2 && run.glyphs == 0xAAAA);
+  IS("the longest", luthgarn_set_language(&run, (const uint8_t *) name, 64) == LUTHGARN_DONE && !memcmp(run.language, name, 64));
+  same = run;
+  IS("a longer one", luthgarn_set_language(&run, (const uint8_t *) name, 65) == LUTHGARN_TEXT);
+  IS("it leaves the run", !memcmp(&run, &same, sizeof run));
+  IS("none", luthgarn_set_language(&run, NULL, 0) == LUTHGARN_DONE && run.language[0] == 0 && run.language[63] == 0);
+}
+
+/* One run of units over the whole font, with room for four glyphs, which are `glyphs` then. */
+static luthgarn_outcome
+one_of_units(const uint16_t *units, size_t count, luthgarn_run run, luthgarn_glyph *glyphs)
+{
+  luthgarn_glyph *found = fenced(glyph_room, NULL, 4 * sizeof *found);
+  luthgarn_run *own = fenced(run_room, &run, sizeof run);
+  for (size_t k = 0; k < 4; k++) found[k].cluster = 0xBBBB;
+  luthgarn_outcome outcome = luthgarn_shape_utf16(whole_font, whole_size, 0, no_features(), 0,
+                                                  fenced(unit_room, units, count * sizeof *units), count, own, 1, found, 4);
+  judge(outcome, own, 1, found, 4, 0);
+  memcpy(glyphs, found, 4 * sizeof *found);
+  return outcome;
+}
+
+/* Surrogates with and without a partner, and where runs may not be. */
+static void
+texts_in_utf16(void)
+{
+  static const uint16_t replaced[] = {0xFFFD}, smile[] = {'a', 0xD83D, 0xDE00, 'b'}, turned[] = {0xDE00, 0xD83D};
+  luthgarn_glyph g[4], r[4];
+  IS("U+FFFD", one_of_units(replaced, 1, run_of(0, 1), r).glyphs == 1);
+  IS("a pair", one_of_units(smile, 4, run_of(0, 4), g).glyphs == 3 && g[1].cluster == 1 && g[2].cluster == 3);
+  IS("its glyph", g[1].glyph != r[0].glyph);
+  IS("a run that cuts it", one_of_units(smile, 4, run_of(0, 2), g).glyphs == 2 && g[1].glyph == r[0].glyph && g[1].cluster == 1);
+  IS("its other half", one_of_units(smile, 4, run_of(2, 4), g).glyphs == 2 && g[0].glyph == r[0].glyph && g[1].cluster == 1);
+  IS("one turned", one_of_units(turned, 2, run_of(0, 2), g).glyphs == 2 && g[0].glyph == r[0].glyph && g[1].glyph == r[0].glyph);
+  IS("past the text", one_of_units(smile, 4, run_of(0, 5), g).code == LUTHGARN_RUN);
+  IS("backward", one_of_units(smile, 4, run_of(3, 2), g).code == LUTHGARN_RUN);
+  IS("no room", one_of_units((const uint16_t[]) {'a', 'b', 'c', 'd', 'e'}, 5, run_of(0, 5), g).needed == 5);
+  luthgarn_run run = run_of(0, 4);
+  memcpy(run.language, "\xFF", 1);
+  IS("a language that isn't UTF-8", one_of_units(smile, 4, run, g).code == LUTHGARN_TEXT);
+  luthgarn_font none = {0};
+  luthgarn_outcome o = luthgarn_shape_font_utf16(&none, NULL, 0, smile, 4, &run, 1, g, 4);
+  IS("no font", o.code == LUTHGARN_FONT && o.runs == 0);
+  o = luthgarn_shape_utf16(whole_font, whole_size, 0, NULL, 0, NULL, 0, NULL, 0, NULL, 0);
+  IS("nothing at all", o.code == LUTHGARN_DONE && o.glyphs == 0);
+}
+
+/* A text in UTF-16 and in UTF-8, and where each character begins in either. */
+struct both {
+  uint16_t units[64];
+  uint8_t bytes[256];
+  uint32_t unit[65], byte[65];
+  size_t count;
+};
+
+/* Decodes units, by the words of the standard. */
+static void
+decode(struct both *text, size_t unit_count)
+{
+  size_t at = 0, to = 0;
+  for (text->count = 0; at < unit_count; text->count++) {
+    uint32_t c = text->units[at], next = at + 1 < unit_count ? text->units[at + 1] : 0;
+    text->unit[text->count] = (uint32_t) at++;
+    text->byte[text->count] = (uint32_t) to;
+    if (c >> 10 == 0x36 && next >> 10 == 0x37) c = 0x10000 + ((c & 0x3FF) << 10 | (next & 0x3FF)), at++;
+    else if (c >> 11 == 0x1B) c = 0xFFFD;
+    int more = c < 0x80 ? 0 : c < 0x800 ? 1 : c < 0x10000 ? 2 : 3;
+    text->bytes[to++] = (uint8_t) (more ? (0xFF00 >> (more + 1) & 0xFF) | c >> 6 * more : c);
+    while (more-- > 0) text->bytes[to++] = (uint8_t) (0x80 | (c >> 6 * more & 0x3F));
+  }
+  text->unit[text->count] = (uint32_t) at;
+  text->byte[text->count] = (uint32_t) to;
+}
+
+/* A text in UTF-16 has to give what the same text in UTF-8 gives, in clusters of its own. */
+static void
+utf16_call(size_t call)
+{
+  static const uint16_t some[] = {'A', 'V', 'f', 'i', ' ', 0x10D, 0x301, 0x5D0, 0x5B8, 0x627, 0x644, 0xE19, 0xE33, 0x1100, 0x1161, 0x200D,
+                                  0xD7FF, 0xE000, 0xFFFF, 0xD83D, 0xDE00, 0xD800, 0xDC00, 0xDBFF, 0xDFFF};
+  struct both text;
+  size_t unit_count = below(33);
+  for (size_t k = 0; k < unit_count; k++) text.units[k] = some[below(25)];
+  decode(&text, unit_count);
+  unsigned n = (unsigned) text.count, a = below(n + 1), b = a + below(n + 1 - a), from = below(a + 1), to = b + below(n + 1 - b);
+  luthgarn_run run = {text.byte[from], text.byte[a], text.byte[b], text.byte[to], below(2) ? 0 : 4 + below(4), 0, 0, below(3), {0}, 0xAAAA};
+  luthgarn_run own = run, *owns = &own;
+  own.before = text.unit[from], own.start = text.unit[a], own.end = text.unit[b], own.after = text.unit[to];
+  unsigned first = a + below(b - a + 1), last = first + below(b - first + 1);
+  luthgarn_feature feature = {0x6B65726E, below(2), text.byte[first] - text.byte[a], text.byte[last] - text.byte[a]}, other = feature;
+  other.start = text.unit[first] - text.unit[a], other.end = text.unit[last] - text.unit[a];
+  luthgarn_glyph wanted[150], *found = fenced(glyph_room, NULL, 150 * sizeof *found);
+  luthgarn_outcome w = luthgarn_shape(whole_font, whole_size, 0, &feature, 1, text.bytes, text.byte[n], &run, 1, wanted, 150);
+  for (size_t k = 0; k < 150; k++) found[k] = (luthgarn_glyph) {.cluster = 0xBBBB};
+  uint16_t *units = fenced(unit_room, text.units, unit_count * sizeof *units);
+  luthgarn_outcome o;
+  if (below(2)) {
+    luthgarn_font font = {0};
+    if (luthgarn_font_new(whole_font, whole_size, 0, &font)) wrong("a font that isn't kept", call);
+    o = luthgarn_shape_font_utf16(&font, &other, 1, units, unit_count, owns, 1, found, 150);
+    luthgarn_font_free(&font);
+  } else {
+    o = luthgarn_shape_utf16(whole_font, whole_size, 0, &other, 1, units, unit_count, owns, 1, found, 150);
+  }
+  judge(o, owns, 1, found, 150, call);
+  if (o.code != w.code || o.glyphs != w.glyphs || o.needed != w.needed || own.glyphs != run.glyphs) wrong("another outcome in UTF-16", call);
+  for (size_t k = 0; k < o.glyphs; k++) {
+    unsigned c = a;
+    while (c < b && text.byte[c] - text.byte[a] != wanted[k].cluster) c++;
+    wanted[k].cluster = text.unit[c] - text.unit[a];
+    if (memcmp(wanted + k, found + k, sizeof *found)) wrong("another glyph in UTF-16", call);
+  }
+}
+
 /* Each block of a call refused in turn. */
 static void
 refused_blocks(void)
@@ -467,6 +589,7 @@ main(int argc, char **argv)
   if (argc > 3) state = strtoull(argv[3], NULL, 10);
   font_room = room_for(whole_size);
   text_room = room_for(256);
+  unit_room = room_for(64);
   feature_room = room_for(64);
   run_room = room_for(8 * sizeof(luthgarn_run));
   glyph_room = room_for(300 * sizeof(luthgarn_glyph));
@@ -475,11 +598,14 @@ main(int argc, char **argv)
   refusals_of_others();
   empty_arrays();
   kept_fonts();
+  names_of_languages();
+  texts_in_utf16();
   refused_blocks();
   refused_fonts();
   threads();
   size_t calls = strtoull(argv[2], NULL, 10);
   for (size_t k = 0; k < calls; k++) random_call(k);
-  printf("calls: %zu random calls\n", calls);
+  for (size_t k = 0; k < calls; k++) utf16_call(k);
+  printf("calls: %zu random calls, and as many in UTF-16\n", calls);
   return 0;
 }

@@ -216,7 +216,7 @@ impl<'t> Buffer<'t> {
             runs.push(native::Run { before: start, start, end, after: end, ..self.run });
             start = end;
         }
-        let glyphs = self.glyphs(font, &text, &mut runs)?;
+        let glyphs = self.glyphs(font, text.as_bytes(), native::luthgarn_shape_font, &mut runs)?;
         let mut from = 0;
         let of_run = |run: &native::Run| {
             let found = glyphs[from..run.glyphs].iter().map(Glyph::of).collect();
@@ -226,15 +226,30 @@ impl<'t> Buffer<'t> {
         Ok(runs.iter().map(of_run).collect())
     }
 
-    /// The glyphs of all runs.
-    fn glyphs(&self, font: &Font<'_>, text: &str, runs: &mut [native::Run]) -> Result<Vec<native::Glyph>, Error> {
+    /// The glyphs of a text in UTF-16, with these settings. Clusters and spans of features count its units, and a surrogate
+    /// without its partner stands for U+FFFD. The buffer's own text isn't read.
+    pub fn shape_utf16(&self, font: &Font<'_>, text: &[u16]) -> Result<Vec<Glyph>, Error> {
+        let end = u32::try_from(text.len()).map_err(|_| Error::Text)?;
+        let mut runs = [native::Run { end, after: end, ..self.run }];
+        let glyphs = self.glyphs(font, text, native::luthgarn_shape_font_utf16, &mut runs)?;
+        Ok(glyphs[..runs[0].glyphs].iter().map(Glyph::of).collect())
+    }
+
+    /// The glyphs of all runs of a text of bytes, or of units of UTF-16, by the call for these.
+    fn glyphs<U>(
+        &self,
+        font: &Font<'_>,
+        text: &[U],
+        shape: native::Shape<U>,
+        runs: &mut [native::Run],
+    ) -> Result<Vec<native::Glyph>, Error> {
         let features: Vec<native::Feature> = self.features.iter().map(|feature| feature.0).collect();
         let mut glyphs = vec![native::Glyph::default(); text.len() + 64];
         loop {
             // SAFETY: `font` is a kept font; each pointer and count are those of one slice, and what is written is borrowed
             // by us alone.
             let outcome = font.lend(|font| unsafe {
-                native::luthgarn_shape_font(
+                shape(
                     font,
                     features.as_ptr(),
                     features.len(),

@@ -77,6 +77,19 @@ pub const DONE: u32 = 0;
 pub const ROOM: u32 = 6;
 pub const LONGEST_LANGUAGE: usize = 64;
 
+/// A call that shapes with a kept font a text of bytes, or of units of UTF-16.
+pub type Shape<U> = unsafe extern "C" fn(
+    font: *mut Font,
+    features: *const Feature,
+    feature_count: usize,
+    text: *const U,
+    text_size: usize,
+    runs: *mut Run,
+    run_count: usize,
+    glyphs: *mut Glyph,
+    glyph_count: usize,
+) -> Outcome;
+
 extern "C" {
     pub fn luthgarn_parse_feature(text: *const u8, size: usize, feature: *mut Feature) -> u32;
     pub fn luthgarn_parse_script(text: *const u8, size: usize) -> u32;
@@ -91,6 +104,17 @@ extern "C" {
         features: *const Feature,
         feature_count: usize,
         text: *const u8,
+        text_size: usize,
+        runs: *mut Run,
+        run_count: usize,
+        glyphs: *mut Glyph,
+        glyph_count: usize,
+    ) -> Outcome;
+    pub fn luthgarn_shape_font_utf16(
+        font: *mut Font,
+        features: *const Feature,
+        feature_count: usize,
+        text: *const u16,
         text_size: usize,
         runs: *mut Run,
         run_count: usize,

@@ -1,0 +1,26 @@
+//! Texts in UTF-16 and names of languages, over DejaVu Sans (Debian's fonts-dejavu-core) if it is there.
+use luthgarn::{Buffer, Font};
+
+const DEJAVU: &str = "/usr/share/fonts/truetype/dejavu/DejaVuSans.ttf";
+
+#[test]
+fn a_text_in_utf16_has_clusters_of_its_own() {
+    let Ok(bytes) = std::fs::read(DEJAVU) else {
+        return;
+    };
+    let font = Font::new(bytes, 0).expect("a font");
+    let shape = |units: &[u16]| Buffer::new("").shape_utf16(&font, units).expect("glyphs");
+    let units: Vec<u16> = "a😀b".encode_utf16().collect();
+    let glyphs = shape(&units);
+    let utf8 = Buffer::new("a😀b").shape(&font).expect("glyphs");
+    assert_eq!(glyphs.iter().map(|g| g.cluster).collect::<Vec<_>>(), [0, 1, 3]);
+    assert_eq!(utf8.iter().map(|g| g.cluster).collect::<Vec<_>>(), [0, 1, 5]);
+    assert!(glyphs.iter().zip(&utf8).all(|(a, b)| a.glyph == b.glyph && a.x_advance == b.x_advance));
+    assert_eq!(shape(&units[1..2])[0].glyph, shape(&[0xFFFD])[0].glyph);
+}
+
+#[test]
+fn a_longer_language_is_refused() {
+    assert!(Buffer::new("").language(&"a".repeat(64)).is_ok());
+    assert_eq!(Buffer::new("").language(&"a".repeat(65)).err(), Some(luthgarn::Error::Name));
+}
