@@ -1,0 +1,9 @@
+//! Tests of lines and carets through public calls, over a shaper whose results can be worked out
+//! by hand.
+#![tactic(auto)]
+
+#[cfg(test)]
+mod carets;
+pub mod letters;
+#[cfg(test)]
+mod lines;
