@@ -1,68 +1,193 @@
-//! Fills a paragraph with a font file: `fill_paragraph FONT TEXT WIDTH`, the width in units of the font.
+//! Fills a paragraph with font files: lines of glyphs by several fonts and in both directions,
+//! written or drawn.
 //!
-//! The text is shaped once and cut where its lines may end ([`filling`]). Then each line is shaped again, with its
-//! neighbours as context, and compared with its part of the whole. A line with an end that is unsafe is taken from
-//! the second shaping, and marked `again`.
+//! [`command`] says which arguments there are, [`options`] what they ask for; the crate
+//! `paragraph` makes the lines, [`written`] writes them, and [`picture`] draws them. [`failure`]
+//! is what is said when something is wrong.
 #![tactic(auto)]
 
-mod filling;
+mod command;
+mod failure;
+mod options;
+mod page;
+mod picture;
+mod written;
 
-use crate::filling::{Failure, Filled, fill};
-use font_shaping::FontError;
-use opentype_layout::OpenTypeFace;
-use shape_unicode::UnicodeDatabase;
+use crate::command::command;
+use crate::failure::Failure;
+use crate::options::Options;
+use crate::picture::picture;
+use crate::written::written;
+use opentype_layout::{OpenTypeFace, OpenedOpenTypeFace};
+use paragraph::{TextLine, paragraph};
+use std::alloc::Global;
+use std::env::{Env, FillError};
+use std::io::{Read, Write};
 use std::process::ExitCode;
 use std::{env, fs, io};
 
-/// The lines of the text of a file.
-fn filled(rt: &HostRuntime, font: &str, text: &str, width: u32) -> io::Result<Result<u8, Failure>> {
-    let bytes = fs::read(rt, font)?;
-    let text = fs::read_to_string(rt, text)?;
-    let Some(face) = OpenTypeFace::from_slice(&bytes, 0) else {
-        return Ok(Err(Failure::Font(FontError::NoFont)));
-    };
-    match fill::<UnicodeDatabase>(rt.alloc(), &face, text.as_str(), width) {
-        Ok(lines) => {
-            print(rt, text.as_str(), lines.as_slice())?;
-            Ok(Ok(0))
+/// What is said of standard input and output.
+const INPUT: &str = "standard input";
+
+const OUTPUT: &str = "standard output";
+
+/// The bytes of the font files.
+fn read_fonts(rt: &HostRuntime, options: &Options) -> Result<Vec<Vec<u8>>, Failure> {
+    let alloc = rt.alloc();
+    let mut files = Vec::new(alloc);
+    for name in options.fonts() {
+        match fs::read(rt, name.as_str()) {
+            Ok(bytes) => files.push(bytes)?,
+            Err(error) => return Err(Failure::io(alloc, name.as_str(), error)),
         }
-        Err(failure) => Ok(Err(failure)),
+    }
+    Ok(files)
+}
+
+/// The fonts of the files, each opened once.
+fn opened<'a>(
+    alloc: Global,
+    options: &Options,
+    files: &'a [Vec<u8>],
+) -> Result<Vec<OpenedOpenTypeFace<'a>>, Failure> {
+    let mut fonts = Vec::new(alloc);
+    for (name, bytes) in options.fonts().iter().zip(files) {
+        match OpenTypeFace::from_slice(bytes, 0) {
+            Some(face) => fonts.push(OpenedOpenTypeFace::new(alloc, face)?)?,
+            None => return Err(Failure::no_font(alloc, name.as_str(), bytes)),
+        }
+    }
+    Ok(fonts)
+}
+
+/// All bytes of standard input.
+fn read_input(rt: &HostRuntime) -> io::Result<Vec<u8>> {
+    let mut bytes = Vec::new(rt.alloc());
+    rt.reader().read_to_end(&mut bytes)?;
+    Ok(bytes)
+}
+
+/// The bytes of the file of the text, or of standard input, and what it is called.
+fn read_text<'a>(rt: &HostRuntime, options: &'a Options) -> Result<(Vec<u8>, &'a str), Failure> {
+    let (name, read) = match options.text_file() {
+        "-" => (INPUT, read_input(rt)),
+        name => (name, fs::read(rt, name)),
+    };
+    match read {
+        Ok(bytes) => Ok((bytes, name)),
+        Err(error) => Err(Failure::io(rt.alloc(), name, error)),
     }
 }
 
-/// Prints each line with its width, and how many were shaped again and look otherwise than in the whole.
-fn print(rt: &HostRuntime, text: &str, lines: &[Filled]) -> io::Result<()> {
-    let mut again: u64 = 0;
-    let mut others: u64 = 0;
-    for line in lines {
-        let mark = if line.is_safe { "whole" } else { "again" };
-        let other = if line.is_same { "" } else { "*" };
-        again = again.saturating_add(u64::from(!line.is_safe));
-        others = others.saturating_add(u64::from(!line.is_same));
-        let width = line.width;
-        println!(rt;
-            "{mark}{other} {width:>6} {}",
-            line.text_of(text).trim_end()
-        )?;
+/// The text to fill: what the options give, or all of a file or of standard input.
+fn text_of(rt: &HostRuntime, options: &Options) -> Result<String, Failure> {
+    let alloc = rt.alloc();
+    if let Some(text) = options.text() {
+        return Ok(String::from_str(alloc, text)?);
     }
-    println!(rt;
-        "{} lines, {again} shaped again, {others} other than in the whole",
-        lines.len()
-    )
+    let (bytes, name) = read_text(rt, options)?;
+    match str::from_utf8(&bytes) {
+        Ok(text) => Ok(String::from_str(alloc, text)?),
+        Err(error) => Err(Failure::not_text(alloc, name, error.valid_up_to().saturating_add(1))),
+    }
+}
+
+/// What is written of lines.
+fn shown(
+    alloc: Global,
+    options: &Options,
+    files: &[Vec<u8>],
+    fonts: &[OpenedOpenTypeFace<'_>],
+    text: &str,
+    lines: &[TextLine],
+) -> Result<String, Failure> {
+    if options.svg() {
+        picture(alloc, options, files, fonts, lines)
+    } else {
+        written(alloc, options, text, lines)
+    }
+}
+
+/// Writes to a file, or to standard output.
+fn write(rt: &HostRuntime, name: Option<&str>, text: &str) -> Result<(), Failure> {
+    let (name, done) = match name {
+        Some(name) => (name, fs::write(rt, name, text)),
+        None => (OUTPUT, io::writer(rt).write_all(text.as_bytes())),
+    };
+    match done {
+        Ok(()) => Ok(()),
+        Err(error) => Err(Failure::write(rt.alloc(), name, error)),
+    }
+}
+
+/// Fills a text as the options ask.
+fn run(rt: &HostRuntime, options: &Options) -> Result<(), Failure> {
+    let alloc = rt.alloc();
+    let files = read_fonts(rt, options)?;
+    let fonts = opened(alloc, options, &files)?;
+    let text = text_of(rt, options)?;
+    let lines = paragraph(alloc, &fonts, text.as_str(), &options.paragraph())?;
+    let shown = shown(alloc, options, &files, &fonts, text.as_str(), &lines)?;
+    write(rt, options.output(), shown.as_str())
+}
+
+/// The most bytes of an argument that is looked at.
+const LONGEST: usize = 4096;
+
+/// The argument that isn't UTF-8, and its byte from which on it isn't, both counted from 1; none if
+/// it isn't found.
+fn malformed(rt: &HostRuntime) -> Option<(usize, usize)> {
+    let mut bytes = [0u8; LONGEST];
+    for number in 1..usize::MAX {
+        let len = match rt.arg(number, &mut bytes) {
+            Ok(len) => len,
+            Err(FillError::TooLong) => continue,
+            Err(FillError::NotPresent) => return None,
+        };
+        if let Err(error) = str::from_utf8(bytes.get(..len).unwrap_or(&[])) {
+            return Some((number, error.valid_up_to().saturating_add(1)));
+        }
+    }
+    None
+}
+
+/// Why the arguments can't be read.
+fn unreadable(rt: &HostRuntime, error: io::Error) -> Failure {
+    match malformed(rt) {
+        Some((number, at)) => Failure::malformed(rt.alloc(), number, at),
+        None => Failure::io(rt.alloc(), "the arguments", error),
+    }
+}
+
+/// Reads the arguments and does what they ask.
+fn obey(rt: &HostRuntime) -> Result<(), Failure> {
+    let alloc = rt.alloc();
+    let words = match env::args(rt) {
+        Ok(words) => words,
+        Err(error) => return Err(unreadable(rt, error)),
+    };
+    let words: Vec<String> = words.collect(alloc)?;
+    let matches = match command(alloc)?.try_get_matches_from(words.as_slice()) {
+        Ok(matches) => matches,
+        Err(error) => return Err(Failure::from(error)),
+    };
+    let options = Options::new(alloc, &matches)?;
+    run(rt, &options)
+}
+
+/// Says why the program gives up, and gives the status that it ends with.
+fn give_up(rt: &HostRuntime, failure: &Failure) -> io::Result<ExitCode> {
+    match failure {
+        Failure::Usage(error) => error.print(rt)?,
+        Failure::Closed => {}
+        _ => eprintln!(rt; "error: {}", failure.text())?,
+    }
+    Ok(ExitCode::from(failure.status()))
 }
 
 fn main(rt: HostRuntime) -> io::Result<ExitCode> {
-    let mut words = env::args(&rt)?.skip(1);
-    let (Some(font), Some(text), Some(width)) = (words.next(), words.next(), words.next()) else {
-        println!(&rt; "fill_paragraph FONT TEXT WIDTH")?;
-        return Ok(ExitCode::from(2));
-    };
-    let width = u32::from_str_radix(width.as_str(), 10).unwrap_or(0);
-    match filled(&rt, font.as_str(), text.as_str(), width)? {
-        Ok(_) => Ok(ExitCode::SUCCESS),
-        Err(failure) => {
-            println!(&rt; "refused: {failure:?}")?;
-            Ok(ExitCode::FAILURE)
-        }
+    match obey(&rt) {
+        Ok(()) => Ok(ExitCode::SUCCESS),
+        Err(failure) => give_up(&rt, &failure),
     }
 }
