@@ -4,8 +4,8 @@
     tests/sessions.py [FILE ..]
     tests/sessions.py --night
 
-Those of tests/sessions are of `shapeline`, those of tests/fontshape of `fontshape`;
-tests/sessions/README.md says how a session is written. If no file is named it takes all, then the
+Those of tests/sessions are of `shapeline`, those of the other folders of the program that these are
+called after; tests/sessions/README.md says how a session is written. If no file is named it takes all, then the
 inputs that fuzzing kept, in tests/fuzz, then runs `shapeline` with each of its reads failing in
 turn, and with each of its writes, until a run has no such call, and `fontshape` on a long text, to
 a full device and a closed pipe, and with an argument that isn't UTF-8. It ends with status 1 if something isn't as it should be, and says at which case,
@@ -26,6 +26,9 @@ from pathlib import Path
 from checks.programs import CRATES, FONTSHAPE, TESTS, build, program_of
 
 PROGRAM = program_of("shapeline")
+FILL_PARAGRAPH = program_of("fill_paragraph")
+# the programs of folders, and of tests/sessions
+PROGRAMS = {"sessions": PROGRAM, "fontshape": FONTSHAPE, "fill_paragraph": FILL_PARAGRAPH}
 GIVEN = ("tall.ttf", "two.ttc", "flat.ttf", "axes.ttf", "heavy.ttf", "drawn.otf", "lines")
 FILES = [CRATES / "fontshape/data/tiny.ttf", *(TESTS / "fontshape" / name for name in GIVEN)]
 
@@ -177,7 +180,7 @@ def run_sessions(files, folder):
     """Runs all cases, and says which aren't as they should be. Returns whether all are."""
     count, bad = 0, 0
     for file in files:
-        program = FONTSHAPE if file.resolve().parent.name == "fontshape" else PROGRAM
+        program = PROGRAMS[file.resolve().parent.name]
         for case in cases_of(file):
             count += 1
             fault = fault_of(program, case, folder)
@@ -309,16 +312,22 @@ def run_closed_pipe(folder):
     return right
 
 
-def run_malformed_argument(folder):
-    """`fontshape` says which argument isn't UTF-8, and from where on. Returns whether it does."""
-    words = [FONTSHAPE, "tiny.ttf", "--bot", b"\xC3\xA9\xC3("]
+def says_malformed(program, folder, option, more):
+    """Whether a program says which argument isn't UTF-8, and from where on."""
+    words = [program, "tiny.ttf", option, b"\xC3\xA9\xC3("]
     ended = subprocess.run(words, capture_output=True, cwd=folder, timeout=LIMIT)
-    said = (b"error: argument 3 isn't UTF-8 from its byte 3 on: give the text by --text-file or "
-            b"--unicodes\n")
+    said = b"error: argument 3 isn't UTF-8 from its byte 3 on" + more + b"\n"
     right = (ended.returncode, ended.stdout, ended.stderr) == (2, b"", said)
     if not right:
-        print(f"fontshape on a malformed argument: status {ended.returncode}, {ended.stderr}")
+        print(f"{program} on a malformed argument: status {ended.returncode}, {ended.stderr}")
     return right
+
+
+def run_malformed_argument(folder):
+    """`fontshape` and `fill_paragraph` say which argument isn't UTF-8. Returns whether they do."""
+    more = b": give the text by --text-file or --unicodes"
+    right = says_malformed(FONTSHAPE, folder, "--bot", more)
+    return says_malformed(FILL_PARAGRAPH, folder, "--text", b"") and right
 
 
 def draws_heavy_font(folder, form, most):
@@ -362,6 +371,7 @@ def run_long_trace(folder):
 def main():
     build("shapeline")
     build("fontshape")
+    build("fill_paragraph")
     at_night = sys.argv[1:] == ["--night"]
     named = [] if at_night else [Path(name) for name in sys.argv[1:]]
     with tempfile.TemporaryDirectory() as folder:
@@ -369,8 +379,7 @@ def main():
             shutil.copy(file, folder)
         if at_night:
             sys.exit(0 if all([run_heavy_page(folder), run_long_trace(folder)]) else 1)
-        all_files = sorted([*(TESTS / "sessions").glob("*.txt"),
-                            *(TESTS / "fontshape").glob("*.txt")])
+        all_files = sorted(file for name in PROGRAMS for file in (TESTS / name).glob("*.txt"))
         right = [run_sessions(named or all_files, folder)]
         if not named:
             right += [run_fuzzed(), run_failing_calls(), run_long_text(folder),
