@@ -1,5 +1,5 @@
 """Unicode's BidiTest.txt and BidiCharacterTest.txt, and each bracket of BidiBrackets.txt, through
-`bidi` (the program `test_bidi`); on request random texts beside FriBidi.
+`bidi` (the program `test_bidi`); on request random texts and mixed real lines beside FriBidi.
 
 A line of BidiTest.txt has classes and not characters: one character of each class stands for it. Of
 brackets each opening one is tried before each closing one, between letters of both directions: the
@@ -18,6 +18,7 @@ import re
 import subprocess
 from pathlib import Path
 
+from checks.mixed import mixed_text, real_lines
 from checks.programs import built, need_files
 
 UNICODE = Path("/usr/share/unicode")
@@ -233,11 +234,9 @@ def is_decided(text, wrote, theirs, others):
                or is_known(text, place) for place, level in enumerate(levels))
 
 
-def beside_fribidi(program, count, seed):
-    """Compares random texts with FriBidi."""
-    source = random.Random(seed)
+def beside_fribidi(program, what, texts):
+    """Compares texts, each with the digit of its direction, with FriBidi."""
     fribidi, icu = FriBidi(), Icu()
-    texts = [(random_text(source), source.choice("012")) for _ in range(count)]
     given = [" ".join(f"{c:04X}" for c in text) + f";{digit}" for text, digit in texts]
     written = answers(program, given)
     if written is None:
@@ -253,14 +252,15 @@ def beside_fribidi(program, count, seed):
             wrong += 1
             if wrong <= 10:
                 print(f"differs: {line}: {wrote}, FriBidi {theirs}, ICU {icu.line(text, digit)}")
-    print(f"{same} of {count} random texts as FriBidi has them, {decided} as ICU has them where "
+    print(f"{same} of {len(texts)} {what} as FriBidi has them, {decided} as ICU has them where "
           f"FriBidi has not, {wrong} unexplained")
     return wrong == 0
 
 
 def add_options(parser):
     parser.add_argument("--fribidi", type=int, default=0, metavar="COUNT",
-                        help="compare so many random texts with FriBidi's library, too")
+                        help="compare so many random texts, and as many mixed lines, with "
+                             "FriBidi's library, too")
     parser.add_argument("--seed", type=int, default=1, help="the seed of the random texts")
 
 
@@ -273,5 +273,9 @@ def run(args):
         compare(program, "pairs of brackets", bracket_cases()),
     ]
     if args.fribidi:
-        right.append(beside_fribidi(program, args.fribidi, args.seed))
+        source, lines = random.Random(args.seed), real_lines()
+        texts = [(random_text(source), source.choice("012")) for _ in range(args.fribidi)]
+        mixed = [(mixed_text(source, lines), source.choice("012")) for _ in range(args.fribidi)]
+        right += [beside_fribidi(program, "random texts", texts),
+                  beside_fribidi(program, "mixed lines", mixed)]
     return all(right)

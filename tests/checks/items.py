@@ -21,6 +21,7 @@ import tempfile
 from pathlib import Path
 
 from checks.bidi import lines_of
+from checks.mixed import mixed_text, real_lines
 from checks.programs import Skipped, TESTS, built, need_files
 
 UNICODE = Path("/usr/share/unicode")
@@ -164,26 +165,6 @@ def random_text(source):
     """A random text, of few kinds of characters at a time."""
     alphabet = source.sample(ALPHABET, source.randint(2, 14))
     return [source.choice(alphabet) for _ in range(source.randint(1, 40))]
-
-
-def real_lines():
-    """The lines of `lines/`, by script."""
-    return [path.read_text(encoding="utf-8").splitlines()
-            for path in sorted((TESTS / "lines").glob("*.txt"))]
-
-
-def mixed_text(source, lines):
-    """Words of real lines in two or three scripts, some in brackets or quotation marks."""
-    words = []
-    for script in source.sample(lines, source.randint(2, 3)):
-        words += source.choice(script).split()[:source.randint(1, 6)]
-    source.shuffle(words)
-    first, last = source.choice([("(", ")"), ("[", "]"), ("«", "»"), ("“", "”"), ("‘", "’")])
-    start = source.randrange(len(words))
-    end = source.randrange(start, len(words))
-    words[start] = first + words[start]
-    words[end] += last
-    return [ord(c) for c in " ".join(words)]
 
 
 def written_by(command, given):
