@@ -276,8 +276,9 @@ def mixed_lines(count, seed):
 
 def raqm_program(folder):
     """The program that prints raqm's glyphs."""
-    if not shutil.which("gcc") or not Path("/usr/include/raqm.h").exists():
-        raise Skipped("gcc or raqm's library is not installed (Debian's libraqm-dev)")
+    if not (shutil.which("gcc") and shutil.which("pkg-config")
+            and Path("/usr/include/raqm.h").exists()):
+        raise Skipped("gcc, pkg-config or raqm's library (Debian's libraqm-dev) is not installed")
     flags = subprocess.run(["pkg-config", "--cflags", "--libs", "raqm", "freetype2"], check=True,
                            stdout=subprocess.PIPE).stdout.decode().split()
     program = f"{folder}/raqm-lines"
