@@ -1,9 +1,9 @@
 """Fonts in CFF and CFF2 that mean harm: bombs made by hand, and small fonts with bytes changed.
 
 A bomb runs with 5,000 letters and as many marks, which no table places, so that each glyph's box is
-asked for, and once more where boxes are printed; it must not take more than 12 seconds of processor
-time (the gate's machine may be slow) or more than 200 MB, nor end by a signal. Mutated fonts run
-with 60 characters: 20,000 at night.
+asked for; with half of them where boxes are printed, which asks once more. It must not take more
+than 12 seconds of processor time (the gate's machine may be slow and busy) or more than 200 MB, nor
+end by a signal. Mutated fonts run with 60 characters: 20,000 at night.
 """
 import random
 
@@ -202,7 +202,8 @@ def run(args):
                     file.write(data)
             text = chr(LETTER) + chr(MARK)
             for form in FORMS[:2]:
-                runs.take(" ".join([name, *form]), data, text * (LENGTH // 2), form)
+                pairs = LENGTH // 4 if form else LENGTH // 2
+                runs.take(" ".join([name, *form]), data, text * pairs, form)
             runs.take(name + " --svg", data, text * 10, ["--svg"])
         for number in range(args.first, args.first + (0 if args.bomb else args.fonts)):
             take_mutated(runs, args.seed, number)
