@@ -1,6 +1,7 @@
 -- DICT data: operands and then their operator, again and again (Adobe Technical Note 5176, section 4)
 use Prim.Native.Nat.{zero}
-use Rattle.std.specs.Prelude.{ℕ, suc, List, Bool, true, false, Option, Some, None, ◌+◌, ◌-◌, ◌*◌, ◌/◌, ◌%◌, ◌&&◌, ◌||◌, nat_eq, nat_lt, nat_le, length, if◌then◌else◌, slice_index}
+use Rattle.std.specs.Prelude.{ℕ, suc, List, Bool, true, false, Option, Some, None, ◌+◌, ◌-◌, ◌*◌, ◌/◌, ◌%◌, ◌&&◌, ◌||◌, nat_eq, nat_lt, nat_le}
+use Rattle.std.specs.Prelude.{length, if◌then◌else◌, slice_index}
 use Rattle.std.specs.Option.{option_and_then}
 use Rattle.cff_tables.specs.Bytes.{word_of, number_of}
 use Rattle.cff_tables.specs.declared.dict.DictValues.{DictValues}
@@ -97,7 +98,18 @@ dict_from (suc n) d r = if nat_le (length d) r.at then Some r.values
 
 -- before the first operator: the defaults of table 9 and 23
 abbrev pub no_values : DictValues
-no_values = record { charset = 0; char_strings = 0; private_at = 0; private_len = 0; subrs = 0; fd_array = 0; fd_select = 0; vstore = 0; vsindex = 0; cid = false }
+no_values = record {
+  charset = 0;
+  char_strings = 0;
+  private_at = 0;
+  private_len = 0;
+  subrs = 0;
+  fd_array = 0;
+  fd_select = 0;
+  vstore = 0;
+  vsindex = 0;
+  cid = false;
+}
 
 abbrev pub first_reading : Reading
 first_reading = record { values = no_values; last = 0; before = 0; count = 0; at = 0 }

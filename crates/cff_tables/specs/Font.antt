@@ -1,5 +1,6 @@
 -- a font's parts, by the header and the Top DICT (Adobe Technical Note 5176, sections 6 to 9 and 16; OpenType, "CFF2")
-use Rattle.std.specs.Prelude.{ℕ, List, Bool, true, false, Option, Some, None, is_some, ◌+◌, ◌*◌, ◌^◌, ◌&&◌, ◌||◌, nat_eq, nat_lt, nat_le, length, if◌then◌else◌, slice_index}
+use Rattle.std.specs.Prelude.{ℕ, List, Bool, true, false, Option, Some, None, is_some, ◌+◌, ◌*◌, ◌^◌, ◌&&◌, ◌||◌, nat_eq, nat_lt, nat_le, length}
+use Rattle.std.specs.Prelude.{if◌then◌else◌, slice_index}
 use Rattle.std.specs.Option.{option_and_then, option_map_or}
 use Rattle.cff_tables.specs.Bytes.{word_of, number_of, part_of}
 use Rattle.cff_tables.specs.Index.{index_end, object_of, object_count}

@@ -1,5 +1,5 @@
-//! Names of glyphs: charsets give each glyph the number of a string, which is one of the standard strings or one of the
-//! font's (Adobe Technical Note 5176, sections 10 and 13, appendices A to C).
+//! Names of glyphs: charsets give each glyph the number of a string, which is one of the standard
+//! strings or one of the font's (Adobe Technical Note 5176, sections 10 and 13, appendices A to C).
 ghost use Rattle.std.specs.Prelude.{◌≡◌, ◌<◌, ◌≤◌, ◌+◌, ◌^◌, nat_eq, slice_index};
 ghost use Rattle.std.specs.Option.{option_map};
 ghost use Rattle.cff_tables.specs.Charset;

@@ -1,12 +1,14 @@
-//! DICT data: operands and then their operator, again and again (Adobe Technical Note 5176, section 4). One reading
-//! serves the Top DICT, Font DICTs and Private DICTs, since each operator has a number of its own.
+//! DICT data: operands and then their operator, again and again (Adobe Technical Note 5176, section
+//! 4). One reading serves the Top DICT, Font DICTs and Private DICTs, since each operator has a
+//! number of its own.
 ghost use Rattle.std.specs.Prelude.{◌≡◌, ◌<◌, ◌≤◌, ◌+◌, ◌^◌, length};
 ghost use Rattle.cff_tables.specs.Dict;
 
 use crate::bytes::{byte_at, number_at, word_at};
 
-/// What the operators of a DICT set, of those that outlines and names need. A place counts from the start of the
-/// table, that of `subrs` from the start of its Private DICT; 0 is none. Numbers count modulo 2^32.
+/// What the operators of a DICT set, of those that outlines and names need. A place counts from the
+/// start of the table, that of `subrs` from the start of its Private DICT; 0 is none. Numbers count
+/// modulo 2^32.
 #[derive(Clone, Copy, PartialEq, Debug)]
 pub struct DictValues {
     pub charset: u32,
@@ -28,7 +30,8 @@ struct Operand {
     next: usize,
 }
 
-/// How far a DICT is read: what is set, the last two operands, how many there are, and where the next begins.
+/// How far a DICT is read: what is set, the last two operands, how many there are, and where the
+/// next begins.
 #[derive(Clone, Copy)]
 struct Reading {
     values: DictValues,
@@ -80,7 +83,8 @@ fn value(dict: &[u8], at: usize) -> u32
     }
 }
 
-/// Where the real number ends whose nibbles begin at `start`; none if it does not, or has one that is reserved.
+/// Where the real number ends whose nibbles begin at `start`; none if it does not, or has one that
+/// is reserved.
 #[tactic(auto, using(crate::proofs::DictLemmas::real_end_next, crate::proofs::DictLemmas::real_end_low, crate::proofs::DictLemmas::real_end_here, crate::proofs::DictLemmas::real_end_over))]
 fn real_end(dict: &[u8], start: usize) -> Option<usize>
     requires { start ≤ 2 ^ 63 }

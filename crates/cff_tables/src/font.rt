@@ -1,5 +1,5 @@
-//! A font of a table `CFF ` or `CFF2`: where its parts stand, by the header and the Top DICT (Adobe Technical Note 5176,
-//! sections 6 to 9 and 16; OpenType, "CFF2"), and what each glyph has.
+//! A font of a table `CFF ` or `CFF2`: where its parts stand, by the header and the Top DICT (Adobe
+//! Technical Note 5176, sections 6 to 9 and 16; OpenType, "CFF2"), and what each glyph has.
 ghost use Rattle.std.specs.Prelude.{◌≡◌, ◌<◌, ◌≤◌, ◌+◌, ◌^◌, false, length};
 ghost use Rattle.std.specs.Option.{option_map, IfSome};
 ghost use Rattle.cff_tables.specs.Font;
@@ -12,7 +12,8 @@ use crate::dict::{DictValues, values};
 use crate::index::{ObjectRange, index_end, object, object_count, object_range};
 use crate::select::font_dict;
 
-/// Where the parts of a font stand in its table; 0 for what it lacks. The table is `wide` if it is `CFF2`.
+/// Where the parts of a font stand in its table; 0 for what it lacks. The table is `wide` if it is
+/// `CFF2`.
 #[derive(Clone, Copy, PartialEq, Debug)]
 pub struct Layout {
     pub wide: bool,
@@ -190,7 +191,8 @@ fn cff_layout(table: &[u8], count: u16) -> Option<Layout>
     }
 }
 
-/// Of how many regions variation data `i` has deltas, by the variation store at `vstore`; none if that is 0.
+/// Of how many regions variation data `i` has deltas, by the variation store at `vstore`; none if
+/// that is 0.
 pub fn region_count(table: &[u8], vstore: u32, i: u32) -> u16
     ensures { result ≡ Font.region_count table.now vstore i }
 {
@@ -249,8 +251,9 @@ fn cff2_layout(table: &[u8], count: u16) -> Option<Layout>
 }
 
 impl<'a> CffFont<'a> {
-    /// The font of a table `CFF ` with so many glyphs, as `maxp` counts them. None if the table holds no such font: if a
-    /// part of it is missing, the Top DICT is refused, or there are more or fewer charstrings.
+    /// The font of a table `CFF ` with so many glyphs, as `maxp` counts them. None if the table
+    /// holds no such font: if a part of it is missing, the Top DICT is refused, or there are more
+    /// or fewer charstrings.
     pub fn from_cff(table: &'a [u8], count: u16) -> Option<CffFont<'a>>
         ensures layout { option_map (λ f. f.layout) result ≡ Font.cff_layout table.now count }
         ensures table { IfSome result (λ f. f.table.now ≡ table.now) }
@@ -314,7 +317,8 @@ impl<'a> CffFont<'a> {
         )
     }
 
-    /// The Font DICT of a glyph, in a CID font or a table `CFF2`; none if it is not there, or refused.
+    /// The Font DICT of a glyph, in a CID font or a table `CFF2`; none if it is not there, or
+    /// refused.
     fn font_dict(&self, glyph: u32) -> Option<DictValues>
         ensures { result ≡ Font.font_dict_of self.now.table.now self.now.layout glyph }
     {
@@ -371,7 +375,8 @@ impl<'a> CffFont<'a> {
         )
     }
 
-    /// The glyph's name; none in a CID font and a table `CFF2`, past the last glyph, or if it is empty.
+    /// The glyph's name; none in a CID font and a table `CFF2`, past the last glyph, or if it is
+    /// empty.
     pub fn name(&self, glyph: u32) -> Option<&'a [u8]>
         ensures { option_map (λ n. n.now) result ≡ Font.name_of self.now.table.now self.now.layout glyph }
     {

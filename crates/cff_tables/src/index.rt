@@ -1,5 +1,6 @@
-//! INDEX data: so many objects, one after another, each a string of bytes (Adobe Technical Note 5176, section 5;
-//! OpenType, "CFF2", where the count is `wide`). An INDEX begins at a place of the table.
+//! INDEX data: so many objects, one after another, each a string of bytes (Adobe Technical Note
+//! 5176, section 5; OpenType, "CFF2", where the count is `wide`). An INDEX begins at a place of the
+//! table.
 ghost use Rattle.std.specs.Prelude.{◌≡◌, ◌<◌, ◌≤◌, ◌+◌, ◌^◌, length};
 ghost use Rattle.std.specs.Option.{option_map, IfSome};
 ghost use Rattle.cff_tables.specs.Index;

@@ -1,9 +1,10 @@
-//! The tables `CFF ` and `CFF2` of font files: where the outlines of glyphs stand, and their names (Adobe Technical Note
-//! 5176, "The Compact Font Format Specification"; OpenType, "CFF2").
+//! The tables `CFF ` and `CFF2` of font files: where the outlines of glyphs stand, and their names
+//! (Adobe Technical Note 5176, "The Compact Font Format Specification"; OpenType, "CFF2").
 //!
-//! Any bytes are taken: what lies past the end of a table reads as 0, a place that leads past it has nothing, and no
-//! call takes memory. [`index`] finds objects, [`dict`] reads operators, [`charset`] names glyphs, [`select`] finds the
-//! Font DICT of a glyph, and [`font`] puts them together.
+//! Any bytes are taken: what lies past the end of a table reads as 0, a place that leads past it
+//! has nothing, and no call takes memory. [`index`] finds objects, [`dict`] reads operators,
+//! [`charset`] names glyphs, [`select`] finds the Font DICT of a glyph, and [`font`] puts them
+//! together.
 #![tactic(auto)]
 
 pub mod bytes;

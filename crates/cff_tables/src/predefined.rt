@@ -1,4 +1,5 @@
-//! Charsets and the encoding that fonts need not write out (Adobe Technical Note 5176, appendices B and C).
+//! Charsets and the encoding that fonts need not write out (Adobe Technical Note 5176, appendices B
+//! and C).
 
 /// The name of the character with each code, by Standard Encoding; 0 has none.
 pub const STANDARD_ENCODING: [u16; 256] = [

@@ -1,4 +1,5 @@
-//! FDSelect: the Font DICT of a glyph (Adobe Technical Note 5176, section 19; format 4: OpenType, "CFF2").
+//! FDSelect: the Font DICT of a glyph (Adobe Technical Note 5176, section 19; format 4: OpenType,
+//! "CFF2").
 ghost use Rattle.std.specs.Prelude.{◌≡◌, ℕ, List, ◌<◌, ◌≤◌, ◌-◌, ◌+◌, ◌^◌};
 ghost use Rattle.cff_tables.specs.Select;
 
@@ -28,7 +29,8 @@ fn range_at(format: u8, at: u32, i: u32) -> usize
     at as usize + 1 + glyph_size(format) + i as usize * (glyph_size(format) + fd_size(format))
 }
 
-/// Whether the range after range `i` begins past a glyph. Past the end of the table ranges begin at glyph 0.
+/// Whether the range after range `i` begins past a glyph. Past the end of the table ranges begin at
+/// glyph 0.
 fn next_is_past(table: &[u8], format: u8, at: u32, glyph: u32, i: u32) -> bool
     requires { i + 1 < 2 ^ 32 }
     ensures { result ≡ Select.next_is_past table.now format at glyph i }
@@ -36,7 +38,8 @@ fn next_is_past(table: &[u8], format: u8, at: u32, glyph: u32, i: u32) -> bool
     glyph < number_at(table, range_at(format, at, i + 1), glyph_size(format))
 }
 
-/// The range of a glyph among `count`, which a font may say to be 2^32: a search takes at most 32 steps.
+/// The range of a glyph among `count`, which a font may say to be 2^32: a search takes at most 32
+/// steps.
 #[tactic(auto, using(crate::proofs::SearchLemmas::halved_none, crate::proofs::SearchLemmas::halved_below, crate::proofs::SearchLemmas::halved_above))]
 fn range_of(table: &[u8], format: u8, at: u32, count: u32, glyph: u32) -> u32
     ensures { result ≡ Select.range_of table.now format at count glyph }
@@ -78,8 +81,8 @@ pub fn font_dict(table: &[u8], at: u32, glyph: u32) -> u32
     }
 }
 
-/// Where each range begins past the one before it, as the standard asks, the search finds what a walk finds: the first
-/// range that the next one begins past, or else the last.
+/// Where each range begins past the one before it, as the standard asks, the search finds what a
+/// walk finds: the first range that the next one begins past, or else the last.
 pub fn search_finds_what_a_walk_finds()
     ensures { (t : List ℕ) (format at count glyph : ℕ) → Select.RangesRise t format at count
         → Select.range_of t format at count glyph ≡ Select.walked t format at count glyph }

@@ -1,6 +1,8 @@
 -- the machine that runs charstrings: one operator, number or stroke a step (Adobe Technical Note 5177, sections 3 and 4; OpenType,
 -- "CFF2 CharString Format"). `t` is the table, `l` its layout, and `local` the place of the glyph's local subroutines
-use Rattle.std.specs.Prelude.{ℕ, ℤ, List, [], ◌∷◌, ◌++◌, Bool, true, false, Option, Some, None, pos, ◌+◌, ◌-◌, ◌*◌, ◌/◌, ◌%◌, ◌&&◌, ◌||◌, ◌+ℤ◌, nat_eq, nat_lt, nat_le, int_lt, int_div, min, not, length, take, if◌then◌else◌, slice_index, slice_index_or, unsigned_abs}
+use Rattle.std.specs.Prelude.{ℕ, ℤ, List, [], ◌∷◌, ◌++◌, Bool, true, false, Option, Some, None, pos, ◌+◌, ◌-◌, ◌*◌, ◌/◌, ◌%◌, ◌&&◌, ◌||◌, ◌+ℤ◌}
+use Rattle.std.specs.Prelude.{nat_eq, nat_lt, nat_le, int_lt, int_div, min, not, length, take, if◌then◌else◌, slice_index, slice_index_or}
+use Rattle.std.specs.Prelude.{unsigned_abs}
 use Rattle.std.specs.Option.{unwrap_or, option_map_or}
 use Rattle.cff_tables.specs.Index.{object_count, range_of}
 use Rattle.cff_tables.specs.Font.{region_count}
@@ -13,7 +15,8 @@ use Rattle.charstrings.specs.declared.pieces.Found.{Found}
 use Rattle.charstrings.specs.declared.pieces.Piece.{Piece}
 use Rattle.charstrings.specs.declared.pieces.Piece.TheVariants.{Line, Curve}
 use Rattle.charstrings.specs.declared.pieces.PathOperator.{PathOperator}
-use Rattle.charstrings.specs.declared.pieces.PathOperator.TheVariants.{Lines, AxisLines, Curves, CurvesThenLine, LinesThenCurve, AxisCurves, TurningCurves, Flex, Hflex, Hflex1, Flex1}
+use Rattle.charstrings.specs.declared.pieces.PathOperator.TheVariants.{Lines, AxisLines, Curves, CurvesThenLine, LinesThenCurve, AxisCurves}
+use Rattle.charstrings.specs.declared.pieces.PathOperator.TheVariants.{TurningCurves, Flex, Hflex, Hflex1, Flex1}
 use Rattle.charstrings.specs.declared.strokes.Place.{Place}
 use Rattle.charstrings.specs.declared.strokes.Stroke.{Stroke}
 use Rattle.charstrings.specs.declared.strokes.Stroke.TheVariants.{Move, Straight, Bent}

@@ -1,6 +1,7 @@
 -- the strokes that a charstring draws, their box, and how a glyph is composed (Adobe Technical Note 5177; appendix C for endchar)
 use Prim.Native.Nat.{zero}
-use Rattle.std.specs.Prelude.{ℕ, suc, ℤ, List, [], ◌∷◌, Bool, Option, Some, None, pos, ◌+◌, ◌/◌, ◌-ℤ◌, ◌*ℤ◌, ◌||◌, ◌&&◌, nat_eq, nat_lt, int_lt, int_le, not, unsigned_abs, if◌then◌else◌}
+use Rattle.std.specs.Prelude.{ℕ, suc, ℤ, List, [], ◌∷◌, Bool, Option, Some, None, pos, ◌+◌, ◌/◌, ◌-ℤ◌, ◌*ℤ◌, ◌||◌, ◌&&◌, nat_eq, nat_lt, int_lt}
+use Rattle.std.specs.Prelude.{int_le, not, unsigned_abs, if◌then◌else◌}
 use Rattle.std.specs.Option.{option_and_then, option_map}
 use Rattle.cff_tables.specs.Index.{range_of}
 use Rattle.cff_tables.specs.Font.{glyph_local, glyph_variation}

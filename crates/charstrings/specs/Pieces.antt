@@ -1,13 +1,15 @@
 -- path construction operators: the lines and curves that each draws from its arguments, one after another (Adobe Technical Note
 -- 5177, section 4.1)
-use Rattle.std.specs.Prelude.{ℕ, ℤ, List, Bool, true, false, Option, Some, None, pos, ◌+◌, ◌-◌, ◌%◌, ◌&&◌, ◌||◌, nat_eq, nat_lt, nat_le, min, not, length, if◌then◌else◌, slice_index_or, unsigned_abs}
+use Rattle.std.specs.Prelude.{ℕ, ℤ, List, Bool, true, false, Option, Some, None, pos, ◌+◌, ◌-◌, ◌%◌, ◌&&◌, ◌||◌, nat_eq, nat_lt, nat_le, min, not}
+use Rattle.std.specs.Prelude.{length, if◌then◌else◌, slice_index_or, unsigned_abs}
 use Rattle.charstrings.specs.Numbers.{plus, opposite}
 use Rattle.charstrings.specs.declared.pieces.Delta.{Delta}
 use Rattle.charstrings.specs.declared.pieces.Piece.{Piece}
 use Rattle.charstrings.specs.declared.pieces.Piece.TheVariants.{Line, Curve}
 use Rattle.charstrings.specs.declared.pieces.Found.{Found}
 use Rattle.charstrings.specs.declared.pieces.PathOperator.{PathOperator}
-use Rattle.charstrings.specs.declared.pieces.PathOperator.TheVariants.{Lines, AxisLines, Curves, CurvesThenLine, LinesThenCurve, AxisCurves, TurningCurves, Flex, Hflex, Hflex1, Flex1}
+use Rattle.charstrings.specs.declared.pieces.PathOperator.TheVariants.{Lines, AxisLines, Curves, CurvesThenLine, LinesThenCurve, AxisCurves}
+use Rattle.charstrings.specs.declared.pieces.PathOperator.TheVariants.{TurningCurves, Flex, Hflex, Hflex1, Flex1}
 
 -- argument `i`, counted from the bottom of the stack
 abbrev pub arg : List ℤ → ℕ → ℤ

@@ -143,7 +143,8 @@ fn offset(bounds: Bounds, dx: i64, dy: i64) -> Bounds
     }
 }
 
-/// The steps of a charstring after which it ends at the latest: more than operators, numbers and strokes.
+/// The steps of a charstring after which it ends at the latest: more than operators, numbers and
+/// strokes.
 #[tactic(auto, unfolding(crate::specs::Outline::most_events))]
 pub fn most_events() -> u32
     ensures { result ≡ Outline.most_events }
@@ -151,8 +152,9 @@ pub fn most_events() -> u32
     600_000
 }
 
-/// The most steps of a glyph that has a box. A text may ask for as many boxes as it has glyphs, so that none may take long.
-/// The longest glyph of 476 fonts takes 8,006; HarfBuzz runs 200,000 operators and numbers each time.
+/// The most steps of a glyph that has a box. A text may ask for as many boxes as it has glyphs, so
+/// that none may take long. The longest glyph of 476 fonts takes 8,006; HarfBuzz runs 200,000
+/// operators and numbers each time.
 #[tactic(auto, unfolding(crate::specs::Outline::most_box_steps))]
 pub fn most_box_steps() -> u32
     ensures { result ≡ Outline.most_box_steps }
@@ -274,7 +276,8 @@ fn joined(
     }
 }
 
-/// The box of a letter with its accent, which take a quarter of the steps each, and of what was drawn before them.
+/// The box of a letter with its accent, which take a quarter of the steps each, and of what was
+/// drawn before them.
 fn composed_bounds(font: &CffFont<'_>, bounds: Bounds, accent: Accent, most: u32) -> Option<Bounds>
     ensures { result ≡ Outline.composed_bounds most font.now.table.now font.now.layout bounds accent }
 {
@@ -304,8 +307,9 @@ fn bounds_within(font: &CffFont<'_>, glyph: u32, most: u32) -> Option<Bounds>
     }
 }
 
-/// The box of a glyph: of the ends and control points of all that its charstring draws, and of the letter and the accent
-/// that it is composed of. None if the font has no such glyph, or a charstring is refused or too long for a box.
+/// The box of a glyph: of the ends and control points of all that its charstring draws, and of the
+/// letter and the accent that it is composed of. None if the font has no such glyph, or a
+/// charstring is refused or too long for a box.
 pub fn glyph_bounds(font: &CffFont<'_>, glyph: u32) -> Option<Bounds>
     ensures { result ≡ Outline.bounds_of font.now.table.now font.now.layout glyph }
 {

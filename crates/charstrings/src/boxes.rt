@@ -6,8 +6,8 @@ use crate::bounds::{Bounds, glyph_bounds};
 use crate::numbers::plus;
 use cff_tables::CffFont;
 
-/// The box of a glyph, in units of the font: where its left and its upper side lie, and how far it reaches from there,
-/// to the right and upwards; its height is negative as a rule.
+/// The box of a glyph, in units of the font: where its left and its upper side lie, and how far it
+/// reaches from there, to the right and upwards; its height is negative as a rule.
 #[derive(Clone, Copy, PartialEq, Debug)]
 pub struct GlyphBox {
     pub x_bearing: i32,
@@ -114,7 +114,8 @@ pub fn box_of(bounds: &Bounds) -> GlyphBox
     }
 }
 
-/// The box of a glyph in whole units. None if the font has no such glyph, or a charstring is refused.
+/// The box of a glyph in whole units. None if the font has no such glyph, or a charstring is
+/// refused.
 #[tactic(auto, unfolding(crate::specs::Boxes::glyph_box))]
 pub fn glyph_box(font: &CffFont<'_>, glyph: u32) -> Option<GlyphBox>
     ensures { result ≡ Boxes.glyph_box font.now.table.now font.now.layout glyph }

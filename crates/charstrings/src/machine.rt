@@ -1,5 +1,6 @@
-//! The machine that runs charstrings: one operator, number or stroke a step (Adobe Technical Note 5177; OpenType, "CFF2
-//! CharString Format"). A step that is refused ends the run: HarfBuzz has no outline then.
+//! The machine that runs charstrings: one operator, number or stroke a step (Adobe Technical Note
+//! 5177; OpenType, "CFF2 CharString Format"). A step that is refused ends the run: HarfBuzz has no
+//! outline then.
 ghost use Rattle.std.specs.Prelude.{◌≡◌, ◌<◌};
 ghost use Rattle.cff_tables.specs.Font.{glyph_local, region_count};
 ghost use Rattle.std.specs.Option.{option_map};
@@ -35,8 +36,9 @@ pub struct Drawing {
     at: u16,
 }
 
-/// The machine between two steps: the bytes that are left of the charstring and of those that called it, the arguments
-/// (the first one at the bottom of the stack), the place of the pen, and hints.
+/// The machine between two steps: the bytes that are left of the charstring and of those that
+/// called it, the arguments (the first one at the bottom of the stack), the place of the pen, and
+/// hints.
 #[derive(Drop)]
 pub struct State {
     code: ObjectRange,
@@ -51,7 +53,8 @@ pub struct State {
     varied: bool,
 }
 
-/// What a charstring runs in: the table, where its parts stand, and where the local subroutines of its glyph do.
+/// What a charstring runs in: the table, where its parts stand, and where the local subroutines of
+/// its glyph do.
 #[derive(Clone, Copy)]
 pub struct Program<'a> {
     table: &'a [u8],

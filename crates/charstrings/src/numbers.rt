@@ -63,7 +63,8 @@ fn signed_long(n: u32) -> i32
     }
 }
 
-/// The size of a number of two bytes, in 65536ths, by how far the first lies past the first of its kind.
+/// The size of a number of two bytes, in 65536ths, by how far the first lies past the first of its
+/// kind.
 fn small_pair(first: u8, second: u8) -> i32
     requires { first < 4 }
     ensures value { result ≡ Numbers.pair_of first second }

@@ -1,5 +1,5 @@
-//! Path construction operators: the lines and curves that each draws from its arguments, one after another (Adobe
-//! Technical Note 5177, section 4.1). Numbers are in 65536ths of a unit.
+//! Path construction operators: the lines and curves that each draws from its arguments, one after
+//! another (Adobe Technical Note 5177, section 4.1). Numbers are in 65536ths of a unit.
 ghost use Rattle.std.specs.Prelude.{◌≡◌, ◌<◌, ◌≤ℤ◌, ◌+◌, ◌^◌, pos, negsuc};
 ghost use Rattle.charstrings.specs.Pieces;
 
@@ -14,7 +14,8 @@ pub struct Delta {
     pub y: i64,
 }
 
-/// A line, or a curve of the third degree: how far its control points and its end lie, each from the point before.
+/// A line, or a curve of the third degree: how far its control points and its end lie, each from
+/// the point before.
 #[derive(Clone, Copy, PartialEq, Debug)]
 pub enum Piece {
     Line(Delta),
@@ -295,7 +296,8 @@ fn turned_axis(horizontal: bool, turned: bool) -> bool
     if horizontal { !turned } else { turned }
 }
 
-/// The next line or curve from argument `at` on; none if no more are drawn. `turned` after an odd number of them.
+/// The next line or curve from argument `at` on; none if no more are drawn. `turned` after an odd
+/// number of them.
 pub fn piece_at(operator: PathOperator, turned: bool, args: &[i32], at: u16) -> Option<Found>
     ensures { result ≡ Pieces.piece_of operator turned args.now at }
 {

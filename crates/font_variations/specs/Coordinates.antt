@@ -1,17 +1,19 @@
 -- The coordinates of an instance of a font, one for each of its axes, normalized: by `fvar` from the values that are wished,
 -- and then by `avar`.
-use Rattle.std.specs.Prelude.{ℕ, ℤ, List, [], Bool, Option, Some, None, ◌+◌, ◌||◌, ◌&&◌, ◌+ℤ◌, nat_eq, nat_lt, nat_le, length, map, if◌then◌else◌, cond, fold, is_none}
+use Rattle.std.specs.Prelude.{ℕ, ℤ, List, [], Bool, Option, Some, None, ◌+◌, ◌/◌, ◌||◌, ◌&&◌, ◌+ℤ◌, nat_eq, nat_lt, nat_le, length, map, if◌then◌else◌}
+use Rattle.std.specs.Prelude.{cond, fold, is_none}
 use Rattle.std.specs.List.{range_with_len}
 use Rattle.std.specs.Option.{option_map_or}
 use Rattle.std.specs.Float.{Float}
 use Rattle.font_bytes.specs.Bytes.{u16_of, u32_of}
 use Rattle.font_variations.specs.Axes.{axis_count, axis_of, instance_count, instance_value}
-use Rattle.font_variations.specs.Deltas.{delta_of, rounded}
+use Rattle.font_variations.specs.Deltas.{delta_within, rounded}
 use Rattle.font_variations.specs.IndexMaps.{mapped}
 use Rattle.font_variations.specs.Normal.{bounded, normalized}
 use Rattle.font_variations.specs.Parts.{part_at}
 use Rattle.font_variations.specs.Regions.{coordinate_of}
 use Rattle.font_variations.specs.Segments.{mapped_by, segments_at}
+use Rattle.font_variations.specs.declared.coordinates.TheConstants.{MOST_SHIFT_STEPS}
 use Rattle.font_variations.specs.declared.coordinates.Variation.{Variation}
 
 -- ---- in the units of users
@@ -48,7 +50,7 @@ abbrev pub by_segments : List ℕ → List ℕ → Option ℕ → List Variation
 by_segments fvar avar instance wishes = map (axis_coordinate fvar avar instance wishes) (range_with_len 0 (axis_count fvar))
 
 -- version 2 has an index map and a store after the segments: each coordinate is shifted by what they say at the coordinates
--- so far
+-- so far, unless that would take too many steps for all axes
 abbrev pub tail_of : List ℕ → ℕ
 tail_of avar = segments_at avar (u16_of avar 6)
 
@@ -56,7 +58,7 @@ unfoldable pub shift_of : List ℕ → List ℤ → ℕ → ℤ
 shift_of avar coordinates axis =
     let map_part = part_at avar (u32_of avar (tail_of avar)) in
     let store = part_at avar (u32_of avar (tail_of avar + 4)) in
-    rounded (delta_of store coordinates (mapped map_part axis))
+    rounded (delta_within (MOST_SHIFT_STEPS / length coordinates) store coordinates (mapped map_part axis))
 
 unfoldable pub shifted : List ℕ → List ℤ → ℕ → ℤ
 shifted avar coordinates axis = bounded (coordinate_of coordinates axis +ℤ shift_of avar coordinates axis)

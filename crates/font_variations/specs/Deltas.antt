@@ -88,6 +88,14 @@ unfoldable pub delta_of : List ℕ → List ℤ → ℕ → Float
 delta_of t coordinates index =
     if has_data t (index / 65536) then row_delta t coordinates (data_at t (index / 65536)) (index % 65536) else nothing
 
+-- what a delta takes: a step for each column of its row, and one for each axis of the column's region
+abbrev pub row_steps : List ℕ → ℕ → ℕ
+row_steps t index = if has_data t (index / 65536) then column_count t (data_at t (index / 65536)) * (1 + u16_of t (u32_of t 2)) else 0
+
+-- the same delta, but a row that takes more than so many steps isn't read
+abbrev pub delta_within : ℕ → List ℕ → List ℤ → ℕ → Float
+delta_within most t coordinates index = if nat_le (row_steps t index) most then delta_of t coordinates index else nothing
+
 -- to the nearest integer, halves up: what is at most the sum with 1/2, which is itself rounded
 abbrev pub one_half : Float
 one_half = of_bits binary32 0x3f000000

@@ -6,7 +6,7 @@ ghost use Rattle.font_variations.specs.Coordinates;
 ghost use Rattle.font_variations.specs.Segments;
 
 use crate::axes::{axis_count, instance_count, instance_value, nth_axis};
-use crate::deltas::{delta, rounded};
+use crate::deltas::{delta_within, rounded};
 use crate::index_maps::mapped;
 use crate::normal::{bounded, normalized};
 use crate::parts::part_at;
@@ -14,6 +14,11 @@ use crate::regions::coordinate;
 use crate::segments::{mapped_by, next_segments};
 use font_bytes::bytes::{u16_at, u32_at};
 use std::alloc::{AllocError, Global};
+
+/// How many steps the shifts of all axes take at most, by an `avar` of version 2: for each axis one
+/// for each column of its row, and for each axis of a column's region. A row that takes more than
+/// its share isn't read.
+pub const MOST_SHIFT_STEPS: u32 = 16_777_216;
 
 /// A wish for an axis: its tag, as a number, and the value, in the units of users.
 #[derive(Clone, Copy)]
@@ -152,12 +157,14 @@ fn by_segments(
 fn shift_of(avar: &[u8], tail: usize, coordinates: &[i32], axis: usize) -> i32
     requires tail { tail ≡ Coordinates.tail_of avar.now }
     requires near { tail < 2 ^ 36 }
-    requires few { axis < 2 ^ 16 }
+    requires axis { axis < length coordinates.now }
+    requires few { length coordinates.now < 2 ^ 16 }
     ensures { result ≡ Coordinates.shift_of avar.now coordinates.now axis }
 {
     let map = part_at(avar, u32_at(avar, tail) as usize);
     let store = part_at(avar, u32_at(avar, tail + 4) as usize);
-    rounded(delta(store, coordinates, mapped(map, axis as u32)))
+    let most = MOST_SHIFT_STEPS / coordinates.len() as u32;
+    rounded(delta_within(most, store, coordinates, mapped(map, axis as u32)))
 }
 
 /// The sum of two numbers, which 64 bits hold.
@@ -172,7 +179,8 @@ fn sum(a: i32, b: i32) -> i64
 fn shifted(avar: &[u8], tail: usize, coordinates: &[i32], axis: usize) -> i32
     requires tail { tail ≡ Coordinates.tail_of avar.now }
     requires near { tail < 2 ^ 36 }
-    requires few { axis < 2 ^ 16 }
+    requires axis { axis < length coordinates.now }
+    requires few { length coordinates.now < 2 ^ 16 }
     ensures { result ≡ Coordinates.shifted avar.now coordinates.now axis }
 {
     bounded(sum(

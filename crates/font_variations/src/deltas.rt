@@ -220,6 +220,31 @@ pub fn delta(store: &[u8], coordinates: &[i32], index: u32) -> f32
     StoreAt::new(store, coordinates).delta(index)
 }
 
+/// How many steps the delta set with this index takes: one for each column, and for each axis of
+/// its region.
+pub fn row_steps(store: &[u8], index: u32) -> u32
+    ensures { result ≡ Deltas.row_steps store.now index }
+{
+    let outer = (index / 65536) as u16;
+    if !has_data(store, outer) {
+        return 0;
+    }
+    let columns = u16_at(store, data_at(store, outer) + 4);
+    let axes = u16_at(store, u32_at(store, 2) as usize);
+    u32::from(columns) * (1 + u32::from(axes))
+}
+
+/// The same as [`delta`], but 0 for a delta set that takes more than so many steps.
+pub fn delta_within(most: u32, store: &[u8], coordinates: &[i32], index: u32) -> f32
+    ensures { result ≡ Deltas.delta_within most store.now coordinates.now index }
+{
+    if row_steps(store, index) <= most {
+        delta(store, coordinates, index)
+    } else {
+        0.0
+    }
+}
+
 /// To the nearest integer, halves up.
 #[tactic(auto, unfolding(crate::specs::Deltas::rounded))]
 pub fn rounded(x: f32) -> i32

@@ -2,10 +2,15 @@
 ghost use Rattle.std.specs.Prelude.{◌≡◌, ◌≤◌};
 ghost use Rattle.font_variations.specs.Metrics;
 
-use crate::deltas::{delta, rounded};
+use crate::deltas::{delta_within, rounded, row_steps};
 use crate::index_maps::mapped;
 use crate::parts::part_at;
 use font_bytes::bytes::{u16_at, u32_at};
+
+/// How many steps the delta of a glyph's metric takes at most: one for each column of its row, and
+/// for each axis of a column's region. A longer row isn't read, so that no font makes a run of many
+/// glyphs slow.
+pub const MOST_ROW_STEPS: u32 = 8_192;
 
 /// Whether a table `HVAR` or `VVAR` is read: it is of major version 1. An empty one is not.
 pub fn has_metrics(table: &[u8]) -> bool
@@ -22,7 +27,7 @@ fn metric_delta(table: &[u8], coordinates: &[i32], at: usize, glyph: u32) -> i32
 {
     let store = part_at(table, u32_at(table, 4) as usize);
     let map = part_at(table, u32_at(table, at) as usize);
-    rounded(delta(store, coordinates, mapped(map, glyph)))
+    rounded(delta_within(MOST_ROW_STEPS, store, coordinates, mapped(map, glyph)))
 }
 
 /// The same, if the map is there.
@@ -38,7 +43,8 @@ fn mapped_delta(table: &[u8], coordinates: &[i32], at: usize, glyph: u32) -> Opt
 }
 
 /// What is added to a glyph's advance at the coordinates, by `HVAR` to the horizontal one, by
-/// `VVAR` to the vertical one; 0 if the table is not read.
+/// `VVAR` to the vertical one; 0 if the table is not read, or the row takes more than
+/// [`MOST_ROW_STEPS`].
 pub fn advance_delta(table: &[u8], coordinates: &[i32], glyph: u32) -> i32
     ensures { result ≡ Metrics.advance_delta table.now coordinates.now glyph }
 {
@@ -47,6 +53,20 @@ pub fn advance_delta(table: &[u8], coordinates: &[i32], glyph: u32) -> i32
     } else {
         0
     }
+}
+
+/// How many steps [`advance_delta`] takes at most: one for each column of the glyph's row, and for
+/// each axis of its region.
+pub fn advance_steps(table: &[u8], glyph: u32) -> u32
+    ensures value { result ≡ Metrics.advance_steps table.now glyph }
+    ensures few { result ≤ 8192 }
+{
+    if !has_metrics(table) {
+        return 0;
+    }
+    let store = part_at(table, u32_at(table, 4) as usize);
+    let map = part_at(table, u32_at(table, 8) as usize);
+    row_steps(store, mapped(map, glyph)).min(MOST_ROW_STEPS)
 }
 
 /// What is added to a glyph's left bearing by `HVAR`, to its upper one by `VVAR`; none if the

@@ -1,4 +1,5 @@
 pub mod Axes
+pub mod Bounded
 pub mod Composite
 pub mod Flags
 pub mod Simple

@@ -1,7 +1,8 @@
 -- the points of a glyph that is drawn by itself (OpenType, "glyf", simple glyphs). After ten bytes of the header stand the
 -- last points of the contours, the length of the instructions and these, the flags, the x coordinates, the y coordinates
 use Prim.Native.Nat.{zero}
-use Rattle.std.specs.Prelude.{ℕ, ℤ, pos, suc, List, [], ◌∷◌, true, false, Option, Some, None, ◌+◌, ◌*◌, ◌^◌, ◌&&◌, ◌||◌, nat_eq, nat_le, nat_lt, length, if◌then◌else◌, slice_set, slice_index_or}
+use Rattle.std.specs.Prelude.{ℕ, ℤ, pos, suc, List, [], ◌∷◌, true, false, Option, Some, None, ◌+◌, ◌*◌, ◌^◌, ◌&&◌, ◌||◌, nat_eq, nat_le, nat_lt}
+use Rattle.std.specs.Prelude.{length, if◌then◌else◌, slice_set, slice_index_or}
 use Rattle.std.specs.Option.{option_map, option_and_then}
 use Rattle.font_bytes.specs.Bytes.{u16_of}
 use Rattle.glyf_points.specs.Flags.{has, flags_of, first}

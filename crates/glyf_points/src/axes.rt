@@ -1,4 +1,5 @@
-//! Coordinates of points along one axis: how far each point lies from the one before it (OpenType, "glyf", simple glyphs).
+//! Coordinates of points along one axis: how far each point lies from the one before it (OpenType,
+//! "glyf", simple glyphs).
 ghost use Rattle.std.specs.Prelude.{◌≡◌, ◌≤◌, ◌<◌, ◌+◌, ◌^◌, length, pos, IfOk};
 ghost use Rattle.std.specs.Option.{IfSome, option_map};
 ghost use Rattle.glyf_points.specs.Axes;
@@ -7,8 +8,9 @@ use font_bytes::bytes::{i16_at, u8_at};
 use shape_common::wrapping::{difference, sum};
 use std::alloc::{AllocError, Global};
 
-/// The bits of a flag that speak of one axis: whether a byte says how far the point lies, and whether that is forwards, or,
-/// without such a byte, whether the point lies where the one before it does.
+/// The bits of a flag that speak of one axis: whether a byte says how far the point lies, and
+/// whether that is forwards, or, without such a byte, whether the point lies where the one before
+/// it does.
 #[derive(Clone, Copy)]
 pub(crate) struct Axis {
     pub short: u8,
@@ -23,7 +25,7 @@ pub(crate) struct AxisValues {
 }
 
 /// How many bytes say how far a point with this flag lies from the one before it.
-fn step_size(axis: Axis, flag: u8) -> usize
+pub(crate) fn step_size(axis: Axis, flag: u8) -> usize
     ensures { result ≡ Axes.step_size axis flag }
 {
     if flag & axis.short != 0 {
@@ -36,7 +38,7 @@ fn step_size(axis: Axis, flag: u8) -> usize
 }
 
 /// The coordinate of a point with this flag, after one that lies at `before`.
-fn next_value(glyph: &[u8], at: usize, axis: Axis, flag: u8, before: i32) -> i32
+pub(crate) fn next_value(glyph: &[u8], at: usize, axis: Axis, flag: u8, before: i32) -> i32
     requires { at < 2 ^ 40 }
     ensures { result ≡ Axes.next_value glyph.now at axis flag before }
 {
@@ -55,8 +57,8 @@ fn next_value(glyph: &[u8], at: usize, axis: Axis, flag: u8, before: i32) -> i32
     }
 }
 
-/// The coordinates of points with these flags, whose bytes begin at `start`. None if they are cut off. Refuses only if a
-/// growth was refused.
+/// The coordinates of points with these flags, whose bytes begin at `start`. None if they are cut
+/// off. Refuses only if a growth was refused.
 #[tactic(auto, using(crate::proofs::AxisLemmas::values_begun, crate::proofs::AxisLemmas::values_step, crate::proofs::AxisLemmas::values_cut, crate::proofs::AxisLemmas::values_end))]
 pub(crate) fn coordinates(
     alloc: Global,

@@ -5,17 +5,23 @@ ghost use Rattle.glyf_points.specs.Composite;
 use font_bytes::bytes::{i8_at, i16_at, u8_at, u16_at};
 use std::alloc::{AllocError, Global};
 
-/// Where a component stands: moved so far, in units of the font; or so that a point of it comes to lie on a point of the
-/// components before it, by the numbers of both.
+/// Where a component stands: moved so far, in units of the font; or so that a point of it comes to
+/// lie on a point of the components before it, by the numbers of both.
 #[derive(Clone, Copy, PartialEq, Debug)]
 pub enum Placement {
     Moved(i32, i32),
     OnPoint(u16, u16),
 }
 
-/// What the points of a component are multiplied by, in 16384ths: x becomes `xx` of it and `yx` of y, and y becomes `xy` of x
-/// and `yy` of it.
-#[derive(Clone, Copy, PartialEq, Debug)]
+impl Default for Placement {
+    fn default() -> Placement {
+        Placement::Moved(0, 0)
+    }
+}
+
+/// What the points of a component are multiplied by, in 16384ths: x becomes `xx` of it and `yx` of
+/// y, and y becomes `xy` of x and `yy` of it.
+#[derive(Clone, Copy, PartialEq, Debug, Default)]
 pub struct Matrix {
     pub xx: i32,
     pub xy: i32,
@@ -23,9 +29,9 @@ pub struct Matrix {
     pub yy: i32,
 }
 
-/// A glyph of those that another one is made of. If `is_offset_scaled`, it is moved before it is multiplied; if
-/// `has_metrics`, the advance and bearing of the whole are those of this one.
-#[derive(Clone, Copy, PartialEq, Debug)]
+/// A glyph of those that another one is made of. If `is_offset_scaled`, it is moved before it is
+/// multiplied; if `has_metrics`, the advance and bearing of the whole are those of this one.
+#[derive(Clone, Copy, PartialEq, Debug, Default)]
 pub struct Component {
     pub glyph: u16,
     pub placement: Placement,
@@ -43,8 +49,8 @@ fn matrix_at(at: usize, flags: u16) -> usize
     at + if flags & 1 != 0 { 8 } else { 6 }
 }
 
-/// How many bytes a component takes.
-fn component_size(flags: u16) -> usize
+/// How many bytes a component with these flags takes.
+pub fn component_size(flags: u16) -> usize
     ensures value { result ≡ Composite.component_size flags }
     ensures few { result ≤ 16 }
 {
@@ -105,7 +111,7 @@ fn matrix_of(glyph: &[u8], at: usize, flags: u16) -> Matrix
 }
 
 /// The component that begins at `at`.
-fn component_at(glyph: &[u8], at: usize, flags: u16) -> Component
+pub(crate) fn component_at(glyph: &[u8], at: usize, flags: u16) -> Component
     requires { at < 2 ^ 33 }
     ensures { result ≡ Composite.component_of glyph.now at flags }
 {
@@ -118,8 +124,9 @@ fn component_at(glyph: &[u8], at: usize, flags: u16) -> Component
     }
 }
 
-/// The glyphs that a glyph is made of, in order, as far as they aren't cut off, and at most so many: none for a glyph that is
-/// drawn by itself, and for 4 GiB or more. Refuses only if a growth was refused.
+/// The glyphs that a glyph is made of, in order, as far as they aren't cut off, and at most so
+/// many: none for a glyph that is drawn by itself, and for 4 GiB or more. Refuses only if a growth
+/// was refused.
 #[tactic(auto, using(crate::proofs::ComponentLemmas::components_step, crate::proofs::ComponentLemmas::components_last, crate::proofs::ComponentLemmas::components_cut, crate::proofs::ComponentLemmas::components_over))]
 pub fn components(alloc: Global, glyph: &[u8], most: u32) -> Result<Vec<Component>, AllocError>
     ensures { IfOk result

@@ -1,4 +1,5 @@
-//! Flags of points: one for each, of which a run of equal ones is written once (OpenType, "glyf", simple glyphs).
+//! Flags of points: one for each, of which a run of equal ones is written once (OpenType, "glyf",
+//! simple glyphs).
 ghost use Rattle.std.specs.Prelude.{◌≡◌, ◌≤◌, length, IfOk};
 ghost use Rattle.std.specs.Option.{IfSome, option_map};
 ghost use Rattle.glyf_points.specs.Flags;
@@ -25,7 +26,7 @@ pub(crate) struct FlagList {
 }
 
 /// The flag of the point after one with this flag. None if it is cut off.
-fn flag_after(glyph: &[u8], before: Flag) -> Option<Flag>
+pub(crate) fn flag_after(glyph: &[u8], before: Flag) -> Option<Flag>
     requires { before.next ≤ length glyph.now }
     ensures flag { result ≡ Flags.flag_after glyph.now before }
     ensures inside { IfSome result (λ f. f.next ≤ length glyph.now) }
@@ -50,7 +51,8 @@ fn flag_after(glyph: &[u8], before: Flag) -> Option<Flag>
     Some(Flag { flag, left, next })
 }
 
-/// The flags of so many points from a place on. None if they are cut off. Refuses only if a growth was refused.
+/// The flags of so many points from a place on. None if they are cut off. Refuses only if a growth
+/// was refused.
 #[tactic(auto, using(crate::proofs::FlagLemmas::flags_begun, crate::proofs::FlagLemmas::flags_step, crate::proofs::FlagLemmas::flags_cut, crate::proofs::FlagLemmas::flags_end))]
 pub(crate) fn flags(
     alloc: Global,

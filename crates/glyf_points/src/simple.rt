@@ -9,9 +9,9 @@ use crate::flags::flags;
 use font_bytes::bytes::u16_at;
 use std::alloc::{AllocError, Global};
 
-/// A point of a glyph, in units of the font, y upwards: `on` if the outline goes through it, `ends` if it is the last one of
-/// its contour.
-#[derive(Clone, Copy, PartialEq, Debug)]
+/// A point of a glyph, in units of the font, y upwards: `on` if the outline goes through it, `ends`
+/// if it is the last one of its contour.
+#[derive(Clone, Copy, PartialEq, Debug, Default)]
 pub struct GlyphPoint {
     pub x: i32,
     pub y: i32,
@@ -91,8 +91,8 @@ fn points_at(
     Ok(Some(points))
 }
 
-/// How many points and contours a glyph says that it has, which is what its points cost to read, also if they are cut off: 0
-/// if it is empty, or made of others.
+/// How many points and contours a glyph says that it has, which is what its points cost to read,
+/// also if they are cut off: 0 if it is empty, or made of others.
 pub fn said(glyph: &[u8]) -> u32
     ensures { result ≡ Simple.said glyph.now }
 {
@@ -103,8 +103,9 @@ pub fn said(glyph: &[u8]) -> u32
     u32::from(u16_at(glyph, 8 + 2 * usize::from(contours))) + 1 + u32::from(contours)
 }
 
-/// The points of a glyph that is drawn by itself, contour after contour: those of an empty glyph, and of one that is
-/// made of others, are none. `None` if a part of it is cut off, and for 4 GiB or more. Refuses only if a growth was refused.
+/// The points of a glyph that is drawn by itself, contour after contour: those of an empty glyph,
+/// and of one that is made of others, are none. `None` if a part of it is cut off, and for 4 GiB or
+/// more. Refuses only if a growth was refused.
 pub fn points(alloc: Global, glyph: &[u8]) -> Result<Option<Vec<GlyphPoint>>, AllocError>
     ensures { IfOk result (λ found. option_map (λ points. points.items) found
         ≡ Simple.points_of glyph.now) }

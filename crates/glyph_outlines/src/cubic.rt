@@ -1,4 +1,5 @@
-//! The outline of a glyph that a charstring draws (tables `CFF ` and `CFF2`), with curves of the third degree.
+//! The outline of a glyph that a charstring draws (tables `CFF ` and `CFF2`), with curves of the
+//! third degree.
 ghost use Rattle.std.specs.Prelude.{◌≡◌};
 
 use crate::frame::Point;
@@ -166,7 +167,8 @@ fn draw_composed(
     })
 }
 
-/// Appends the outline of a glyph, nothing if a charstring is refused. Gives how many steps that took, counted as points.
+/// Appends the outline of a glyph, nothing if a charstring is refused. Gives how many steps that
+/// took, counted as points.
 pub(crate) fn append_glyph(
     segments: &mut Vec<Segment>,
     font: &CffFont,

@@ -47,7 +47,8 @@ impl Outline {
         self.segments.as_slice()
     }
 
-    /// How many points, contours and components of the font were read for it, or eighths of the steps of its charstring.
+    /// How many points, contours and components of the font were read for it, or eighths of the
+    /// steps of its charstring.
     pub fn points(&self) -> u32
         ensures { result ≡ self.now.points }
     {
@@ -56,8 +57,9 @@ impl Outline {
 }
 
 impl<'a> Outlines<'a> {
-    /// The outlines of the font with this number in a collection, or number 0, the one of a file of one font. None if
-    /// it has neither a table `glyf` nor a font in `CFF2` or `CFF `. A font that has both is drawn by `glyf`.
+    /// The outlines of the font with this number in a collection, or number 0, the one of a file of
+    /// one font. None if it has neither a table `glyf` nor a font in `CFF2` or `CFF `. A font that
+    /// has both is drawn by `glyf`.
     #[tactic(auto, unfolding(shape_font::specs::Directory::has_table))]
     pub fn from_slice(bytes: &'a [u8], index: u32) -> Option<Outlines<'a>>
         ensures found { is_some result ≡ has_outlines bytes.now index }
@@ -96,8 +98,8 @@ impl<'a> Outlines<'a> {
         }
     }
 
-    /// The outline of a glyph, of which at most so many segments count; empty if the glyph has none. Refuses only if a
-    /// growth was refused.
+    /// The outline of a glyph, of which at most so many segments count; empty if the glyph has
+    /// none. Refuses only if a growth was refused.
     pub fn outline(&self, alloc: Global, glyph: u16, most: usize) -> Result<Outline, AllocError>
         ensures bounded { IfOk result (λ o. length o.segments.items ≤ most) }
     {
@@ -110,7 +112,8 @@ impl<'a> Outlines<'a> {
         Ok(Outline { segments, points })
     }
 
-    /// Appends the outline of a glyph of `glyf`. Gives how many points, contours and components were read.
+    /// Appends the outline of a glyph of `glyf`. Gives how many points, contours and components
+    /// were read.
     fn append(
         &self,
         alloc: Global,

@@ -1,4 +1,5 @@
-//! The points of a glyph with those of the glyphs that it is made of (OpenType, "glyf", composite glyphs).
+//! The points of a glyph with those of the glyphs that it is made of (OpenType, "glyf", composite
+//! glyphs).
 ghost use Rattle.std.specs.Prelude.{◌≡◌, ◌++◌, map, IfOk};
 ghost use Rattle.glyph_outlines.specs.Frames;
 
@@ -11,11 +12,12 @@ use std::alloc::{AllocError, Global};
 /// The most glyphs that one is drawn of; one that is placed by points counts twice.
 pub const MOST_COMPONENTS: u32 = 256;
 
-/// The most points, contours and components after which another glyph is added to one. A few bytes can stand for 65,536 points.
+/// The most points, contours and components after which another glyph is added to one. A few bytes
+/// can stand for 65,536 points.
 pub const MOST_POINTS: u32 = 65536;
 
-/// A glyph that is still to be drawn, in its frame: a component of one whose points begin at place `whole`, or a glyph by
-/// itself.
+/// A glyph that is still to be drawn, in its frame: a component of one whose points begin at place
+/// `whole`, or a glyph by itself.
 #[derive(Clone, Copy)]
 pub struct Part {
     pub glyph: u16,
@@ -24,7 +26,8 @@ pub struct Part {
     whole: usize,
 }
 
-/// That the points from `first` on are to be moved, so that the point at place `own` comes to lie on that at `whole`.
+/// That the points from `first` on are to be moved, so that the point at place `own` comes to lie
+/// on that at `whole`.
 #[derive(Clone, Copy)]
 struct Meeting {
     first: usize,
@@ -39,7 +42,8 @@ enum Task {
     Meet(Meeting),
 }
 
-/// The points of an outline, what is still to be done for it, and how many points, contours and components were read.
+/// The points of an outline, what is still to be done for it, and how many points, contours and
+/// components were read.
 #[derive(Drop)]
 pub struct Assembly {
     points: Vec<OutlinePoint>,
@@ -96,7 +100,8 @@ impl Part {
         }
     }
 
-    /// What is to be done once its points stand behind `first` others: nothing, unless it is placed by points.
+    /// What is to be done once its points stand behind `first` others: nothing, unless it is placed
+    /// by points.
     fn meeting(&self, first: usize) -> Option<Meeting> {
         match self.placement {
             Placement::Moved(_, _) => None,
@@ -142,7 +147,8 @@ impl Assembly {
         }
     }
 
-    /// Does what is to be done before the next glyph is drawn, which is given; none if nothing is left.
+    /// Does what is to be done before the next glyph is drawn, which is given; none if nothing is
+    /// left.
     pub fn next(&mut self) -> Option<Part> {
         for _ in 0..MOST_COMPONENTS {
             match self.tasks.pop() {
@@ -154,8 +160,8 @@ impl Assembly {
         None
     }
 
-    /// Draws a glyph with these bytes: adds its points, unless more than [`MOST_POINTS`] were read already, or its components to
-    /// what is still to be done.
+    /// Draws a glyph with these bytes: adds its points, unless more than [`MOST_POINTS`] were read
+    /// already, or its components to what is still to be done.
     pub fn draw(&mut self, alloc: Global, part: &Part, glyph: &[u8]) -> Result<(), AllocError> {
         let first = self.points.len();
         if let Some(meeting) = part.meeting(first) {

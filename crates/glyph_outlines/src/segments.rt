@@ -1,4 +1,5 @@
-//! Lines and curves of contours, from points that the outline goes through and those that its curves go round.
+//! Lines and curves of contours, from points that the outline goes through and those that its
+//! curves go round.
 ghost use Rattle.std.specs.Prelude.{◌≡◌, ◌<◌, ◌++◌, [], None, length, IfOk};
 ghost use Rattle.glyph_outlines.specs.Contours;
 
@@ -20,7 +21,8 @@ pub enum Segment {
     Close,
 }
 
-/// Where a contour begins: at its first point, its last one, or between them, whichever the outline goes through.
+/// Where a contour begins: at its first point, its last one, or between them, whichever the outline
+/// goes through.
 fn begin(first: Point, last: Point) -> Point
     ensures { result ≡ Contours.begin first last }
 {
@@ -113,7 +115,8 @@ fn last(first: Point, points: &[Point]) -> Point
     last
 }
 
-/// The points to which something leads, of a contour with this first one: not the first, if the contour begins there.
+/// The points to which something leads, of a contour with this first one: not the first, if the
+/// contour begins there.
 fn targets(first: Point, points: &[Point]) -> &[Point]
     requires { 0 < length points.now }
     ensures { result.now ≡ Contours.targets first points.now }

@@ -1,6 +1,7 @@
 -- The table `gvar`: what it stores for each glyph, and the tuples that glyphs share.
-use Rattle.std.specs.Prelude.{ℕ, List, [], Bool, ◌+◌, ◌-◌, ◌*◌, ◌%◌, ◌&&◌, nat_eq, nat_lt, nat_le, length, take, drop, min, if◌then◌else◌}
+use Rattle.std.specs.Prelude.{ℕ, ℤ, List, [], Bool, ◌+◌, ◌-◌, ◌*◌, ◌%◌, ◌&&◌, nat_eq, nat_lt, nat_le, length, take, drop, min, if◌then◌else◌}
 use Rattle.font_bytes.specs.Bytes.{u16_of, u32_of}
+use Rattle.glyph_variations.specs.declared.glyph.GlyphVariations.{GlyphVariations}
 
 -- `count` bytes from a place on, as far as the table reaches
 abbrev pub rest_of : List ℕ → ℕ → List ℕ
@@ -41,3 +42,22 @@ shared_of t = cut t (u32_of t 8) (shared_size t)
 abbrev pub data_of : List ℕ → ℕ → ℕ → List ℕ
 data_of t glyphs glyph = if nat_lt glyph glyphs && is_read t glyphs
     then cut t (u32_of t 16 + place_of t glyph) (place_of t (glyph + 1) - place_of t glyph) else []
+
+-- that, the peaks that glyphs share, how many axes a tuple has, and the coordinates
+pub record Stored : Type 0 where
+  pub bytes : List ℕ
+  pub shared : List ℕ
+  pub axes : ℕ
+  pub coordinates : List ℤ
+
+abbrev pub stored : GlyphVariations → Stored
+stored g = record { bytes = g.bytes.now; shared = g.shared.now; axes = g.axes; coordinates = g.coordinates.now }
+
+-- for a glyph of a font with so many
+abbrev pub stored_of : List ℕ → ℕ → ℕ → List ℤ → Stored
+stored_of t glyphs glyph coordinates = record {
+  bytes = data_of t glyphs glyph;
+  shared = shared_of t;
+  axes = axes_of t;
+  coordinates = coordinates;
+}

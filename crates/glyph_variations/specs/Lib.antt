@@ -1,7 +1,12 @@
 pub mod Times
 pub mod Numbers
+pub mod Outline
 pub mod Packed
 pub mod Glyph
 pub mod Tuples
 pub mod Sums
+pub mod Inferred
+pub mod Laws
+pub mod MetricPoints
 pub mod Worked
+pub mod WorkedOutlines

@@ -9,28 +9,31 @@ use Rattle.glyph_variations.specs.Times.{times}
 use Rattle.glyph_variations.specs.Numbers as numbers
 use Rattle.glyph_variations.specs.Packed as packed
 use Rattle.glyph_variations.specs.Tuples.{has_points, header_size, scalar_of}
-use Rattle.glyph_variations.specs.declared.glyph.GlyphVariations.{GlyphVariations}
+use Rattle.glyph_variations.specs.Glyph.{Stored}
 use Rattle.glyph_variations.specs.declared.sums.Reading.{Reading}
 use Rattle.glyph_variations.specs.declared.sums.TuplePoints.{TuplePoints}
 use Rattle.glyph_variations.specs.declared.sums.Moving.{Moving}
 use Rattle.glyph_variations.specs.declared.sums.Target.{Target}
 use Rattle.glyph_variations.specs.declared.sums.TupleWalk.{TupleWalk}
-use Rattle.glyph_variations.specs.declared.sums.TheConstants.{MOST_DELTAS}
+use Rattle.glyph_variations.specs.declared.sums.TheConstants.{MOST_STEPS}
 
 -- ---- the points of a tuple
 
 abbrev pub has_shared_points : List ℕ → Bool
 has_shared_points d = nat_le 0x8000 (u16_of d 0)
 
--- where data begin; the shared points come first
+-- where data begin; the shared points come first, if they aren't too many
 abbrev pub data_place : List ℕ → ℕ
 data_place d = u16_of d 2
 
 abbrev pub numbers_end : List ℕ → ℕ → ℕ
 numbers_end d at = (times (numbers.next_number d) (numbers.count_of d at) (numbers.begun (numbers.after_count d at))).at
 
+abbrev pub shared_count : List ℕ → ℕ
+shared_count d = if has_shared_points d then numbers.count_of d (data_place d) else 0
+
 abbrev pub first_place : List ℕ → ℕ
-first_place d = if has_shared_points d then numbers_end d (data_place d) else data_place d
+first_place d = if has_shared_points d && nat_le (shared_count d) MOST_STEPS then numbers_end d (data_place d) else data_place d
 
 -- its own, the shared ones, or all points
 abbrev pub points_of : List ℕ → ℕ → ℕ → TuplePoints
@@ -79,42 +82,50 @@ deltas_at d p target =
 
 -- ---- all tuples, one after the other
 
--- the header and the data are there
-abbrev pub is_whole : GlyphVariations → TupleWalk → Bool
-is_whole g w = nat_le (w.header + header_size g w.header) (length g.bytes.now)
-    && nat_le (w.place + u16_of g.bytes.now w.header) (length g.bytes.now)
+-- what passing over a tuple takes: four steps for its header, and one for each axis of its peak
+abbrev pub tuple_steps : Stored → ℕ
+tuple_steps g = 4 + g.axes
 
-abbrev pub passed : GlyphVariations → TupleWalk → TupleWalk
-passed g w = record w { header = w.header + header_size g w.header; place = w.place + u16_of g.bytes.now w.header }
+-- its peak may still be read, and the header and the data are there
+abbrev pub is_whole : Stored → TupleWalk → Bool
+is_whole g w = nat_le (tuple_steps g) w.left && nat_le (w.header + header_size g w.header) (length g.bytes)
+    && nat_le (w.place + u16_of g.bytes w.header) (length g.bytes)
 
-abbrev pub with_tuple : GlyphVariations → Target → Float → TuplePoints → TupleWalk → TupleWalk
+abbrev pub passed : Stored → TupleWalk → TupleWalk
+passed g w = record w {
+  header = w.header + header_size g w.header;
+  place = w.place + u16_of g.bytes w.header;
+  left = w.left - tuple_steps g;
+}
+
+abbrev pub with_tuple : Stored → Target → Float → TuplePoints → TupleWalk → TupleWalk
 with_tuple g target scalar p w = if nat_lt w.left (delta_count p target) then record w { ended = true }
     else record (passed g w) {
-      left = w.left - delta_count p target;
-      moving = moved g.bytes.now p (deltas_at g.bytes.now p target) target.point scalar w.moving;
+      left = w.left - tuple_steps g - delta_count p target;
+      moving = moved g.bytes p (deltas_at g.bytes p target) target.point scalar w.moving;
     }
 
--- a tuple that takes no part is passed over; after one that isn't whole, or that would read too many deltas, none is added
-abbrev pub next_tuple : GlyphVariations → Target → TupleWalk → TupleWalk
+-- a tuple that takes no part is passed over; after one that isn't whole, or that would read too much, none is added
+abbrev pub next_tuple : Stored → Target → TupleWalk → TupleWalk
 next_tuple g target w = if is_whole g w
     then (if eq (scalar_of g w.header) nothing then passed g w
-    else with_tuple g target (scalar_of g w.header) (points_of g.bytes.now w.header w.place) w)
+    else with_tuple g target (scalar_of g w.header) (points_of g.bytes w.header w.place) w)
     else record w { ended = true }
 
-abbrev pub tuple_step : GlyphVariations → Target → TupleWalk → TupleWalk
+abbrev pub tuple_step : Stored → Target → TupleWalk → TupleWalk
 tuple_step g target w = if w.ended then w else next_tuple g target w
 
-abbrev pub begun_at : GlyphVariations → Float → TupleWalk
+abbrev pub begun_at : Stored → Float → TupleWalk
 begun_at g position = record {
   header = 4;
-  place = first_place g.bytes.now;
-  left = MOST_DELTAS;
+  place = first_place g.bytes;
+  left = MOST_STEPS - shared_count g.bytes;
   ended = false;
   moving = record { position = position; pending = nothing };
 }
 
 -- where a point comes to stand
-unfoldable pub moved_to : GlyphVariations → Target → Float → Float
+unfoldable pub moved_to : Stored → Target → Float → Float
 moved_to g target position =
-    let m = (times (tuple_step g target) (u16_of g.bytes.now 0 % 4096) (begun_at g position)).moving in
+    let m = (times (tuple_step g target) (u16_of g.bytes 0 % 4096) (begun_at g position)).moving in
     add binary32 m.position m.pending

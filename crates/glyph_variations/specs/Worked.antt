@@ -1,5 +1,5 @@
 -- Points, deltas and tuples of a glyph, on bytes that were read by hand.
-use Rattle.std.specs.Prelude.{◌≡◌, ℕ, ℤ, pos, negsuc, List, [], ◌∷◌, true, false, refl}
+use Rattle.std.specs.Prelude.{◌≡◌, ℕ, ℤ, pos, negsuc, List, [], ◌∷◌, Some, None, true, false, refl}
 use Rattle.std.specs.Float.{Float, fin, round_with, binary32, round_to_format}
 use lib.Count.{count_trailing_zeros}
 use lib.Ieee.{round, size, span, climb, units, odd, of_bits, of_fields, of_int, div, mul, add, sum, eq}
@@ -8,10 +8,10 @@ use Rattle.font_variations.specs.Tents.{nothing}
 use Rattle.glyph_variations.specs.Times.{times}
 use Rattle.glyph_variations.specs.Numbers as numbers
 use Rattle.glyph_variations.specs.Packed as packed
-use Rattle.glyph_variations.specs.Glyph.{data_of, shared_of, is_read}
+use Rattle.glyph_variations.specs.Glyph.{Stored, data_of, shared_of, is_read}
+use Rattle.glyph_variations.specs.MetricPoints.{point_count, metrics_component}
 use Rattle.glyph_variations.specs.Tuples.{ratio64, part_of, scalar_of}
-use Rattle.glyph_variations.specs.Sums.{moved_to}
-use Rattle.glyph_variations.specs.declared.glyph.GlyphVariations.{GlyphVariations}
+use Rattle.glyph_variations.specs.Sums.{moved_to, is_whole, begun_at, first_place, tuple_step}
 
 -- the standard's example: 10, -105, 0, -58, eight zeros, 4130, -1228
 abbrev deltas : List ℕ
@@ -43,13 +43,8 @@ for_all = 0 ∷ 1 ∷ 0 ∷ 10 ∷ 0 ∷ 8 ∷ 0x80 ∷ 0 ∷ 0x40 ∷ 0 ∷ 2 �
 abbrev with_span : List ℕ
 with_span = 0 ∷ 1 ∷ 0 ∷ 12 ∷ 0 ∷ 0 ∷ 0x40 ∷ 0 ∷ 0x10 ∷ 0 ∷ 0x30 ∷ 0 ∷ []
 
-abbrev at : GlyphVariations → List ℕ → ℤ → GlyphVariations
-at g t coordinate = record g {
-  bytes = record g.bytes { now = t };
-  shared = record g.shared { now = 0x20 ∷ 0 ∷ [] };
-  axes = 1;
-  coordinates = record g.coordinates { now = coordinate ∷ [] };
-}
+abbrev pub at : List ℕ → ℤ → Stored
+at t coordinate = record { bytes = t; shared = 0x20 ∷ 0 ∷ []; axes = 1; coordinates = coordinate ∷ [] }
 
 abbrev hundred : Float
 hundred = of_int binary32 (pos 100)
@@ -58,6 +53,23 @@ hundred = of_int binary32 (pos 100)
 abbrev table : List ℕ
 table = 0 ∷ 1 ∷ 0 ∷ 0 ∷ 0 ∷ 1 ∷ 0 ∷ 1 ∷ 0 ∷ 0 ∷ 0 ∷ 26 ∷ 0 ∷ 2 ∷ 0 ∷ 0 ∷ 0 ∷ 0 ∷ 0 ∷ 28
     ∷ 0 ∷ 0 ∷ 0 ∷ 0 ∷ 0 ∷ 2 ∷ 0x20 ∷ 0 ∷ 9 ∷ 8 ∷ 7 ∷ 6 ∷ []
+
+-- an outline of one contour, of four points; and two components, glyphs 5 and 7, of which the second gives the metrics
+abbrev outline : List ℕ
+outline = 0 ∷ 1 ∷ 0 ∷ 0 ∷ 0 ∷ 0 ∷ 0 ∷ 0 ∷ 0 ∷ 0 ∷ 0 ∷ 3 ∷ 0 ∷ 0 ∷ []
+
+abbrev of_two : List ℕ → List ℕ
+of_two last = 0xFF ∷ 0xFF ∷ 0 ∷ 0 ∷ 0 ∷ 0 ∷ 0 ∷ 0 ∷ 0 ∷ 0 ∷ 0 ∷ 0x22 ∷ 0 ∷ 5 ∷ 0 ∷ 0 ∷ 2 ∷ 2 ∷ 0 ∷ 7 ∷ last
+
+pub record WorkedMetricPoints : Type 0 where
+  pub of_an_outline : point_count outline ≡ Some 4
+  pub ends_cut_off : point_count (0 ∷ 1 ∷ 0 ∷ 0 ∷ 0 ∷ 0 ∷ 0 ∷ 0 ∷ 0 ∷ 0 ∷ 0 ∷ 3 ∷ 0 ∷ []) ≡ None
+  pub of_nothing : point_count [] ≡ Some 0
+  pub of_components : point_count (of_two (1 ∷ 2 ∷ [])) ≡ Some 2
+  pub component_cut_off : point_count (of_two (1 ∷ [])) ≡ Some 1
+  pub own_metrics : metrics_component outline ≡ None
+  pub of_the_second : metrics_component (of_two (1 ∷ 2 ∷ [])) ≡ Some 7
+  pub second_cut_off : metrics_component (of_two (1 ∷ [])) ≡ None
 
 pub record WorkedGlyphs : Type 0 where
   pub first_delta : delta deltas 1 ≡ pos 10
@@ -78,30 +90,41 @@ pub record WorkedGlyphs : Type 0 where
   pub shared : shared_of table ≡ 0x20 ∷ 0 ∷ []
   pub places_cut_off : is_read table 6 ≡ false
   -- half way to the peak, at it, past it, and on the other side
-  pub half_way : (g : GlyphVariations) → scalar_of (at g for_one (pos 8192)) 4 ≡ fin false 1 (negsuc 0)
-  pub at_the_peak : (g : GlyphVariations) → scalar_of (at g for_one (pos 16384)) 4 ≡ fin false 1 (pos 0)
-  pub on_the_other_side : (g : GlyphVariations) → scalar_of (at g for_one (negsuc 8191)) 4 ≡ nothing
-  pub rising : (g : GlyphVariations) → scalar_of (at g with_span (pos 6144)) 4 ≡ fin false 1 (negsuc 0)
-  pub falling : (g : GlyphVariations) → scalar_of (at g with_span (pos 11264)) 4 ≡ fin false 1 (negsuc 1)
-  pub at_the_end : (g : GlyphVariations) → scalar_of (at g with_span (pos 12288)) 4 ≡ nothing
-  pub no_such_peak : (g : GlyphVariations) → scalar_of (at g (0 ∷ 1 ∷ 0 ∷ 12 ∷ 0 ∷ 0 ∷ 0 ∷ 1 ∷ []) (pos 8192)) 4 ≡ nothing
-  pub of_one_point : (g : GlyphVariations) → moved_to (at g for_one (pos 8192)) (record { point = 2; count = 6; vertical = false }) hundred
+  pub half_way : scalar_of (at for_one (pos 8192)) 4 ≡ fin false 1 (negsuc 0)
+  pub at_the_peak : scalar_of (at for_one (pos 16384)) 4 ≡ fin false 1 (pos 0)
+  pub on_the_other_side : scalar_of (at for_one (negsuc 8191)) 4 ≡ nothing
+  pub rising : scalar_of (at with_span (pos 6144)) 4 ≡ fin false 1 (negsuc 0)
+  pub falling : scalar_of (at with_span (pos 11264)) 4 ≡ fin false 1 (negsuc 1)
+  pub at_the_end : scalar_of (at with_span (pos 12288)) 4 ≡ nothing
+  pub no_such_peak : scalar_of (at (0 ∷ 1 ∷ 0 ∷ 12 ∷ 0 ∷ 0 ∷ 0 ∷ 1 ∷ []) (pos 8192)) 4 ≡ nothing
+  pub of_one_point : moved_to (at for_one (pos 8192)) (record { point = 2; count = 6; vertical = false }) hundred
       ≡ fin false 105 (pos 0)
-  pub down_the_page : (g : GlyphVariations) → moved_to (at g for_one (pos 16384)) (record { point = 2; count = 6; vertical = true }) hundred
+  pub down_the_page : moved_to (at for_one (pos 16384)) (record { point = 2; count = 6; vertical = true }) hundred
       ≡ fin false 15 (pos 3)
-  pub of_another_point : (g : GlyphVariations) → moved_to (at g for_one (pos 8192)) (record { point = 3; count = 6; vertical = false }) hundred
+  pub of_another_point : moved_to (at for_one (pos 8192)) (record { point = 3; count = 6; vertical = false }) hundred
       ≡ fin false 25 (pos 2)
-  pub of_shared_points : (g : GlyphVariations)
-      → moved_to (at g by_shared_points (pos 8192)) (record { point = 2; count = 6; vertical = false }) hundred ≡ fin false 105 (pos 0)
-  pub of_all_points : (g : GlyphVariations) → moved_to (at g for_all (pos 16384)) (record { point = 2; count = 3; vertical = false }) hundred
+  pub of_shared_points :
+      moved_to (at by_shared_points (pos 8192)) (record { point = 2; count = 6; vertical = false }) hundred ≡ fin false 105 (pos 0)
+  pub of_all_points : moved_to (at for_all (pos 16384)) (record { point = 2; count = 3; vertical = false }) hundred
       ≡ fin false 103 (pos 0)
-  pub of_all_down : (g : GlyphVariations) → moved_to (at g for_all (pos 16384)) (record { point = 0; count = 3; vertical = true }) hundred
+  pub of_all_down : moved_to (at for_all (pos 16384)) (record { point = 0; count = 3; vertical = true }) hundred
       ≡ fin false 13 (pos 3)
-  pub nothing_stored : (g : GlyphVariations) → moved_to (at g [] (pos 8192)) (record { point = 2; count = 6; vertical = false }) hundred
+  -- a header and three coordinates of a peak are seven steps
+  pub enough_left : is_whole (record (at for_one (pos 8192)) { axes = 3 }) (record (begun_at (at for_one (pos 8192)) hundred) { left = 7 }) ≡ true
+  pub too_little_left : is_whole (record (at for_one (pos 8192)) { axes = 3 }) (record (begun_at (at for_one (pos 8192)) hundred) { left = 6 }) ≡ false
+  pub begun_with : (begun_at (at for_one (pos 8192)) hundred).left ≡ 8192
+  pub begun_with_a_shared_point : (begun_at (at by_shared_points (pos 8192)) hundred).left ≡ 8191
+  -- five for the header and the axis, and one for its point
+  pub left_behind : (tuple_step (at for_one (pos 8192)) (record { point = 2; count = 6; vertical = false })
+      (begun_at (at for_one (pos 8192)) hundred)).left ≡ 8186
+  -- more shared points than may be read
+  pub too_many_shared : first_place (0x80 ∷ 1 ∷ 0 ∷ 4 ∷ 0xA0 ∷ 1 ∷ []) ≡ 4
+  pub nothing_stored : moved_to (at [] (pos 8192)) (record { point = 2; count = 6; vertical = false }) hundred
       ≡ fin false 25 (pos 2)
 
 pub worked_glyphs : WorkedGlyphs
-unfolding moved_to scalar_of part_of ratio64 round_to_format round_with i8_of i16_of i32_of div mul add sum eq of_int round size span climb units odd count_trailing_zeros of_bits of_fields
+unfolding moved_to scalar_of part_of ratio64 round_to_format round_with i8_of i16_of i32_of div mul add sum eq
+    of_int round size span climb units odd count_trailing_zeros of_bits of_fields
 worked_glyphs = record {
   first_delta = refl;
   negative_byte = refl;
@@ -120,18 +143,36 @@ worked_glyphs = record {
   past_the_glyphs = refl;
   shared = refl;
   places_cut_off = refl;
-  half_way = λ _. refl;
-  at_the_peak = λ _. refl;
-  on_the_other_side = λ _. refl;
-  rising = λ _. refl;
-  falling = λ _. refl;
-  at_the_end = λ _. refl;
-  no_such_peak = λ _. refl;
-  of_one_point = λ _. refl;
-  down_the_page = λ _. refl;
-  of_another_point = λ _. refl;
-  of_shared_points = λ _. refl;
-  of_all_points = λ _. refl;
-  of_all_down = λ _. refl;
-  nothing_stored = λ _. refl;
+  half_way = refl;
+  at_the_peak = refl;
+  on_the_other_side = refl;
+  rising = refl;
+  falling = refl;
+  at_the_end = refl;
+  no_such_peak = refl;
+  of_one_point = refl;
+  down_the_page = refl;
+  of_another_point = refl;
+  of_shared_points = refl;
+  of_all_points = refl;
+  of_all_down = refl;
+  enough_left = refl;
+  too_little_left = refl;
+  begun_with = refl;
+  begun_with_a_shared_point = refl;
+  left_behind = refl;
+  too_many_shared = refl;
+  nothing_stored = refl;
+}
+
+pub worked_metric_points : WorkedMetricPoints
+worked_metric_points = record {
+  of_an_outline = refl;
+  ends_cut_off = refl;
+  of_nothing = refl;
+  of_components = refl;
+  component_cut_off = refl;
+  own_metrics = refl;
+  of_the_second = refl;
+  second_cut_off = refl;
 }

@@ -70,7 +70,8 @@ fn place_of(gvar: &[u8], glyph: usize) -> usize
     }
 }
 
-/// Whether the table is read: it is of version 1, and holds its shared tuples and the places of so many glyphs.
+/// Whether the table is read: it is of version 1, and holds its shared tuples and the places of so
+/// many glyphs.
 fn is_read(gvar: &[u8], glyphs: u16) -> bool
     ensures { result ≡ Glyph.is_read gvar.now glyphs }
 {
@@ -108,6 +109,8 @@ impl<'a> GlyphVariations<'a> {
         ensures shared { result.shared.now ≡ Glyph.shared_of gvar.now }
         ensures axes { result.axes ≡ Glyph.axes_of gvar.now }
         ensures coordinates { result.coordinates.now ≡ coordinates.now }
+        ensures stored { Glyph.stored result
+            ≡ Glyph.stored_of gvar.now glyphs glyph coordinates.now }
     {
         GlyphVariations {
             bytes: data_of(gvar, glyphs, glyph),

@@ -4,8 +4,8 @@ ghost use Rattle.glyph_variations.specs.Numbers;
 
 use font_bytes::bytes::{u8_at, u16_at};
 
-/// Where the reading of point numbers stands: how many of a run are left, whether they have two bytes, and the number
-/// that was read last.
+/// Where the reading of point numbers stands: how many of a run are left, whether they have two
+/// bytes, and the number that was read last.
 #[derive(Clone, Copy)]
 pub(crate) struct PointNumbers {
     pub at: usize,

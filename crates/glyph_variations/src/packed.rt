@@ -5,7 +5,8 @@ ghost use Rattle.glyph_variations.specs.Times.{times};
 
 use font_bytes::bytes::{i8_at, i16_at, i32_at, u8_at};
 
-/// Where the reading of deltas stands: how many of a run are left, how large they are, and the one that was read last.
+/// Where the reading of deltas stands: how many of a run are left, how large they are, and the one
+/// that was read last.
 #[derive(Clone, Copy)]
 pub(crate) struct PackedDeltas {
     pub at: usize,

@@ -1,5 +1,6 @@
 //! What the tuples of a glyph add to one of its points.
 ghost use Rattle.std.specs.Prelude.{◌≡◌, ◌<◌, ◌≤◌, ◌+◌, ◌%◌, ◌^◌, true};
+ghost use Rattle.glyph_variations.specs.Glyph.{stored};
 ghost use Rattle.glyph_variations.specs.Numbers;
 ghost use Rattle.glyph_variations.specs.Sums;
 ghost use Rattle.glyph_variations.specs.Times.{times};
@@ -12,8 +13,10 @@ use crate::tuples::{has_points, header_size, scalar};
 use font_bytes::bytes::u16_at;
 use std::num::nearest_i32_to_f32;
 
-/// How many deltas are read for a point at most: a tuple that would read more ends the sum.
-pub const MOST_DELTAS: u32 = 16_384;
+/// How many steps a point takes at most: one for each point that tuples share, and for each tuple
+/// four, one for each axis of its peak, and one for each of its deltas. A tuple that would take
+/// more ends the sum.
+pub const MOST_STEPS: u32 = 8_192;
 
 /// Which point is asked for, of how many with the four for metrics, and which of its coordinates.
 #[derive(Clone, Copy)]
@@ -23,7 +26,8 @@ pub struct Target {
     pub vertical: bool,
 }
 
-/// The points of a tuple: where their numbers begin, how many there are, 0 for all points, and where the deltas begin.
+/// The points of a tuple: where their numbers begin, how many there are, 0 for all points, and
+/// where the deltas begin.
 #[derive(Clone, Copy)]
 pub(crate) struct TuplePoints {
     pub at: usize,
@@ -41,13 +45,13 @@ pub(crate) struct Reading {
 
 /// A coordinate, and what waits to be added to it.
 #[derive(Clone, Copy)]
-pub(crate) struct Moving {
+pub struct Moving {
     pub position: f32,
     pub pending: f32,
 }
 
-/// Where the walk over tuples stands: the next header, the data for it, how many deltas may still be read, and whether
-/// nothing more is added.
+/// Where the walk over tuples stands: the next header, the data for it, how much may still be read,
+/// and whether nothing more is added.
 #[derive(Clone, Copy)]
 pub(crate) struct TupleWalk {
     pub header: usize,
@@ -72,27 +76,53 @@ fn numbers_end(bytes: &[u8], at: usize) -> usize
 }
 
 /// Whether tuples share points.
-fn has_shared_points(bytes: &[u8]) -> bool
+pub(crate) fn has_shared_points(bytes: &[u8]) -> bool
     ensures { result ≡ Sums.has_shared_points bytes.now }
 {
     0x8000 <= u16_at(bytes, 0)
 }
 
+/// How many points tuples share.
+fn shared_count(bytes: &[u8]) -> u32
+    ensures { result ≡ Sums.shared_count bytes.now }
+{
+    if has_shared_points(bytes) {
+        u32::from(count(bytes, usize::from(u16_at(bytes, 2))))
+    } else {
+        0
+    }
+}
+
 /// Where the data of the first tuple begin.
-fn first_place(bytes: &[u8]) -> usize
+pub(crate) fn first_place(bytes: &[u8]) -> usize
     ensures value { result ≡ Sums.first_place bytes.now }
     ensures near { result < 2 ^ 18 }
 {
     let place = usize::from(u16_at(bytes, 2));
-    if has_shared_points(bytes) {
+    if has_shared_points(bytes) && shared_count(bytes) <= MOST_STEPS {
         numbers_end(bytes, place)
     } else {
         place
     }
 }
 
+/// How many points the tuple lists whose header and data stand there.
+fn listed_count(bytes: &[u8], header: usize, place: usize) -> u16
+    requires header { header < 2 ^ 38 }
+    requires place { place < 2 ^ 32 }
+    ensures { result ≡ (Sums.points_of bytes.now header place).count }
+{
+    if has_points(bytes, header) {
+        return count(bytes, place);
+    }
+    if has_shared_points(bytes) {
+        return count(bytes, usize::from(u16_at(bytes, 2)));
+    }
+    0
+}
+
 /// The points of the tuple whose header and data stand there.
-fn points_of(bytes: &[u8], header: usize, place: usize) -> TuplePoints
+pub(crate) fn points_of(bytes: &[u8], header: usize, place: usize) -> TuplePoints
     requires header { header < 2 ^ 38 }
     requires place { place < 2 ^ 32 }
     ensures value { result ≡ Sums.points_of bytes.now header place }
@@ -123,7 +153,7 @@ fn points_of(bytes: &[u8], header: usize, place: usize) -> TuplePoints
 }
 
 /// A delta times a scalar.
-fn scaled(value: i32, scalar: f32) -> f32
+pub(crate) fn scaled(value: i32, scalar: f32) -> f32
     ensures { result ≡ Sums.scaled value scalar }
 {
     nearest_i32_to_f32(value) * scalar
@@ -183,8 +213,9 @@ fn delta_of(bytes: &[u8], at: usize, point: u32) -> i32
 }
 
 /// How many deltas a tuple has for each coordinate.
-fn delta_count(points: &TuplePoints, target: &Target) -> u32
+pub(crate) fn delta_count(points: &TuplePoints, target: &Target) -> u32
     ensures value { result ≡ Sums.delta_count points.now target.now }
+    ensures few { result ≤ target.now.count + 65535 }
 {
     if points.count == 0 {
         target.count
@@ -194,7 +225,7 @@ fn delta_count(points: &TuplePoints, target: &Target) -> u32
 }
 
 /// Where the deltas for the coordinate begin.
-fn deltas_at(bytes: &[u8], points: &TuplePoints, target: &Target) -> usize
+pub(crate) fn deltas_at(bytes: &[u8], points: &TuplePoints, target: &Target) -> usize
     requires deltas { points.now.deltas < 2 ^ 33 }
     requires few { points.now.count < 2 ^ 15 }
     requires count { target.now.count < 2 ^ 20 }
@@ -237,34 +268,43 @@ fn moved(
     }
 }
 
+/// How many steps it takes to pass over a tuple.
+fn tuple_steps(glyph: &GlyphVariations<'_>) -> u32
+    ensures { result ≡ Sums.tuple_steps (stored glyph.now) }
+{
+    4 + u32::from(glyph.axes)
+}
+
 impl TupleWalk {
-    /// Whether the header and the data are there.
-    fn is_whole(&self, glyph: &GlyphVariations<'_>) -> bool
+    /// Whether its peak may still be read, and the header and the data are there.
+    pub(crate) fn is_whole(&self, glyph: &GlyphVariations<'_>) -> bool
         requires header { self.now.header < 2 ^ 32 }
         requires place { self.now.place < 2 ^ 32 }
-        ensures { result ≡ Sums.is_whole glyph.now self.now }
+        ensures { result ≡ Sums.is_whole (stored glyph.now) self.now }
     {
         let size = usize::from(u16_at(glyph.bytes, self.header));
-        self.header + header_size(glyph, self.header) <= glyph.bytes.len()
+        tuple_steps(glyph) <= self.left
+            && self.header + header_size(glyph, self.header) <= glyph.bytes.len()
             && self.place + size <= glyph.bytes.len()
     }
 
     /// The tuple is passed over.
-    fn passed(self, glyph: &GlyphVariations<'_>) -> TupleWalk
+    pub(crate) fn passed(self, glyph: &GlyphVariations<'_>) -> TupleWalk
         requires header { self.header < 2 ^ 32 }
         requires place { self.place < 2 ^ 32 }
-        ensures value { result ≡ Sums.passed glyph.now self }
+        ensures value { result ≡ Sums.passed (stored glyph.now) self }
         ensures header { result.header ≤ self.header + 524288 }
         ensures place { result.place ≤ self.place + 65535 }
     {
         let mut next = self;
         next.header += header_size(glyph, self.header);
         next.place += usize::from(u16_at(glyph.bytes, self.header));
+        next.left = self.left.saturating_sub(tuple_steps(glyph));
         next
     }
 
     /// Nothing more is added.
-    fn end(self) -> TupleWalk
+    pub(crate) fn end(self) -> TupleWalk
         ensures { result ≡ record self { ended = true } }
     {
         let mut next = self;
@@ -287,7 +327,7 @@ impl TupleWalk {
         requires deltas { points.now.deltas < 2 ^ 33 }
         requires count { target.now.count < 2 ^ 20 }
         requires point { target.now.point < 2 ^ 20 }
-        ensures value { result ≡ Sums.with_tuple glyph.now target.now scalar points.now self }
+        ensures value { result ≡ Sums.with_tuple (stored glyph.now) target.now scalar points.now self }
         ensures header { result.header ≤ self.header + 524288 }
         ensures place { result.place ≤ self.place + 65535 }
     {
@@ -297,7 +337,7 @@ impl TupleWalk {
         }
         let at = deltas_at(glyph.bytes, points, target);
         let mut next = self.passed(glyph);
-        next.left -= count;
+        next.left = next.left.saturating_sub(count);
         next.moving = moved(glyph.bytes, points, at, target.point, scalar, self.moving);
         next
     }
@@ -308,7 +348,7 @@ impl TupleWalk {
         requires place { self.place < 2 ^ 32 }
         requires count { target.now.count < 2 ^ 20 }
         requires point { target.now.point < 2 ^ 20 }
-        ensures value { result ≡ Sums.tuple_step glyph.now target.now self }
+        ensures value { result ≡ Sums.tuple_step (stored glyph.now) target.now self }
         ensures header { result.header ≤ self.header + 524288 }
         ensures place { result.place ≤ self.place + 65535 }
     {
@@ -322,6 +362,10 @@ impl TupleWalk {
         if scalar == 0.0 {
             return self.passed(glyph);
         }
+        // what may not be read isn't looked for
+        if self.left < u32::from(listed_count(glyph.bytes, self.header, self.place)) {
+            return self.end();
+        }
         let points = points_of(glyph.bytes, self.header, self.place);
         self.with_tuple(glyph, target, scalar, &points)
     }
@@ -332,13 +376,13 @@ impl TupleWalk {
 fn walked(glyph: &GlyphVariations<'_>, target: &Target, position: f32) -> Moving
     requires count { target.now.count < 2 ^ 20 }
     requires point { target.now.point < 2 ^ 20 }
-    ensures { result ≡ (times (Sums.tuple_step glyph.now target.now) (u16_of glyph.now.bytes.now 0 % 4096)
-        (Sums.begun_at glyph.now position)).moving }
+    ensures { result ≡ (times (Sums.tuple_step (stored glyph.now) target.now) (u16_of (stored glyph.now).bytes 0 % 4096)
+        (Sums.begun_at (stored glyph.now) position)).moving }
 {
     let mut walk = TupleWalk {
         header: 4,
         place: first_place(glyph.bytes),
-        left: MOST_DELTAS,
+        left: MOST_STEPS.saturating_sub(shared_count(glyph.bytes)),
         ended: false,
         moving: Moving {
             position,
@@ -351,14 +395,15 @@ fn walked(glyph: &GlyphVariations<'_>, target: &Target, position: f32) -> Moving
     walk.moving
 }
 
-/// Where a coordinate of a point comes to stand that stands at `position` at the default instance: each tuple's delta for
-/// the point is added, as far as the tuple takes part. Deltas of points that a tuple doesn't list are not inferred, as
-/// suits the four points of a glyph's metrics. Reads at most [`MOST_DELTAS`] deltas, and for each tuple its peak.
+/// Where a coordinate of a point comes to stand that stands at `position` at the default instance:
+/// each tuple's delta for the point is added, as far as the tuple takes part. Deltas of points that
+/// a tuple doesn't list are not inferred, as suits the four points of a glyph's metrics. Takes at
+/// most [`MOST_STEPS`].
 #[tactic(auto, unfolding(crate::specs::Sums::moved_to))]
 pub fn moved_to(glyph: &GlyphVariations<'_>, target: &Target, position: f32) -> f32
     requires count { target.now.count < 2 ^ 20 }
     requires point { target.now.point < 2 ^ 20 }
-    ensures { result ≡ Sums.moved_to glyph.now target.now position }
+    ensures { result ≡ Sums.moved_to (stored glyph.now) target.now position }
 {
     let moving = walked(glyph, target, position);
     moving.position + moving.pending

@@ -1,5 +1,6 @@
 //! Tuples of a glyph: where each takes part, and how far.
 ghost use Rattle.std.specs.Prelude.{◌≡◌, ◌<◌, ◌≤◌, ◌^◌, pos, negsuc, ◌≤ℤ◌, ◌-ℤ◌, slice_index_or};
+ghost use Rattle.glyph_variations.specs.Glyph.{stored};
 ghost use Rattle.glyph_variations.specs.Tuples;
 
 use crate::glyph::GlyphVariations;
@@ -57,7 +58,7 @@ fn shared_number(bytes: &[u8], at: usize) -> usize
 /// How many bytes a peak of its own has.
 fn peak_size(glyph: &GlyphVariations<'_>, at: usize) -> usize
     requires { at < 2 ^ 38 }
-    ensures value { result ≡ Tuples.peak_size glyph.now at }
+    ensures value { result ≡ Tuples.peak_size (stored glyph.now) at }
     ensures small { result < 2 ^ 17 }
 {
     if has_peak(glyph.bytes, at) {
@@ -70,7 +71,7 @@ fn peak_size(glyph: &GlyphVariations<'_>, at: usize) -> usize
 /// How many bytes the header at `at` has.
 pub(crate) fn header_size(glyph: &GlyphVariations<'_>, at: usize) -> usize
     requires { at < 2 ^ 38 }
-    ensures value { result ≡ Tuples.header_size glyph.now at }
+    ensures value { result ≡ Tuples.header_size (stored glyph.now) at }
     ensures small { result < 2 ^ 19 }
 {
     let span = if has_span(glyph.bytes, at) {
@@ -84,7 +85,7 @@ pub(crate) fn header_size(glyph: &GlyphVariations<'_>, at: usize) -> usize
 /// Whether the peak is there.
 fn is_known(glyph: &GlyphVariations<'_>, at: usize) -> bool
     requires { at < 2 ^ 38 }
-    ensures { result ≡ Tuples.is_known glyph.now at }
+    ensures { result ≡ Tuples.is_known (stored glyph.now) at }
 {
     let shared = usize::from(glyph.axes) * (shared_number(glyph.bytes, at) + 1);
     has_peak(glyph.bytes, at) || 2 * shared <= glyph.shared.len()
@@ -93,7 +94,7 @@ fn is_known(glyph: &GlyphVariations<'_>, at: usize) -> bool
 /// The peak along an axis.
 fn peak(glyph: &GlyphVariations<'_>, at: usize, axis: u16) -> i32
     requires { at < 2 ^ 38 }
-    ensures value { result ≡ Tuples.peak_of glyph.now at axis }
+    ensures value { result ≡ Tuples.peak_of (stored glyph.now) at axis }
     ensures low { negsuc 32767 ≤ℤ result }
     ensures high { result ≤ℤ pos 32767 }
 {
@@ -107,7 +108,7 @@ fn peak(glyph: &GlyphVariations<'_>, at: usize, axis: u16) -> i32
 /// Where the tuple begins to take part along an axis.
 fn start(glyph: &GlyphVariations<'_>, at: usize, axis: u16) -> i32
     requires { at < 2 ^ 38 }
-    ensures value { result ≡ Tuples.start_of glyph.now at axis }
+    ensures value { result ≡ Tuples.start_of (stored glyph.now) at axis }
     ensures low { negsuc 32767 ≤ℤ result }
     ensures high { result ≤ℤ pos 32767 }
 {
@@ -122,7 +123,7 @@ fn start(glyph: &GlyphVariations<'_>, at: usize, axis: u16) -> i32
 /// Where it ends.
 fn end(glyph: &GlyphVariations<'_>, at: usize, axis: u16) -> i32
     requires { at < 2 ^ 38 }
-    ensures value { result ≡ Tuples.end_of glyph.now at axis }
+    ensures value { result ≡ Tuples.end_of (stored glyph.now) at axis }
     ensures low { negsuc 32767 ≤ℤ result }
     ensures high { result ≤ℤ pos 32767 }
 {
@@ -150,7 +151,8 @@ fn above(low: i32, high: i32) -> i64
 }
 
 impl Span {
-    /// Whether the axis is left out: it is out of order, or its start and its end stand on either side of 0.
+    /// Whether the axis is left out: it is out of order, or its start and its end stand on either
+    /// side of 0.
     fn is_malformed(&self) -> bool
         ensures { result ≡ Tuples.is_malformed self.now.start self.now.peak self.now.end }
     {
@@ -198,7 +200,7 @@ fn coordinate(coordinates: &[i32], axis: u16) -> i32
 /// How far a tuple takes part along an axis.
 fn axis_part(glyph: &GlyphVariations<'_>, at: usize, axis: u16) -> f64
     requires { at < 2 ^ 38 }
-    ensures { result ≡ Tuples.axis_part glyph.now at axis }
+    ensures { result ≡ Tuples.axis_part (stored glyph.now) at axis }
 {
     let span = Span {
         start: start(glyph, at, axis),
@@ -212,7 +214,7 @@ fn axis_part(glyph: &GlyphVariations<'_>, at: usize, axis: u16) -> f64
 #[tactic(auto, using(crate::proofs::TimesLemmas::product_step))]
 fn product(glyph: &GlyphVariations<'_>, at: usize) -> f64
     requires { at < 2 ^ 38 }
-    ensures { result ≡ Tuples.product_of (Tuples.axis_part glyph.now at) glyph.now.axes }
+    ensures { result ≡ Tuples.product_of (Tuples.axis_part (stored glyph.now) at) (stored glyph.now).axes }
 {
     let mut product = 1.0;
     for axis in 0..glyph.axes {
@@ -221,12 +223,12 @@ fn product(glyph: &GlyphVariations<'_>, at: usize) -> f64
     product
 }
 
-/// How far the tuple whose header stands at `at` takes part at the coordinates. 0 without its shared peak. Takes a step for
-/// each axis.
+/// How far the tuple whose header stands at `at` takes part at the coordinates. 0 without its
+/// shared peak. Takes a step for each axis.
 #[tactic(auto, unfolding(crate::specs::Tuples::scalar_of))]
 pub(crate) fn scalar(glyph: &GlyphVariations<'_>, at: usize) -> f32
     requires { at < 2 ^ 38 }
-    ensures { result ≡ Tuples.scalar_of glyph.now at }
+    ensures { result ≡ Tuples.scalar_of (stored glyph.now) at }
 {
     if is_known(glyph, at) {
         nearest_f64_to_f32_with_nan(product(glyph, at))

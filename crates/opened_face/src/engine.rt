@@ -1,7 +1,7 @@
 //! Layout engines over an opened face: what an engine does over the face below.
 //!
-//! Engines read tables of a font, and do so by the face without tables beside it; so each call is passed on with that
-//! face, and what is proved of the engine holds over the opened face.
+//! Engines read tables of a font, and do so by the face without tables beside it; so each call is
+//! passed on with that face, and what is proved of the engine holds over the opened face.
 ghost use Rattle.std.specs.Prelude.{◌≡◌};
 
 use crate::face::OpenedFace;
@@ -24,7 +24,8 @@ pub struct OverOpenedBy<M, K> {
 /// The engine `M` over faces that are opened once.
 pub type OverOpened<M> = OverOpenedBy<M, AsBelow>;
 
-/// The engine `KernTable` over faces that are opened once: it seeks no pair of which one glyph has none.
+/// The engine `KernTable` over faces that are opened once: it seeks no pair of which one glyph has
+/// none.
 pub type OpenedKernTable = OverOpenedBy<KernTable, ByStoredPairs>;
 
 impl<'a, M: hb_ot_layout_t<FontFace<'a>>, K: KernsOpened<'a, M>> hb_ot_layout_t<OpenedFace<'a>>

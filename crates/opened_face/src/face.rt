@@ -11,11 +11,11 @@ use shape_font::FontFace;
 use std::alloc::Global;
 use std::marker::Model;
 
-/// A face over the bytes of a font file with tables beside it: it returns what the [`FontFace`] returns, and contracts
-/// see it as that face.
+/// A face over the bytes of a font file with tables beside it: it returns what the [`FontFace`]
+/// returns, and contracts see it as that face.
 ///
-/// The tables take 8,704 bytes, 1,024 for each page of 256 characters that `cmap` lists (at most 512 pages),
-/// and six for each glyph: less than a megabyte for any font.
+/// The tables take 8,704 bytes, 1,024 for each page of 256 characters that `cmap` lists (at most
+/// 512 pages), and six for each glyph: less than a megabyte for any font.
 #[derive(Drop)]
 pub struct OpenedFace<'a> {
     face: FontFace<'a>,
@@ -48,8 +48,8 @@ fn numbered(glyph: u32) -> Option<GlyphId>
 }
 
 impl<'a> OpenedFace<'a> {
-    /// Opens a face: stores the pages of its character map, its advances, and which glyphs stand in pairs of `kern`. Refuses
-    /// with `Memory` if a growth was refused.
+    /// Opens a face: stores the pages of its character map, its advances, and which glyphs stand in
+    /// pairs of `kern`. Refuses with `Memory` if a growth was refused.
     #[tactic(auto, using(crate::proofs::PageLemmas::stored))]
     pub fn new(alloc: Global, face: FontFace<'a>) -> Result<OpenedFace<'a>, ShapeError>
         ensures ok { IfOk result (λ opened. opened ≡ face.entry) }

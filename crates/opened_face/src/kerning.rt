@@ -1,4 +1,5 @@
-//! How an engine kerns over an opened face: by the face below, or by what is stored of the table `kern`.
+//! How an engine kerns over an opened face: by the face below, or by what is stored of the table
+//! `kern`.
 ghost use Rattle.std.specs.Prelude.{◌≡◌};
 ghost use Rattle.shape_buffer.specs.Outcome.{IsWithinLimit, Outcome, step};
 
@@ -38,7 +39,8 @@ impl<'a, M: hb_ot_layout_t<FontFace<'a>>> KernsOpened<'a, M> for AsBelow {
     }
 }
 
-/// By what is stored: a pair of which one glyph has no value takes a few instructions, and no search.
+/// By what is stored: a pair of which one glyph has no value takes a few instructions, and no
+/// search.
 pub struct ByStoredPairs;
 
 impl<'a> KernsOpened<'a, KernTable> for ByStoredPairs {

@@ -1,8 +1,9 @@
 //! Pages of the character map: 256 glyphs each, and an index by a character's number over 256.
 //!
-//! Pages are stored where the subtable lists characters, in its order, at most 512 of them, so that no font makes them
-//! large: all of the basic plane and as much again. A page that comes later in the subtable but earlier in Unicode
-//! isn't stored, so that opening takes a step for each range and each page, whatever a font lists.
+//! Pages are stored where the subtable lists characters, in its order, at most 512 of them, so that
+//! no font makes them large: all of the basic plane and as much again. A page that comes later in
+//! the subtable but earlier in Unicode isn't stored, so that opening takes a step for each range
+//! and each page, whatever a font lists.
 ghost use Rattle.std.specs.Prelude.{◌≡◌, ◌+◌, ◌*◌, ◌≤◌, ◌<◌, length, IfOk, OnOk, IsOkUnless};
 ghost use Rattle.opened_face.specs.Pages;
 
@@ -63,7 +64,8 @@ pub(crate) fn listed_pages(alloc: Global, table: &[u8]) -> Result<Vec<u16>, Shap
     Ok(pages)
 }
 
-/// For each page of Unicode its place among the stored ones. Refuses with `Memory` if a growth was refused.
+/// For each page of Unicode its place among the stored ones. Refuses with `Memory` if a growth was
+/// refused.
 pub(crate) fn index_of(alloc: Global, pages: &[u16]) -> Result<Vec<u16>, ShapeError>
     requires { length pages.now ≤ 512 }
     ensures ok { IfOk result (λ index. Pages.IsIndexOf pages.now index.items) }

@@ -1,5 +1,5 @@
-//! Which characters a subtable of `cmap` lists: ranges, by its format. They decide which pages are stored, and so what
-//! a look-up costs; what it returns doesn't depend on them.
+//! Which characters a subtable of `cmap` lists: ranges, by its format. They decide which pages are
+//! stored, and so what a look-up costs; what it returns doesn't depend on them.
 ghost use Rattle.std.specs.Prelude.{◌≡◌, ◌<◌, ◌^◌};
 ghost use Rattle.opened_face.specs.Ranges;
 

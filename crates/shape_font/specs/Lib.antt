@@ -9,5 +9,10 @@ pub mod Variations
 pub mod Metrics
 pub mod Names
 pub mod Cff
+pub mod PointsAt
+pub mod LinesAt
+pub mod PlacesAt
+pub mod BoxesAt
 pub mod Face
+pub mod Steps
 pub mod Worked

@@ -1,5 +1,6 @@
 -- advances, bearings, origins and boxes of glyphs, by `hmtx`, `vmtx`, `VORG`, `loca` and `glyf`
-use Rattle.std.specs.Prelude.{ℕ, ℤ, pos, List, Bool, Option, Some, None, ◌+◌, ◌-◌, ◌*◌, ◌/◌, ◌%◌, ◌-ℤ◌, ◌||◌, nat_lt, nat_eq, length, if◌then◌else◌, cond, int_lt, int_div, unsigned_abs}
+use Rattle.std.specs.Prelude.{ℕ, ℤ, pos, List, Bool, Option, Some, None, ◌+◌, ◌-◌, ◌*◌, ◌/◌, ◌%◌, ◌-ℤ◌, ◌||◌, nat_lt, nat_eq, length, if◌then◌else◌}
+use Rattle.std.specs.Prelude.{cond, int_lt, int_div, unsigned_abs}
 use Rattle.std.specs.Option.{option_map_or, unwrap_or}
 use Rattle.std.specs.Int.{w16, cast_signed, int_rem_euclid}
 use Rattle.std.specs.declared.cmp.Ordering.{Ordering}
@@ -44,13 +45,19 @@ listed_origin vorg glyph = option_map_or (λ i. i16_of vorg (10 + 4 * i))
 abbrev pub typographic : List ℕ → Bool
 typographic os2 = nat_eq (u16_of os2 62 / 128 % 2) 1
 
--- how far a line reaches up, whatever the sign of the number
-abbrev pub ascender_of : List ℕ → List ℕ → ℕ
-ascender_of os2 hhea = unsigned_abs (cond (typographic os2) (i16_of os2 68) (i16_of hhea 4))
+-- how far a line reaches up, and down
+abbrev pub ascender_in : List ℕ → List ℕ → ℤ
+ascender_in os2 hhea = cond (typographic os2) (i16_of os2 68) (i16_of hhea 4)
 
--- how far it reaches down
+abbrev pub descender_in : List ℕ → List ℕ → ℤ
+descender_in os2 hhea = cond (typographic os2) (i16_of os2 70) (i16_of hhea 6)
+
+-- whatever the sign of the number
+abbrev pub ascender_of : List ℕ → List ℕ → ℕ
+ascender_of os2 hhea = unsigned_abs (ascender_in os2 hhea)
+
 abbrev pub descender_of : List ℕ → List ℕ → ℕ
-descender_of os2 hhea = unsigned_abs (cond (typographic os2) (i16_of os2 70) (i16_of hhea 6))
+descender_of os2 hhea = unsigned_abs (descender_in os2 hhea)
 
 -- how far lines stand apart beside that, with its sign
 abbrev pub line_gap_of : List ℕ → List ℕ → ℤ

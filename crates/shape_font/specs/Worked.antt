@@ -6,3 +6,5 @@ pub mod Searches
 pub mod Names
 pub mod Face
 pub mod Instances
+pub mod PointsAt
+pub mod BoxesAt

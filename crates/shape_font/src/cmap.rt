@@ -1,7 +1,9 @@
-//! Glyphs of characters: formats 0, 4, 6, 10, 12 and 13 of the table `cmap`, and what pages of old fonts add.
+//! Glyphs of characters: formats 0, 4, 6, 10, 12 and 13 of the table `cmap`, and what pages of old
+//! fonts add.
 ghost use Rattle.std.specs.Prelude.{◌≡◌, ◌<◌, ◌^◌};
 ghost use Rattle.std.specs.Option.{IfSome};
-ghost use Rattle.shape_font.specs.Cmap.{glyph_0, side_of_segment, segment_of, segment_glyph, glyph_of_segments, listed_glyph, side_of_group, group_of, group_glyph, groups_of, glyph_of_groups, cmap_glyph, mapped_glyph};
+ghost use Rattle.shape_font.specs.Cmap.{glyph_0, side_of_segment, segment_of, segment_glyph, glyph_of_segments, listed_glyph, side_of_group};
+ghost use Rattle.shape_font.specs.Cmap.{group_of, group_glyph, groups_of, glyph_of_groups, cmap_glyph, mapped_glyph};
 
 use crate::bytes::{long, records, u8_at, u16_at, u32_at};
 use crate::font_pages::{FontPage, place};
@@ -69,7 +71,8 @@ fn by_segments(table: &[u8], count: u32, c: u32) -> u32
     }
 }
 
-/// The glyph of a character if `count` characters in a row from `start` on have theirs listed at `at`, or 0.
+/// The glyph of a character if `count` characters in a row from `start` on have theirs listed at
+/// `at`, or 0.
 fn by_list(table: &[u8], start: u32, count: u32, at: usize, c: u32) -> u32
     requires { at < 2 ^ 32 }
     ensures { result ≡ listed_glyph table.now start count at c }
@@ -109,7 +112,8 @@ fn group(table: &[u8], c: u32) -> Option<u32>
     )
 }
 
-/// The glyph that group `i` gives a character of its own, as 32 bits hold it; `one` if a group has one glyph for all.
+/// The glyph that group `i` gives a character of its own, as 32 bits hold it; `one` if a group has
+/// one glyph for all.
 fn in_group(table: &[u8], one: bool, c: u32, i: u32) -> u32
     requires { i < groups_of table.now }
     ensures { result ≡ group_glyph table.now one c i }

@@ -7,34 +7,41 @@ ghost use Rattle.shape_font.specs.FontPages.{font_page_of};
 ghost use Rattle.shape_font.specs.Subtables.{chosen_subtable};
 ghost use Rattle.shape_font.specs.Variations.{sequences_of};
 ghost use Rattle.shape_font.specs.Directory.{bytes_of, has_table};
-ghost use Rattle.shape_font.specs.Metrics.{listed_origin, long_metrics};
+ghost use Rattle.shape_font.specs.Metrics.{long_metrics};
 ghost use Rattle.shape_font.specs.Cff;
-ghost use Rattle.shape_font.specs.declared.tags.TheConstants.{HEAD, HHEA, MAXP, HMTX, VHEA, VMTX, VORG, OS2, CMAP, LOCA, GLYF, GSUB, GPOS, GDEF, MORX, KERX, TRAK, KERN, POST, HVAR, VVAR};
+ghost use Rattle.shape_font.specs.declared.tags.TheConstants.{HEAD, HHEA, MAXP, HMTX, VHEA, VMTX, VORG, OS2, CMAP, LOCA, GLYF, GSUB, GPOS, GDEF};
+ghost use Rattle.shape_font.specs.declared.tags.TheConstants.{MORX, KERX, TRAK, KERN, POST, HVAR, VVAR, GVAR, MVAR, SBIX, CBLC, CBDT};
 ghost use Rattle.shape_font.specs.Face;
 
-use crate::bytes::{u16_at, u32_at};
+use crate::bitmaps::bitmaps;
+use crate::bytes::u16_at;
 use crate::cff::cff_font;
 use crate::directory::Directory;
 use crate::font_pages::{FontPage, font_page};
 use crate::subtables::chosen;
 use crate::tags::{
-    CMAP, GDEF, GLYF, GPOS, GSUB, HEAD, HHEA, HMTX, HVAR, KERN, KERX, LOCA, MAXP, MORX, OS2, POST,
-    TRAK, VHEA, VMTX, VORG, VVAR,
+    CMAP, GDEF, GLYF, GPOS, GSUB, GVAR, HEAD, HHEA, HMTX, HVAR, KERN, KERX, LOCA, MAXP, MORX, MVAR,
+    OS2, POST, TRAK, VHEA, VMTX, VORG, VVAR,
 };
 use crate::variations::{GlyphVariant, variation};
 use crate::{cmap, metrics, names, variations};
+use bitmap_tables::Bitmaps;
 use cff_tables::CffFont;
-use font_variations::metrics::{advance_delta, origin_delta};
-use shape_buffer::wrapping::{half, negative, sum};
+use shape_buffer::wrapping::half;
 use shape_buffer::{GlyphId, hb_font_t, hb_glyph_extents_t, hb_tables_t};
 
+mod advances;
+pub mod boxes;
 mod drawn;
 mod lines;
+mod metric_points;
+mod origins;
+mod steps;
 
-/// A face over the bytes of an OpenType or TrueType file, in its units. A table that the file lacks reads as an empty
-/// one. Boxes are those of `glyf`, or of the charstrings of `CFF2` or `CFF `. The face is at the default instance of a
-/// variable font, or at the coordinates that [`FontFace::at`] is given; two faces over the same tables at the same
-/// coordinates are equal.
+/// A face over the bytes of an OpenType or TrueType file, in its units. A table that the file lacks
+/// reads as an empty one. Boxes are those of bitmaps, else of `glyf`, or of the charstrings of
+/// `CFF2` or `CFF `. The face is at the default instance of a variable font, or at the coordinates
+/// given to [`FontFace::at`]; two over the same tables at the same coordinates are equal.
 #[derive(Clone, Copy)]
 pub struct FontFace<'a> {
     units_per_em: u16,
@@ -55,6 +62,7 @@ pub struct FontFace<'a> {
     hhea: &'a [u8],
     os2: &'a [u8],
     cff: Option<CffFont<'a>>,
+    bitmaps: Bitmaps<'a>,
     kern: &'a [u8],
     post: &'a [u8],
     gdef: &'a [u8],
@@ -62,6 +70,8 @@ pub struct FontFace<'a> {
     gpos: &'a [u8],
     hvar: &'a [u8],
     vvar: &'a [u8],
+    gvar: &'a [u8],
+    mvar: &'a [u8],
     coordinates: &'a [i32],
 }
 
@@ -94,8 +104,8 @@ fn lookups(font: &Directory<'_>) -> hb_tables_t
 }
 
 impl<'a> FontFace<'a> {
-    /// The font with this number in a collection, or number 0, the one of a file of one font. None if the file
-    /// has no such font, or its em square is empty.
+    /// The font with this number in a collection, or number 0, the one of a file of one font. None
+    /// if the file has no such font, or its em square is empty.
     pub fn from_slice(bytes: &'a [u8], index: u32) -> Option<FontFace<'a>>
         ensures found { is_some result ≡ nat_lt 0 (u16_of (bytes_of bytes.now index HEAD) 18) }
         ensures units_per_em { IfSome result (λ f. f.units_per_em
@@ -131,6 +141,9 @@ impl<'a> FontFace<'a> {
             ≡ Cff.chosen_layout bytes.now index (u16_of (bytes_of bytes.now index MAXP) 4)) }
         ensures cff { IfSome result (λ f. option_map (λ c. c.table.now) f.cff
             ≡ Cff.chosen_table bytes.now index (u16_of (bytes_of bytes.now index MAXP) 4)) }
+        ensures sbix { IfSome result (λ f. f.bitmaps.sbix.now ≡ bytes_of bytes.now index SBIX) }
+        ensures cblc { IfSome result (λ f. f.bitmaps.cblc.now ≡ bytes_of bytes.now index CBLC) }
+        ensures cbdt { IfSome result (λ f. f.bitmaps.cbdt.now ≡ bytes_of bytes.now index CBDT) }
         ensures kern { IfSome result (λ f. f.kern.now ≡ bytes_of bytes.now index KERN) }
         ensures post { IfSome result (λ f. f.post.now ≡ bytes_of bytes.now index POST) }
         ensures gdef_table { IfSome result (λ f. f.gdef.now ≡ bytes_of bytes.now index GDEF) }
@@ -138,6 +151,8 @@ impl<'a> FontFace<'a> {
         ensures gpos_table { IfSome result (λ f. f.gpos.now ≡ bytes_of bytes.now index GPOS) }
         ensures hvar { IfSome result (λ f. f.hvar.now ≡ bytes_of bytes.now index HVAR) }
         ensures vvar { IfSome result (λ f. f.vvar.now ≡ bytes_of bytes.now index VVAR) }
+        ensures gvar { IfSome result (λ f. f.gvar.now ≡ bytes_of bytes.now index GVAR) }
+        ensures mvar { IfSome result (λ f. f.mvar.now ≡ bytes_of bytes.now index MVAR) }
         ensures coordinates { IfSome result (λ f. f.coordinates.now ≡ []) }
     {
         let font = Directory::of(bytes, index);
@@ -169,6 +184,7 @@ impl<'a> FontFace<'a> {
             hhea,
             os2: font.table_or_empty(OS2),
             cff: cff_font(&font, glyph_count),
+            bitmaps: bitmaps(&font),
             kern: font.table_or_empty(KERN),
             post: font.table_or_empty(POST),
             gdef: font.table_or_empty(GDEF),
@@ -176,13 +192,17 @@ impl<'a> FontFace<'a> {
             gpos: font.table_or_empty(GPOS),
             hvar: font.table_or_empty(HVAR),
             vvar: font.table_or_empty(VVAR),
+            gvar: font.table_or_empty(GVAR),
+            mvar: font.table_or_empty(MVAR),
             coordinates: &[],
         })
     }
 
-    /// The same font at these coordinates, normalized and in units of 1/16384, as [`coordinates_of`] makes them; an axis past the
-    /// last of them is at its default, and none are the default instance. Advances are varied by `HVAR` and `VVAR`, origins by
-    /// `VVAR` and `VORG`; boxes and measures of lines are those of the default instance.
+    /// The same font at these coordinates, normalized and in units of 1/16384, as
+    /// [`coordinates_of`] makes them; an axis past the last of them is at its default, and none are
+    /// the default instance. Advances are varied by `HVAR` and `VVAR`, or else by `gvar`, origins
+    /// by `VVAR` and `VORG`, or else by `gvar`, measures of lines by `MVAR`, and boxes by `gvar`; a
+    /// glyph of `CFF2` has none away from the default instance.
     ///
     /// [`coordinates_of`]: crate::instance::coordinates_of
     pub fn at(self, coordinates: &'a [i32]) -> FontFace<'a>
@@ -243,7 +263,8 @@ impl<'a> FontFace<'a> {
         self.post
     }
 
-    /// The glyph's name by `post`, or else by the charset of `CFF `; none if neither has one for it, or an empty one.
+    /// The glyph's name by `post`, or else by the charset of `CFF `; none if neither has one for
+    /// it, or an empty one.
     pub fn glyph_name(&self, glyph: GlyphId) -> Option<&'a [u8]>
         ensures { option_map (λ s. s.now) result ≡ Face.name_of_glyph self.now glyph.0 }
     {
@@ -260,7 +281,8 @@ impl<'a> FontFace<'a> {
         self.cmap
     }
 
-    /// The number of the glyph that `cmap` gives the character with this number, 0 if it gives none.
+    /// The number of the glyph that `cmap` gives the character with this number, 0 if it gives
+    /// none.
     pub fn glyph_number(&self, c: u32) -> u32
         ensures { result ≡ mapped_glyph self.now.cmap.now self.now.font_page c }
     {
@@ -274,7 +296,8 @@ impl<'a> FontFace<'a> {
         numbered(self.glyph_number(u32::from(c)))
     }
 
-    /// The glyph of a character before a selector: its own, or the character's if it looks as it does alone.
+    /// The glyph of a character before a selector: its own, or the character's if it looks as it
+    /// does alone.
     fn variant(&self, c: char, selector: char) -> Option<GlyphId>
         ensures { result ≡ Face.variant_of self.now c selector }
     {
@@ -282,74 +305,6 @@ impl<'a> FontFace<'a> {
             GlyphVariant::Missing => None,
             GlyphVariant::Default => self.glyph(c),
             GlyphVariant::Own(glyph) => numbered(glyph),
-        }
-    }
-
-    /// An advance at the coordinates of the face, to which `HVAR` or `VVAR` adds if the glyph has a bearing.
-    fn advance_at(&self, table: &[u8], bearing: Option<i32>, glyph: u32, advance: u16) -> i32
-        ensures { result
-            ≡ Face.advance_at self.now.coordinates.now table.now bearing glyph advance }
-    {
-        if self.coordinates.is_empty() || bearing.is_none() {
-            i32::from(advance)
-        } else {
-            sum(
-                i32::from(advance),
-                advance_delta(table, self.coordinates, glyph),
-            )
-        }
-    }
-
-    /// The advance of a glyph by `hmtx`.
-    fn h_advance(&self, glyph: u32) -> i32
-        ensures { result ≡ Face.h_advance_in self.now glyph }
-    {
-        let bearing = metrics::bearing(self.hmtx, self.h_count, glyph);
-        let advance = metrics::advance(self.hmtx, self.h_count, glyph);
-        metrics::short(self.advance_at(self.hvar, bearing, glyph, advance))
-    }
-
-    /// The advance of a glyph by `vmtx`, downwards.
-    fn v_advance(&self, glyph: u32) -> i32
-        ensures { result ≡ Face.v_advance_in self.now glyph }
-    {
-        let bearing = metrics::bearing(self.vmtx, self.v_count, glyph);
-        let advance = metrics::advance(self.vmtx, self.v_count, glyph);
-        let down = negative(self.advance_at(self.vvar, bearing, glyph, advance));
-        metrics::short(down)
-    }
-
-    /// The advance of a glyph, half of the em square in a font without advances, 0 past the last glyph.
-    fn advance(&self, glyph: GlyphId) -> i32
-        ensures { result ≡ Face.h_advance_of self.now glyph }
-    {
-        if u32::from(self.glyph_count) <= glyph.0 {
-            0
-        } else if self.h_count == 0 {
-            i32::from(self.units_per_em / 2)
-        } else {
-            self.h_advance(glyph.0)
-        }
-    }
-
-    /// How high a line is.
-    fn height(&self) -> i32
-        ensures value { result ≡ pos (Face.line_height self.now) }
-        ensures high { result ≤ℤ pos 65536 }
-    {
-        (metrics::ascender(self.os2, self.hhea) + metrics::descender(self.os2, self.hhea)) as i32
-    }
-
-    /// The advance downwards, the height of a line in a font without such advances, 0 past the last glyph.
-    fn advance_down(&self, glyph: GlyphId) -> i32
-        ensures { result ≡ Face.v_advance_of self.now glyph }
-    {
-        if self.v_count == 0 {
-            -self.height()
-        } else if glyph.0 < u32::from(self.glyph_count) {
-            self.v_advance(glyph.0)
-        } else {
-            0
         }
     }
 
@@ -373,62 +328,29 @@ impl<'a> FontFace<'a> {
         self.outlines && glyph.0 < u32::from(self.glyph_count)
     }
 
-    /// The box of a glyph, none in a font without outlines and none past the last glyph.
+    /// The box of a glyph's outline, at the coordinates too, if it has one.
+    fn outlined(&self, glyph: GlyphId) -> Option<hb_glyph_extents_t>
+        ensures { result ≡ Face.outlined_extents self.now glyph }
+    {
+        if !self.has_box(glyph) {
+            self.drawn(glyph.0)
+        } else if self.coordinates.is_empty() {
+            Some(self.inked(glyph.0))
+        } else {
+            self.box_at(glyph.0)
+        }
+    }
+
+    /// The box of a glyph: of its bitmap, or else of its outline.
     fn extents(&self, glyph: GlyphId) -> Option<hb_glyph_extents_t>
         ensures { result ≡ Face.extents_of self.now glyph }
     {
-        if self.has_box(glyph) {
-            Some(self.inked(glyph.0))
-        } else {
-            self.drawn(glyph.0)
-        }
-    }
-
-    /// Half of the room that a box of this height leaves in a line.
-    fn half_room(&self, height: i32) -> i32
-        requires long { negsuc 65535 ≤ℤ height }
-        requires short { height ≤ℤ pos 65535 }
-        ensures { result ≡ Face.half_room self.now height }
-    {
-        metrics::half_below(self.height() + height)
-    }
-
-    /// The height of the origin over a glyph's box.
-    fn over(&self, glyph: u32) -> i32
-        ensures { result ≡ Face.origin_over self.now glyph (Face.inked_of self.now glyph) }
-    {
-        let inked = self.inked(glyph);
-        match metrics::bearing(self.vmtx, self.v_count, glyph) {
-            Some(bearing) => sum(inked.y_bearing, bearing),
-            None => sum(inked.y_bearing, self.half_room(inked.height)),
-        }
-    }
-
-    /// The height of the origin by `VORG`, to which `VVAR` adds at the coordinates if it has a map for origins.
-    fn listed_origin(&self, glyph: u32) -> i32
-        ensures { result ≡ Face.listed_origin_at self.now.coordinates.now self.now.vvar.now glyph
-            (listed_origin self.now.vorg.now glyph) }
-    {
-        let height = metrics::origin(self.vorg, glyph);
-        if self.coordinates.is_empty() {
-            return height;
-        }
-        match origin_delta(self.vvar, self.coordinates, glyph) {
-            Some(delta) => sum(height, delta),
-            None => height,
-        }
-    }
-
-    /// The height of the origin of vertical lines: by `VORG`, by the box, or at the top of a line.
-    fn origin(&self, glyph: GlyphId) -> i32
-        ensures { result ≡ Face.v_origin_of self.now glyph }
-    {
-        if u32_at(self.vorg, 0) != 0 {
-            self.listed_origin(glyph.0)
-        } else if self.has_box(glyph) {
-            self.over(glyph.0)
-        } else {
-            metrics::ascender(self.os2, self.hhea) as i32
+        match self
+            .bitmaps
+            .glyph_box(self.glyph_count, self.units_per_em, glyph.0)
+        {
+            Some(found) => Some(found),
+            None => self.outlined(glyph),
         }
     }
 }

@@ -1,5 +1,6 @@
-//! Pages of 256 codes, of fonts from before Unicode: a table of symbols has its glyphs at the codes of one, which stand
-//! in Unicode's private use area (OpenType, `cmap`, platform 3, encoding 0, and "Legacy Arabic fonts").
+//! Pages of 256 codes, of fonts from before Unicode: a table of symbols has its glyphs at the codes
+//! of one, which stand in Unicode's private use area (OpenType, `cmap`, platform 3, encoding 0, and
+//! "Legacy Arabic fonts").
 ghost use Rattle.std.specs.Prelude.{◌≡◌, ◌<◌, ◌^◌};
 ghost use Rattle.shape_font.specs.FontPages.{side_of_listed, listed_code, place_in, page_named, font_page_of};
 
@@ -21,7 +22,8 @@ pub enum FontPage {
     TraditionalArabic,
 }
 
-/// The page for Simplified Arabic: of each character its number, in two bytes, and its code, in the order of numbers.
+/// The page for Simplified Arabic: of each character its number, in two bytes, and its code, in the
+/// order of numbers.
 pub const SIMPLIFIED: &[u8] = b"\
     \x00\x20\x20\x00\x21\x21\x00\x22\x22\x00\x25\x25\x00\x28\x28\x00\x29\x29\x00\x2a\x2a\
     \x00\x2b\x2b\x00\x2c\x5e\x00\x2d\x2d\x00\x2e\x2e\x00\x2f\x2f\x00\x30\xb0\x00\x31\xb1\
@@ -122,7 +124,8 @@ fn listed(page: &[u8], start: u32, c: u32) -> Option<u32>
     }
 }
 
-/// Where the glyph of a character stands that has none at its own number, none if the page doesn't have it.
+/// Where the glyph of a character stands that has none at its own number, none if the page doesn't
+/// have it.
 pub fn place(page: FontPage, c: u32) -> Option<u32>
     ensures { result ≡ place_in page c }
 {
@@ -135,8 +138,8 @@ pub fn place(page: FontPage, c: u32) -> Option<u32>
     }
 }
 
-/// The page that `OS/2` names, if it is of version 0, in the upper byte of its `fsSelection`; that of symbols if it
-/// names none. Other pages (Hebrew, Farsi, Thai) are not known.
+/// The page that `OS/2` names, if it is of version 0, in the upper byte of its `fsSelection`; that
+/// of symbols if it names none. Other pages (Hebrew, Farsi, Thai) are not known.
 fn named(os2: &[u8]) -> FontPage
     ensures { result ≡ page_named os2.now }
 {

@@ -9,8 +9,9 @@ use crate::tags::{AVAR, FVAR};
 use font_variations::coordinates::{Wanted, coordinates};
 use std::alloc::{AllocError, Global};
 
-/// The coordinates of what is wanted of the font with this number, by its tables `fvar` and `avar`: normalized, in units of
-/// 1/16384, one for each axis; none if nothing is wanted, or the font has no axes. Refuses only if a growth was refused.
+/// The coordinates of what is wanted of the font with this number, by its tables `fvar` and `avar`:
+/// normalized, in units of 1/16384, one for each axis; none if nothing is wanted, or the font has
+/// no axes. Refuses only if a growth was refused.
 pub fn coordinates_of(
     alloc: Global,
     bytes: &[u8],

@@ -4,8 +4,9 @@ ghost use Rattle.shape_font.specs.Bytes.{u16_of, u32_of, fitting};
 ghost use Rattle.shape_font.specs.Search.{side_of, side_from_end, found_by, walked, AreRangesInOrder};
 ghost use Rattle.shape_font.specs.Cmap.{segment_of, group_of, groups_of};
 
-/// Among ranges in order that don't meet, a search by midpoints finds what a walk finds: the first range that ends at
-/// the number or after it, if it holds the number. So do the searches among segments and groups of `cmap`.
+/// Among ranges in order that don't meet, a search by midpoints finds what a walk finds: the first
+/// range that ends at the number or after it, if it holds the number. So do the searches among
+/// segments and groups of `cmap`.
 pub fn searches_find_what_walks_find()
     ensures ranges { (start end : ℕ → ℕ) (count n : ℕ) → AreRangesInOrder start end count
         → found_by (λ i. side_of n (start i) (end i)) count ≡ walked start end count n }

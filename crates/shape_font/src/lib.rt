@@ -1,14 +1,16 @@
-//! A face over the bytes of a font file (OpenType, TrueType): [`FontFace`] is an `hb_font_t` whose results are
-//! functions of the bytes.
+//! A face over the bytes of a font file (OpenType, TrueType): [`FontFace`] is an `hb_font_t` whose
+//! results are functions of the bytes.
 //!
-//! Any bytes are taken. What lies past the end of a table reads as 0, so no call is refused, and one line says what
-//! each one means; no table is copied, and no memory is taken. [`bytes`] reads numbers, [`directory`] finds
-//! tables, [`resource_fork`] the fonts of Apple's suitcases, [`cmap`] glyphs of characters, by a page of [`font_pages`] in
-//! fonts from before Unicode, [`metrics`] advances and boxes, and [`face`] puts them together.
-//! [`worked`] has the definitions computed on bytes that were read by hand.
+//! Any bytes are taken. What lies past the end of a table reads as 0, so no call is refused, and
+//! one line says what each one means; no table is copied, and no memory is taken. [`bytes`] reads
+//! numbers, [`directory`] finds tables, [`resource_fork`] the fonts of Apple's suitcases, [`cmap`]
+//! glyphs of characters, by a page of [`font_pages`] in fonts from before Unicode, [`metrics`]
+//! advances and boxes, and [`face`] puts them together. [`worked`] has the definitions computed on
+//! bytes that were read by hand.
 #![tactic(auto)]
 #![allow(non_camel_case_types)]
 
+mod bitmaps;
 pub mod bytes;
 pub mod cff;
 pub mod cmap;
@@ -19,6 +21,7 @@ pub mod instance;
 pub mod laws;
 pub mod metrics;
 pub mod names;
+mod placed;
 pub mod resource_fork;
 pub mod search;
 pub mod subtables;

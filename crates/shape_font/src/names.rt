@@ -5,8 +5,8 @@ ghost use Rattle.shape_font.specs.Names;
 
 use crate::bytes::{records, u8_at, u16_at, u32_at};
 
-/// The names that the table leaves out, in its order, as strings of `post`: a byte that says how long the name is, and
-/// the name.
+/// The names that the table leaves out, in its order, as strings of `post`: a byte that says how
+/// long the name is, and the name.
 pub const STANDARD: &[u8] = b"\
     \x07.notdef\x05.null\x10nonmarkingreturn\x05space\x06exclam\x08quotedbl\x0anumbersign\x06dollar\
     \x07percent\x09ampersand\x0bquotesingle\x09parenleft\x0aparenright\x08asterisk\x04plus\x05comma\
@@ -107,8 +107,8 @@ pub fn name_index(post: &[u8], glyph: u32) -> Option<u32>
     }
 }
 
-/// The name with a number: one of those that are left out, or one of the strings after the list. It takes a step for
-/// each string before.
+/// The name with a number: one of those that are left out, or one of the strings after the list. It
+/// takes a step for each string before.
 pub fn name(post: &[u8], index: u32) -> Option<&[u8]>
     requires { index < 2 ^ 16 }
     ensures { option_map (λ s. s.now) result ≡ Names.name_of STANDARD.now post.now index }

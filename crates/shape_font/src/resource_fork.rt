@@ -1,8 +1,9 @@
-//! Apple's resource forks (suitcases, `.dfont`): files of resources, of which those of the type `sfnt` are fonts ("Inside
-//! Macintosh: More Macintosh Toolbox", "Resource File Format").
+//! Apple's resource forks (suitcases, `.dfont`): files of resources, of which those of the type
+//! `sfnt` are fonts ("Inside Macintosh: More Macintosh Toolbox", "Resource File Format").
 //!
-//! The first words of the file say where its data begin and where its map; the map lists types, and for each type where
-//! the resources of that type begin. Places of tables in such a font are counted from its own beginning.
+//! The first words of the file say where its data begin and where its map; the map lists types, and
+//! for each type where the resources of that type begin. Places of tables in such a font are
+//! counted from its own beginning.
 ghost use Rattle.std.specs.Prelude.{◌≡◌, ◌<◌, ◌≤◌, ◌^◌};
 ghost use Rattle.std.specs.Option.{IfSome};
 ghost use Rattle.shape_font.specs.ResourceFork;
@@ -45,8 +46,8 @@ fn font_type(bytes: &[u8], types: usize) -> Option<u32>
     None
 }
 
-/// Where font `index` begins, if the type with the record at `entry` of the list at `types` has so many: after the four
-/// bytes of its length.
+/// Where font `index` begins, if the type with the record at `entry` of the list at `types` has so
+/// many: after the four bytes of its length.
 fn start(bytes: &[u8], types: usize, entry: usize, index: u32) -> Option<u32>
     requires types { types < 2 ^ 33 }
     requires entry { entry < 2 ^ 35 }

@@ -1,5 +1,5 @@
-//! Searches among records in order: by midpoints, as HarfBuzz searches, so that records out of order are found or
-//! missed as there.
+//! Searches among records in order: by midpoints, as HarfBuzz searches, so that records out of
+//! order are found or missed as there.
 //!
 //! The definition is the search's own, place by place, so a contract is exact for any bytes; that
 //! among ranges in order it finds what a walk finds is a law. In `cmap` format 4 the end of a
@@ -37,8 +37,9 @@ pub fn side_by_end(n: u32, start: u32, end: u32) -> Ordering
     }
 }
 
-/// Of the first `count` places, the one that a search by midpoints comes to and finds equal. `side` says of a place
-/// whether what is sought stands before it, at it or after it. Takes a step for each bit of `count`.
+/// Of the first `count` places, the one that a search by midpoints comes to and finds equal. `side`
+/// says of a place whether what is sought stands before it, at it or after it. Takes a step for
+/// each bit of `count`.
 pub fn found<F: Fn(u32) -> Ordering>(count: u32, side: F) -> Option<u32>
 where
     F: Drop,
@@ -50,7 +51,8 @@ where
     found_within(count, side)
 }
 
-/// The same, but `side` is called at places below `count` alone, so it may rely on the list's having room for them.
+/// The same, but `side` is called at places below `count` alone, so it may rely on the list's
+/// having room for them.
 pub fn found_within<F: Fn(u32) -> Ordering>(count: u32, side: F) -> Option<u32>
 where
     F: Drop,

@@ -7,8 +7,8 @@ ghost use Rattle.shape_font.specs.Subtables.{tail_of, subtable_of, first_subtabl
 
 use crate::bytes::{records, u16_at, u32_at};
 
-/// Platform and encoding of the tables, the most preferred first: symbols, then whole Unicode (Windows, Unicode),
-/// then its first plane.
+/// Platform and encoding of the tables, the most preferred first: symbols, then whole Unicode
+/// (Windows, Unicode), then its first plane.
 const PREFERRED: [u32; 9] = [0x30000, 0x3000A, 6, 4, 0x30001, 3, 2, 1, 0];
 
 /// What stands from `at` to the end; nothing past the end.
@@ -32,8 +32,8 @@ fn record(cmap: &[u8], key: u32, count: u32) -> Option<u32>
     None
 }
 
-/// The table of characters for this platform and encoding, up to the end of `cmap`; a record whose offset is 0 has
-/// none.
+/// The table of characters for this platform and encoding, up to the end of `cmap`; a record whose
+/// offset is 0 has none.
 pub fn subtable(cmap: &[u8], key: u32) -> Option<&[u8]>
     ensures { option_map (λ t. t.now) result ≡ subtable_of cmap.now key }
 {

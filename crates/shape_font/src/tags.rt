@@ -66,6 +66,12 @@ pub(crate) const HVAR: u32 = 0x4856_4152;
 /// `VVAR`.
 pub(crate) const VVAR: u32 = 0x5656_4152;
 
+/// `gvar`.
+pub(crate) const GVAR: u32 = 0x6776_6172;
+
+/// `MVAR`.
+pub(crate) const MVAR: u32 = 0x4d56_4152;
+
 /// `post`.
 pub(crate) const POST: u32 = 0x706f_7374;
 
@@ -74,3 +80,12 @@ pub(crate) const CFF: u32 = 0x4346_4620;
 
 /// `CFF2`.
 pub(crate) const CFF2: u32 = 0x4346_4632;
+
+/// `sbix`.
+pub(crate) const SBIX: u32 = 0x7362_6978;
+
+/// `CBLC`.
+pub(crate) const CBLC: u32 = 0x4342_4c43;
+
+/// `CBDT`.
+pub(crate) const CBDT: u32 = 0x4342_4454;

@@ -1,7 +1,7 @@
 //! Glyphs of characters before variation selectors: format 14 of the table `cmap`.
 //!
-//! For each selector a font says which characters look under it as they do alone, and which have a glyph of their
-//! own. Another character has no glyph under it.
+//! For each selector a font says which characters look under it as they do alone, and which have a
+//! glyph of their own. Another character has no glyph under it.
 ghost use Rattle.std.specs.Prelude.{◌≡◌, ◌<◌, ◌^◌, if◌then◌else◌, nat_eq};
 ghost use Rattle.shape_font.specs.Variations;
 ghost use Rattle.shape_font.specs.declared.variations.GlyphVariant.TheVariants.{Missing, Default, Own};

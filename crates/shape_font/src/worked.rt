@@ -7,6 +7,8 @@ ghost use Rattle.shape_font.specs.Worked.Searches.{WorkedSearches, WorkedVariati
 ghost use Rattle.shape_font.specs.Worked.Names.{WorkedNames};
 ghost use Rattle.shape_font.specs.Worked.Face.{WorkedFace, WorkedOrigins};
 ghost use Rattle.shape_font.specs.Worked.Instances.{WorkedInstances};
+ghost use Rattle.shape_font.specs.Worked.PointsAt.{WorkedPoints, WorkedPointPlaces};
+ghost use Rattle.shape_font.specs.Worked.BoxesAt.{WorkedPlaces, WorkedBoxes};
 
 /// Numbers, the directory, collections, the choice of a character map, and the tags of tables.
 pub fn tables_meet_worked_cases()
@@ -33,7 +35,7 @@ pub fn old_fonts_meet_worked_cases()
     ensures forks { WorkedForks }
 {}
 
-/// Searches by midpoints, variation sequences, names, and what a face returns.
+/// Searches by midpoints, variation sequences, names, and what a face returns, also at coordinates.
 pub fn searches_meet_worked_cases()
     ensures searches { WorkedSearches }
     ensures variations { WorkedVariations }
@@ -41,4 +43,12 @@ pub fn searches_meet_worked_cases()
     ensures face { WorkedFace }
     ensures origins { WorkedOrigins }
     ensures instances { WorkedInstances }
+    ensures points { WorkedPoints }
+    ensures places { WorkedPointPlaces }
+{}
+
+/// Frames of components, and boxes at coordinates.
+pub fn boxes_meet_worked_cases()
+    ensures places { WorkedPlaces }
+    ensures boxes { WorkedBoxes }
 {}

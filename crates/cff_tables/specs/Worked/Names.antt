@@ -58,7 +58,19 @@ pub record WorkedCodes : Type 0 where
   pub last_listed_glyph : own_glyph listed 3 3 400 ≡ 2
 
 abbrev pub small_layout : Layout
-small_layout = record { wide = false; cid = false; glyph_count = 2; char_strings = 29; global = 24; local = 39; charset = 26; strings = 22; fd_array = 0; fd_select = 0; vstore = 0 }
+small_layout = record {
+  wide = false;
+  cid = false;
+  glyph_count = 2;
+  char_strings = 29;
+  global = 24;
+  local = 39;
+  charset = 26;
+  strings = 22;
+  fd_array = 0;
+  fd_select = 0;
+  vstore = 0;
+}
 
 pub record WorkedNames : Type 0 where
   pub letter : name_of small_font small_layout 1 ≡ Some (65 ∷ [])

@@ -147,10 +147,34 @@ small_wide_font = 2 ∷ 0 ∷ 5 ∷ 0 ∷ 5 ∷ 153 ∷ 17 ∷ 161 ∷ 12 ∷ 36
 pub record WorkedFonts : Type 0 where
   pub too_short : cff_layout (1 ∷ 0 ∷ 4 ∷ 1 ∷ []) 1 ≡ None
   pub another_version : cff_layout (2 ∷ 0 ∷ 4 ∷ 1 ∷ []) 1 ≡ None
-  pub narrow : cff_layout small_font 2 ≡ Some (record { wide = false; cid = false; glyph_count = 2; char_strings = 29; global = 24; local = 39; charset = 26; strings = 22; fd_array = 0; fd_select = 0; vstore = 0 })
+  pub narrow : cff_layout small_font 2 ≡ Some (record {
+    wide = false;
+    cid = false;
+    glyph_count = 2;
+    char_strings = 29;
+    global = 24;
+    local = 39;
+    charset = 26;
+    strings = 22;
+    fd_array = 0;
+    fd_select = 0;
+    vstore = 0;
+  })
   pub other_narrow_count : cff_layout small_font 3 ≡ None
   pub not_wide : cff2_layout small_font 2 ≡ None
-  pub wide : cff2_layout small_wide_font 1 ≡ Some (record { wide = true; cid = false; glyph_count = 1; char_strings = 14; global = 10; local = 0; charset = 0; strings = 0; fd_array = 22; fd_select = 0; vstore = 0 })
+  pub wide : cff2_layout small_wide_font 1 ≡ Some (record {
+    wide = true;
+    cid = false;
+    glyph_count = 1;
+    char_strings = 14;
+    global = 10;
+    local = 0;
+    charset = 0;
+    strings = 0;
+    fd_array = 22;
+    fd_select = 0;
+    vstore = 0;
+  })
   pub other_count : cff2_layout small_wide_font 2 ≡ None
   -- a store at 0 .. none; at 2: two bytes of length, format, regions at 0, one block at 12 with two regions
   pub no_store : region_count (1 ∷ []) 0 0 ≡ 0

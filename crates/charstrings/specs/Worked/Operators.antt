@@ -5,7 +5,8 @@ use Rattle.charstrings.specs.Numbers.{begins_number, number_size, number_value, 
 use Rattle.charstrings.specs.Pieces.{piece_of, is_accepted, delta, found, past_all}
 use Rattle.charstrings.specs.declared.pieces.Found.{Found}
 use Rattle.charstrings.specs.declared.pieces.Piece.TheVariants.{Line, Curve}
-use Rattle.charstrings.specs.declared.pieces.PathOperator.TheVariants.{Lines, AxisLines, Curves, CurvesThenLine, LinesThenCurve, AxisCurves, TurningCurves, Flex, Hflex, Hflex1, Flex1}
+use Rattle.charstrings.specs.declared.pieces.PathOperator.TheVariants.{Lines, AxisLines, Curves, CurvesThenLine, LinesThenCurve, AxisCurves}
+use Rattle.charstrings.specs.declared.pieces.PathOperator.TheVariants.{TurningCurves, Flex, Hflex, Hflex1, Flex1}
 
 pub record WorkedNumbers : Type 0 where
   pub least_byte : number_value (32 ∷ []) 0 ≡ negsuc 7012351

@@ -12,7 +12,19 @@ use Rattle.charstrings.specs.declared.strokes.Accent.{Accent}
 
 -- a layout whose global subroutines stand at a place, in a table `CFF2` or not
 abbrev pub layout : Bool → ℕ → Layout
-layout wide global = record { wide = wide; cid = false; glyph_count = 1; char_strings = 0; global = global; local = 0; charset = 0; strings = 0; fd_array = 0; fd_select = 0; vstore = 0 }
+layout wide global = record {
+  wide = wide;
+  cid = false;
+  glyph_count = 1;
+  char_strings = 0;
+  global = global;
+  local = 0;
+  charset = 0;
+  strings = 0;
+  fd_array = 0;
+  fd_select = 0;
+  vstore = 0;
+}
 
 -- what a table draws that is a charstring from its start up to a place; local subroutines stand at `local`, and global ones at `global`
 abbrev pub drawn_in : Bool → ℕ → ℕ → List ℕ → ℕ → Option Outline

@@ -1,17 +1,20 @@
 -- Coordinates, normalized and mapped, on bytes that were read by hand.
-use Rattle.std.specs.Prelude.{◌≡◌, ℕ, pos, negsuc, List, [], ◌∷◌, ◌++◌, Some, None, refl, false}
+use Rattle.std.specs.Prelude.{◌≡◌, ℕ, ℤ, pos, negsuc, List, [], ◌∷◌, ◌++◌, ◌+◌, Some, None, refl, false}
 use Rattle.std.specs.Float.{Float, fin, nan, round_with}
 use lib.Count.{count_trailing_zeros}
 use lib.Ieee.{round, size, span, climb, units, odd, of_bits, of_fields, of_int, div, mul, add, sub, neg, sum, eq, lt, le, to_signed}
-use Rattle.font_bytes.specs.Bytes.{i8_of, i16_of, i32_of}
+use Rattle.font_bytes.specs.Bytes.{u32_of, i8_of, i16_of, i32_of}
 use Rattle.font_variations.specs.Tents.{ratio, tent}
 use Rattle.font_variations.specs.Regions.{axis_scalar, region_scalar}
-use Rattle.font_variations.specs.Deltas.{delta_in, part_of, delta_of, rounded}
+use Rattle.font_variations.specs.Deltas.{delta_in, part_of, delta_of, row_steps, rounded}
 use Rattle.font_variations.specs.Axes.{axis_of, axis_count, instance_count, instance_value}
+use Rattle.font_variations.specs.IndexMaps.{mapped}
+use Rattle.font_variations.specs.Parts.{part_at}
 use Rattle.font_variations.specs.Normal.{normalized, bounded}
 use Rattle.font_variations.specs.Segments.{between, mapped_by, segments_at}
-use Rattle.font_variations.specs.Coordinates.{design_value, axis_coordinate, shift_of, shifted, coordinates_of}
+use Rattle.font_variations.specs.Coordinates.{design_value, axis_coordinate, tail_of, shift_of, shifted, coordinates_of}
 use Rattle.font_variations.specs.declared.axes.Axis.{Axis}
+use Rattle.font_variations.specs.declared.coordinates.TheConstants.{MOST_SHIFT_STEPS}
 use Rattle.font_variations.specs.declared.coordinates.Variation.{Variation}
 
 -- 25 * 2 ^ k: 100 and 400; 900 is 225 * 4, 700 is 175 * 4, 250 is 125 * 2
@@ -116,6 +119,10 @@ pub record WorkedCoordinates : Type 0 where
   -- 1/2, which the segments map to 1/4, and the deltas shift by a quarter of 100
   pub by_segments : coordinates_of fvar avar None (half_bold ∷ []) ≡ pos 4096 ∷ []
   pub by_deltas : coordinates_of fvar avar_2 None (half_bold ∷ []) ≡ pos 4121 ∷ []
+  -- a row of one column takes two steps for one axis, of 16,777,216
+  pub most_shift_steps : MOST_SHIFT_STEPS ≡ 0x1000000
+  pub shares : (avar : List ℕ) (a b : ℤ) → row_steps (part_at avar (u32_of avar (tail_of avar + 4))) (mapped (part_at avar (u32_of avar (tail_of avar))) 1)
+      ≡ 0x800001 → shift_of avar (a ∷ b ∷ []) 1 ≡ pos 0
   pub other_version : coordinates_of fvar (0 ∷ 3 ∷ 0 ∷ 0 ∷ 0 ∷ 0 ∷ 0 ∷ 1 ∷ segments) None (half_bold ∷ []) ≡ pos 8192 ∷ []
 
 pub worked_normal : WorkedNormal
@@ -134,7 +141,8 @@ worked_normal = record {
 }
 
 pub worked_segments : WorkedSegments
-unfolding mapped_by between i16_of rounded round_with div mul sub neg add sum eq lt le to_signed of_int round size span climb units odd count_trailing_zeros of_bits of_fields
+unfolding mapped_by between i16_of rounded round_with div mul sub neg add sum eq lt le to_signed of_int round
+    size span climb units odd count_trailing_zeros of_bits of_fields
 worked_segments = record {
   at_a_pair = refl;
   before_it = refl;
@@ -153,7 +161,9 @@ worked_segments = record {
 }
 
 pub worked_coordinates : WorkedCoordinates
-unfolding axis_coordinate design_value shift_of shifted normalized mapped_by between delta_of part_of delta_in region_scalar axis_scalar tent ratio i8_of i16_of i32_of rounded round_with div mul sub neg add sum eq lt le to_signed of_int round size span climb units odd count_trailing_zeros of_bits of_fields
+unfolding axis_coordinate design_value shift_of shifted normalized mapped_by between delta_of part_of delta_in
+    region_scalar axis_scalar tent ratio i8_of i16_of i32_of rounded round_with div mul sub neg add sum eq lt
+    le to_signed of_int round size span climb units odd count_trailing_zeros of_bits of_fields
 worked_coordinates = record {
   axis = refl;
   turned = refl;
@@ -169,5 +179,7 @@ worked_coordinates = record {
   no_axes = refl;
   by_segments = refl;
   by_deltas = refl;
+  most_shift_steps = refl;
+  shares = λ avar a b e. rw e refl;
   other_version = refl;
 }

@@ -6,10 +6,11 @@ use lib.Ieee.{round, size, span, climb, units, odd, of_bits, of_fields, of_int, 
 use Rattle.font_bytes.specs.Bytes.{i8_of, i16_of, i32_of}
 use Rattle.font_variations.specs.Tents.{nothing, ratio, tent}
 use Rattle.font_variations.specs.Regions.{axis_scalar, region_scalar}
-use Rattle.font_variations.specs.Deltas.{delta_in, part_of, delta_of, rounded}
+use Rattle.font_variations.specs.Deltas.{delta_in, part_of, delta_of, row_steps, delta_within, rounded}
 use Rattle.font_variations.specs.IndexMaps.{mapped}
-use Rattle.font_variations.specs.Metrics.{metric_delta, advance_delta, bearing_delta, origin_delta}
+use Rattle.font_variations.specs.Metrics.{metric_delta, advance_delta, advance_steps, bearing_delta, origin_delta}
 use Rattle.font_variations.specs.Lines.{line_delta}
+use Rattle.font_variations.specs.declared.metrics.TheConstants.{MOST_ROW_STEPS}
 use Rattle.font_variations.specs.Worked.Scalars.{regions}
 
 -- a store of one ItemVariationData, whose first bytes say how its rows are stored: two rows for the two regions
@@ -47,6 +48,11 @@ pub record WorkedDeltas : Type 0 where
   pub cut_off : delta_of cut_store there 0 ≡ nothing
   pub too_many_wide : delta_of wide_store there 0 ≡ nothing
   pub no_store : delta_of [] there 0 ≡ nothing
+  -- two columns of two axes
+  pub steps : row_steps store 1 ≡ 6
+  pub no_steps : row_steps store 65536 ≡ 0
+  pub short_row : delta_within 6 store there 1 ≡ fin false 1019 (negsuc 2)
+  pub long_row : delta_within 5 store there 1 ≡ nothing
   pub to_the_nearest : rounded (fin true 395 (negsuc 1)) ≡ negsuc 98
   pub down : rounded (fin false 1019 (negsuc 2)) ≡ pos 127
   pub halves_up : rounded (fin false 5 (negsuc 0)) ≡ pos 3
@@ -86,6 +92,10 @@ pub record WorkedMetrics : Type 0 where
   pub origin : origin_delta (table_of 0 0 80) there 0 ≡ Some (pos 127)
   pub no_origin : origin_delta (table_of 80 80 0) there 0 ≡ None
   pub no_table : advance_delta [] there 0 ≡ pos 0
+  pub steps : advance_steps (table_of 0 0 0) 1 ≡ 6
+  pub no_such_steps : advance_steps (table_of 0 0 0) 65536 ≡ 0
+  pub no_steps : advance_steps [] 1 ≡ 0
+  pub most_steps : MOST_ROW_STEPS ≡ 8192
   pub at_the_default : advance_delta (table_of 0 0 0) [] 0 ≡ pos 0
 
 -- `hasc` has the first row of the store and `hdsc` the second; records of this size stand at 12, the store at 28
@@ -104,7 +114,9 @@ pub record WorkedLines : Type 0 where
   pub no_table : line_delta [] there 0x68617363 ≡ nothing
 
 pub worked_deltas : WorkedDeltas
-unfolding delta_of part_of delta_in rounded round_with region_scalar axis_scalar i8_of i16_of i32_of tent ratio div mul add sum eq to_signed of_int round size span climb units odd count_trailing_zeros of_bits of_fields
+unfolding delta_of part_of delta_in rounded round_with region_scalar axis_scalar i8_of i16_of i32_of tent
+    ratio div mul add sum eq to_signed of_int round size span climb units odd count_trailing_zeros of_bits
+    of_fields
 worked_deltas = record {
   first_row = refl;
   second_row = refl;
@@ -115,6 +127,10 @@ worked_deltas = record {
   cut_off = refl;
   too_many_wide = refl;
   no_store = refl;
+  steps = refl;
+  no_steps = refl;
+  short_row = refl;
+  long_row = refl;
   to_the_nearest = refl;
   down = refl;
   halves_up = refl;
@@ -139,7 +155,9 @@ worked_index_maps = record {
 }
 
 pub worked_metrics : WorkedMetrics
-unfolding metric_delta delta_of part_of delta_in rounded round_with region_scalar axis_scalar i8_of i16_of i32_of tent ratio div mul add sum eq to_signed of_int round size span climb units odd count_trailing_zeros of_bits of_fields
+unfolding metric_delta delta_of part_of delta_in rounded round_with region_scalar axis_scalar i8_of i16_of
+    i32_of tent ratio div mul add sum eq to_signed of_int round size span climb units odd count_trailing_zeros
+    of_bits of_fields
 worked_metrics = record {
   by_glyph = refl;
   by_the_next_glyph = refl;
@@ -149,11 +167,17 @@ worked_metrics = record {
   origin = refl;
   no_origin = refl;
   no_table = refl;
+  steps = refl;
+  no_such_steps = refl;
+  no_steps = refl;
+  most_steps = refl;
   at_the_default = refl;
 }
 
 pub worked_lines : WorkedLines
-unfolding line_delta delta_of part_of delta_in rounded round_with region_scalar axis_scalar i8_of i16_of i32_of tent ratio div mul add sum eq to_signed of_int round size span climb units odd count_trailing_zeros of_bits of_fields
+unfolding line_delta delta_of part_of delta_in rounded round_with region_scalar axis_scalar i8_of i16_of
+    i32_of tent ratio div mul add sum eq to_signed of_int round size span climb units odd count_trailing_zeros
+    of_bits of_fields
 worked_lines = record {
   first = refl;
   second = refl;

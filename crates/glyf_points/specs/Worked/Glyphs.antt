@@ -70,7 +70,13 @@ abbrev pub first_part : Component
 first_part = record { glyph = 5; placement = Moved (pos 256) (negsuc 0); matrix = plain; is_offset_scaled = false; has_metrics = true }
 
 abbrev pub second_part : Component
-second_part = record { glyph = 256; placement = OnPoint 3 4; matrix = record plain { xx = pos 8192; yy = pos 8192 }; is_offset_scaled = false; has_metrics = false }
+second_part = record {
+  glyph = 256;
+  placement = OnPoint 3 4;
+  matrix = record plain { xx = pos 8192; yy = pos 8192 };
+  is_offset_scaled = false;
+  has_metrics = false;
+}
 
 abbrev pub third_part : Component
 third_part = record {
@@ -87,7 +93,13 @@ pub record WorkedParts : Type 0 where
   pub cut_off : components_of (255 ∷ 255 ∷ 0 ∷ 0 ∷ 0 ∷ 0 ∷ 0 ∷ 0 ∷ 0 ∷ 0 ∷ 0x02 ∷ 0x23 ∷ 0 ∷ 5 ∷ 1 ∷ 0 ∷ 255 ∷ 255 ∷ 0 ∷ 0x28 ∷ []) 256 ≡ first_part ∷ []
   -- words of points, two scales; offsets that are scaled and aren't are not
   pub by_words : components_of (255 ∷ 255 ∷ 0 ∷ 0 ∷ 0 ∷ 0 ∷ 0 ∷ 0 ∷ 0 ∷ 0 ∷ 0x18 ∷ 0x41 ∷ 0 ∷ 5 ∷ 1 ∷ 0 ∷ 255 ∷ 255 ∷ 0x20 ∷ 0 ∷ 0x10 ∷ 0 ∷ []) 256
-      ≡ record { glyph = 5; placement = OnPoint 256 65535; matrix = record plain { xx = pos 8192; yy = pos 4096 }; is_offset_scaled = false; has_metrics = false } ∷ []
+      ≡ record {
+        glyph = 5;
+        placement = OnPoint 256 65535;
+        matrix = record plain { xx = pos 8192; yy = pos 4096 };
+        is_offset_scaled = false;
+        has_metrics = false;
+      } ∷ []
   pub two_at_most : components_of three_parts 2 ≡ first_part ∷ second_part ∷ []
   pub none : components_of small_glyph 256 ≡ []
 
@@ -111,7 +123,17 @@ worked_steps = record {
 
 pub worked_points : WorkedPoints
 unfolding ◌+ʷ◌ ◌-ʷ◌ int_wrap i16_of
-worked_points = record { two_contours = refl; cut_off = refl; whole = refl; no_flags = refl; empty = refl; made_of_others = refl; said_of_two_contours = refl; said_of_others = refl; said_of_nothing = refl }
+worked_points = record {
+  two_contours = refl;
+  cut_off = refl;
+  whole = refl;
+  no_flags = refl;
+  empty = refl;
+  made_of_others = refl;
+  said_of_two_contours = refl;
+  said_of_others = refl;
+  said_of_nothing = refl;
+}
 
 pub worked_parts : WorkedParts
 unfolding i8_of i16_of

@@ -4,7 +4,13 @@ use Rattle.std.specs.Int.{int_wrap}
 use Rattle.shape_common.specs.Wrapping.{◌+ʷ◌, neg_w}
 use Rattle.shape_common.specs.declared.face.hb_glyph_extents_t.{hb_glyph_extents_t}
 use Rattle.shape_font.specs.Bytes.{i16_of}
-use Rattle.shape_font.specs.Face.{font_face, numbered, glyph_of, variant_of, h_advance_of, v_advance_of, inked_extents, extents_of, inked_of, origin_over}
+use Rattle.shape_font.specs.Face.{font_face, width_in, depth_in, origin_above, numbered, glyph_of, variant_of, h_advance_of, v_advance_of}
+use Rattle.shape_font.specs.Face.{inked_extents, outlined_extents, extents_of, inked_of, origin_over, drawn_there}
+use Rattle.shape_font.specs.LinesAt.{ascent_of, descent_of}
+use Rattle.shape_font.specs.Cff.{drawn_extents}
+use Rattle.bitmap_tables.specs.Tables.{bitmap_box}
+use Rattle.cff_tables.specs.declared.font.CffFont.{CffFont}
+use Rattle.charstrings.specs.Boxes.{glyph_box}
 use Rattle.shape_font.specs.Metrics.{as_short, no_box, framed_of}
 use Rattle.shape_font.specs.Worked.Glyphs.{words, short_list, header}
 use Rattle.shape_font.specs.Worked.Lines.{origins, plain_line}
@@ -51,9 +57,19 @@ pub record WorkedFace : Type 0 where
   pub no_box_past_the_last : (f : FontFace) → f.outlines ≡ true → f.glyph_count ≡ 7 → inked_extents f (record { 0 = 7 }) ≡ None
   pub no_box_without_outlines : (f : FontFace) → f.outlines ≡ false → inked_extents f (record { 0 = 1 }) ≡ None
   pub box_of_the_last : (f : FontFace) → f.outlines ≡ true → f.glyph_count ≡ 7 → inked_extents f (record { 0 = 6 }) ≡ Some (inked_of f 6)
-  pub first_by_its_outline : (f : FontFace) → f.outlines ≡ true → f.glyph_count ≡ 7 → extents_of f (record { 0 = 6 }) ≡ Some (inked_of f 6)
-  pub without_a_charstring : (f : FontFace) → f.outlines ≡ false → f.cff ≡ None → extents_of f (record { 0 = 1 }) ≡ None
-  pub past_the_last_outline : (f : FontFace) → f.outlines ≡ true → f.glyph_count ≡ 7 → f.cff ≡ None → extents_of f (record { 0 = 7 }) ≡ None
+  pub first_by_its_outline : (f : FontFace) → f.coordinates.now ≡ [] → f.outlines ≡ true → f.glyph_count ≡ 7
+      → outlined_extents f (record { 0 = 6 }) ≡ Some (inked_of f 6)
+  pub without_a_charstring : (f : FontFace) → f.outlines ≡ false → f.cff ≡ None → outlined_extents f (record { 0 = 1 }) ≡ None
+  pub past_the_last_outline : (f : FontFace) → f.outlines ≡ true → f.glyph_count ≡ 7 → f.cff ≡ None → outlined_extents f (record { 0 = 7 }) ≡ None
+  pub drawn_without_outlines : (f : FontFace) → f.outlines ≡ false → outlined_extents f (record { 0 = 5 }) ≡ drawn_there f 5
+  pub by_a_charstring : (c : CffFont) → glyph_box c.table.now c.layout 5
+      ≡ Some (record { x_bearing = pos 10; y_bearing = pos 700; width = pos 490; height = negsuc 719 })
+      → drawn_extents (Some c) 5 ≡ Some (record { x_bearing = pos 10; y_bearing = pos 700; width = pos 490; height = negsuc 719 })
+  pub no_charstring : (c : CffFont) → glyph_box c.table.now c.layout 5 ≡ None → drawn_extents (Some c) 5 ≡ None
+  pub bitmap_first : (f : FontFace) (b : hb_glyph_extents_t) → bitmap_box f.bitmaps f.glyph_count f.units_per_em 6 ≡ Some b
+      → extents_of f (record { 0 = 6 }) ≡ Some b
+  pub without_a_bitmap : (f : FontFace) → bitmap_box f.bitmaps f.glyph_count f.units_per_em 6 ≡ None
+      → f.coordinates.now ≡ [] → f.outlines ≡ true → f.glyph_count ≡ 7 → extents_of f (record { 0 = 6 }) ≡ Some (inked_of f 6)
   pub half_of_an_odd_em : (f : FontFace) → f.glyph_count ≡ 7 → f.h_count ≡ 0 → f.units_per_em ≡ 1001
       → h_advance_of f (record { 0 = 6 }) ≡ pos 500
   -- glyph 1 has the bytes from 2 up to 12, and the bearing 60; glyph 2 has none
@@ -71,7 +87,7 @@ pub record WorkedFace : Type 0 where
       → inked_extents f (record { 0 = 0 }) ≡ Some (record { x_bearing = pos 50; y_bearing = pos 700; width = pos 290; height = negsuc 719 })
 
 pub worked_face : WorkedFace
-unfolding inked_of framed_of i16_of as_short neg_w int_wrap
+unfolding width_in depth_in inked_of framed_of i16_of as_short neg_w int_wrap
 worked_face = record {
   glyph_0_is_none = refl;
   glyph_1 = refl;
@@ -95,9 +111,14 @@ worked_face = record {
   no_box_past_the_last = λ f o e. rw (o, e) refl;
   no_box_without_outlines = λ f o. rw o refl;
   box_of_the_last = λ f o e. rw (o, e) refl;
-  first_by_its_outline = λ f o e. rw (o, e) refl;
+  first_by_its_outline = λ f c o e. rw (c, o, e) refl;
   without_a_charstring = λ f o c. rw (o, c) refl;
   past_the_last_outline = λ f o e c. rw (o, e, c) refl;
+  drawn_without_outlines = λ f o. rw o refl;
+  by_a_charstring = λ c drawn. rw drawn refl;
+  no_charstring = λ c none. rw none refl;
+  bitmap_first = λ f b found. rw (found, extents_of) refl;
+  without_a_bitmap = λ f none c o e. rw (none, extents_of) (rw (c, o, e) refl);
   half_of_an_odd_em = λ f e h u. rw (e, h, u) refl;
   box_by_short_places = λ f o e p l g h t. rw (o, e, p, l, g, h, t) refl;
   empty_box = λ f o e p l g h t. rw (o, e, p, l) refl;
@@ -110,7 +131,7 @@ box = record { x_bearing = pos 20; y_bearing = pos 700; width = pos 300; height 
 
 -- advances downwards, origins, and which answer is which; the line is 800 up and 200 down
 pub record WorkedOrigins : Type 0 where
-  pub a_line_down : (f : FontFace) → f.v_count ≡ 0 → f.os2.now ≡ [] → f.hhea.now ≡ plain_line
+  pub a_line_down : (f : FontFace) → f.coordinates.now ≡ [] → f.v_count ≡ 0 → f.os2.now ≡ [] → f.hhea.now ≡ plain_line
       → (font_face f).v_advance (record { 0 = 6 }) ≡ negsuc 999
   pub not_down_past_the_last : (f : FontFace) → f.v_count ≡ 1 → f.glyph_count ≡ 7
       → (font_face f).v_advance (record { 0 = 7 }) ≡ pos 0
@@ -120,46 +141,47 @@ pub record WorkedOrigins : Type 0 where
   pub half_of_the_advance : (f : FontFace) → f.coordinates.now ≡ [] → f.glyph_count ≡ 7 → f.h_count ≡ 1 → f.hmtx.now ≡ words (501 ∷ 50 ∷ [])
       → (font_face f).h_origin (record { 0 = 6 }) ≡ pos 250
   pub as_listed : (f : FontFace) → f.coordinates.now ≡ [] → f.vorg.now ≡ origins 2 → (font_face f).v_origin (record { 0 = 3 }) ≡ pos 900
-  pub by_the_box : (f : FontFace) → f.vorg.now ≡ [] → f.outlines ≡ true → f.glyph_count ≡ 7
+  pub by_the_box : (f : FontFace) → f.coordinates.now ≡ [] → f.vorg.now ≡ [] → f.outlines ≡ true → f.glyph_count ≡ 7
       → (font_face f).v_origin (record { 0 = 6 }) ≡ origin_over f 6 (inked_of f 6)
-  pub without_a_box : (f : FontFace) → f.vorg.now ≡ [] → f.outlines ≡ false → f.os2.now ≡ [] → f.hhea.now ≡ plain_line
+  pub without_a_box : (f : FontFace) → f.coordinates.now ≡ [] → f.vorg.now ≡ [] → f.outlines ≡ false → f.os2.now ≡ [] → f.hhea.now ≡ plain_line
       → (font_face f).v_origin (record { 0 = 6 }) ≡ pos 800
   pub by_its_bearing : (f : FontFace) → f.v_count ≡ 1 → f.vmtx.now ≡ words (900 ∷ 50 ∷ 60 ∷ []) → origin_over f 1 box ≡ pos 760
   -- 295 is left, and half of that is 147
-  pub in_the_middle : (f : FontFace) → f.v_count ≡ 0 → f.os2.now ≡ [] → f.hhea.now ≡ plain_line → origin_over f 1 box ≡ pos 847
+  pub in_the_middle : (f : FontFace) → f.coordinates.now ≡ [] → f.v_count ≡ 0 → f.os2.now ≡ [] → f.hhea.now ≡ plain_line → origin_over f 1 box ≡ pos 847
   pub glyph : (f : FontFace) → f.font_page ≡ Unicode → f.cmap.now ≡ short_list
       → (font_face f).nominal_glyph 0x41 ≡ Some (record { 0 = 7 })
   pub variant : (f : FontFace) → f.sequences.now ≡ three_selectors
       → (font_face f).variation_glyph 0x41 0xFE01 ≡ Some (record { 0 = 7 })
   pub advance : (f : FontFace) → f.coordinates.now ≡ [] → f.glyph_count ≡ 7 → f.h_count ≡ 1 → f.hmtx.now ≡ words (501 ∷ 50 ∷ [])
       → (font_face f).h_advance (record { 0 = 6 }) ≡ pos 501
-  pub no_box : (f : FontFace) → f.outlines ≡ false → f.cff ≡ None → (font_face f).extents (record { 0 = 1 }) ≡ None
+  pub no_box : (f : FontFace) → bitmap_box f.bitmaps f.glyph_count f.units_per_em 1 ≡ None → f.outlines ≡ false → f.cff ≡ None
+      → (font_face f).extents (record { 0 = 1 }) ≡ None
   pub em : (f : FontFace) → f.units_per_em ≡ 2048 → (font_face f).units_per_em ≡ 2048
   -- 1005 high: -5 is left, and half of that is -3
-  pub higher_than_the_line : (f : FontFace) → f.v_count ≡ 0 → f.os2.now ≡ [] → f.hhea.now ≡ plain_line
+  pub higher_than_the_line : (f : FontFace) → f.coordinates.now ≡ [] → f.v_count ≡ 0 → f.os2.now ≡ [] → f.hhea.now ≡ plain_line
       → origin_over f 1 (record box { height = negsuc 1004 }) ≡ pos 697
   pub listed_by_a_minor_version : (f : FontFace) → f.coordinates.now ≡ [] → f.vorg.now ≡ words (0 ∷ 1 ∷ 880 ∷ 0 ∷ [])
       → (font_face f).v_origin (record { 0 = 3 }) ≡ pos 880
   pub tables : (f : FontFace) → (font_face f).tables ≡ f.tables
 
 pub worked_origins : WorkedOrigins
-unfolding i16_of as_short ◌+ʷ◌ int_wrap
+unfolding ascent_of descent_of width_in depth_in origin_above i16_of as_short ◌+ʷ◌ int_wrap
 worked_origins = record {
-  a_line_down = λ f v o h. rw (v, o, h) refl;
+  a_line_down = λ f c v o h. rw (c, v, o, h) refl;
   not_down_past_the_last = λ f v e. rw (v, e) refl;
   half_below_0 = λ f c e h t. rw (c, e, h, t) refl;
   half_of_the_advance = λ f c e h t. rw (c, e, h, t) refl;
   as_listed = λ f c v. rw (c, v) refl;
-  by_the_box = λ f v o e. rw (v, o, e) refl;
-  without_a_box = λ f v o s h. rw (v, o, s, h) refl;
+  by_the_box = λ f c v o e. rw (c, v, o, e) refl;
+  without_a_box = λ f c v o s h. rw (c, v, o, s, h) refl;
   by_its_bearing = λ f v t. rw (v, t) refl;
-  in_the_middle = λ f v o h. rw (v, o, h) refl;
+  in_the_middle = λ f c v o h. rw (c, v, o, h) refl;
   glyph = λ f s c. rw (s, c) refl;
   variant = λ f q. rw q refl;
   advance = λ f c e h t. rw (c, e, h, t) refl;
-  no_box = λ f o c. rw (o, c) refl;
+  no_box = λ f none o c. rw (none, extents_of) (rw (o, c) refl);
   em = λ f u. u;
-  higher_than_the_line = λ f v o h. rw (v, o, h) refl;
+  higher_than_the_line = λ f c v o h. rw (c, v, o, h) refl;
   listed_by_a_minor_version = λ f c v. rw (c, v) refl;
   tables = λ f. refl;
 }

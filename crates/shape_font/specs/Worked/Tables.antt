@@ -3,7 +3,8 @@ use Rattle.std.specs.Prelude.{◌≡◌, ℕ, pos, negsuc, List, [], ◌∷◌, 
 use Rattle.shape_font.specs.Bytes.{u16_of, u32_of, i16_of, fitting}
 use Rattle.shape_font.specs.Directory.{font_start, slice_of, table_at, table_of, has_table, bytes_of}
 use Rattle.shape_font.specs.Subtables.{subtable_of, chosen_subtable, symbols_of}
-use Rattle.shape_font.specs.declared.tags.TheConstants.{HEAD, HHEA, MAXP, HMTX, VHEA, VMTX, VORG, OS2, CMAP, LOCA, GLYF, GDEF, GSUB, GPOS, MORX, KERX, TRAK, KERN, POST}
+use Rattle.shape_font.specs.declared.tags.TheConstants.{HEAD, HHEA, MAXP, HMTX, VHEA, VMTX, VORG, OS2, CMAP, LOCA, GLYF, GDEF, GSUB, GPOS, MORX, KERX}
+use Rattle.shape_font.specs.declared.tags.TheConstants.{TRAK, KERN, POST, HVAR, VVAR, GVAR, CFF, CFF2, SBIX, CBLC, CBDT}
 
 pub record WorkedNumbers : Type 0 where
   pub two_bytes : u16_of (7 ∷ 1 ∷ 2 ∷ []) 1 ≡ 258
@@ -187,6 +188,14 @@ pub record WorkedTags : Type 0 where
   pub kern : KERN ≡ u32_of (codes "kern") 0
   pub post : POST ≡ u32_of (codes "post") 0
   pub gdef : GDEF ≡ u32_of (codes "GDEF") 0
+  pub hvar : HVAR ≡ u32_of (codes "HVAR") 0
+  pub vvar : VVAR ≡ u32_of (codes "VVAR") 0
+  pub gvar : GVAR ≡ u32_of (codes "gvar") 0
+  pub cff : CFF ≡ u32_of (codes "CFF ") 0
+  pub cff2 : CFF2 ≡ u32_of (codes "CFF2") 0
+  pub sbix : SBIX ≡ u32_of (codes "sbix") 0
+  pub cblc : CBLC ≡ u32_of (codes "CBLC") 0
+  pub cbdt : CBDT ≡ u32_of (codes "CBDT") 0
 
 pub worked_tags : WorkedTags
 worked_tags = record {
@@ -209,4 +218,12 @@ worked_tags = record {
   kern = refl;
   post = refl;
   gdef = refl;
+  hvar = refl;
+  vvar = refl;
+  gvar = refl;
+  cff = refl;
+  cff2 = refl;
+  sbix = refl;
+  cblc = refl;
+  cbdt = refl;
 }

@@ -1,31 +1,112 @@
-//! The measures of a line.
-ghost use Rattle.std.specs.Prelude.{◌≡◌, pos, neg_ℤ};
-ghost use Rattle.shape_font.specs.Metrics.{ascender_of, descender_of, line_gap_of};
+//! The measures of a line, which `MVAR` varies at coordinates.
+ghost use Rattle.std.specs.Prelude.{◌≡◌, ◌≤◌, ◌≤ℤ◌, pos, neg_ℤ};
+ghost use Rattle.shape_font.specs.LinesAt;
 
 use super::FontFace;
 use crate::metrics;
+use font_variations::deltas::rounded;
+use font_variations::lines::line_delta;
+use std::num::nearest_i32_to_f32;
+
+/// `hasc`, how far a line reaches up.
+const ASCENDER: u32 = 0x6861_7363;
+
+/// `hdsc`, how far it reaches down.
+const DESCENDER: u32 = 0x6864_7363;
+
+/// `hlgp`, how far lines stand apart.
+const LINE_GAP: u32 = 0x686c_6770;
+
+/// A number upwards, whatever its sign.
+fn upwards(x: f32) -> f32
+    ensures { result ≡ LinesAt.upwards x }
+{
+    if x < 0.0 { 0.0 - x } else { x }
+}
+
+/// A number downwards, likewise.
+fn downwards(x: f32) -> f32
+    ensures { result ≡ LinesAt.downwards x }
+{
+    if x < 0.0 { x } else { 0.0 - x }
+}
+
+/// How far a line reaches.
+fn reach(x: f32) -> u32
+    ensures value { result ≡ LinesAt.reach_of x }
+    ensures small { result ≤ 32768 }
+{
+    rounded(x).unsigned_abs().min(32768)
+}
 
 impl<'a> FontFace<'a> {
-    /// How far a line reaches above its baseline (OpenType, `OS/2` if bit 7 of its fsSelection is set, else `hhea`),
-    /// never negative, as HarfBuzz takes it.
+    /// A number with what `MVAR` adds to it at the coordinates.
+    fn varied(&self, tag: u32, n: i32) -> f32
+        ensures { result ≡ LinesAt.varied self.now tag n }
+    {
+        nearest_i32_to_f32(n) + line_delta(self.mvar, self.coordinates, tag)
+    }
+
+    /// How far a line reaches above its baseline.
+    #[tactic(auto, unfolding(crate::specs::LinesAt::ascent_of))]
+    pub(super) fn ascent(&self) -> u32
+        ensures value { result ≡ LinesAt.ascent_of self.now }
+        ensures small { result ≤ 32768 }
+    {
+        let ascender = metrics::ascender(self.os2, self.hhea);
+        if self.coordinates.is_empty() {
+            return ascender.unsigned_abs();
+        }
+        reach(upwards(self.varied(ASCENDER, ascender)))
+    }
+
+    /// How far it reaches below.
+    #[tactic(auto, unfolding(crate::specs::LinesAt::descent_of))]
+    pub(super) fn descent(&self) -> u32
+        ensures value { result ≡ LinesAt.descent_of self.now }
+        ensures small { result ≤ 32768 }
+    {
+        let descender = metrics::descender(self.os2, self.hhea);
+        if self.coordinates.is_empty() {
+            return descender.unsigned_abs();
+        }
+        reach(downwards(self.varied(DESCENDER, descender)))
+    }
+
+    /// How high a line is.
+    pub(super) fn height(&self) -> i32
+        ensures value { result ≡ pos (LinesAt.line_height self.now) }
+        ensures high { result ≤ℤ pos 65536 }
+    {
+        (self.ascent() + self.descent()) as i32
+    }
+
+    /// How far a line reaches above its baseline (OpenType, `OS/2` if bit 7 of its fsSelection is
+    /// set, else `hhea`), at the coordinates by `MVAR`: never negative, as HarfBuzz takes it.
     pub fn ascender(&self) -> i32
-        ensures { result ≡ pos (ascender_of self.now.os2.now self.now.hhea.now) }
+        ensures { result ≡ pos (LinesAt.ascent_of self.now) }
     {
-        metrics::ascender(self.os2, self.hhea) as i32
+        self.ascent() as i32
     }
 
-    /// How far a line reaches below its baseline, by the same table: a number that is never positive, as HarfBuzz takes
-    /// it.
+    /// How far a line reaches below its baseline, by the same tables: a number that is never
+    /// positive, as HarfBuzz takes it.
     pub fn descender(&self) -> i32
-        ensures { result ≡ neg_ℤ (pos (descender_of self.now.os2.now self.now.hhea.now)) }
+        ensures { result ≡ neg_ℤ (pos (LinesAt.descent_of self.now)) }
     {
-        -(metrics::descender(self.os2, self.hhea) as i32)
+        -(self.descent() as i32)
     }
 
-    /// How far lines stand apart beside that, by the same table; a negative number moves them together.
+    /// How far lines stand apart beside that, by the same tables; a negative number moves them
+    /// together.
+    #[tactic(auto, unfolding(crate::specs::LinesAt::gap_of))]
     pub fn line_gap(&self) -> i32
-        ensures { result ≡ line_gap_of self.now.os2.now self.now.hhea.now }
+        ensures { result ≡ LinesAt.gap_of self.now }
     {
-        metrics::line_gap(self.os2, self.hhea)
+        let gap = metrics::line_gap(self.os2, self.hhea);
+        if self.coordinates.is_empty() {
+            return gap;
+        }
+        rounded(self.varied(LINE_GAP, gap))
     }
 }
