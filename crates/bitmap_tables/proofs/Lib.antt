@@ -1,0 +1,3 @@
+pub mod GraphicLemmas
+pub mod RecordLemmas
+pub mod StrikeLemmas

@@ -1,0 +1,2 @@
+pub mod Strikes
+pub mod Cbdt

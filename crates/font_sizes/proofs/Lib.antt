@@ -1,0 +1,2 @@
+pub mod SignedLemmas
+pub mod SizeLemmas

@@ -1,0 +1,8 @@
+use Rattle.font_sizes.specs.Worked.{worked_factors, worked_numbers}
+use Rattle.font_sizes.proofs.worked.sizes_meet_worked_cases.Goals as goal
+
+pub returns-clause-factors : goal.returns-clause-factors
+returns-clause-factors c = worked_factors
+
+pub returns-clause-numbers : goal.returns-clause-numbers
+returns-clause-numbers c = worked_numbers

@@ -1,0 +1,9 @@
+//! Numbers of a font at a size, as HarfBuzz 10.2.0 rounds them: [`factors`]. [`laws`] says that the
+//! size of the em square changes nothing, [`worked`] has the definitions computed by hand.
+#![tactic(auto)]
+
+pub mod factors;
+pub mod laws;
+pub mod worked;
+
+pub use factors::Factor;
