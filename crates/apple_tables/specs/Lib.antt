@@ -1,0 +1,3 @@
+pub mod Lookups
+pub mod States
+pub mod Worked
