@@ -1,6 +1,7 @@
 -- kerning of a buffer by one subtable of the table
 use Prim.Native.Nat.{zero}
-use Rattle.std.specs.Prelude.{ℕ, suc, ℤ, pos, List, Bool, true, false, Option, Some, None, is_some, ◌+◌, ◌==◌, ◌&&◌, ◌||◌, length, nat_eq, slice_set, slice_index_or, if◌then◌else◌}
+use Rattle.std.specs.Prelude.{ℕ, suc, ℤ, pos, List, Bool, true, false, Option, Some, None, is_some, ◌+◌, ◌==◌, ◌&&◌, ◌||◌, length, nat_eq, slice_set}
+use Rattle.std.specs.Prelude.{slice_index_or, if◌then◌else◌}
 use Rattle.std.specs.Int.RustNames.{bit_and}
 use Rattle.std.specs.Ordering.{int_eq}
 use Rattle.shape_items.specs.Buffer.{Buffer}

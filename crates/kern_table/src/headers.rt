@@ -1,5 +1,6 @@
-//! The headers of a table `kern` and of its subtables, by its version: OpenType's 0, or Apple's 1.0. In Apple's counts and
-//! lengths are numbers of 32 bits, and a subtable's header has two bytes more; what stands after it is the same in both.
+//! The headers of a table `kern` and of its subtables, by its version: OpenType's 0, or Apple's
+//! 1.0. In Apple's counts and lengths are numbers of 32 bits, and a subtable's header has two bytes
+//! more; what stands after it is the same in both.
 ghost use Rattle.std.specs.Prelude.{◌≡◌, ◌<◌, ◌≤◌, ◌+◌, ◌^◌};
 ghost use Rattle.kern_table.specs.Headers;
 

@@ -7,8 +7,8 @@ use crate::engine::KernTable;
 use shape_buffer::interfaces::hb_ot_layout_t;
 use shape_font::FontFace;
 
-/// Each call of the engine preserves clusters, and each preserves flags: the premises of the promises about a run's clusters
-/// and flags hold of it for every font.
+/// Each call of the engine preserves clusters, and each preserves flags: the premises of the
+/// promises about a run's clusters and flags hold of it for every font.
 pub fn kern_table_preserves<'a>()
     ensures clusters { (map : Map) (face : Face)
         → LookupsPreserveClusters (⟦<KernTable as hb_ot_layout_t<FontFace<'a>>>⟧.lookups map face) }

@@ -12,8 +12,8 @@ use shape_buffer::interfaces::{F_GLOBAL, F_HAS_FALLBACK, MapRequest};
 /// The feature that kerns.
 pub const KERN: hb_tag_t = hb_tag_t(0x6b65_726e);
 
-/// What the requests so far ask of kerning: its greatest value, its value if no range says another one, and
-/// whether a table of its own may do the feature's work.
+/// What the requests so far ask of kerning: its greatest value, its value if no range says another
+/// one, and whether a table of its own may do the feature's work.
 #[derive(Clone, Copy, PartialEq, Eq, Debug)]
 pub struct KernRequests {
     pub greatest: u32,
@@ -21,8 +21,8 @@ pub struct KernRequests {
     pub has_fallback: bool,
 }
 
-/// Where kerning is on: nowhere, or by eight bits of the mask of each item. Their value is `everywhere`, except in
-/// ranges of the text that say another one.
+/// Where kerning is on: nowhere, or by eight bits of the mask of each item. Their value is
+/// `everywhere`, except in ranges of the text that say another one.
 #[derive(Clone, Copy, PartialEq, Eq, Debug)]
 pub struct KernMap {
     pub is_on: bool,
@@ -36,8 +36,8 @@ fn has(flags: u32, flag: u32) -> bool
     flags & flag != 0
 }
 
-/// What is asked after one request more. One for the whole text overrides those before it; one for a range keeps what
-/// stands outside of it.
+/// What is asked after one request more. One for the whole text overrides those before it; one for
+/// a range keeps what stands outside of it.
 fn requested(kern_requests: KernRequests, request: MapRequest) -> KernRequests
     ensures { result ≡ requested_by kern_requests request }
 {
@@ -74,7 +74,8 @@ fn kern_requests(requests: &[MapRequest]) -> KernRequests
     all
 }
 
-/// Where the requests switch kerning on: if a value other than 0 is asked for, and a table may do the feature's work.
+/// Where the requests switch kerning on: if a value other than 0 is asked for, and a table may do
+/// the feature's work.
 pub fn map(requests: &[MapRequest]) -> KernMap
     ensures { result ≡ map_of requests.now }
 {

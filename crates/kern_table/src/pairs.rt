@@ -1,4 +1,5 @@
-//! Values of pairs of glyphs: formats 0 and 2 of the table `kern`, whose fields stand after the header of a subtable.
+//! Values of pairs of glyphs: formats 0 and 2 of the table `kern`, whose fields stand after the
+//! header of a subtable.
 ghost use Rattle.std.specs.Prelude.{◌≡◌, ◌+◌, ◌*◌, ◌<◌, ◌^◌, ◌≤ℤ◌, pos, negsuc, length, not, ◌||◌, false, nat_lt, slice_index_or};
 ghost use Rattle.kern_table.specs.Pairs;
 ghost use Rattle.std.specs.Option.{IfSome};
@@ -9,8 +10,8 @@ use shape_font::bytes::{i16_at, long, records, u16_at};
 use shape_font::search::{found_within, side};
 use std::cmp::Ordering;
 
-/// A subtable of the table, what is stored of it, and what is read of it once for all pairs: where the fields of its format
-/// begin, whether it is of format 2, and how many pairs it has room for.
+/// A subtable of the table, what is stored of it, and what is read of it once for all pairs: where
+/// the fields of its format begin, whether it is of format 2, and how many pairs it has room for.
 #[derive(Clone, Copy)]
 pub(crate) struct Subtable<'a> {
     pub kern: &'a [u8],
@@ -104,7 +105,8 @@ fn class(kern: &[u8], classes: usize, glyph: u32) -> u32
     u32::from(u16_at(kern, classes + 4 + 2 * i as usize))
 }
 
-/// The value that stands so many bytes after the start of a subtable, 0 if its array of values begins later.
+/// The value that stands so many bytes after the start of a subtable, 0 if its array of values
+/// begins later.
 fn value_at(subtable: Subtable<'_>, place: u32) -> i32
     requires read { Pairs.IsRead subtable }
     requires near { place < 131072 }
@@ -164,8 +166,8 @@ fn sought_value(subtable: Subtable<'_>, left: u32, right: u32) -> i32
     }
 }
 
-/// How far two glyphs are moved apart by a subtable whose head was read. Nothing is sought for two of which one stands in
-/// no pair.
+/// How far two glyphs are moved apart by a subtable whose head was read. Nothing is sought for two
+/// of which one stands in no pair.
 pub(crate) fn pair_value(subtable: Subtable<'_>, left: u32, right: u32) -> i32
     requires { Pairs.IsRead subtable }
     ensures value { result ≡ Pairs.value_of subtable.entry.kern.now subtable.entry.start left right }
@@ -179,9 +181,9 @@ pub(crate) fn pair_value(subtable: Subtable<'_>, left: u32, right: u32) -> i32
     }
 }
 
-/// How far two glyphs are moved apart by the subtable of the table that begins at `start`, in units of the face;
-/// together if it is negative, and 0 if the subtable doesn't have them. A subtable of format 2 has values by classes, every
-/// other one is read as format 0.
+/// How far two glyphs are moved apart by the subtable of the table that begins at `start`, in units
+/// of the face; together if it is negative, and 0 if the subtable doesn't have them. A subtable of
+/// format 2 has values by classes, every other one is read as format 0.
 pub fn value(kern: &[u8], start: usize, left: u32, right: u32) -> i32
     requires { start < 2 ^ 34 }
     ensures value { result ≡ Pairs.value_of kern.now start left right }

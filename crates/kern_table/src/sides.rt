@@ -1,8 +1,9 @@
 //! Glyphs that stand in pairs, stored once, so that most pairs need no search.
 //!
-//! A font kerns few of its glyphs. So for each glyph it is stored whether a pair has it at its left, and whether one has it
-//! at its right: two glyphs of which one has no pair have no value. This is done for the first subtable of OpenType's
-//! version, if it has format 0: nearly every font has that one alone.
+//! A font kerns few of its glyphs. So for each glyph it is stored whether a pair has it at its
+//! left, and whether one has it at its right: two glyphs of which one has no pair have no value.
+//! This is done for the first subtable of OpenType's version, if it has format 0: nearly every font
+//! has that one alone.
 ghost use Rattle.std.specs.Prelude.{◌≡◌, ◌≤◌, ◌<◌, length, true, false, IfOk, IsOkUnless, slice_index_or};
 ghost use Rattle.kern_table.specs.Pairs.{IsRead, HoldSides};
 ghost use Rattle.kern_table.specs.Sides.{glyph_of_pair, AreMarked, HoldPairs};
@@ -13,8 +14,8 @@ use shape_buffer::buffer::ShapeError;
 use shape_font::bytes::long;
 use std::alloc::Global;
 
-/// For each glyph whether it stands at the left of a pair, and whether at the right. A glyph past the end may stand at
-/// either.
+/// For each glyph whether it stands at the left of a pair, and whether at the right. A glyph past
+/// the end may stand at either.
 #[derive(Clone, Copy)]
 pub struct Sides<'a> {
     pub lefts: &'a [bool],
@@ -55,8 +56,8 @@ fn glyph_at(subtable: Subtable<'_>, at_left: bool, i: u32) -> u32
     }
 }
 
-/// Marks the glyphs at a side of the pairs of a subtable, among so many glyphs. Refuses with `Memory` if a growth
-/// was refused.
+/// Marks the glyphs at a side of the pairs of a subtable, among so many glyphs. Refuses with
+/// `Memory` if a growth was refused.
 fn marks(
     alloc: Global,
     subtable: Subtable<'_>,
@@ -80,8 +81,9 @@ fn marks(
 }
 
 impl PairGlyphs {
-    /// Stores which of so many glyphs stand in pairs of the first subtable, two bytes for each; nothing if it has another
-    /// format or no pair, or if the table is Apple's. Refuses with `Memory` if a growth was refused.
+    /// Stores which of so many glyphs stand in pairs of the first subtable, two bytes for each;
+    /// nothing if it has another format or no pair, or if the table is Apple's. Refuses with
+    /// `Memory` if a growth was refused.
     pub fn new(alloc: Global, kern: &[u8], glyph_count: u16) -> Result<PairGlyphs, ShapeError>
         ensures ok { IfOk result (λ glyphs. HoldPairs kern.now glyphs) }
         ensures few { IfOk result (λ glyphs. (length glyphs.lefts.items ≤ glyph_count)

@@ -1,4 +1,5 @@
-//! Kerning by a whole table `kern`: its subtables in order, those of formats 0 and 2 that move glyphs along the line.
+//! Kerning by a whole table `kern`: its subtables in order, those of formats 0 and 2 that move
+//! glyphs along the line.
 ghost use Rattle.std.specs.Prelude.{◌≡◌, ℕ, List, ◌<◌, ◌≤◌, ◌^◌, length, nat_lt, not};
 ghost use Rattle.shape_items.specs.Buffer.{limit_of};
 ghost use Rattle.kern_table.specs.Pairs.{HoldSides, IsRead};
@@ -13,7 +14,8 @@ use crate::walk::kern_each;
 use shape_buffer::buffer::{hb_buffer_t, hb_mask_t};
 use shape_font::bytes::{u16_at, u32_at};
 
-/// How many subtables the table says that it has; none if its version is neither OpenType's nor Apple's.
+/// How many subtables the table says that it has; none if its version is neither OpenType's nor
+/// Apple's.
 pub fn subtable_count(kern: &[u8]) -> u32
     ensures { result ≡ Tables.subtable_count_of kern.now }
 {
@@ -26,7 +28,8 @@ pub fn subtable_count(kern: &[u8]) -> u32
     }
 }
 
-/// Whether a subtable of OpenType's version is for lines of this kind, and doesn't move glyphs across the line.
+/// Whether a subtable of OpenType's version is for lines of this kind, and doesn't move glyphs
+/// across the line.
 fn is_along(coverage: u8, horizontal: bool) -> bool
     ensures { result ≡ Tables.is_along coverage horizontal }
 {
@@ -42,7 +45,8 @@ fn is_along_apple(coverage: u8, horizontal: bool) -> bool
     coverage / 128 % 2 == line && coverage / 32 % 4 == 0
 }
 
-/// Whether the subtable that begins at `start` is for lines of this kind, and moves glyphs along them.
+/// Whether the subtable that begins at `start` is for lines of this kind, and moves glyphs along
+/// them.
 fn runs_along(kern: &[u8], start: usize, horizontal: bool) -> bool
     requires { start < 2 ^ 34 }
     ensures { result ≡ Tables.runs_along kern.now start horizontal }
@@ -54,8 +58,8 @@ fn runs_along(kern: &[u8], start: usize, horizontal: bool) -> bool
     }
 }
 
-/// Whether the subtable that begins at `start` kerns lines of this kind: it is of format 0 or 2, for lines of this
-/// kind, and doesn't move glyphs across the line.
+/// Whether the subtable that begins at `start` kerns lines of this kind: it is of format 0 or 2,
+/// for lines of this kind, and doesn't move glyphs across the line.
 fn is_read(kern: &[u8], start: usize, horizontal: bool) -> bool
     requires { start < 2 ^ 34 }
     ensures { result ≡ Tables.is_read kern.now start horizontal }
@@ -115,9 +119,9 @@ fn sides_at(start: usize, first: Sides<'_>) -> Sides<'_>
     if start == 4 { first } else { Sides::none() }
 }
 
-/// Kerns a buffer by all subtables of the table that are read, in order, if the mask isn't 0. A subtable that
-/// says that it is shorter than its header, or longer than any table, ends the table, and so does one that costs more than is
-/// left of `max_ops`. Takes no memory.
+/// Kerns a buffer by all subtables of the table that are read, in order, if the mask isn't 0. A
+/// subtable that says that it is shorter than its header, or longer than any table, ends the table,
+/// and so does one that costs more than is left of `max_ops`. Takes no memory.
 pub fn kern_table(kern: &[u8], mask: hb_mask_t, buffer: &mut hb_buffer_t)
     ensures made { buffer.new ≡ Tables.table_kerned kern.now mask buffer.old }
     ensures len { length buffer.new.items ≡ length buffer.old.items }
@@ -126,8 +130,8 @@ pub fn kern_table(kern: &[u8], mask: hb_mask_t, buffer: &mut hb_buffer_t)
     kern_table_by(kern, Sides::none(), mask, buffer);
 }
 
-/// The same, where this is stored of the first subtable ([`PairGlyphs`](crate::PairGlyphs)): two glyphs of which one has no
-/// pair take a few instructions.
+/// The same, where this is stored of the first subtable ([`PairGlyphs`](crate::PairGlyphs)): two
+/// glyphs of which one has no pair take a few instructions.
 #[tactic(auto, using(crate::proofs::SubtableLemmas::kerned_from_next, crate::proofs::SubtableLemmas::kerned_from_short, crate::proofs::SubtableLemmas::kerned_from_long, crate::proofs::SubtableLemmas::kerned_from_spent, crate::proofs::SubtableLemmas::kerned_from_end))]
 pub fn kern_table_by(kern: &[u8], first: Sides<'_>, mask: hb_mask_t, buffer: &mut hb_buffer_t)
     requires { HoldSides kern.now 4 first.lefts.now first.rights.now }

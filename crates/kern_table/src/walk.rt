@@ -73,8 +73,9 @@ fn move_both(buffer: &mut hb_buffer_t, j: usize, along: bool, by: i32)
     buffer.set_position(j, moved(along, by, position));
 }
 
-/// Moves two glyphs apart: half of the value, downwards, goes to the advance of the first, the rest to the advance of
-/// the second, which is moved by the rest too. What lies between them is unsafe to break. 0 changes nothing.
+/// Moves two glyphs apart: half of the value, downwards, goes to the advance of the first, the rest
+/// to the advance of the second, which is moved by the rest too. What lies between them is unsafe
+/// to break. 0 changes nothing.
 fn put_pair(buffer: &mut hb_buffer_t, i: usize, j: usize, by: i32)
     requires after { i < j }
     requires inside { j < length buffer.old.items }
@@ -119,8 +120,8 @@ fn kern_pair(subtable: Subtable<'_>, buffer: &mut hb_buffer_t, i: usize, j: usiz
     move_pair(buffer, i, j, pair_value(subtable, left, right));
 }
 
-/// Kerns glyph `j` with the one that waits at its left, if kerning is on for it and it isn't skipped.
-/// Returns which one waits after it.
+/// Kerns glyph `j` with the one that waits at its left, if kerning is on for it and it isn't
+/// skipped. Returns which one waits after it.
 fn kern_at(
     subtable: Subtable<'_>,
     mask: hb_mask_t,
@@ -151,7 +152,8 @@ fn kern_at(
     Some(j)
 }
 
-/// Kerns a buffer from left to right by a subtable whose head was read, as [`kern_all`] by its place.
+/// Kerns a buffer from left to right by a subtable whose head was read, as [`kern_all`] by its
+/// place.
 #[tactic(auto, using(crate::specs::CountLaws::length_concat, crate::specs::CountLaws::limit_concat, crate::proofs::SubtableLemmas::kerned_to_next_buffer, crate::proofs::SubtableLemmas::kerned_to_next_left))]
 pub(crate) fn kern_each(subtable: Subtable<'_>, mask: hb_mask_t, buffer: &mut hb_buffer_t)
     requires { IsRead subtable }
@@ -167,9 +169,9 @@ pub(crate) fn kern_each(subtable: Subtable<'_>, mask: hb_mask_t, buffer: &mut hb
     }
 }
 
-/// Kerns a buffer from left to right by the subtable of the table that begins at `start`: each glyph for which kerning
-/// is on with the next one for which it is, if only glyphs that are skipped stand between them. Takes no
-/// memory, and a step for each glyph.
+/// Kerns a buffer from left to right by the subtable of the table that begins at `start`: each
+/// glyph for which kerning is on with the next one for which it is, if only glyphs that are skipped
+/// stand between them. Takes no memory, and a step for each glyph.
 pub fn kern_all(kern: &[u8], start: usize, mask: hb_mask_t, buffer: &mut hb_buffer_t)
     requires { start < 2 ^ 34 }
     ensures made { buffer.new ≡ Walk.kerned kern.now start mask buffer.old }

@@ -5,7 +5,8 @@ ghost use Rattle.kern_table.specs.Worked.Charges.{WorkedCharges};
 ghost use Rattle.kern_table.specs.Worked.Engine.{WorkedEngine};
 ghost use Rattle.kern_table.specs.Worked.Sides.{WorkedSides};
 
-/// Values of pairs, Apple's version, glyphs at their sides, lines that are kerned, what that costs, what requests ask for, and what the engine returns.
+/// Values of pairs, Apple's version, glyphs at their sides, lines that are kerned, what that costs,
+/// what requests ask for, and what the engine returns.
 pub fn kerning_meets_worked_cases()
     ensures values { WorkedValues }
     ensures classes { WorkedClasses }

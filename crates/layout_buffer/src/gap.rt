@@ -9,8 +9,8 @@ use shape_buffer::ShapeError;
 /// The least room that is made at once.
 const LEAST_ROOM: usize = 16;
 
-/// A list. Its storage has a gap of `room` places, which begins at `at`; what stands in the gap is no part of
-/// the list.
+/// A list. Its storage has a gap of `room` places, which begins at `at`; what stands in the gap is
+/// no part of the list.
 #[derive(Drop)]
 pub(crate) struct GapList<T> {
     pub(crate) stored: Vec<T>,
@@ -18,8 +18,8 @@ pub(crate) struct GapList<T> {
     pub(crate) room: usize,
 }
 
-/// Moves the gap of a list to another place. The time is in step with how far it goes (measured, not
-/// proved); a gap without room goes anywhere at once.
+/// Moves the gap of a list to another place. The time is in step with how far it goes (measured,
+/// not proved); a gap without room goes anywhere at once.
 #[tactic(auto, using(crate::proofs::GapLemmas::around_no_room, crate::proofs::GapLemmas::gap_left, crate::proofs::GapLemmas::gap_right))]
 pub(crate) fn move_gap<T: Copy>(stored: &mut [T], at: usize, room: usize, to: usize)
     requires from { at + room ≤ length stored.old }
@@ -37,8 +37,8 @@ pub(crate) fn move_gap<T: Copy>(stored: &mut [T], at: usize, room: usize, to: us
     }
 }
 
-/// Makes room at the end of storage, as much as it holds, and tells how much. Refuses with `Memory` alone, if
-/// a growth was refused; a refused call changes nothing.
+/// Makes room at the end of storage, as much as it holds, and tells how much. Refuses with `Memory`
+/// alone, if a growth was refused; a refused call changes nothing.
 fn widen<T: Copy>(stored: &mut Vec<T>, filler: T) -> Result<usize, ShapeError>
     ensures room { IfOk result (λ room. (0 < room)
         × (stored.new.items ≡ stored.old.items ++ replicate room filler)) }
@@ -114,8 +114,8 @@ impl<T: Copy> GapList<T> {
         self.room += 1;
     }
 
-    /// Makes room if there is none; what stands in it is this filler. Refuses with `Memory` alone, if a growth was
-    /// refused. The list stays in any case.
+    /// Makes room if there is none; what stands in it is this filler. Refuses with `Memory` alone,
+    /// if a growth was refused. The list stays in any case.
     #[tactic(auto, using(crate::proofs::GapLemmas::around_no_room, crate::proofs::GapLemmas::gap_at_end))]
     pub(crate) fn make_room(&mut self, filler: &T) -> Result<(), ShapeError>
         requires { IsGap self.old }
@@ -132,8 +132,8 @@ impl<T: Copy> GapList<T> {
         Ok(())
     }
 
-    /// Puts an item in before the one at `i`, at the end if `i` is the length: the gap goes there and gives it a
-    /// place.
+    /// Puts an item in before the one at `i`, at the end if `i` is the length: the gap goes there
+    /// and gives it a place.
     #[tactic(auto, using(crate::proofs::GapLemmas::gap_gives))]
     pub(crate) fn insert(&mut self, i: usize, item: T)
         requires gap { IsGap self.old }

@@ -19,8 +19,8 @@ use std::alloc::Global;
 use std::marker::Model;
 use std::mem;
 
-/// A buffer that edits in linear time: it has taken the items and positions of a buffer over, and gives them
-/// back.
+/// A buffer that edits in linear time: it has taken the items and positions of a buffer over, and
+/// gives them back.
 #[derive(Drop)]
 pub struct GapBuffer {
     /// The settings; it has no items.
@@ -50,8 +50,8 @@ impl Model for GapBuffer {
     } };
 }
 
-/// Makes room for an item and for its position, where there is none. Refuses with `Memory` alone, if a growth
-/// was refused. The lists stay in any case.
+/// Makes room for an item and for its position, where there is none. Refuses with `Memory` alone,
+/// if a growth was refused. The lists stay in any case.
 fn make_room_for(
     infos: &mut GapList<hb_glyph_info_t>,
     positions: &mut GapList<GlyphPosition>,
@@ -93,8 +93,8 @@ impl GapBuffer {
         }
     }
 
-    /// The buffer, with its items in one slice again. Refuses with `Memory` alone, if a growth was refused:
-    /// then the buffer has lost its items.
+    /// The buffer, with its items in one slice again. Refuses with `Memory` alone, if a growth was
+    /// refused: then the buffer has lost its items.
     pub fn close(self) -> (hb_buffer_t, Result<(), ShapeError>)
         ensures ok { OnOk result.1 (result.0 ≡ self) }
         ensures memory { IsOkUnless result.1 ShapeError.Memory }
@@ -136,9 +136,9 @@ impl GapBuffer {
         self.infos.set(i, item);
     }
 
-    /// Puts an item in before the one at `i`, at the end if `i` is the length, at a position of zeros.
-    /// Refuses with `Length` if the list has reached its limit, and with `Memory` if a growth was
-    /// refused; a refused call changes nothing.
+    /// Puts an item in before the one at `i`, at the end if `i` is the length, at a position of
+    /// zeros. Refuses with `Length` if the list has reached its limit, and with `Memory` if a
+    /// growth was refused; a refused call changes nothing.
     #[tactic(auto, using(crate::proofs::GapLemmas::length_around))]
     pub fn insert(&mut self, i: usize, item: hb_glyph_info_t) -> Result<(), ShapeError>
         requires { i ≤ length self.old.items }
@@ -171,7 +171,8 @@ impl GapBuffer {
         self.positions.remove(i);
     }
 
-    /// Merges the clusters of the items from `start` up to `end`, as `hb_buffer_t::merge_clusters` does.
+    /// Merges the clusters of the items from `start` up to `end`, as `hb_buffer_t::merge_clusters`
+    /// does.
     pub fn merge_clusters(&mut self, start: usize, end: usize)
         requires ordered { start ≤ end }
         requires within { end ≤ length self.old.items }
@@ -186,7 +187,8 @@ impl GapBuffer {
         self.infos.at = merge_around(stored, self.infos.at, self.infos.room, start, end);
     }
 
-    /// Marks the items from `start` up to `end` unsafe to break, as `hb_buffer_t::unsafe_to_break` does.
+    /// Marks the items from `start` up to `end` unsafe to break, as `hb_buffer_t::unsafe_to_break`
+    /// does.
     pub fn unsafe_to_break(&mut self, start: usize, end: usize)
         requires ordered { start ≤ end }
         requires within { end ≤ length self.old.items }

@@ -1,4 +1,5 @@
-//! Marking and merging of items round a gap. The gap goes after what changes, so that it stands in one slice.
+//! Marking and merging of items round a gap. The gap goes after what changes, so that it stands in
+//! one slice.
 ghost use Rattle.std.specs.Prelude.{◌≡◌, ◌+◌, ◌-◌, ◌≤◌, ◌<◌, length, slice_range};
 ghost use Rattle.shape_items.specs.Clusters;
 ghost use Rattle.layout_buffer.specs.Gap.{around};
@@ -49,8 +50,8 @@ fn merge_before(stored: &mut [hb_glyph_info_t], at: usize, room: usize, start: u
     merge_items(&mut stored[..at], start, end);
 }
 
-/// Merges the clusters of a span, and of the items beside it that share a cluster which changes. Tells where the
-/// gap is then.
+/// Merges the clusters of a span, and of the items beside it that share a cluster which changes.
+/// Tells where the gap is then.
 #[tactic(auto, using(crate::proofs::FrontLemmas::merge_few))]
 pub(crate) fn merge_around(
     stored: &mut [hb_glyph_info_t],
@@ -108,7 +109,8 @@ fn break_before(stored: &mut [hb_glyph_info_t], at: usize, room: usize, start: u
     mark_break(&mut stored[..at], start, end);
 }
 
-/// Marks a span unsafe to break, except for the items of its least cluster. Tells where the gap is then.
+/// Marks a span unsafe to break, except for the items of its least cluster. Tells where the gap is
+/// then.
 pub(crate) fn break_around(
     stored: &mut [hb_glyph_info_t],
     at: usize,

@@ -5,7 +5,8 @@ ghost use Rattle.shape_items.specs.Items.{new_item};
 use shape_buffer::hb_glyph_info_t;
 use std::marker::Model;
 
-/// The items of a buffer, in their order. They are stored in two pieces, the items before a gap and those after it.
+/// The items of a buffer, in their order. They are stored in two pieces, the items before a gap and
+/// those after it.
 #[derive(Drop)]
 pub struct ItemList<'a> {
     before: &'a [hb_glyph_info_t],
@@ -60,7 +61,8 @@ impl<'a> ItemList<'a> {
         (i + 1).min(count)
     }
 
-    /// The items from a place on that are stored in one piece with it: up to the gap, or to the end.
+    /// The items from a place on that are stored in one piece with it: up to the gap, or to the
+    /// end.
     #[tactic(auto, using(crate::proofs::GapLemmas::in_front, crate::proofs::GapLemmas::in_back))]
     pub fn piece(&self, i: usize) -> &[hb_glyph_info_t]
         requires { i ≤ length self.now }
@@ -91,7 +93,8 @@ impl<'a> ItemList<'a> {
         }
     }
 
-    /// The item at a place, from 0; past the end one that stands for U+0000, as a text brings it in.
+    /// The item at a place, from 0; past the end one that stands for U+0000, as a text brings it
+    /// in.
     pub fn item(&self, i: usize) -> hb_glyph_info_t
         ensures { result ≡ slice_index_or self.now i (new_item 0 0) }
     {

@@ -16,7 +16,9 @@ use Rattle.layout_substitution.specs.Edits.{asks_for_concat, is_inside, is_past}
 use Rattle.layout_substitution.specs.Kinds.{lookup_applied}
 use Rattle.layout_substitution.specs.declared.apply.Spot.{Spot}
 use Rattle.layout_substitution.proofs.EditLemmas.{concat_marked_unasked}
-use Rattle.layout_context.specs.Nested.{Nest, Attempt, attempt_within, attempt_by, attempt, place_attempt, named_attempt, sought_left, place_charged, target_charged, nested_spot, stopped_record, nest_after, passed_record, target_within, target_applied, rule_applied, origin_of, tried_marked, first_rule_applied, nested_applied}
+use Rattle.layout_context.specs.Nested.{Nest, Attempt, attempt_within, attempt_by, attempt, place_attempt, named_attempt, sought_left, place_charged}
+use Rattle.layout_context.specs.Nested.{target_charged, nested_spot, stopped_record, nest_after, passed_record, target_within, target_applied}
+use Rattle.layout_context.specs.Nested.{rule_applied, origin_of, tried_marked, first_rule_applied, nested_applied}
 use Rattle.layout_context.specs.Stages.{Walk, next_spot, passed, with_left, tried_within, tried}
 use Rattle.layout_context.specs.declared.nested.Tried.{Tried}
 use Rattle.layout_context.proofs.NestedLemmas.{nested_level}

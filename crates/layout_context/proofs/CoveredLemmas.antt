@@ -29,7 +29,9 @@ use Rattle.layout_substitution.specs.Kinds.{subtable_applied, subtables_applied,
 use Rattle.layout_substitution.specs.declared.apply.Spot.{Spot}
 use Rattle.layout_context.specs.Covered.{context_covers, subtable_covers, IsUncovered, CoversNone}
 use Rattle.layout_context.specs.Nested.{rule_applied, origin_of, sought_left, place_charged, tried_marked, first_rule_applied, level_applied, nested_applied}
-use Rattle.layout_context.specs.Reverse.{reversal_of, reversal_by, reversal_in, reversal_reach_of, reversal_reach_by, reversal_reach_in, reversal_reach, reversed_by, first_reversed, reversed_at, Backwards, reversed_within, reverse_step, reversed, is_reverse}
+use Rattle.layout_context.specs.Reverse.{reversal_of, reversal_by, reversal_in, reversal_reach_of, reversal_reach_by, reversal_reach_in}
+use Rattle.layout_context.specs.Reverse.{reversal_reach, reversed_by, first_reversed, reversed_at, Backwards, reversed_within, reverse_step, reversed}
+use Rattle.layout_context.specs.Reverse.{is_reverse}
 use Rattle.layout_context.specs.Stages.{Walk, passed, gone_on, with_left, tried_within, tried, lookup_step, first_walk, walked, gone_back, gone_over, walk_charged, looked_up}
 
 none_of : {A : Type 0} (o : Option A) → is_some o ≡ false → o ≡ None

@@ -142,6 +142,21 @@ one_held items d e i before kept new j below = by_last (nat_eq j i) refl
     by_last true is = let same : i ≡ j = grind (arith, nat_tests, is) in subst (λ k. has e (nth items k).glyph_id ≡ true) same new
     by_last false is = kept (nth items j).glyph_id (before j (grind (arith, nat_tests, is, below)))
 
+pub within_then : (d e f : Digest) → IsWithin d e → IsWithin e f → IsWithin d f
+within_then d e f first second glyph is = second glyph (first glyph is)
+
+-- a piece more of a list
+pub piece_held : (items piece : List Item) (d e : Digest) (at : ℕ) → HoldsFirst d items at → IsWithin d e → HoldsGlyphs e piece
+    → ((j : ℕ) → j < length piece → nth piece j ≡ nth items (at + j)) → HoldsFirst e items (at + length piece)
+piece_held items piece d e at before kept held same j below = by_side (nat_lt j at) refl
+  where
+    by_side : (t : Bool) → nat_lt j at ≡ t → has e (nth items j).glyph_id ≡ true
+    by_side true is = kept (nth items j).glyph_id (before j (grind (arith, nat_tests, is)))
+    by_side false is =
+        let inside : j - at < length piece = grind (arith, nat_tests, is, below) in
+        let here : at + (j - at) ≡ j = grind (arith, nat_tests, is) in
+        subst (λ (x : Item). has e x.glyph_id ≡ true) (same (j - at) inside ∙ ap (nth items) here) (held (j - at) inside)
+
 -- ---- what later lookups see of a walk: the buffer, the random state, and what is left
 
 abbrev settled : Walk → Walk

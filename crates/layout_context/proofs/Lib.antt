@@ -1,6 +1,7 @@
 pub mod PlaceLemmas
 pub mod NestedLemmas
 pub mod AttemptLemmas
+pub mod OnceLemmas
 pub mod ReverseLemmas
 pub mod StageLemmas
 pub mod CoveredLemmas

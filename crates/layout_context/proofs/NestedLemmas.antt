@@ -17,7 +17,9 @@ use Rattle.layout_substitution.specs.declared.apply.Spot.{Spot}
 use Rattle.layout_substitution.proofs.AppliedLemmas.{or_unapplied, applied-if}
 use Rattle.layout_substitution.proofs.KindLemmas.{lookup-preserves}
 use Rattle.layout_substitution.proofs.PreservedLemmas.{Preserves, Preserves-same, Preserves-then, Preserves-times, Preserves-broken, Preserves-concat_marked}
-use Rattle.layout_context.specs.Nested.{Nest, nested_spot, passed_record, stopped_record, target_within, target_charged, target_applied, target_done, record_step, first_nest, records_made, rule_applied, origin_of, tried_marked, first_rule_applied, level_applied, nested_applied}
+use Rattle.layout_context.specs.Nested.{Nest, nested_spot, passed_record, stopped_record, target_within, target_charged, target_applied, target_done}
+use Rattle.layout_context.specs.Nested.{record_step, first_nest, records_made, rule_applied, origin_of, tried_marked, first_rule_applied}
+use Rattle.layout_context.specs.Nested.{level_applied, nested_applied}
 use Rattle.layout_context.specs.declared.nested.LookupRule.{LookupRule}
 
 -- ---- what is applied next preserves

@@ -31,10 +31,15 @@ use Rattle.layout_substitution.specs.Tries.{subtables_asked, ligatures_tried}
 use Rattle.layout_substitution.specs.declared.apply.Spot.{Spot}
 use Rattle.layout_substitution.proofs.LeftLemmas.{left_after, lookup-less}
 use Rattle.layout_substitution.proofs.TriesLemmas.{asked-few, ligatures-pay, plain-tries-none}
-use Rattle.layout_context.specs.Nested.{origin_of, sought_left, place_charged, named_charged, Nest, passed_record, stopped_record, settled, nest_after, nested_spot, target_within, target_charged, target_applied, target_done, record_step, first_nest, records_made, rule_applied, tried_marked, first_rule_applied, level_applied, nested_applied}
+use Rattle.layout_context.specs.Nested.{origin_of, sought_left, place_charged, named_charged, Nest, passed_record, stopped_record, settled}
+use Rattle.layout_context.specs.Nested.{nest_after, nested_spot, target_within, target_charged, target_applied, target_done, record_step, first_nest}
+use Rattle.layout_context.specs.Nested.{records_made, rule_applied, tried_marked, first_rule_applied, level_applied, nested_applied}
 use Rattle.layout_context.specs.Reverse.{Backwards, is_reverse, reversal_in, reversal_reach, reversed_within, reverse_step, reversed}
-use Rattle.layout_context.specs.Stages.{Walk, passed, gone_on, with_left, tried_within, tried, lookup_step, next_spot, first_walk, walked, gone_back, gone_over, walk_charged, looked_up, all_looked_up, stage_begun, stage_made, substituted, most_levels}
-use Rattle.layout_context.specs.Tries.{subtables_tried, tries_within, target_tries, record_tries, rule_tries, named_tries, others_tried, nested_tries, tried_with, step_tries, walk_tries, reversals_tried, reverse_tries, reversed_tries, over_tries, lookup_tries, lookups_tries, substitute_tries, Substitutes}
+use Rattle.layout_context.specs.Stages.{Walk, passed, gone_on, with_left, tried_within, tried, lookup_step, next_spot, first_walk, walked, gone_back}
+use Rattle.layout_context.specs.Stages.{gone_over, walk_charged, looked_up, all_looked_up, stage_begun, stage_made, substituted, most_levels}
+use Rattle.layout_context.specs.Tries.{subtables_tried, tries_within, target_tries, record_tries, rule_tries, named_tries, others_tried, nested_tries}
+use Rattle.layout_context.specs.Tries.{tried_with, step_tries, walk_tries, reversals_tried, reverse_tries, reversed_tries, over_tries, lookup_tries}
+use Rattle.layout_context.specs.Tries.{lookups_tries, substitute_tries, Substitutes}
 use Rattle.layout_context.specs.declared.nested.LookupRule.{LookupRule}
 
 -- ---- at a place

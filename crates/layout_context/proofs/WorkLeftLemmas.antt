@@ -21,9 +21,13 @@ use Rattle.layout_substitution.specs.Edits.{item_at, is_inside, is_past, concat_
 use Rattle.layout_substitution.specs.Kinds.{lookup_applied}
 use Rattle.layout_substitution.specs.declared.apply.Spot.{Spot}
 use Rattle.layout_substitution.proofs.LeftLemmas.{left_after, lookup-less}
-use Rattle.layout_context.specs.Nested.{origin_of, place_charged, Nest, passed_record, stopped_record, nested_spot, nest_after, target_within, target_charged, target_applied, target_done, record_step, first_nest, records_made, rule_applied, tried_marked, first_rule_applied, level_applied, nested_applied}
+use Rattle.layout_context.specs.Nested.{origin_of, place_charged, Nest, passed_record, stopped_record, nested_spot, nest_after, target_within}
+use Rattle.layout_context.specs.Nested.{target_charged, target_applied, target_done, record_step, first_nest, records_made, rule_applied}
+use Rattle.layout_context.specs.Nested.{tried_marked, first_rule_applied, level_applied, nested_applied}
 use Rattle.layout_context.specs.Reverse.{Backwards, is_reverse, reversed_at, reversed_within, reverse_step, reversed}
-use Rattle.layout_context.specs.Stage.{Standing, Made, unmade, standing_of, made_of, by_subtables, Nesting, next_record, after_target, by_target, by_record, first_nesting, by_records, by_rule, by_rules, by_level, by_lookup, Going, next_glyph, going_on, at_glyph, forwards, Backing, at_glyph_before, backwards, over_buffer, going_from, stage_applied}
+use Rattle.layout_context.specs.Stage.{Standing, Made, unmade, standing_of, made_of, by_subtables, Nesting, next_record, after_target, by_target}
+use Rattle.layout_context.specs.Stage.{by_record, first_nesting, by_records, by_rule, by_rules, by_level, by_lookup, Going, next_glyph, going_on}
+use Rattle.layout_context.specs.Stage.{at_glyph, forwards, Backing, at_glyph_before, backwards, over_buffer, going_from, stage_applied}
 use Rattle.layout_context.specs.Stages.{Walk, passed, next_spot, gone_on, with_left, tried_within, tried, lookup_step, first_walk, walked, gone_back, gone_over, walk_charged, looked_up, all_looked_up, stage_begun, substituted, most_levels}
 use Rattle.layout_context.specs.Tries.{record_tries, nested_tries, step_tries, lookup_tries, lookups_tries, Substitutes}
 use Rattle.layout_context.specs.declared.nested.LookupRule.{LookupRule}

@@ -1,6 +1,7 @@
 pub mod Places
 pub mod Labels
 pub mod Lookups
+pub mod Meeting
 pub mod Tries
 pub mod Contexts
 pub mod Chains

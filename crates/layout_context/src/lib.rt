@@ -1,9 +1,11 @@
-//! Substitution by whole lookups and stages of lookups, those that apply others included (OpenType, "GSUB", kinds 1 to 8).
+//! Substitution by whole lookups and stages of lookups, those that apply others included (OpenType,
+//! "GSUB", kinds 1 to 8).
 //!
-//! [`nested`] applies a lookup at a place: where a rule of context matches, it applies the lookups that the rule names, to 64
-//! levels, and [`places`] says where its glyphs stand then. [`reverse`] has the lookups that go backwards, and [`reversal_reach`]
-//! what they looked at in vain; [`stages`] goes over a buffer, and [`laws`] says what each stage preserves, whatever the bytes of
-//! the font are.
+//! [`nested`] applies a lookup at a place: where a rule of context matches, it applies the lookups
+//! that the rule names, to 64 levels, and [`places`] says where its glyphs stand then. [`reverse`]
+//! has the lookups that go backwards, and [`reversal_reach`] what they looked at in vain;
+//! [`stages`] goes over a buffer, and [`laws`] says what each stage preserves, whatever the bytes
+//! of the font are.
 #![tactic(auto)]
 #![allow(non_camel_case_types)]
 

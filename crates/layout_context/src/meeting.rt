@@ -1,4 +1,5 @@
-//! Which items of a list a lookup meets: those that it is on for, and whose glyphs its digest holds.
+//! Which items of a list a lookup meets: those that it is on for, and whose glyphs its digest
+//! holds.
 ghost use Rattle.std.specs.Prelude.{◌≡◌, ◌<◌, ◌≤◌, length, true, false};
 ghost use Rattle.layout_matching.specs.Skipping.{nth};
 ghost use Rattle.layout_context.specs.Digested as Digests;
@@ -10,7 +11,8 @@ use layout_digests::Digested;
 use layout_matching::skipping::is_skipped;
 use shape_buffer::hb_glyph_info_t;
 
-/// Whether the lookup is on for an item, and its digest holds the glyph. The mask is asked first: many lookups are on for few.
+/// Whether the lookup is on for an item, and its digest holds the glyph. The mask is asked first:
+/// many lookups are on for few.
 #[inline(always)]
 fn meets(named: &Digested<'_>, item: &hb_glyph_info_t) -> bool
     ensures { result ≡ Digests.meets named.now item.now }
@@ -20,7 +22,8 @@ fn meets(named: &Digested<'_>, item: &hb_glyph_info_t) -> bool
         && !is_skipped(&named.lookup, item)
 }
 
-/// How many of so many items at the start of a slice come before the first one that the lookup meets; all, if it meets none.
+/// How many of so many items at the start of a slice come before the first one that the lookup
+/// meets; all, if it meets none.
 #[inline(always)]
 pub(crate) fn unmet(named: &Digested<'_>, infos: &[hb_glyph_info_t], most: usize) -> usize
     requires { most ≤ length infos.now }

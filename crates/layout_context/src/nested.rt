@@ -1,8 +1,9 @@
 //! Lookups that apply others where a rule matches (kinds 5 and 6).
 //!
-//! Each nested lookup may change how many items there are: then the places of the glyphs that the rule matched, and where it goes
-//! on, move along. A rule goes no further when it would hold more than 64 glyphs, when what is left doesn't suffice for a nested
-//! lookup, or when the list passes the limit of the run.
+//! Each nested lookup may change how many items there are: then the places of the glyphs that the
+//! rule matched, and where it goes on, move along. A rule goes no further when it would hold more
+//! than 64 glyphs, when what is left doesn't suffice for a nested lookup, or when the list passes
+//! the limit of the run.
 ghost use Rattle.std.specs.Prelude.{◌≡◌, ◌<◌, ◌≤◌, ◌-◌, ◌^◌, ◌+◌, length, true, false, map, OnOk, IfOk, IsErrOf, IsOkUnless};
 ghost use Rattle.std.specs.Option.{IfSome, unwrap_or};
 ghost use Rattle.shape_items.specs.Buffer.{limit_of};
@@ -10,7 +11,8 @@ ghost use Rattle.shape_buffer.specs.Outcome.{IsWithinLimit};
 ghost use Rattle.shape_buffer.specs.declared.buffer.error.ShapeError.TheVariants.{Length};
 ghost use Rattle.layout_matching.specs.Found as found_rules;
 ghost use Rattle.layout_matching.specs.Loops.{times};
-ghost use Rattle.layout_substitution.specs.Edits.{is_past};
+ghost use Rattle.layout_substitution.specs.Edits.{asks_for_concat as is_concat_asked, is_past};
+ghost use Rattle.layout_tables.specs.Lookups.{lookup_type_of};
 ghost use Rattle.layout_context.specs.Places;
 ghost use Rattle.layout_context.specs.Nested;
 
@@ -28,6 +30,8 @@ use layout_matching::work::{lookup_charged, named_paid, nested_charged};
 use layout_substitution::apply::Spot;
 use layout_substitution::edits::{asks_for_concat, break_span, concat_span, next_place};
 use layout_substitution::kinds::apply_lookup;
+use layout_substitution::ligature_sought::{make_found, seek_ligature};
+use layout_tables::lookups::lookup_type;
 use shape_buffer::ShapeError;
 use std::alloc::Global;
 
@@ -38,8 +42,8 @@ pub struct LookupRule<'a> {
     pub rule: Rule,
 }
 
-/// How far the records of a rule are applied: what the lookup counts, where the rule goes on, whether it goes no further, and
-/// the next record.
+/// How far the records of a rule are applied: what the lookup counts, where the rule goes on,
+/// whether it goes no further, and the next record.
 #[derive(Clone, Copy, PartialEq, Eq, Debug)]
 pub struct Progress {
     pub spot: Spot,
@@ -335,7 +339,8 @@ fn origin(spot: Spot, buffer: &GapBuffer) -> Origin
     }
 }
 
-/// Marks what the rules of a lookup looked at in vain unsafe to concat, up to the first that matches, if the buffer asks for that.
+/// Marks what the rules of a lookup looked at in vain unsafe to concat, up to the first that
+/// matches, if the buffer asks for that.
 #[tactic(auto, using(layout_substitution::proofs::EditLemmas::concat_marked_unasked))]
 fn mark_tried(lookup: &Lookup<'_>, buffer: &mut GapBuffer, spot: Spot)
     requires near { lookup.now.place < 2 ^ 17 }
@@ -351,8 +356,8 @@ fn mark_tried(lookup: &Lookup<'_>, buffer: &mut GapBuffer, spot: Spot)
     concat_span(buffer, reach);
 }
 
-/// Applies the rule of a lookup of context that matches at a place. A call of its own, so that the path of the other lookups
-/// stays small.
+/// Applies the rule of a lookup of context that matches at a place. A call of its own, so that the
+/// path of the other lookups stays small.
 #[cycle(nesting)]
 #[inline(never)]
 fn apply_context(
@@ -381,8 +386,8 @@ fn apply_context(
     }
 }
 
-/// Applies the rule that is found at a place, if there is one. Where the buffer asks what is unsafe to concat, what was looked at
-/// before is marked first.
+/// Applies the rule that is found at a place, if there is one. Where the buffer asks what is unsafe
+/// to concat, what was looked at before is marked first.
 #[cycle(nesting)]
 #[tactic(auto, using(crate::proofs::AttemptLemmas::found_applied))]
 fn apply_found(
@@ -415,7 +420,8 @@ fn apply_found(
     }
 }
 
-/// Applies a lookup of context at a place, if what is left suffices for what is looked at. Its rule is sought once.
+/// Applies a lookup of context at a place, if what is left suffices for what is looked at. Its rule
+/// is sought once.
 #[cycle(nesting)]
 #[inline(never)]
 #[tactic(auto, using(crate::proofs::AttemptLemmas::sought_some, crate::proofs::AttemptLemmas::sought_none))]
@@ -451,6 +457,53 @@ fn apply_sought(
     }
 }
 
+/// Whether a lookup at a place is one of ligatures that is gone over once: nothing is marked that
+/// it looked at before.
+#[inline(always)]
+fn is_sought_once(level: u32, lookup: &Lookup<'_>, buffer: &GapBuffer) -> bool
+    requires near { lookup.now.place < 2 ^ 17 }
+    ensures some { result ≡ true → 0 < level }
+    ensures four { result ≡ true → lookup_type_of lookup.now.table.now lookup.now.place ≡ 4 }
+    ensures substitution { result ≡ true → lookup.now.positioning ≡ false }
+    ensures unasked { result ≡ true → is_concat_asked buffer.now ≡ false }
+    ensures within { result ≡ true → IsWithinLimit buffer.now }
+{
+    lookup_type(lookup.table, lookup.place) == 4
+        && 0 < level
+        && !lookup.positioning
+        && !asks_for_concat(buffer)
+        && buffer.len() <= buffer.length_limit()
+}
+
+/// Applies a lookup of ligatures at a place of its walk, if what is left suffices for what it may
+/// try there.
+#[tactic(auto, using(crate::proofs::OnceLemmas::once_made))]
+#[inline(never)]
+fn apply_ligatures(
+    level: u32,
+    indexed: &Indexed<'_>,
+    buffer: &mut GapBuffer,
+    spot: Spot,
+) -> Option<Tried>
+    requires near { indexed.now.lookup.now.place < 2 ^ 17 }
+    requires inside { spot.at < length buffer.old.items }
+    requires some { 0 < level }
+    requires four { lookup_type_of indexed.now.lookup.now.table.now indexed.now.lookup.now.place ≡ 4 }
+    requires substitution { indexed.now.lookup.now.positioning ≡ false }
+    requires unasked { is_concat_asked buffer.old ≡ false }
+    requires within { IsWithinLimit buffer.old }
+    requires plain { found_rules.is_context indexed.now.lookup.now ≡ false }
+    ensures { record { buffer = buffer.new; tried = result }
+        ≡ Nested.place_attempt level indexed.now.lookup.now spot buffer.old }
+{
+    let Some(sought) = seek_ligature(indexed, buffer, spot.at, spot.left) else {
+        return None;
+    };
+    let left = sought.left;
+    let next = make_found(indexed.lookup, buffer, with_left(spot, left), sought.found);
+    Some(Tried { left, next })
+}
+
 /// Applies a lookup at a place of its walk, if what is left suffices for what it may try there.
 #[tactic(auto, using(crate::proofs::AttemptLemmas::place_context, crate::proofs::AttemptLemmas::place_plain))]
 pub fn apply_charged(
@@ -470,6 +523,9 @@ pub fn apply_charged(
     if is_context(indexed.lookup) {
         return apply_sought(alloc, level, indexed, buffer, spot);
     }
+    if is_sought_once(level, indexed.lookup, buffer) {
+        return Ok(apply_ligatures(level, indexed, buffer, spot));
+    }
     let Some(left) = lookup_charged(indexed, &buffer.items(), spot.at, spot.left) else {
         return Ok(None);
     };
@@ -479,8 +535,8 @@ pub fn apply_charged(
     }
 }
 
-/// Applies a lookup at a place, with so many levels of others that it may name. Returns where it goes on, if it was applied.
-/// Refuses with `Length` if the list passes the limit of the run.
+/// Applies a lookup at a place, with so many levels of others that it may name. Returns where it
+/// goes on, if it was applied. Refuses with `Length` if the list passes the limit of the run.
 #[cycle(nesting)]
 #[tactic(auto, using(crate::proofs::NestedLemmas::nested_none, crate::proofs::NestedLemmas::nested_past, crate::proofs::NestedLemmas::nested_outside, crate::proofs::NestedLemmas::nested_level))]
 pub fn apply_nested(

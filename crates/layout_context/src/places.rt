@@ -1,7 +1,8 @@
-//! The places of the glyphs that a rule matched, after a nested lookup that changed how many items there are.
+//! The places of the glyphs that a rule matched, after a nested lookup that changed how many items
+//! there are.
 //!
-//! More items are taken to stand right after the glyph that the lookup was applied to, fewer to be missing from the glyphs
-//! after it, as HarfBuzz takes them.
+//! More items are taken to stand right after the glyph that the lookup was applied to, fewer to be
+//! missing from the glyphs after it, as HarfBuzz takes them.
 ghost use Rattle.std.specs.Prelude.{◌≡◌, ◌<◌, ◌-◌, ◌^◌, ◌+◌, map, OnOk, IfOk, IsOkUnless};
 ghost use Rattle.layout_matching.specs.Loops.{times};
 ghost use Rattle.layout_context.specs.Places;
@@ -78,7 +79,8 @@ fn grow_some(places: &mut Vec<usize>, index: usize, n: usize, next: usize) -> Re
     Ok(())
 }
 
-/// The places of the matched glyphs after a lookup that changed how many items there are. Refuses with `Memory` alone.
+/// The places of the matched glyphs after a lookup that changed how many items there are. Refuses
+/// with `Memory` alone.
 pub fn renumber(
     places: &mut Vec<usize>,
     place: usize,
@@ -110,7 +112,8 @@ fn last_grown(place: usize, before: usize, after: usize) -> usize
     }
 }
 
-/// Where a rule goes on after a nested lookup at `place`: with as many items after it as before, never before `place`.
+/// Where a rule goes on after a nested lookup at `place`: with as many items after it as before,
+/// never before `place`.
 pub fn moved_end(place: usize, before: usize, after: usize, end: usize) -> usize
     ensures { result ≡ Places.moved_end place before after end }
 {

@@ -1,6 +1,7 @@
 //! How far reverse chained substitution looked in vain at a place.
 //!
-//! Where what stands before isn't there HarfBuzz marks nothing, else all from there to the glyph after which the search ended.
+//! Where what stands before isn't there HarfBuzz marks nothing, else all from there to the glyph
+//! after which the search ended.
 ghost use Rattle.std.specs.Prelude.{◌≡◌, ◌<◌, ◌^◌, length};
 ghost use Rattle.layout_substitution.specs.Edits.{concat_marked};
 ghost use Rattle.layout_context.specs.Reverse;
@@ -109,7 +110,8 @@ fn reversal_reach(lookup: &Lookup<'_>, items: &ItemList<'_>, at: usize) -> Reach
     reach
 }
 
-/// Marks what the lookup looked at in vain at a place unsafe to concat, if the buffer asks for that.
+/// Marks what the lookup looked at in vain at a place unsafe to concat, if the buffer asks for
+/// that.
 #[tactic(auto, using(layout_substitution::proofs::EditLemmas::concat_marked_unasked))]
 pub fn mark_tried(lookup: &Lookup<'_>, buffer: &mut GapBuffer, at: usize)
     requires near { lookup.now.place < 2 ^ 17 }

@@ -1,6 +1,8 @@
-//! Reverse chained single substitution (kind 8): from the last item to the first, one glyph for one.
+//! Reverse chained single substitution (kind 8): from the last item to the first, one glyph for
+//! one.
 //!
-//! No memory is taken, and no item comes or goes. Such a lookup is applied to a whole buffer alone: no rule applies it.
+//! No memory is taken, and no item comes or goes. Such a lookup is applied to a whole buffer alone:
+//! no rule applies it.
 ghost use Rattle.std.specs.Prelude.{◌≡◌, ◌<◌, ◌≤◌, ◌-◌, ◌+◌, ◌^◌, length};
 ghost use Rattle.layout_matching.specs.Loops.{times};
 ghost use Rattle.layout_context.specs.Reverse;
@@ -51,7 +53,8 @@ fn lists(start: usize, count: u16, values: usize) -> Row
     }
 }
 
-/// What stands before and after the glyph; `lookups` is where the glyphs are listed that replace it.
+/// What stands before and after the glyph; `lookups` is where the glyphs are listed that replace
+/// it.
 pub(crate) fn reverse_rule(table: &[u8], start: usize) -> Rule
     requires { start < 2 ^ 35 }
     ensures value { result ≡ Reverse.reverse_rule table.now start }
@@ -197,7 +200,8 @@ pub fn reverse(lookup: &Lookup<'_>, buffer: &mut GapBuffer, left: usize) -> usiz
     back.left
 }
 
-/// Replaces the glyph before a place, if there is one, and what is left suffices for what the lookup may try there.
+/// Replaces the glyph before a place, if there is one, and what is left suffices for what the
+/// lookup may try there.
 fn reverse_one(lookup: &Lookup<'_>, buffer: &mut GapBuffer, back: Backward) -> Backward
     requires near { lookup.now.place < 2 ^ 17 }
     requires inside { back.at ≤ length buffer.old.items }
@@ -234,7 +238,8 @@ fn begins_backwards(lookup: &Lookup<'_>) -> bool
     }
 }
 
-/// Whether the lookup goes backwards, by its type. The first types say that alone: no subtable of theirs is read.
+/// Whether the lookup goes backwards, by its type. The first types say that alone: no subtable of
+/// theirs is read.
 #[tactic(auto, using(crate::proofs::KindLemmas::forward_kind))]
 pub fn is_reverse(lookup: &Lookup<'_>) -> bool
     requires { lookup.now.place < 2 ^ 17 }

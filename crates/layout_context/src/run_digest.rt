@@ -1,28 +1,51 @@
-//! The digest of a list, which tells at once which lookups find no glyph there. Lookups change the list, so it is made anew
-//! where enough of them are left.
+//! The digest of a list, which tells at once which lookups find no glyph there. Lookups change the
+//! list, so it is made anew where enough of them are left.
 ghost use Rattle.std.specs.Prelude.{◌≡◌};
+ghost use Rattle.layout_digests.specs.Digests.{IsWithin};
 ghost use Rattle.layout_context.specs.Digested.{HoldsGlyphs};
 
 use layout_buffer::ItemList;
 use layout_digests::Digest;
+use shape_buffer::hb_glyph_info_t;
 
-/// For how many lookups at least a digest of the list is made anew. For fewer it takes longer than the walks that it may save.
+/// For how many lookups at least a digest of the list is made anew. For fewer it takes longer than
+/// the walks that it may save.
 const WORTH_RENEWING: usize = 4;
 
-/// A digest that holds the glyphs of a list. Inlined, so that a list in one piece is gone over as a slice.
+/// A digest with the glyphs of a slice, and those that it had. Inlined, so that the slice is gone
+/// over without a call for each.
 #[inline(always)]
-#[tactic(auto, using(crate::proofs::DigestLemmas::one_held))]
-fn digest_of(items: &ItemList<'_>) -> Digest
-    ensures { HoldsGlyphs result items.now }
+#[tactic(auto, using(crate::proofs::DigestLemmas::one_held, crate::proofs::DigestLemmas::within_then))]
+fn with_piece(digest: Digest, infos: &[hb_glyph_info_t]) -> Digest
+    ensures held { HoldsGlyphs result infos.now }
+    ensures kept { IsWithin digest result }
 {
-    let mut all = Digest::new();
-    for i in 0..items.len() {
-        all = all.with_glyph(items.at(i).glyph_id);
+    let mut all = digest;
+    for i in 0..infos.len() {
+        all = all.with_glyph(infos[i].glyph_id);
     }
     all
 }
 
-/// A digest that holds the glyphs of a list, for a stage of so many lookups. For one alone it holds every glyph.
+/// A digest that holds the glyphs of a list. It is gone over in the two pieces in which it is
+/// stored.
+#[inline(always)]
+#[tactic(auto, using(crate::proofs::DigestLemmas::piece_held))]
+fn digest_of(items: &ItemList<'_>) -> Digest
+    ensures { HoldsGlyphs result items.now }
+{
+    let mut all = Digest::new();
+    let mut at = 0;
+    while at < items.len() {
+        let piece = items.piece(at);
+        all = with_piece(all, piece);
+        at += piece.len();
+    }
+    all
+}
+
+/// A digest that holds the glyphs of a list, for a stage of so many lookups. For one alone it
+/// holds every glyph.
 #[inline(never)]
 pub fn digest_for(lookups: usize, items: &ItemList<'_>) -> Digest
     ensures { HoldsGlyphs result items.now }
@@ -34,8 +57,8 @@ pub fn digest_for(lookups: usize, items: &ItemList<'_>) -> Digest
     }
 }
 
-/// A digest that holds the glyphs of a list that a lookup has gone over, where so many lookups are left. For few it holds every
-/// glyph.
+/// A digest that holds the glyphs of a list that a lookup has gone over, where so many lookups are
+/// left. For few it holds every glyph.
 #[inline(never)]
 pub fn renewed(rest: usize, items: &ItemList<'_>) -> Digest
     ensures { HoldsGlyphs result items.now }

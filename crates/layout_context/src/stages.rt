@@ -28,7 +28,8 @@ fn next_spot(spot: Spot, count: usize) -> Spot
     next
 }
 
-/// Applies the lookup at one place, if what is left suffices for what it may try there. Else nothing is left.
+/// Applies the lookup at one place, if what is left suffices for what it may try there. Else
+/// nothing is left.
 #[tactic(auto, using(crate::proofs::AttemptLemmas::walk_tried))]
 fn try_at(
     alloc: Global,
@@ -85,8 +86,8 @@ struct Passed {
     is_met: bool,
 }
 
-/// Goes on over items that the lookup doesn't meet, in at most so many steps, as far as they are stored in one piece. Where the
-/// list is past its limit, or ends, no step does anything.
+/// Goes on over items that the lookup doesn't meet, in at most so many steps, as far as they are
+/// stored in one piece. Where the list is past its limit, or ends, no step does anything.
 fn pass_over(named: &Digested<'_>, buffer: &GapBuffer, spot: Spot, most: usize) -> Passed
     requires said { IsDigested named.now }
     ensures few { result.steps ≤ most }
@@ -120,7 +121,8 @@ fn pass_over(named: &Digested<'_>, buffer: &GapBuffer, spot: Spot, most: usize) 
     }
 }
 
-/// Goes over a buffer from its first item on. A call of its own, so that what its loop reads stays in registers.
+/// Goes over a buffer from its first item on. A call of its own, so that what its loop reads stays
+/// in registers.
 #[inline(never)]
 fn walk(
     alloc: Global,
@@ -197,9 +199,9 @@ fn levels() -> u32
     65
 }
 
-/// Goes over a buffer for one lookup of a stage, if what is left suffices for the walk, and returns where it ended. Refuses with
-/// `Length` if the list passes the limit of the run, and with `Memory` if a growth of the list, or of the places of a rule, was
-/// refused.
+/// Goes over a buffer for one lookup of a stage, if what is left suffices for the walk, and returns
+/// where it ended. Refuses with `Length` if the list passes the limit of the run, and with `Memory`
+/// if a growth of the list, or of the places of a rule, was refused.
 #[tactic(auto, using(crate::proofs::DigestLemmas::looked_paid, crate::proofs::DigestLemmas::looked_unpaid))]
 pub fn look_up(
     alloc: Global,

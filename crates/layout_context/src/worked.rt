@@ -8,21 +8,25 @@ ghost use Rattle.layout_context.specs.Worked.Formats.{WorkedChainedClasses, Work
 ghost use Rattle.layout_context.specs.Worked.Labels.{WorkedLabels};
 ghost use Rattle.layout_context.specs.Worked.Lookups.{WorkedLookups};
 ghost use Rattle.layout_context.specs.Worked.Marks.{WorkedVainLigatures, WorkedVainRules, WorkedRandom, WorkedIds, WorkedOps};
+ghost use Rattle.layout_context.specs.Worked.Meeting.{WorkedMeeting};
 ghost use Rattle.layout_context.specs.Worked.Places.{WorkedPlaces};
 ghost use Rattle.layout_context.specs.Worked.Reversals.{WorkedReversals};
 ghost use Rattle.layout_context.specs.Worked.Tries.{WorkedTries};
 
-/// Where the glyphs of a rule stand after a nested lookup that changed how many items there are, and where the rule goes on.
+/// Where the glyphs of a rule stand after a nested lookup that changed how many items there are,
+/// and where the rule goes on.
 pub fn places_meet_worked_cases()
     ensures { WorkedPlaces }
 {}
 
-/// Lookups of each kind over lists: skipped marks, joiners, masks, clusters, nested lookups, and from the end of the list.
+/// Lookups of each kind over lists: skipped marks, joiners, masks, clusters, nested lookups, and
+/// from the end of the list.
 pub fn lookups_meet_worked_cases()
     ensures { WorkedLookups }
 {}
 
-/// Rules of context by their formats, mark filtering sets and mark attachment classes, syllables, and components of ligatures.
+/// Rules of context by their formats, mark filtering sets and mark attachment classes, syllables,
+/// and components of ligatures.
 pub fn contexts_meet_worked_cases()
     ensures rules { WorkedRules }
     ensures classes { WorkedClasses }
@@ -34,15 +38,16 @@ pub fn contexts_meet_worked_cases()
     ensures components { WorkedComponents }
 {}
 
-/// Chained context with glyphs by number, nested lookups after skipped marks, through extensions and by levels, and nested lookups
-/// that delete.
+/// Chained context with glyphs by number, nested lookups after skipped marks, through extensions
+/// and by levels, and nested lookups that delete.
 pub fn chains_meet_worked_cases()
     ensures chained_glyphs { WorkedChainedGlyphs }
     ensures nested { WorkedNested }
     ensures deletions { WorkedDeletions }
 {}
 
-/// What is marked unsafe to concat, alternates at random, the ids of ligatures, and what stages may still ask for.
+/// What is marked unsafe to concat, alternates at random, the ids of ligatures, and what stages may
+/// still ask for.
 pub fn marks_meet_worked_cases()
     ensures vain_ligatures { WorkedVainLigatures }
     ensures vain_rules { WorkedVainRules }
@@ -51,7 +56,8 @@ pub fn marks_meet_worked_cases()
     ensures ops { WorkedOps }
 {}
 
-/// Chained context by classes over whole lists, lookahead from the end of the list, and flags that ignore classes of glyphs.
+/// Chained context by classes over whole lists, lookahead from the end of the list, and flags that
+/// ignore classes of glyphs.
 pub fn formats_meet_worked_cases()
     ensures chained_classes { WorkedChainedClasses }
     ensures backwards { WorkedBackwards }
@@ -83,4 +89,9 @@ pub fn reversals_meet_worked_cases()
 /// Where the items stand that have a label, and what of them is left after others came or went.
 pub fn labels_meet_worked_cases()
     ensures { WorkedLabels }
+{}
+
+/// Which items of a list a lookup with a digest meets.
+pub fn digests_meet_worked_cases()
+    ensures { WorkedMeeting }
 {}

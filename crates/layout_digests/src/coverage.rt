@@ -72,8 +72,8 @@ fn with_ranges(table: &[u8], start: usize, digest: Digest) -> Digest
     all
 }
 
-/// Puts the glyphs that the Coverage table at `start` covers into a digest. Takes a step for each glyph or range that it
-/// lists.
+/// Puts the glyphs that the Coverage table at `start` covers into a digest. Takes a step for each
+/// glyph or range that it lists.
 #[tactic(auto, using(crate::proofs::CoverageLemmas::covered_listed, crate::proofs::CoverageLemmas::covered_ranges, crate::proofs::CoverageLemmas::covered_none))]
 pub fn with_coverage(table: &[u8], start: usize, digest: Digest) -> Digest
     requires { start < 2 ^ 40 }

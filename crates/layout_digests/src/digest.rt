@@ -1,7 +1,8 @@
-//! Sets of glyphs in six words: of a glyph's number, its half, quarter, sixteenth, 64th and 512th, the last six bits each.
+//! Sets of glyphs in six words: of a glyph's number, its half, quarter, sixteenth, 64th and 512th,
+//! the last six bits each.
 //!
-//! Of a long list of glyphs few of the words say little: those of a few glyphs of a block tell neighbours apart, those of many
-//! tell blocks apart.
+//! Of a long list of glyphs few of the words say little: those of a few glyphs of a block tell
+//! neighbours apart, those of many tell blocks apart.
 ghost use Rattle.std.specs.Prelude.{◌≡◌, ◌≤◌, ◌<◌, ◌%◌, ℕ, true, false};
 ghost use Rattle.layout_matching.specs.Firsts as first_rules;
 ghost use Rattle.layout_digests.specs.Digests;
@@ -159,7 +160,8 @@ impl Digest {
         }
     }
 
-    /// The set with a glyph, in the three words that `may_share` compares; the others are filled. So a list is gone over quickly.
+    /// The set with a glyph, in the three words that `may_share` compares; the others are filled.
+    /// So a list is gone over quickly.
     #[tactic(auto, using(crate::proofs::WordLemmas::glyph_in, crate::proofs::WordLemmas::kept))]
     pub fn with_glyph(self, glyph: u32) -> Self
         ensures glyph { Digests.has result glyph ≡ true }

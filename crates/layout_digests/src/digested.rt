@@ -4,7 +4,8 @@ use crate::digest::Digest;
 use layout_matching::firsts::Firsts;
 use layout_matching::lookup::Lookup;
 
-/// A lookup, a digest that holds the glyphs that it may begin at, and what is stored of its subtables.
+/// A lookup, a digest that holds the glyphs that it may begin at, and what is stored of its
+/// subtables.
 #[derive(Clone, Copy)]
 pub struct Digested<'a> {
     pub lookup: Lookup<'a>,

@@ -1,8 +1,8 @@
 //! Digests of the lookups of a table (`GSUB`, or `GPOS`): the glyphs that each may begin at.
 //!
-//! Lookups may share subtables, and subtables lists, so that lists are read more often than the table has bytes for.
-//! Once as many entries and subtables were read as the table has bytes, a lookup's digest holds every glyph: so it takes
-//! time in step with the bytes, whatever they are.
+//! Lookups may share subtables, and subtables lists, so that lists are read more often than the
+//! table has bytes for. Once as many entries and subtables were read as the table has bytes, a
+//! lookup's digest holds every glyph: so it takes time in step with the bytes, whatever they are.
 ghost use Rattle.std.specs.Prelude.{◌≡◌, ◌<◌, ◌^◌, ℕ, false};
 ghost use Rattle.std.specs.Option.{IfSome, option_map_or};
 ghost use Rattle.layout_tables.specs.Coverage.{covers};
@@ -49,7 +49,8 @@ fn extension_kind(positioning: bool) -> u16
     if positioning { 9 } else { 7 }
 }
 
-/// Where the Coverage table of the glyphs stands that the subtable begins at; none if it begins at none.
+/// Where the Coverage table of the glyphs stands that the subtable begins at; none if it begins at
+/// none.
 #[tactic(auto, using(crate::proofs::LookupLemmas::numbered, crate::proofs::LookupLemmas::ruled))]
 fn first_coverage(lookups: Lookups<'_>, subtable: LookupSubtable) -> Option<usize>
     requires { subtable.start < 2 ^ 35 }

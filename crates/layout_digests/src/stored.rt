@@ -1,5 +1,5 @@
-//! What is stored of the lookups of a table, once for a font: for each the set of the glyphs that it may begin at, and if it has
-//! more than one subtable, such a set for each of these.
+//! What is stored of the lookups of a table, once for a font: for each the set of the glyphs that
+//! it may begin at, and if it has more than one subtable, such a set for each of these.
 ghost use Rattle.std.specs.Prelude.{◌≡◌, ◌+◌, ◌≤◌, ◌<◌, ◌^◌, length, IfOk, OnOk, IsOkUnless};
 ghost use Rattle.std.specs.Option.{IfSome, option_map};
 ghost use Rattle.layout_tables.specs.Lookups.{lookup_count_of, lookup_of};
@@ -15,8 +15,8 @@ use layout_tables::lookups::{
 use shape_buffer::ShapeError;
 use std::alloc::Global;
 
-/// What a lookup begins with (OpenType, "Lookup table"): where it stands in its table, its flags and its set of marks, its type,
-/// and how many subtables it has.
+/// What a lookup begins with (OpenType, "Lookup table"): where it stands in its table, its flags
+/// and its set of marks, its type, and how many subtables it has.
 #[derive(Clone, Copy)]
 pub struct Head {
     pub place: usize,
@@ -26,8 +26,8 @@ pub struct Head {
     pub subtables: u32,
 }
 
-/// What is stored of a lookup: its head, none if the table has no such lookup, its digest, and which of the stored subtables are
-/// its own.
+/// What is stored of a lookup: its head, none if the table has no such lookup, its digest, and
+/// which of the stored subtables are its own.
 #[derive(Clone, Copy)]
 pub struct StoredLookup {
     pub head: Option<Head>,
@@ -36,14 +36,16 @@ pub struct StoredLookup {
     pub count: u32,
 }
 
-/// What is stored of the lookups of a table, by their indexes, and of the subtables of all of them, one lookup after the other.
+/// What is stored of the lookups of a table, by their indexes, and of the subtables of all of them,
+/// one lookup after the other.
 #[derive(Drop)]
 pub struct StoredLookups {
     pub lookups: Vec<StoredLookup>,
     pub firsts: Vec<First>,
 }
 
-/// Which of the stored subtables are those of a lookup, and how many entries and subtables may still be read.
+/// Which of the stored subtables are those of a lookup, and how many entries and subtables may
+/// still be read.
 #[derive(Clone, Copy)]
 struct Span {
     from: u32,
@@ -82,7 +84,8 @@ fn push_subtables(
     })
 }
 
-/// Stores the subtables of the lookup at `place`, if it has more than one: the digest of the lookup says as much of one alone.
+/// Stores the subtables of the lookup at `place`, if it has more than one: the digest of the lookup
+/// says as much of one alone.
 #[tactic(auto, using(crate::proofs::StoredLemmas::nothing_held, crate::proofs::StoredLemmas::as_before))]
 fn push_lookup(
     firsts: &mut Vec<First>,
@@ -168,8 +171,9 @@ fn head_of(table: &[u8], index: u16) -> Option<Head>
     }
 }
 
-/// What is stored of each lookup of a table. Takes a step for each entry of their lists and for each subtable, and no more steps
-/// than twice the bytes of the table. Refuses with `Memory` if a growth was refused.
+/// What is stored of each lookup of a table. Takes a step for each entry of their lists and for
+/// each subtable, and no more steps than twice the bytes of the table. Refuses with `Memory` if a
+/// growth was refused.
 #[tactic(auto, using(crate::proofs::StoredLemmas::one_stored, crate::proofs::StoredLemmas::all_inside))]
 pub fn stored(alloc: Global, lookups: Lookups<'_>) -> Result<StoredLookups, ShapeError>
     ensures ok { IfOk result (λ s. stored_rules.AreStored lookups.entry.table.now

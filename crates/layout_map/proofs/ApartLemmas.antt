@@ -5,7 +5,9 @@ use Rattle.std.specs.List.{AllPairs}
 use Rattle.std.proofs.lemmas.List.Elements.{All-get_or, All-push, All-weaker, All-nil}
 use Rattle.std.proofs.lemmas.List.Quantifiers.{all_pairs_push}
 use Rattle.layout_map.specs.Chosen.{Chosen, required_tag_of}
-use Rattle.layout_map.specs.Features.{Allotment, GLOBAL_PLACE, GLOBAL_BIT, is_plain, bits_needed, bits_from, has_room, is_found, indexes_of, feature_with, with_plain, with_own, with_feature, with_indexes, with_required, with_setting, no_features, allotted}
+use Rattle.layout_map.specs.Features.{Allotment, GLOBAL_PLACE, GLOBAL_BIT, is_plain, bits_needed, bits_from, has_room, is_found, indexes_of}
+use Rattle.layout_map.specs.Features.{feature_with, with_plain, with_own, with_feature, with_indexes, with_required, with_setting, no_features}
+use Rattle.layout_map.specs.Features.{allotted}
 use Rattle.layout_map.specs.Laws.{HasOwnBits, AreApart}
 use Rattle.layout_map.specs.declared.features.FeatureMap.{FeatureMap}
 use Rattle.layout_map.specs.declared.features.Indexes.{Indexes}

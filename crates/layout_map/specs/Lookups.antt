@@ -1,6 +1,7 @@
 -- The lookups of a stage, each once, in order of the table (HarfBuzz, hb-ot-map.cc, "Collect lookup indices for features").
 use Prim.Native.Nat.{zero}
-use Rattle.std.specs.Prelude.{ℕ, suc, ◌+◌, ◌&&◌, List, [], ◌∷◌, Bool, Option, None, true, false, fold, length, nat_eq, nat_lt, replicate, slice_set, slice_index_or, if◌then◌else◌}
+use Rattle.std.specs.Prelude.{ℕ, suc, ◌+◌, ◌&&◌, List, [], ◌∷◌, Bool, Option, None, true, false, fold, length, nat_eq, nat_lt, replicate, slice_set}
+use Rattle.std.specs.Prelude.{slice_index_or, if◌then◌else◌}
 use Rattle.std.specs.Option.{option_map_or}
 use Rattle.std.specs.Int.RustNames.{bit_or}
 use Rattle.layout_tables.specs.Features.{feature_lookup_count_of, feature_lookup_of}

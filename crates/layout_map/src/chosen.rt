@@ -13,8 +13,8 @@ use layout_tables::scripts::chosen_lang_sys;
 use layout_tables::variations::{substitution, varied_feature};
 use std::marker::Model;
 
-/// A table of lookups with the language system that is chosen in it for a text, and the features that take the place of
-/// others at the coordinates of the font.
+/// A table of lookups with the language system that is chosen in it for a text, and the features
+/// that take the place of others at the coordinates of the font.
 #[derive(Drop)]
 pub struct ChosenTable<'a> {
     bytes: &'a [u8],
@@ -91,9 +91,10 @@ impl<'a> ChosenTable<'a> {
     ghost use Rattle.layout_tables.specs.Features.{any_feature_of};
     ghost use Rattle.layout_tables.specs.Lookups.{lookup_count_of};
 
-    /// What is chosen in a table for a text: the language system of the script with the tag `script`, by the tags
-    /// of the text's language, the preferred one first. An empty table has none. The coordinates are those of the font,
-    /// normalized, in units of 1/16384; none for its default instance.
+    /// What is chosen in a table for a text: the language system of the script with the tag
+    /// `script`, by the tags of the text's language, the preferred one first. An empty table has
+    /// none. The coordinates are those of the font, normalized, in units of 1/16384; none for its
+    /// default instance.
     pub fn new(bytes: &'a [u8], coordinates: &[i32], script: Option<u32>, languages: &[u32]) -> Self
         ensures { result ≡ chosen bytes.now coordinates.now script languages.now }
     {
@@ -135,7 +136,8 @@ impl<'a> ChosenTable<'a> {
         may_hold(self.tags, tag)
     }
 
-    /// The index of the feature with this tag that the language system lists, searched among all that it lists.
+    /// The index of the feature with this tag that the language system lists, searched among all
+    /// that it lists.
     fn sought(&self, tag: u32) -> Option<u16>
         ensures { result ≡ index_of self.now tag }
     {

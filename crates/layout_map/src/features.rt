@@ -1,8 +1,9 @@
 //! Settings looked up in the tables, and the bits of the mask that each feature gets.
 //!
-//! A feature that is on everywhere with value 1 shares the last bit of a mask with all such features. Another one
-//! gets bits of its own, as many as its greatest value needs and at most 8, from bit 4 on: the lower bits of a mask
-//! are those of the glyph flags. A feature that no table has gets none unless it has a fallback.
+//! A feature that is on everywhere with value 1 shares the last bit of a mask with all such
+//! features. Another one gets bits of its own, as many as its greatest value needs and at most 8,
+//! from bit 4 on: the lower bits of a mask are those of the glyph flags. A feature that no table
+//! has gets none unless it has a fallback.
 ghost use Rattle.std.specs.Prelude.{◌≡◌, ◌<◌, ◌+◌, ◌^◌, [], true, false, nat_eq, if◌then◌else◌, IfOk, IsOkUnless};
 ghost use Rattle.shape_buffer.specs.Layout.{HasNoDefinedFlag};
 ghost use Rattle.layout_map.specs.Chosen.{required_tag_of};
@@ -18,7 +19,8 @@ use shape_buffer::interfaces::{
 /// The place of the last bit, counted from bit 4.
 const GLOBAL_PLACE: u32 = 27;
 
-/// The last bit of a mask, counted from bit 4: that of all features that are on everywhere with value 1.
+/// The last bit of a mask, counted from bit 4: that of all features that are on everywhere with
+/// value 1.
 pub const GLOBAL_BIT: u32 = 134_217_728;
 
 /// The indexes of a feature in `GSUB` and `GPOS`.
@@ -30,9 +32,9 @@ pub struct Indexes {
 
 /// A feature of a map.
 ///
-/// `place` is the first of its bits and `bits` are all of them, both counted from bit 4 of a mask. `stage` is that of
-/// `GSUB`. `auto_zwnj` and `auto_zwj`: lookups skip the joiners; `random`: alternates are chosen at random;
-/// `per_syllable`: lookups stay inside one syllable.
+/// `place` is the first of its bits and `bits` are all of them, both counted from bit 4 of a mask.
+/// `stage` is that of `GSUB`. `auto_zwnj` and `auto_zwj`: lookups skip the joiners; `random`:
+/// alternates are chosen at random; `per_syllable`: lookups stay inside one syllable.
 #[derive(Clone, Copy, PartialEq, Eq, Debug)]
 pub struct FeatureMap {
     pub tag: u32,
@@ -48,8 +50,8 @@ pub struct FeatureMap {
     pub per_syllable: bool,
 }
 
-/// What is left while bits are allotted: the first free bit, the bits of values that are on everywhere, and the
-/// stage of the required feature of `GSUB`.
+/// What is left while bits are allotted: the first free bit, the bits of values that are on
+/// everywhere, and the stage of the required feature of `GSUB`.
 #[derive(Clone, Copy)]
 pub struct Room {
     pub place: u32,
@@ -301,8 +303,8 @@ fn may_matter(gsub: &ChosenTable<'_>, gpos: &ChosenTable<'_>, setting: Setting) 
         || gsub.required_tag() == setting.tag
 }
 
-/// Looks a setting up, and gives it its bits. One that can't matter, as most of those that every text asks for, is passed
-/// over at once.
+/// Looks a setting up, and gives it its bits. One that can't matter, as most of those that every
+/// text asks for, is passed over at once.
 fn add(
     gsub: &ChosenTable<'_>,
     gpos: &ChosenTable<'_>,
@@ -335,8 +337,8 @@ fn add(
     give_found(features, with_stage(gsub, room, setting), setting, found)
 }
 
-/// Allots bits to the features of these settings, in their order; `features` comes in empty. Returns what is left.
-/// Refuses with `Memory` if a growth was refused.
+/// Allots bits to the features of these settings, in their order; `features` comes in empty.
+/// Returns what is left. Refuses with `Memory` if a growth was refused.
 pub fn allot(
     gsub: &ChosenTable<'_>,
     gpos: &ChosenTable<'_>,

@@ -31,7 +31,8 @@ pub fn lookups_come_once()
         → IsStrictlyIncreasing (indexes (gpos_lookups t features)) }
 {}
 
-/// The slice of a stage holds the lookups of that stage, no more and no fewer, and there is one stage more than pauses.
+/// The slice of a stage holds the lookups of that stage, no more and no fewer, and there is one
+/// stage more than pauses.
 pub fn stages_have_their_own_lookups()
     ensures own { (t : Chosen) (features : List FeatureMapOf) (required_stage : ℕ) (pauses : List (Option ℕ)) (i : ℕ)
         → i ≤ length pauses

@@ -1,7 +1,7 @@
 //! The lookups of a stage, each once, in order of the table.
 //!
-//! Each lookup of the table has a slot, in which the features that ask for it are joined; so a feature costs as
-//! many steps as it lists lookups, whatever their order.
+//! Each lookup of the table has a slot, in which the features that ask for it are joined; so a
+//! feature costs as many steps as it lists lookups, whatever their order.
 ghost use Rattle.std.specs.Prelude.{◌≡◌, ◌<◌, ◌^◌, ◌++◌, length, fold, replicate, is_some, IfOk, OnOk, IsOkUnless};
 ghost use Rattle.std.specs.List.{list_any};
 ghost use Rattle.layout_map.specs.Lookups;
@@ -12,8 +12,9 @@ use layout_tables::features::{feature_lookup, feature_lookup_count};
 use shape_buffer::ShapeError;
 use std::alloc::Global;
 
-/// How the features of a stage use a lookup: the mask for which it is on, empty if none asks for it; whether it
-/// skips the joiners U+200C and U+200D; whether it chooses alternates at random, and stays inside one syllable.
+/// How the features of a stage use a lookup: the mask for which it is on, empty if none asks for
+/// it; whether it skips the joiners U+200C and U+200D; whether it chooses alternates at random, and
+/// stays inside one syllable.
 #[derive(Clone, Copy, PartialEq, Eq, Debug)]
 pub struct LookupUse {
     pub mask: u32,
@@ -138,7 +139,8 @@ fn required_index(table: &ChosenTable<'_>, here: bool) -> Option<u16>
     if here { table.required() } else { None }
 }
 
-/// So many slots of lookups that no feature asks for. Refuses with `Memory` if a growth was refused.
+/// So many slots of lookups that no feature asks for. Refuses with `Memory` if a growth was
+/// refused.
 fn empty_slots(alloc: Global, count: u32) -> Result<Vec<LookupUse>, ShapeError>
     ensures ok { IfOk result (λ uses. uses.items ≡ replicate count Lookups.unused) }
     ensures count { IfOk result (λ uses. length uses.items ≡ count) }
@@ -149,8 +151,8 @@ fn empty_slots(alloc: Global, count: u32) -> Result<Vec<LookupUse>, ShapeError>
     Ok(uses)
 }
 
-/// A slot for each lookup of the table; the required feature has asked for its own, if this is its stage. Refuses
-/// with `Memory` if a growth was refused.
+/// A slot for each lookup of the table; the required feature has asked for its own, if this is its
+/// stage. Refuses with `Memory` if a growth was refused.
 fn slots(alloc: Global, table: &ChosenTable<'_>, here: bool) -> Result<Vec<LookupUse>, ShapeError>
     ensures ok { IfOk result (λ uses. uses.items ≡ Lookups.required_used table.now here) }
     ensures few { IfOk result (λ uses. length uses.items < 2 ^ 16) }
@@ -250,7 +252,8 @@ pub fn append_gsub(
     append_used(lookups, uses.as_slice())
 }
 
-/// Appends the lookups of `GPOS`, which has one stage. Refuses with `Memory` if a growth was refused.
+/// Appends the lookups of `GPOS`, which has one stage. Refuses with `Memory` if a growth was
+/// refused.
 pub fn append_gpos(
     alloc: Global,
     table: &ChosenTable<'_>,

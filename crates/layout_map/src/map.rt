@@ -24,8 +24,8 @@ fn with_tag(features: &[FeatureMap], tag: u32) -> Option<FeatureMap>
     None
 }
 
-/// The requests of a plan compiled for a font: the mask of each feature, the stages of lookups of `GSUB`, and the
-/// lookups of `GPOS`.
+/// The requests of a plan compiled for a font: the mask of each feature, the stages of lookups of
+/// `GSUB`, and the lookups of `GPOS`.
 #[derive(Drop)]
 pub struct hb_ot_map_t {
     features: Vec<FeatureMap>,
@@ -58,8 +58,8 @@ impl hb_ot_map_t {
     };
     ghost use Rattle.layout_map.specs.Stages.{lookups_of};
 
-    /// Compiles the requests of a plan, in order, for the tables of a font. Refuses with `Memory` alone, if a
-    /// growth was refused.
+    /// Compiles the requests of a plan, in order, for the tables of a font. Refuses with `Memory`
+    /// alone, if a growth was refused.
     pub fn compile(
         alloc: Global,
         gsub: &ChosenTable<'_>,
@@ -114,8 +114,8 @@ impl hb_ot_map_t {
         }
     }
 
-    /// The bits of a mask that hold a feature's value, and how far the value is shifted there; twice 0 if the map
-    /// lacks it.
+    /// The bits of a mask that hold a feature's value, and how far the value is shifted there;
+    /// twice 0 if the map lacks it.
     pub fn mask(&self, tag: hb_tag_t) -> (hb_mask_t, u32)
         ensures { result ≡ (map_meaning self.now).mask tag }
     {
@@ -170,7 +170,8 @@ impl hb_ot_map_t {
         self.gsub.pause_after(i)
     }
 
-    /// The lookups of stage `i` of substitution, each once, in order of the table; none past the last stage.
+    /// The lookups of stage `i` of substitution, each once, in order of the table; none past the
+    /// last stage.
     pub fn gsub_lookups(&self, i: usize) -> &[LookupMap]
         ensures { result.now ≡ lookups_of self.now.gsub i }
     {

@@ -8,8 +8,8 @@ use shape_buffer::ShapeError;
 use std::alloc::Global;
 use std::marker::Model;
 
-/// A stage of substitution: where its lookups end in the list of all, and the number of the pause after it, if it
-/// has one. It begins where the stage before it ends.
+/// A stage of substitution: where its lookups end in the list of all, and the number of the pause
+/// after it, if it has one. It begins where the stage before it ends.
 #[derive(Clone, Copy, PartialEq, Eq, Debug)]
 pub struct StageMap {
     pub end: usize,
@@ -80,8 +80,8 @@ impl Stages {
         Ok(())
     }
 
-    /// The stages of these features: one before each pause, and one after the last. Refuses with `Memory` if a
-    /// growth was refused.
+    /// The stages of these features: one before each pause, and one after the last. Refuses with
+    /// `Memory` if a growth was refused.
     pub fn collect(
         alloc: Global,
         gsub: &ChosenTable<'_>,

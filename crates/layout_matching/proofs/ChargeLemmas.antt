@@ -10,8 +10,14 @@ use Rattle.layout_matching.specs.Found.{is_context, is_context_subtable, is_firs
 use Rattle.layout_matching.specs.Loops.{steps}
 use Rattle.layout_matching.specs.Rules.{rule_place}
 use Rattle.layout_matching.specs.Skipping.{nth}
-use Rattle.layout_matching.specs.Sought.{unfound, unless_found, is_idle, rule_paid, tried_sought, place_sought, rule_sought, rules_in, set_paid, rules_sought, set_sought, numbered_sought, sets_sought, first_sought, whole_sought, subtable_sought, sought_at_subtable, sought, sought_left, place_charged, named_charged}
-use Rattle.layout_matching.specs.Work.{charged, counts_tallied, counted, counts_at, has_classes, rule_counted, counts_of, counts_work, null_counted, passed_charged, lists_charged, counted_charged, rule_charged, part_rule, part_counted, set_passed, set_counted, set_charged, uncounted, beside, SUBTABLE_WORK, backward_rule, is_backward, parts_for, whole_list, begun_charged, parts_charged, numbered_charged, whole_charged, is_whole, subtable_charged, charged_at_subtable, subtables_charged, is_paid, lookup_charged, steps_work, NESTED_WORK, nested_charged}
+use Rattle.layout_matching.specs.Sought.{unfound, unless_found, is_idle, rule_paid, tried_sought, place_sought, rule_sought, rules_in, set_paid}
+use Rattle.layout_matching.specs.Sought.{rules_sought, set_sought, numbered_sought, sets_sought, first_sought, whole_sought, subtable_sought}
+use Rattle.layout_matching.specs.Sought.{sought_at_subtable, sought, sought_left, place_charged, named_charged}
+use Rattle.layout_matching.specs.Work.{charged, counts_tallied, counted, counts_at, has_classes, rule_counted, counts_of, counts_work, null_counted}
+use Rattle.layout_matching.specs.Work.{passed_charged, lists_charged, counted_charged, rule_charged, part_rule, part_counted, set_passed, set_counted}
+use Rattle.layout_matching.specs.Work.{set_charged, uncounted, beside, SUBTABLE_WORK, backward_rule, is_backward, parts_for, whole_list}
+use Rattle.layout_matching.specs.Work.{begun_charged, parts_charged, numbered_charged, whole_charged, is_whole, subtable_charged, charged_at_subtable}
+use Rattle.layout_matching.specs.Work.{subtables_charged, is_paid, lookup_charged, steps_work, NESTED_WORK, nested_charged}
 use Rattle.layout_matching.specs.declared.found.Found.{Found}
 use Rattle.layout_matching.specs.declared.lookup.Lookup.{Lookup}
 use Rattle.layout_matching.specs.declared.rules.Rule.{Rule}

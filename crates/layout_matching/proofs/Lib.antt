@@ -14,3 +14,6 @@ pub mod SoughtLemmas
 pub mod NearestLemmas
 pub mod ChargeLemmas
 pub mod TriesLemmas
+pub mod ReachAgainLemmas
+pub mod ScanLemmas
+pub mod SiftedLemmas

@@ -2,21 +2,25 @@
 use Prim.Native.Nat.{zero}
 use Rattle.std.proofs.Common.{◌≡◌, ℕ, suc, ◌+◌, ◌-◌, ◌/◌, ◌<◌, ◌≤◌, ◌&&◌, ◌||◌, not, Bool, true, false, List, Option, Some, None, length, min, nat_eq, nat_lt, refl, sym, ap, subst, ◌∙◌, arith, if◌then◌else◌}
 use Rattle.std.proofs.lemmas.Bool.Decides.{nat_tests}
-use Rattle.std.specs.Option.{option_and_then, option_map, unwrap_or}
+use Rattle.std.specs.Option.{option_and_then, option_map, option_map_or, unwrap_or}
 use Rattle.shape_font.specs.Search.{first_at}
 use Rattle.shape_items.specs.Buffer.{most_countable}
 use Rattle.shape_items.specs.Items.{Item, is_ignorable_item}
+use Rattle.layout_matching.specs.Glance.{any_glyph, glance_at}
 use Rattle.layout_matching.specs.Input.{is_on_component, marks_back, marks_passed, with_glyph_at, input_step, seek_input, input_matched}
 use Rattle.layout_matching.specs.Loops.{steps}
-use Rattle.layout_matching.specs.Rules.{fits_row}
+use Rattle.layout_matching.specs.Rules.{fits_row, row}
 use Rattle.layout_matching.specs.Seeking.{mask_of, fits, is_between, if_fits, next_place, prev_place, last_after, last_before}
+use Rattle.layout_matching.specs.Sifted.{nearest_glance, second_glance}
 use Rattle.layout_matching.specs.Skipping.{nth, shares, is_skipped, is_transparent, passes_zwnj, passes_zwj}
 use Rattle.layout_matching.specs.Spans.{seek_around, span_to, span_from, span_of}
 use Rattle.layout_matching.specs.Work.{is_passed, passed, passed_after, passed_before, passing_step}
+use Rattle.layout_matching.specs.declared.glance.Glance.TheVariants.{Open, Closed, Only}
 use Rattle.layout_matching.specs.declared.input.Matched.{Matched}
 use Rattle.layout_matching.specs.declared.lookup.Lookup.{Lookup}
 use Rattle.layout_matching.specs.declared.rules.Row.{Row}
 use Rattle.layout_matching.specs.declared.rules.Rule.{Rule}
+use Rattle.layout_matching.specs.declared.rules.Test.TheVariants.{Glyph}
 use Rattle.layout_matching.specs.declared.seeking.Seek.{Seek}
 use Rattle.layout_matching.specs.declared.spans.Origin.{Origin}
 use Rattle.layout_matching.specs.declared.tally.Tally.{Tally}
@@ -183,3 +187,25 @@ passed_none l listed items at s before after single =
         else unwrap_or (marks_back items (nth items at).properties.ligature_id at) at) ≡ 0
     marks true = refl
     marks false = rw single refl
+
+-- ---- what the next glyph says, if each search ends at it
+
+pub glance_nearest : (l : Lookup) (items : List Item) (at : ℕ) → at + 1 < length items → is_skipped l (nth items (at + 1)) ≡ false
+    → is_ignorable_item (nth items (at + 1)) ≡ false
+    → second_glance l items at ≡ nearest_glance l (seek_input l (nth items at) (row Glyph 0 0 0)) (nth items (at + 1))
+glance_nearest l items at more seen opaque =
+    ap (λ o. option_map_or (glance_at l seek items) (option_and_then (if_fits l (any_glyph seek) items 0) o) Closed)
+    (first-here (λ j. not (is_between l (any_glyph seek) 0 (nth items j))) (length items - (at + 1)) (at + 1) (omega (arith, more))
+    (ends l (any_glyph seek) 0 item seen opaque))
+    ∙ by_fit (fits l (any_glyph seek) 0 item)
+  where
+    seek : Seek
+    seek = seek_input l (nth items at) (row Glyph 0 0 0)
+
+    item : Item
+    item = nth items (at + 1)
+
+    by_fit : (t : Bool) → option_map_or (glance_at l seek items) (if t then Some (at + 1) else None) Closed
+        ≡ (if t then Only item.glyph_id else Closed)
+    by_fit true = ap (λ u. if u then Open else Only item.glyph_id) (transparent_not l true item opaque)
+    by_fit false = refl

@@ -1,22 +1,19 @@
 -- a rule whose first bytes the table hasn't matches nothing, and looks at nothing
 use Rattle.std.proofs.Common.{◌≡◌, ℕ, ◌+◌, ◌-◌, ◌*◌, ◌≤◌, ◌&&◌, Bool, true, false, List, Option, None, length, nat_le, nat_eq, ap, arith, if◌then◌else◌}
 use Rattle.std.proofs.lemmas.Bool.Decides.{nat_tests}
-use Rattle.std.specs.Option.{option_map, option_map_or}
+use Rattle.std.specs.Option.{option_map}
 use Rattle.shape_font.specs.Bytes.{u16_of}
 use Rattle.shape_items.specs.Items.{Item}
 use Rattle.layout_tables.specs.declared.lookups.LookupSubtable.{LookupSubtable}
 use Rattle.layout_matching.specs.Found.{is_chained, class_place, rule_of, found_at}
-use Rattle.layout_matching.specs.Input.{input_matched}
 use Rattle.layout_matching.specs.Rules.{is_inside, plain_rule, chained}
 use Rattle.layout_matching.specs.Spans.{span_of}
-use Rattle.layout_matching.specs.Tried.{untried, after_reach, input_reach, rule_reach}
 use Rattle.layout_matching.specs.declared.found.Found.{Found}
 use Rattle.layout_matching.specs.declared.lookup.Lookup.{Lookup}
 use Rattle.layout_matching.specs.declared.rules.Rule.{Rule}
 use Rattle.layout_matching.specs.declared.rules.Test.{Test}
 use Rattle.layout_matching.specs.declared.rules.Test.TheVariants.{Glyph, Class}
 use Rattle.layout_matching.specs.declared.spans.Origin.{Origin}
-use Rattle.layout_matching.specs.declared.tried.Reach.{Reach}
 
 -- ---- the records of a rule's lookups stand behind its first bytes
 
@@ -65,13 +62,3 @@ found_past l items origin subtable at past =
     let rule = rule_of l.table.now (is_chained l subtable) subtable.start at in
     let made : Option Found = option_map (λ span. record { rule = rule; span = span }) (span_of l items origin rule) in
     ap (λ b. if b then made else None) (not-inside l.table.now (is_chained l subtable) subtable.start at past)
-
-pub reach_past : (l : Lookup) (items : List Item) (origin : Origin) (subtable : LookupSubtable) (at : ℕ)
-    → nat_le (at + 4) (length l.table.now) ≡ false
-    → rule_reach l items origin (is_chained l subtable) (rule_of l.table.now (is_chained l subtable) subtable.start at) ≡ untried origin.at
-reach_past l items origin subtable at past =
-    let c = is_chained l subtable in
-    let rule = rule_of l.table.now c subtable.start at in
-    let looked : Reach = option_map_or (λ m. after_reach l items origin rule m.last) (input_matched l items origin.at rule.input)
-    (input_reach l items origin.at c rule) in
-    ap (λ b. if b then looked else untried origin.at) (not-inside l.table.now c subtable.start at past)

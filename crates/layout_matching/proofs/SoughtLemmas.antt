@@ -7,13 +7,17 @@ use Rattle.shape_items.specs.Items.{Item}
 use Rattle.layout_tables.specs.Lookups.{subtable_count_of}
 use Rattle.layout_tables.specs.declared.lookups.LookupSubtable.{LookupSubtable}
 use Rattle.layout_matching.specs.Firsts.{begins, IsOut, AreOut}
-use Rattle.layout_matching.specs.Found.{is_chained, is_context_subtable, whole_rule, is_first, set_for, number_of, subtable_at, found_if, found_at, found_rule, found_in_set, found_by_number, found_whole, found_in_sets, found_in_subtable, found_at_subtable, found_of}
+use Rattle.layout_matching.specs.Found.{is_chained, is_context_subtable, whole_rule, is_first, set_for, number_of, subtable_at, found_if, found_at}
+use Rattle.layout_matching.specs.Found.{found_rule, found_in_set, found_by_number, found_whole, found_in_sets, found_in_subtable, found_at_subtable}
+use Rattle.layout_matching.specs.Found.{found_of}
 use Rattle.layout_matching.specs.Glance.{glances_in, is_refused}
 use Rattle.layout_matching.specs.Loops.{first_some, steps}
 use Rattle.layout_matching.specs.Rules.{rule_place}
 use Rattle.layout_matching.specs.Skipping.{nth}
 use Rattle.layout_matching.specs.Work.{charged, rule_charged, SUBTABLE_WORK}
-use Rattle.layout_matching.specs.Sought.{unfound, unless_found, is_idle, rule_paid, place_sought, rule_sought, rules_in, set_paid, rules_sought, set_sought, numbered_sought, sets_sought, first_sought, whole_sought, subtable_sought, sought_at_subtable, sought}
+use Rattle.layout_matching.specs.Sought.{unfound, unless_found, is_idle, rule_paid, place_sought, rule_sought, rules_in, set_paid, rules_sought}
+use Rattle.layout_matching.specs.Sought.{set_sought, numbered_sought, sets_sought, first_sought, whole_sought, subtable_sought, sought_at_subtable}
+use Rattle.layout_matching.specs.Sought.{sought}
 use Rattle.layout_matching.specs.declared.found.Found.{Found}
 use Rattle.layout_matching.specs.declared.lookup.Lookup.{Lookup}
 use Rattle.layout_matching.specs.declared.sought.Sought.{Sought}

@@ -13,9 +13,15 @@ use Rattle.layout_matching.specs.Found.{is_chained, is_context_subtable, is_firs
 use Rattle.layout_matching.specs.Loops.{steps, times}
 use Rattle.layout_matching.specs.Rules.{rule_place, rules_at as rules_from}
 use Rattle.layout_matching.specs.Skipping.{nth, is_transparent}
-use Rattle.layout_matching.specs.Sought.{unfound, unless_found, is_idle, rule_paid, tried_sought, place_sought, rule_sought, rules_in, set_paid, rules_sought, set_sought, numbered_sought, sets_sought, first_sought, whole_sought, subtable_sought, sought_at_subtable, sought}
+use Rattle.layout_matching.specs.Sought.{unfound, unless_found, is_idle, rule_paid, tried_sought, place_sought, rule_sought, rules_in, set_paid}
+use Rattle.layout_matching.specs.Sought.{rules_sought, set_sought, numbered_sought, sets_sought, first_sought, whole_sought, subtable_sought}
+use Rattle.layout_matching.specs.Sought.{sought_at_subtable, sought}
 use Rattle.layout_matching.specs.Tries.{counted_along, counted_to_first, each_one, rules_of_set, rules_by_number, whole_rules, rules_of, rules_at, rules_tried, subtables_sought}
-use Rattle.layout_matching.specs.Work.{one_if, devices_work, charged, counts_tallied, counts_of, counts_at, counts_work, counted, rule_counted, null_counted, passed_charged, part_rule, part_counted, set_passed, set_counted, set_charged, uncounted, beside, has_classes, SUBTABLE_WORK, backward_rule, is_backward, is_ligature, parts_for, whole_list, begun_charged, parts_charged, numbered_charged, whole_charged, subtable_charged, charged_at_subtable, subtables_charged, rule_charged, walk_work, steps_work, is_plain, is_paid}
+use Rattle.layout_matching.specs.Work.{one_if, devices_work, charged, counts_tallied, counts_of, counts_at, counts_work, counted, rule_counted}
+use Rattle.layout_matching.specs.Work.{null_counted, passed_charged, part_rule, part_counted, set_passed, set_counted, set_charged, uncounted, beside}
+use Rattle.layout_matching.specs.Work.{has_classes, SUBTABLE_WORK, backward_rule, is_backward, is_ligature, parts_for, whole_list, begun_charged}
+use Rattle.layout_matching.specs.Work.{parts_charged, numbered_charged, whole_charged, subtable_charged, charged_at_subtable, subtables_charged}
+use Rattle.layout_matching.specs.Work.{rule_charged, walk_work, steps_work, is_plain, is_paid}
 use Rattle.layout_matching.specs.declared.found.Found.{Found}
 use Rattle.layout_matching.specs.declared.lookup.Lookup.{Lookup}
 use Rattle.layout_matching.specs.declared.rules.Rule.{Rule}

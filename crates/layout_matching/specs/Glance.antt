@@ -1,5 +1,5 @@
 -- What the glyph beside a place says of all rules of a set: nearly all of them are refused by the first glyph that they look for there.
-use Rattle.std.specs.Prelude.{ℕ, Bool, true, false, List, ◌+◌, ◌*◌, ◌&&◌, ◌||◌, not, min, nat_eq, nat_lt, if◌then◌else◌}
+use Rattle.std.specs.Prelude.{◌≡◌, ℕ, Bool, true, false, List, ◌+◌, ◌*◌, ◌&&◌, ◌||◌, not, min, nat_eq, nat_lt, if◌then◌else◌}
 use Rattle.std.specs.Option.{option_map_or}
 use Rattle.shape_font.specs.Bytes.{u16_of}
 use Rattle.shape_items.specs.Items.{Item}
@@ -74,6 +74,10 @@ abbrev pub refuses : List ℕ → ℕ → Glance → Bool
 refuses t at Open = false
 refuses t at Closed = true
 refuses t at (Only value) = not (nat_eq value (u16_of t at))
+
+-- each other value than this one is refused
+abbrev pub Tells : ℕ → Glance → Type 0
+Tells value glance = (t : List ℕ) (at : ℕ) → nat_eq value (u16_of t at) ≡ false → refuses t at glance ≡ true
 
 -- a rule that looks for a second glyph
 abbrev pub plain_refused : List ℕ → Glances → ℕ → Bool

@@ -7,6 +7,7 @@ pub mod Spans
 pub mod Found
 pub mod Firsts
 pub mod Glance
+pub mod Sifted
 pub mod Nesting
 pub mod Tried
 pub mod Work
@@ -14,3 +15,4 @@ pub mod Sought
 pub mod Tries
 pub mod Would
 pub mod Worked
+pub mod Scanning

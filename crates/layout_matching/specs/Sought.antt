@@ -11,7 +11,8 @@ use Rattle.layout_matching.specs.Glance.{glances_in, is_refused}
 use Rattle.layout_matching.specs.Loops.{steps}
 use Rattle.layout_matching.specs.Rules.{rule_place}
 use Rattle.layout_matching.specs.Skipping.{nth}
-use Rattle.layout_matching.specs.Work.{charged, uncounted, beside, counted, counts_at, passed_charged, has_classes, rule_charged, SUBTABLE_WORK, lookup_charged, nested_charged, steps_work, NESTED_WORK}
+use Rattle.layout_matching.specs.Work.{charged, uncounted, beside, counted, counts_at, passed_charged, has_classes, rule_charged, SUBTABLE_WORK}
+use Rattle.layout_matching.specs.Work.{lookup_charged, nested_charged, steps_work, NESTED_WORK}
 use Rattle.layout_matching.specs.declared.lookup.Lookup.{Lookup}
 use Rattle.layout_matching.specs.declared.sought.Sought.{Sought}
 use Rattle.layout_matching.specs.declared.spans.Origin.{Origin}
@@ -96,6 +97,12 @@ subtable_sought l items origin left subtable = if is_context_subtable l subtable
 
 abbrev pub sought_at_subtable : Lookup → List Item → Origin → ℕ → ℕ → Option Sought
 sought_at_subtable l items origin i left = option_map_or (subtable_sought l items origin left) (subtable_at l i) (Some (unfound left))
+
+-- one that begins with the glyph, if it has one rule
+abbrev pub begun_sought : Lookup → List Item → Origin → ℕ → LookupSubtable → Option Sought
+begun_sought l items origin left subtable = if nat_eq (u16_of l.table.now subtable.start) 3
+    then option_and_then (first_sought l items origin subtable) (charged SUBTABLE_WORK left)
+    else sets_sought l items origin subtable left
 
 -- ---- lookups
 

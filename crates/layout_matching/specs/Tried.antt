@@ -1,8 +1,9 @@
 -- How far rules look that are tried at a place, up to the first that matches: what they looked at in vain is unsafe to concat.
 use Prim.Native.Nat.{zero}
-use Rattle.std.specs.Prelude.{ℕ, suc, Bool, true, false, List, is_some, ◌+◌, ◌-◌, ◌||◌, not, min, max, length, nat_eq, nat_lt, if◌then◌else◌}
-use Rattle.std.specs.Option.{option_map_or}
-use Rattle.shape_font.specs.Bytes.{u16_of, fitting}
+use Rattle.std.specs.Prelude.{ℕ, suc, Bool, true, false, List, Option, Some, None, is_some, ◌+◌, ◌-◌, ◌&&◌, ◌||◌, not, min, max, length}
+use Rattle.std.specs.Prelude.{⊤, ◌<◌, nat_eq, nat_lt, nat_le, if◌then◌else◌}
+use Rattle.std.specs.Option.{IfSome, option_and_then, option_map_or}
+use Rattle.shape_font.specs.Bytes.{u16_of}
 use Rattle.shape_font.specs.Search.{first_at}
 use Rattle.shape_items.specs.Items.{Item}
 use Rattle.layout_tables.specs.Lookups.{subtable_count_of}
@@ -10,16 +11,21 @@ use Rattle.layout_tables.specs.declared.lookups.LookupSubtable.{LookupSubtable}
 use Rattle.layout_matching.specs.Found.{is_chained, is_context_subtable, whole_rule, is_first, set_for, rule_of, number_of, subtable_at}
 use Rattle.layout_matching.specs.Input.{input_step, seek_input, input_matched}
 use Rattle.layout_matching.specs.Loops.{stopped}
-use Rattle.layout_matching.specs.Rules.{is_inside, rule_place}
+use Rattle.layout_matching.specs.Rules.{is_inside, rule_place, row, fits_row}
 use Rattle.layout_matching.specs.Seeking.{is_between, next_place, prev_place, distance_back, last_after, last_before}
-use Rattle.layout_matching.specs.Skipping.{nth}
+use Rattle.layout_matching.specs.Skipping.{nth, is_transparent}
+use Rattle.layout_matching.specs.Sought.{rules_in}
 use Rattle.layout_matching.specs.Spans.{seek_around}
 use Rattle.layout_matching.specs.declared.input.Matched.{Matched}
 use Rattle.layout_matching.specs.declared.lookup.Lookup.{Lookup}
 use Rattle.layout_matching.specs.declared.rules.Row.{Row}
 use Rattle.layout_matching.specs.declared.rules.Rule.{Rule}
+use Rattle.layout_matching.specs.declared.rules.Test.TheVariants.{Any}
 use Rattle.layout_matching.specs.declared.seeking.Seek.{Seek}
 use Rattle.layout_matching.specs.declared.spans.Origin.{Origin}
+use Rattle.layout_matching.specs.declared.foreseen.Ahead.{Ahead}
+use Rattle.layout_matching.specs.declared.foreseen.Way.{Way}
+use Rattle.layout_matching.specs.declared.foreseen.Way.TheVariants.{Each, Lone, Marked, Unmarked}
 use Rattle.layout_matching.specs.declared.tried.Reach.{Reach}
 
 -- ---- spans
@@ -103,14 +109,80 @@ whole_reach l items origin subtable = let rule = whole_rule l.table.now (is_chai
     (if is_first l.table.now subtable.start rule (nth items origin.at).glyph_id then rule_reach l items origin (is_chained l subtable) rule
     else untried origin.at)
 
-abbrev pub rule_reach_in : Lookup → List Item → Origin → LookupSubtable → ℕ → ℕ → Reach
-rule_reach_in l items origin subtable set r = option_map_or
-    (λ place. rule_reach l items origin (is_chained l subtable) (rule_of l.table.now (is_chained l subtable) subtable.start place))
-    (rule_place l.table.now set r) (untried origin.at)
+-- ---- sets of rules
 
+-- the next glyph of what is matched, whatever it is
+abbrev pub seen_after : Lookup → List Item → ℕ → ℕ → Option ℕ
+seen_after l items at i = next_place l (seek_input l (nth items at) (row Any 0 1 0)) items 0 i
+
+-- unless it may be passed over
+abbrev pub surely : Lookup → List Item → ℕ → Option ℕ
+surely l items j = if is_transparent l true (nth items j) then None else Some j
+
+-- what a rule looks for right after its first glyph, and after that: a glyph of its own, or one behind those
+abbrev pub lets_next : List ℕ → Rule → ℕ → Bool
+lets_next t rule glyph = if nat_lt 1 rule.input.count then fits_row t rule.input 0 glyph
+    else nat_eq rule.after.count 0 || fits_row t rule.after 0 glyph
+
+abbrev pub lets_second : List ℕ → Rule → ℕ → Bool
+lets_second t rule glyph = let k = 2 - max 1 rule.input.count in
+    (if nat_lt 2 rule.input.count then fits_row t rule.input 1 glyph else nat_le rule.after.count k || fits_row t rule.after k glyph)
+
+-- where a rule ends that doesn't let one of the two glyphs stand there
+abbrev pub foreseen : Lookup → List Item → Ahead → Rule → Option ℕ
+foreseen l items ahead rule = if lets_next l.table.now rule (nth items ahead.next).glyph_id
+    then option_and_then (λ j. if lets_second l.table.now rule (nth items j).glyph_id then None else Some (j + 1)) ahead.second
+    else Some (ahead.next + 1)
+
+-- the glyphs ahead stand in a list of so many
+abbrev pub IsAhead : ℕ → Way → Type 0
+IsAhead count Each = ⊤
+IsAhead count Lone = ⊤
+IsAhead count (Marked ahead) = (ahead.next < count) × IfSome ahead.second (λ j. j < count)
+IsAhead count (Unmarked ahead) = (ahead.next < count) × IfSome ahead.second (λ j. j < count)
+
+-- a rule is tried; or it is if it looks for no glyph after its first one; or if the glyphs after that don't refuse it, with or
+-- without a mark on what was asked
+abbrev pub way_reach : Lookup → List Item → Origin → Bool → Way → Rule → Reach
+way_reach l items origin is_chain Each rule = rule_reach l items origin is_chain rule
+way_reach l items origin is_chain Lone rule = if nat_le rule.input.count 1 && nat_eq rule.after.count 0
+    then rule_reach l items origin is_chain rule else untried origin.at
+way_reach l items origin is_chain (Marked ahead) rule =
+    option_map_or (vain origin.at origin.at) (foreseen l items ahead rule) (rule_reach l items origin is_chain rule)
+way_reach l items origin is_chain (Unmarked ahead) rule =
+    option_map_or (λ end. untried origin.at) (foreseen l items ahead rule) (rule_reach l items origin is_chain rule)
+
+abbrev pub rule_reach_in : Lookup → List Item → Origin → LookupSubtable → Way → ℕ → ℕ → Reach
+rule_reach_in l items origin subtable way set r = option_map_or (λ place. way_reach l items origin (is_chained l subtable) way
+    (rule_of l.table.now (is_chained l subtable) subtable.start place)) (rule_place l.table.now set r) (untried origin.at)
+
+abbrev pub rules_reach : Lookup → List Item → Origin → LookupSubtable → ℕ → Way → Reach → Reach
+rules_reach l items origin subtable set way start = until_matched (rule_reach_in l items origin subtable way set) (rules_in l set) 0 start
+
+-- of a set of more than four rules HarfBuzz asks first whether they let the two glyphs after the place stand there. Plain rules
+-- are asked for the next one in any case. Where a rule matches it marks other glyphs; here what was asked isn't marked then
+abbrev pub asked : ℕ → Bool → ℕ → Reach
+asked at is_chain next = if is_chain then untried at else vain at at (next + 1)
+
+abbrev pub ahead_of : Lookup → List Item → ℕ → ℕ → Ahead
+ahead_of l items at next = record { next = next; second = option_and_then (surely l items) (seen_after l items at next) }
+
+abbrev pub large_reach : Lookup → List Item → Origin → LookupSubtable → ℕ → ℕ → Reach
+large_reach l items origin subtable set next = let ahead = ahead_of l items origin.at next in
+    let all = rules_reach l items origin subtable set (Marked ahead) (asked origin.at (is_chained l subtable) next) in
+    (if all.matched then rules_reach l items origin subtable set (Unmarked ahead) (untried origin.at) else all)
+
+-- of chained rules only where joiners are passed over by themselves
+abbrev pub is_large : Lookup → LookupSubtable → ℕ → Bool
+is_large l subtable set = nat_lt 4 (rules_in l set) && (not (is_chained l subtable) || (l.auto_zwnj && l.auto_zwj))
+
+-- at the end of what is matched, where the next glyph may be passed over, and elsewhere
 abbrev pub set_reach : Lookup → List Item → Origin → LookupSubtable → ℕ → Reach
-set_reach l items origin subtable set = until_matched (rule_reach_in l items origin subtable set)
-    (fitting l.table.now (u16_of l.table.now set) (set + 2) 2) 0 (untried origin.at)
+set_reach l items origin subtable set = let each = rules_reach l items origin subtable set Each (untried origin.at) in
+    (if is_large l subtable set
+    then option_map_or (λ next. option_map_or (large_reach l items origin subtable set) (surely l items next) each)
+    (seen_after l items origin.at origin.at) (rules_reach l items origin subtable set Lone (untried origin.at))
+    else each)
 
 abbrev pub number_reach : Lookup → List Item → Origin → LookupSubtable → ℕ → Reach
 number_reach l items origin subtable number = option_map_or (set_reach l items origin subtable)

@@ -1,6 +1,7 @@
 -- What a lookup is charged for at a place before it is tried there: one for each glyph that it may have to look at, so that time is
 -- in step with what was charged.
-use Rattle.std.specs.Prelude.{ℕ, List, Bool, true, false, Option, Some, None, ◌+◌, ◌-◌, ◌*◌, ◌/◌, ◌&&◌, ◌||◌, not, max, min, length, nat_eq, nat_lt, fold, if◌then◌else◌}
+use Rattle.std.specs.Prelude.{◌≡◌, ℕ, List, Bool, true, false, Option, Some, None, ◌+◌, ◌-◌, ◌*◌, ◌/◌, ◌&&◌, ◌||◌, not, max, min, length, nat_eq, nat_lt}
+use Rattle.std.specs.Prelude.{fold, if◌then◌else◌}
 use Rattle.std.specs.Option.{option_and_then, option_map, option_map_or}
 use Rattle.shape_font.specs.Bytes.{u16_of, fitting}
 use Rattle.shape_items.specs.Buffer.{most_countable}
@@ -18,6 +19,7 @@ use Rattle.layout_matching.specs.declared.lookup.Lookup.{Lookup}
 use Rattle.layout_matching.specs.declared.passing.Passing.{Passing}
 use Rattle.layout_matching.specs.declared.rules.Rule.{Rule}
 use Rattle.layout_matching.specs.declared.rules.Test.TheVariants.{Glyph, Coverage}
+use Rattle.layout_matching.specs.declared.remembered.Beside.{Beside}
 use Rattle.layout_matching.specs.declared.tally.Counts.{Counts}
 use Rattle.layout_matching.specs.declared.tally.Tally.{Tally}
 use Rattle.layout_matching.specs.declared.tally.Tries.{Tries}
@@ -103,6 +105,11 @@ passed_beside l listed items at s =
 -- what is passed over, and one for every four marks that are looked at for the ligature that a mark stands on
 abbrev pub passed : Lookup → Bool → List Item → ℕ → Tally → ℕ
 passed l listed items at s = min (passed_beside l listed items at s + marks_passed l items at / 4) most_countable
+
+-- what rules that look so far pass over at a place
+abbrev pub IsBeside : Lookup → Bool → List Item → ℕ → Beside → Type 0
+IsBeside l listed items at s =
+    s.passed ≡ passed l listed items at (record { left = 0; before = s.before; after = s.after; tries = 0 })
 
 -- each time that is looked at too
 abbrev pub passed_charged : Lookup → Bool → List Item → ℕ → Tally → Option ℕ

@@ -6,6 +6,7 @@ pub mod Would
 pub mod Sought
 pub mod Tries
 pub mod Seeking
+pub mod Tried
 use Rattle.std.specs.Prelude.{◌≡◌, ℕ, ◌+◌, Bool, List, [], ◌∷◌, Some, None, true, false, refl}
 use Rattle.shape_font.specs.Worked.Glyphs.{words}
 use Rattle.shape_items.specs.Items.{Item}

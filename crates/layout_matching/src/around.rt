@@ -1,7 +1,7 @@
 //! What the glyphs around a place say of the rules of a set, as far as a rule asks.
 //!
-//! What stands before the place is looked for at once. What follows is looked for once a rule names a glyph there: many sets
-//! name none, those of marks among them.
+//! What stands before the place is looked for at once. What follows is looked for once a rule names
+//! a glyph there: many sets name none, those of marks among them.
 ghost use Rattle.std.specs.Prelude.{◌≡◌, ◌<◌, ◌^◌, length, true};
 ghost use Rattle.std.specs.Option.{IfSome};
 ghost use Rattle.layout_matching.specs.Found.{is_chained};
@@ -155,7 +155,8 @@ fn plain_refused_there(
     refuses(lookup.table, (at + 4).min(FAR), around.input)
 }
 
-/// Whether a chained rule's second glyph isn't there, or the one behind a rule of one glyph. The rule goes on at `middle`.
+/// Whether a chained rule's second glyph isn't there, or the one behind a rule of one glyph. The
+/// rule goes on at `middle`.
 #[inline(always)]
 fn refused_on(
     lookup: &Lookup<'_>,

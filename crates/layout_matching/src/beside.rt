@@ -1,6 +1,7 @@
 //! What a lookup of positioning is charged for at a glyph that others pass over.
 //!
-//! A subtable without rules pays for the glyphs beside the place, which depend on the lookup alone: they are looked for once.
+//! A subtable without rules pays for the glyphs beside the place, which depend on the lookup alone:
+//! they are looked for once.
 ghost use Rattle.std.specs.Prelude.{◌≡◌, ◌<◌, ◌^◌, true, false, length};
 ghost use Rattle.std.specs.Option.{IfSome, option_and_then};
 ghost use Rattle.layout_matching.specs.Found as found_rules;

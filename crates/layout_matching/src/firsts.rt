@@ -1,5 +1,6 @@
-//! The glyphs that a subtable may begin at, in three words: a glyph's bits are those of its number, its sixteenth and its 512th,
-//! the last six bits each. More glyphs than the subtable begins at may be among them, and never fewer.
+//! The glyphs that a subtable may begin at, in three words: a glyph's bits are those of its number,
+//! its sixteenth and its 512th, the last six bits each. More glyphs than the subtable begins at may
+//! be among them, and never fewer.
 ghost use Rattle.std.specs.Prelude.{◌≡◌, ◌/◌};
 ghost use Rattle.layout_matching.specs.Firsts as first_rules;
 
@@ -11,7 +12,8 @@ pub struct First {
     pub coarse: u64,
 }
 
-/// What is stored of the subtables of a lookup: so many in a row of those of all lookups, from one place on. None need be stored.
+/// What is stored of the subtables of a lookup: so many in a row of those of all lookups, from one
+/// place on. None need be stored.
 #[derive(Clone, Copy)]
 pub struct Firsts<'a> {
     pub all: &'a [First],

@@ -1,4 +1,5 @@
-//! Rules of context by the formats of their subtables: format 3 has one, formats 1 and 2 have sets of them.
+//! Rules of context by the formats of their subtables: format 3 has one, formats 1 and 2 have sets
+//! of them.
 ghost use Rattle.std.specs.Prelude.{◌≡◌, ◌<◌, ◌+◌, ◌^◌, true, false};
 ghost use Rattle.std.specs.Option.{IfSome};
 ghost use Rattle.layout_matching.specs.Found as found_rules;
@@ -35,7 +36,8 @@ pub(crate) fn whole_rule(table: &[u8], is_chain: bool, start: usize) -> Rule
     }
 }
 
-/// Where the list of the first glyph of a rule of context of format 3 stands; none if the rule has no glyph.
+/// Where the list of the first glyph of a rule of context of format 3 stands; none if the rule has
+/// no glyph.
 #[tactic(auto, using(crate::proofs::FirstLemmas::near_values))]
 fn first_of_plain(table: &[u8], start: usize) -> Option<usize>
     requires { start < 2 ^ 35 }
@@ -78,7 +80,8 @@ pub fn first_of_rule(table: &[u8], is_chain: bool, start: usize) -> Option<usize
     }
 }
 
-/// Whether the one rule of a subtable of format 3 begins with the glyph. It is asked before the rule is read.
+/// Whether the one rule of a subtable of format 3 begins with the glyph. It is asked before the
+/// rule is read.
 pub(crate) fn begins_whole(table: &[u8], is_chain: bool, start: usize, glyph: u32) -> bool
     requires { start < 2 ^ 35 }
     ensures { result ≡ found_rules.is_first table.now start
@@ -90,8 +93,23 @@ pub(crate) fn begins_whole(table: &[u8], is_chain: bool, start: usize, glyph: u3
     }
 }
 
-/// Where the ClassDef stands whose offset is `at` bytes after `start`. A NULL one stands past any table, so that each glyph is
-/// of class 0.
+/// Whether the one rule of a subtable of format 3, which was read, begins with the glyph.
+#[inline(always)]
+pub(crate) fn begins_rule(table: &[u8], start: usize, rule: &Rule, glyph: u32) -> bool
+    requires { start < 2 ^ 35 }
+    ensures { result ≡ found_rules.is_first table.now start rule.now glyph }
+{
+    if rule.input.count == 0 {
+        return false;
+    }
+    match offset16(table, start, rule.input.values.min(FAR).saturating_sub(2)) {
+        Some(list) => covers(table, list, glyph),
+        None => false,
+    }
+}
+
+/// Where the ClassDef stands whose offset is `at` bytes after `start`. A NULL one stands past any
+/// table, so that each glyph is of class 0.
 fn class_place(table: &[u8], start: usize, at: usize) -> usize
     requires start { start < 2 ^ 35 }
     requires at { at < 16 }

@@ -1,6 +1,8 @@
-//! The rule of a lookup that matches at a place (OpenType, "Common table formats", sequence context 1 to 3, chained 1 to 3).
+//! The rule of a lookup that matches at a place (OpenType, "Common table formats", sequence context
+//! 1 to 3, chained 1 to 3).
 //!
-//! Rules are asked in the order of the table, and the first that matches is taken. Nothing is changed, and no memory is taken.
+//! Rules are asked in the order of the table, and the first that matches is taken. Nothing is
+//! changed, and no memory is taken.
 ghost use Rattle.std.specs.Prelude.{◌≡◌, ◌<◌, ◌+◌, ◌^◌, length, true, None};
 ghost use Rattle.std.specs.Option.{IfSome, option_and_then};
 ghost use Rattle.layout_matching.specs.Found as found_rules;
@@ -151,8 +153,8 @@ fn is_vain(
         || is_refused_there(lookup, items, origin, set, place, known)
 }
 
-/// Where rule `r` of the set stands, unless it matches nothing. The loop reads the rule itself: a call that returned what
-/// matches would copy it.
+/// Where rule `r` of the set stands, unless it matches nothing. The loop reads the rule itself: a
+/// call that returned what matches would copy it.
 #[inline(always)]
 fn unrefused(
     lookup: &Lookup<'_>,
@@ -217,7 +219,8 @@ fn first_found(
     None
 }
 
-/// The number of a glyph in the list of the subtable at `start`, whose offset stands 2 bytes after `start`.
+/// The number of a glyph in the list of the subtable at `start`, whose offset stands 2 bytes after
+/// `start`.
 pub fn number_in(table: &[u8], start: usize, glyph: u32) -> Option<u32>
     requires { start < 2 ^ 35 }
     ensures { result ≡ found_rules.number_of table.now start glyph }
@@ -226,8 +229,8 @@ pub fn number_in(table: &[u8], start: usize, glyph: u32) -> Option<u32>
     coverage_index(table, list, glyph)
 }
 
-/// The first rule of the glyph's set that matches. The set is found in this body, too: another call would copy what it
-/// returns.
+/// The first rule of the glyph's set that matches. The set is found in this body, too: another call
+/// would copy what it returns.
 fn found_in_sets(
     lookup: &Lookup<'_>,
     items: &ItemList<'_>,
@@ -306,8 +309,8 @@ pub fn subtable_at(lookup: &Lookup<'_>, i: u32) -> Option<LookupSubtable>
     subtable(lookup.table, extension_kind(lookup), lookup.place, i)
 }
 
-/// The first subtable of the lookup whose offset isn't NULL. All subtables are of the type of the lookup, or of the one that its
-/// extensions stand for.
+/// The first subtable of the lookup whose offset isn't NULL. All subtables are of the type of the
+/// lookup, or of the one that its extensions stand for.
 #[tactic(auto, using(crate::proofs::LoopLemmas::first_some_next, crate::proofs::LoopLemmas::first_some_found, crate::proofs::LoopLemmas::first_some_end))]
 pub fn first_subtable(lookup: &Lookup<'_>) -> Option<LookupSubtable>
     requires { lookup.now.place < 2 ^ 17 }
@@ -333,7 +336,8 @@ fn begins_with_context(lookup: &Lookup<'_>) -> bool
     }
 }
 
-/// Whether the lookup is one of context, by its type. The first types say that alone: no subtable of theirs is read.
+/// Whether the lookup is one of context, by its type. The first types say that alone: no subtable
+/// of theirs is read.
 #[tactic(auto, using(crate::proofs::KindLemmas::plain_kind))]
 #[inline(always)]
 pub fn is_context(lookup: &Lookup<'_>) -> bool

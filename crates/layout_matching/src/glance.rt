@@ -1,8 +1,9 @@
 //! What the glyph beside a place says of all rules of a set, before any of them is read.
 //!
-//! Nearly all rules of a set are refused by the first glyph that they look for beside their place. It is the same glyph for all
-//! of them, so it is found once for each set, with the one value that names it, and of most rules no more than that value is
-//! read. HarfBuzz does the same (`RuleSet::apply`, `ChainRuleSet::apply`, `LigatureSet::apply`).
+//! Nearly all rules of a set are refused by the first glyph that they look for beside their place.
+//! It is the same glyph for all of them, so it is found once for each set, with the one value that
+//! names it, and of most rules no more than that value is read. HarfBuzz does the same
+//! (`RuleSet::apply`, `ChainRuleSet::apply`, `LigatureSet::apply`).
 ghost use Rattle.std.specs.Prelude.{◌≡◌, ◌<◌, ◌≤◌, ◌^◌, length, min, true};
 ghost use Rattle.layout_matching.specs.Glance as glances;
 ghost use Rattle.layout_matching.specs.Rules.{FAR};
@@ -26,8 +27,8 @@ pub enum Glance {
     Only(u32),
 }
 
-/// What the glyphs around a place say: the one before it, the second one of what is matched, and the one behind a rule of one
-/// glyph.
+/// What the glyphs around a place say: the one before it, the second one of what is matched, and
+/// the one behind a rule of one glyph.
 #[derive(Clone, Copy, PartialEq, Eq, Debug)]
 pub struct Glances {
     pub before: Glance,
@@ -57,7 +58,7 @@ fn glance_at(lookup: &Lookup<'_>, seek: &Seek, there: &hb_glyph_info_t) -> Glanc
 }
 
 /// Looks for any glyph, where one of a row is looked for.
-fn any_glyph(seek: &Seek) -> Seek
+pub(crate) fn any_glyph(seek: &Seek) -> Seek
     ensures { result ≡ glances.any_glyph seek.now }
 {
     Seek {
@@ -162,7 +163,8 @@ fn plain_refused(table: &[u8], around: &Glances, at: usize) -> bool
     1 < u16_at(table, at) && refuses(table, (at + 4).min(FAR), around.input)
 }
 
-/// Whether the glyph before a chained rule isn't there, or its second glyph, or the one behind a rule of one glyph.
+/// Whether the glyph before a chained rule isn't there, or its second glyph, or the one behind a
+/// rule of one glyph.
 #[inline(always)]
 fn chain_refused(table: &[u8], around: &Glances, at: usize) -> bool
     requires { at < 2 ^ 37 }

@@ -1,6 +1,6 @@
-//! A lookup with what is stored of its subtables, so that those are passed over that don't begin at a glyph: nothing of them is
-//! read. What the lookup does is the same.
-ghost use Rattle.std.specs.Prelude.{◌≡◌, ◌≤◌, false};
+//! A lookup with what is stored of its subtables, so that those are passed over that don't begin
+//! at a glyph: nothing of them is read. What the lookup does is the same.
+ghost use Rattle.std.specs.Prelude.{◌≡◌, ◌≤◌, ◌<◌, ◌+◌, ℕ, length, false};
 ghost use Rattle.layout_matching.specs.Firsts.{AreFirsts, AreOut, IsOut};
 
 use crate::firsts::Firsts;
@@ -37,20 +37,53 @@ impl<'a> Indexed<'a> {
         Indexed { lookup, firsts }
     }
 
-    /// The next of so many subtables, from number `i` on, that may begin at a glyph; their count, if none may. Those before it do
-    /// nothing there.
-    pub(crate) fn next_begun(&self, i: u32, count: u32, glyph: u32) -> u32
+    /// The next of so many subtables, from number `i` on, that may begin at a glyph; their count,
+    /// if none may. Those before it do nothing there.
+    #[inline(always)]
+    pub fn next_begun(&self, i: u32, count: u32, glyph: u32) -> u32
         requires { i ≤ count }
         ensures from { i ≤ result }
         ensures few { result ≤ count }
         ensures out { AreOut self.now.lookup.now i result glyph }
     {
-        for k in i..count {
-            if self.may_begin(k, glyph) {
+        let stored = self.stored_of(count);
+        for k in i..stored {
+            if self.stored_begins(k, glyph) {
                 return k;
             }
         }
-        count
+        i.max(stored)
+    }
+
+    /// How many of so many subtables are stored.
+    #[inline(always)]
+    fn stored_of(&self, count: u32) -> u32
+        ensures few { result ≤ count }
+        ensures said { result ≤ self.now.firsts.count }
+        ensures inside { (k : ℕ) → k < result
+            → self.now.firsts.from + k < length self.now.firsts.all.now }
+    {
+        let most = count.min(self.firsts.count);
+        let room = self
+            .firsts
+            .all
+            .len()
+            .saturating_sub(self.firsts.from as usize);
+        if room < most as usize {
+            room as u32
+        } else {
+            most
+        }
+    }
+
+    /// Whether a subtable that is stored may begin at a glyph. If not, it does nothing there.
+    #[inline(always)]
+    fn stored_begins(&self, k: u32, glyph: u32) -> bool
+        requires said { k < self.now.firsts.count }
+        requires inside { self.now.firsts.from + k < length self.now.firsts.all.now }
+        ensures { result ≡ false → IsOut self.now.lookup.now k glyph }
+    {
+        self.firsts.all[self.firsts.from as usize + k as usize].has(glyph)
     }
 
     /// Whether subtable `i` may begin at a glyph. If not, it does nothing there.

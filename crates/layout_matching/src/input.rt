@@ -1,7 +1,8 @@
 //! What a rule or a ligature matches, from its first glyph on.
 //!
-//! Marks that stand on different components of one ligature don't match together, unless the lookup skips the ligature. What
-//! is done for each glyph of a rule is inlined into the loop: with a call for each, matching takes twice as long.
+//! Marks that stand on different components of one ligature don't match together, unless the lookup
+//! skips the ligature. What is done for each glyph of a rule is inlined into the loop: with a call
+//! for each, matching takes twice as long.
 ghost use Rattle.std.specs.Prelude.{◌≡◌, ◌<◌, ◌-◌, length, true};
 ghost use Rattle.std.specs.Option.{IfSome};
 ghost use Rattle.layout_matching.specs.Loops.{steps};
@@ -25,8 +26,8 @@ pub struct Matched {
     pub all_marks: bool,
 }
 
-/// The first glyph of a match: where it stands, and whether it matches with marks on any component of its ligature. That is
-/// found once for all glyphs of a rule.
+/// The first glyph of a match: where it stands, and whether it matches with marks on any component
+/// of its ligature. That is found once for all glyphs of a rule.
 #[derive(Clone, Copy)]
 pub struct First {
     pub at: usize,
@@ -41,7 +42,8 @@ pub(crate) fn is_on_component(item: &hb_glyph_info_t) -> bool
     0 < item._hb_glyph_info_get_ligature_id() && 0 < item._hb_glyph_info_get_ligature_component()
 }
 
-/// Whether a glyph is no mark on a component of the ligature `id`: the ligature itself, or another glyph.
+/// Whether a glyph is no mark on a component of the ligature `id`: the ligature itself, or another
+/// glyph.
 fn ends_marks(id: u8, item: &hb_glyph_info_t) -> bool
     ensures { result ≡ Input.ends_marks id item.now }
 {
@@ -55,7 +57,8 @@ fn ends_marks_at(items: &ItemList<'_>, id: u8, i: usize) -> bool
     ends_marks(id, &items.item(i))
 }
 
-/// How many marks on components of the ligature `id` stand in a row before `at`; none if that is all.
+/// How many marks on components of the ligature `id` stand in a row before `at`; none if that is
+/// all.
 #[tactic(auto, using(shape_font::proofs::SearchLemmas::first_at_next, shape_font::proofs::SearchLemmas::first_at_found, shape_font::proofs::SearchLemmas::first_at_end))]
 fn marks_back(items: &ItemList<'_>, id: u8, at: usize) -> Option<usize>
     ensures { result ≡ Input.marks_back items.now id at }
@@ -104,7 +107,8 @@ pub(crate) fn first_glyph(lookup: &Lookup<'_>, items: &ItemList<'_>, at: usize) 
     }
 }
 
-/// How many marks on components are looked at before a place for the ligature that a mark there stands on.
+/// How many marks on components are looked at before a place for the ligature that a mark there
+/// stands on.
 pub(crate) fn marks_passed(lookup: &Lookup<'_>, items: &ItemList<'_>, at: usize) -> usize
     ensures { result ≡ Input.marks_passed lookup.now items.now at }
 {
@@ -226,8 +230,8 @@ pub fn seek_input(lookup: &Lookup<'_>, first: &hb_glyph_info_t, row: Row) -> See
     }
 }
 
-/// Matches the glyphs of a row, whose count has the first one too, from the glyph at `at` on, which isn't looked at itself.
-/// A row of more than `MAX_CONTEXT_LENGTH` glyphs matches nowhere.
+/// Matches the glyphs of a row, whose count has the first one too, from the glyph at `at` on, which
+/// isn't looked at itself. A row of more than `MAX_CONTEXT_LENGTH` glyphs matches nowhere.
 pub fn match_input(
     lookup: &Lookup<'_>,
     items: &ItemList<'_>,

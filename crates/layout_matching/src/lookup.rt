@@ -1,6 +1,7 @@
 //! A lookup as a plan applies it.
 
-/// A lookup of a plan: the tables that it reads, where it stands, its flags, and for which glyphs it is on.
+/// A lookup of a plan: the tables that it reads, where it stands, its flags, and for which glyphs
+/// it is on.
 #[derive(Clone, Copy)]
 pub struct Lookup<'a> {
     /// The table of lookups: `GSUB`, or `GPOS` if `positioning`.

@@ -1,4 +1,5 @@
-//! The glyphs right beside a place. Nearly all of them end each search, and they refuse most rules of format 3.
+//! The glyphs right beside a place. Nearly all of them end each search, and they refuse most rules
+//! of format 3.
 ghost use Rattle.std.specs.Prelude.{◌≡◌, ◌<◌, ◌≤◌, length, true, false, None};
 ghost use Rattle.shape_items.specs.Items.{is_ignorable_item};
 ghost use Rattle.layout_matching.specs.Seeking;
@@ -13,7 +14,8 @@ use crate::spans::Origin;
 use layout_buffer::ItemList;
 use shape_buffer::hb_glyph_info_t;
 
-/// Whether each search ends at a glyph: the lookup doesn't skip it, and it is no default ignorable.
+/// Whether each search ends at a glyph: the lookup doesn't skip it, and it is no default
+/// ignorable.
 #[inline(always)]
 pub(crate) fn ends_searches(lookup: &Lookup<'_>, there: &hb_glyph_info_t) -> bool
     ensures seen { result ≡ true → skips lookup.now there.now ≡ false }
@@ -55,8 +57,8 @@ fn misses_before(lookup: &Lookup<'_>, items: &ItemList<'_>, at: usize, row: &Row
     ends_searches(lookup, there) && !fits_row(lookup.table, row, 0, there.glyph_id)
 }
 
-/// Whether a glyph right beside the place says that a rule doesn't match there: the second glyph of what it matches, or if that is
-/// one glyph, the nearest one around it.
+/// Whether a glyph right beside the place says that a rule doesn't match there: the second glyph
+/// of what it matches, or if that is one glyph, the nearest ones around it.
 #[tactic(auto, using(crate::proofs::NearestLemmas::missed_input, crate::proofs::NearestLemmas::missed_before, crate::proofs::NearestLemmas::missed_after))]
 #[inline(always)]
 pub(crate) fn is_missed(
@@ -71,8 +73,8 @@ pub(crate) fn is_missed(
     if 1 < rule.input.count {
         return misses_after(lookup, items, origin.at, &rule.input);
     }
-    if 0 < rule.before.count {
-        return misses_before(lookup, items, origin.at, &rule.before);
+    if 0 < rule.before.count && misses_before(lookup, items, origin.at, &rule.before) {
+        return true;
     }
     0 < rule.after.count && misses_after(lookup, items, origin.at, &rule.after)
 }

@@ -13,7 +13,8 @@ use shape_buffer::ShapeError;
 use shape_font::bytes::u16_at;
 use std::alloc::Global;
 
-/// A lookup that a rule names, and the matched glyph that it is applied at: glyph number `index` of them, at `place`.
+/// A lookup that a rule names, and the matched glyph that it is applied at: glyph number `index` of
+/// them, at `place`.
 #[derive(Clone, Copy)]
 pub struct Target<'a> {
     pub lookup: Lookup<'a>,
@@ -52,7 +53,8 @@ pub fn record_at(rule: &Rule, r: u32) -> usize
     rule.lookups.min(FAR) + 4 * r as usize
 }
 
-/// What record `r` of a rule names, if the glyph and the lookup are there. `places` are those of the matched glyphs.
+/// What record `r` of a rule names, if the glyph and the lookup are there. `places` are those of
+/// the matched glyphs.
 pub fn target_at<'a>(here: &Lookup<'a>, rule: &Rule, places: &[usize], r: u32) -> Option<Target<'a>>
     ensures value { result ≡ Nesting.target_of here.now rule.now places.now r }
     ensures near { IfSome result (λ t. t.lookup.place < 2 ^ 17) }
@@ -74,7 +76,8 @@ pub fn target_at<'a>(here: &Lookup<'a>, rule: &Rule, places: &[usize], r: u32) -
     }
 }
 
-/// The places of the glyphs that a rule matches, the first one at `at`; none for a rule of no glyph. Refuses with `Memory` alone.
+/// The places of the glyphs that a rule matches, the first one at `at`; none for a rule of no
+/// glyph. Refuses with `Memory` alone.
 pub fn places(
     alloc: Global,
     lookup: &Lookup<'_>,

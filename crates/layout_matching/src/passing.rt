@@ -39,8 +39,8 @@ fn one_if(test: bool) -> usize
     if test { 1 } else { 0 }
 }
 
-/// In how many lists a glyph is searched for that is passed over: a mark in the set of marks, and a default ignorable, if the
-/// glyph that is looked for is `listed`.
+/// In how many lists a glyph is searched for that is passed over: a mark in the set of marks, and a
+/// default ignorable, if the glyph that is looked for is `listed`.
 fn searches(lookup: &Lookup<'_>, listed: bool, there: &hb_glyph_info_t) -> usize
     ensures value { result ≡ Work.searches lookup.now listed there.now }
     ensures few { result ≤ 2 }
@@ -110,8 +110,8 @@ fn passed_from(
     passing.total
 }
 
-/// What the lookup passes over on the way from a place to the `n`th glyph after it that it doesn't pass over; up to the end of the
-/// list if there are fewer.
+/// What the lookup passes over on the way from a place to the `n`th glyph after it that it doesn't
+/// pass over; up to the end of the list if there are fewer.
 pub(crate) fn passed_after(
     lookup: &Lookup<'_>,
     listed: bool,
@@ -149,7 +149,8 @@ pub(crate) fn passed_before(
     passing.total
 }
 
-/// Whether nothing is passed over on the way from place `from` to the `n`th glyph, as the glyphs there say.
+/// Whether nothing is passed over on the way from place `from` to the `n`th glyph, as the glyphs
+/// there say.
 #[tactic(auto, using(crate::proofs::PassingLemmas::along_next, crate::proofs::PassingLemmas::along_end, crate::proofs::PassingLemmas::after_stops))]
 #[inline(always)]
 fn is_free_from(lookup: &Lookup<'_>, items: &ItemList<'_>, from: usize, n: usize) -> bool
@@ -191,8 +192,8 @@ fn is_free_before(lookup: &Lookup<'_>, items: &ItemList<'_>, at: usize, n: usize
     true
 }
 
-/// Whether nothing is passed over on the way from a place to so many glyphs before it and after it, as the glyphs there say. So it
-/// is nearly always.
+/// Whether nothing is passed over on the way from a place to so many glyphs before it and after it,
+/// as the glyphs there say. So it is nearly always.
 #[inline(always)]
 pub(crate) fn is_free_beside(
     lookup: &Lookup<'_>,

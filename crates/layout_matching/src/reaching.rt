@@ -1,15 +1,18 @@
 //! How far the rules of context look that are tried at a place, up to the first that matches.
 //!
-//! Of a chained rule whose own glyphs aren't all there HarfBuzz marks nothing. Nothing is changed here.
+//! Of a chained rule whose own glyphs aren't all there HarfBuzz marks nothing. Nothing is changed
+//! here.
 ghost use Rattle.std.specs.Prelude.{◌≡◌, ◌<◌, ◌^◌, length};
-ghost use Rattle.layout_matching.specs.Found as found_rules;
+ghost use Rattle.layout_matching.specs.Sought as sought_rules;
 ghost use Rattle.layout_matching.specs.Tried;
+ghost use Rattle.layout_matching.specs.Tried.{IsAhead};
 
+use crate::foreseen::{Way, ahead_of, foreseen, seen_after, surely};
 use crate::formats::{begins_whole, rule_by, set_for, whole_rule};
 use crate::found::{is_chained, is_context_subtable, number_in, subtable_at};
 use crate::input::match_input;
 use crate::lookup::Lookup;
-use crate::rules::{Rule, begins_inside, is_inside, rule_at};
+use crate::rules::{Rule, is_inside, rule_at};
 use crate::seeking::{last_after, last_before};
 use crate::spans::{Origin, seek_around};
 use crate::tried::{Reach, after_end, before_start, input_end, joined, match_at, untried, vain};
@@ -125,82 +128,166 @@ fn whole_reach(
     }
 }
 
-/// How far the rule at a place of the table looked.
-#[tactic(auto, using(crate::proofs::PastLemmas::reach_past))]
-fn reach_by_place(
+/// How far a rule of a set looked that is tried in this way.
+fn way_reach(
     lookup: &Lookup<'_>,
     items: &ItemList<'_>,
     origin: Origin,
-    subtable: LookupSubtable,
-    place: usize,
+    is_chain: bool,
+    way: Way,
+    rule: &Rule,
 ) -> Reach
-    requires near { subtable.start < 2 ^ 35 }
-    requires place { place < 2 ^ 37 }
     requires inside { origin.at < length items.now }
-    ensures { result ≡ Tried.rule_reach lookup.now items.now origin
-        (found_rules.is_chained lookup.now subtable)
-        (found_rules.rule_of lookup.now.table.now (found_rules.is_chained lookup.now subtable)
-        subtable.start place) }
+    requires ahead { IsAhead (length items.now) way }
+    ensures { result ≡ Tried.way_reach lookup.now items.now origin is_chain way rule.now }
 {
-    if !begins_inside(lookup.table, place) {
-        return untried(origin.at);
+    match way {
+        Way::Lone if 1 < rule.input.count || 0 < rule.after.count => untried(origin.at),
+        Way::Marked(ahead) => match foreseen(lookup, items, ahead, rule) {
+            Some(end) => vain(origin.at, origin.at, end),
+            None => rule_reach(lookup, items, origin, is_chain, rule),
+        },
+        Way::Unmarked(ahead) if foreseen(lookup, items, ahead, rule).is_some() => {
+            untried(origin.at)
+        }
+        _ => rule_reach(lookup, items, origin, is_chain, rule),
     }
-    let is_chain = is_chained(lookup, subtable);
-    let rule = rule_by(lookup.table, is_chain, subtable.start, place);
-    rule_reach(lookup, items, origin, is_chain, &rule)
 }
 
-/// How far rule `r` of those at `set` looked.
+/// A set of rules: the subtable that it is of, and where it stands in the table.
+#[derive(Clone, Copy)]
+struct RuleSet {
+    subtable: LookupSubtable,
+    place: usize,
+}
+
+/// How far rule `r` of a set looked.
 fn reach_by_rule(
     lookup: &Lookup<'_>,
     items: &ItemList<'_>,
     origin: Origin,
-    subtable: LookupSubtable,
-    set: usize,
+    set: RuleSet,
+    way: Way,
     r: u32,
 ) -> Reach
-    requires near { subtable.start < 2 ^ 35 }
-    requires set { set < 2 ^ 36 }
+    requires near { set.subtable.start < 2 ^ 35 }
+    requires set { set.place < 2 ^ 36 }
     requires few { r < 2 ^ 16 }
     requires inside { origin.at < length items.now }
-    ensures { result ≡ Tried.rule_reach_in lookup.now items.now origin subtable set r }
+    requires ahead { IsAhead (length items.now) way }
+    ensures { result ≡ Tried.rule_reach_in lookup.now items.now origin set.subtable way set.place r }
 {
-    match rule_at(lookup.table, set, r) {
-        Some(place) => reach_by_place(lookup, items, origin, subtable, place),
+    match rule_at(lookup.table, set.place, r) {
+        Some(place) => {
+            let is_chain = is_chained(lookup, set.subtable);
+            let rule = rule_by(lookup.table, is_chain, set.subtable.start, place);
+            way_reach(lookup, items, origin, is_chain, way, &rule)
+        }
         None => untried(origin.at),
     }
 }
 
-/// How far the rules at `set` looked.
-#[tactic(auto, using(crate::proofs::ReachLemmas::until_next, crate::proofs::ReachLemmas::until_stays, crate::proofs::ReachLemmas::until_end))]
-fn set_reach(
-    lookup: &Lookup<'_>,
-    items: &ItemList<'_>,
-    origin: Origin,
-    subtable: LookupSubtable,
-    set: usize,
-) -> Reach
-    requires near { subtable.start < 2 ^ 35 }
-    requires set { set < 2 ^ 36 }
-    requires inside { origin.at < length items.now }
-    ensures { result ≡ Tried.set_reach lookup.now items.now origin subtable set }
+/// How many rules a set has.
+fn rules_in(lookup: &Lookup<'_>, set: usize) -> u32
+    requires { set < 2 ^ 36 }
+    ensures value { result ≡ sought_rules.rules_in lookup.now set }
+    ensures few { result < 2 ^ 16 }
 {
-    let mut reach = untried(origin.at);
-    for r in 0..records(
+    records(
         lookup.table,
         u32::from(u16_at(lookup.table, set)),
         set + 2,
         2,
-    ) {
+    )
+}
+
+/// How far the rules of a set looked that are tried in this way, up to the first that matches, and
+/// what was looked at before.
+#[tactic(auto, using(crate::proofs::ReachLemmas::until_next, crate::proofs::ReachLemmas::until_stays, crate::proofs::ReachLemmas::until_end))]
+fn rules_reach(
+    lookup: &Lookup<'_>,
+    items: &ItemList<'_>,
+    origin: Origin,
+    set: RuleSet,
+    way: Way,
+    start: Reach,
+) -> Reach
+    requires near { set.subtable.start < 2 ^ 35 }
+    requires set { set.place < 2 ^ 36 }
+    requires inside { origin.at < length items.now }
+    requires ahead { IsAhead (length items.now) way }
+    ensures { result ≡ Tried.rules_reach lookup.now items.now origin set.subtable set.place way
+        start }
+{
+    let mut reach = start;
+    for r in 0..rules_in(lookup, set.place) {
         if reach.matched {
             return reach;
         }
-        reach = joined(
-            reach,
-            reach_by_rule(lookup, items, origin, subtable, set, r),
-        );
+        reach = joined(reach, reach_by_rule(lookup, items, origin, set, way, r));
     }
     reach
+}
+
+/// How far the rules of a large set looked, whose next glyph stands at `next`. Plain rules are
+/// asked for that in any case.
+fn large_reach(
+    lookup: &Lookup<'_>,
+    items: &ItemList<'_>,
+    origin: Origin,
+    set: RuleSet,
+    next: usize,
+) -> Reach
+    requires near { set.subtable.start < 2 ^ 35 }
+    requires set { set.place < 2 ^ 36 }
+    requires inside { origin.at < length items.now }
+    requires next { next < length items.now }
+    ensures { result ≡ Tried.large_reach lookup.now items.now origin set.subtable set.place next }
+{
+    // The list can be counted, so the place after one of its own can.
+    let _count = items.len();
+    let ahead = ahead_of(lookup, items, origin.at, next);
+    let start = if is_chained(lookup, set.subtable) {
+        untried(origin.at)
+    } else {
+        vain(origin.at, origin.at, next + 1)
+    };
+    let all = rules_reach(lookup, items, origin, set, Way::Marked(ahead), start);
+    if !all.matched {
+        return all;
+    }
+    let start = untried(origin.at);
+    rules_reach(lookup, items, origin, set, Way::Unmarked(ahead), start)
+}
+
+/// Whether HarfBuzz asks of the rules of a set first whether they let the glyphs after the place
+/// stand there: of chained ones only where joiners are passed over by themselves.
+fn is_large(lookup: &Lookup<'_>, set: RuleSet) -> bool
+    requires { set.place < 2 ^ 36 }
+    ensures { result ≡ Tried.is_large lookup.now set.subtable set.place }
+{
+    4 < rules_in(lookup, set.place)
+        && (!is_chained(lookup, set.subtable) || lookup.auto_zwnj && lookup.auto_zwj)
+}
+
+/// How far the rules of a set looked.
+fn set_reach(lookup: &Lookup<'_>, items: &ItemList<'_>, origin: Origin, set: RuleSet) -> Reach
+    requires near { set.subtable.start < 2 ^ 35 }
+    requires set { set.place < 2 ^ 36 }
+    requires inside { origin.at < length items.now }
+    ensures { result ≡ Tried.set_reach lookup.now items.now origin set.subtable set.place }
+{
+    let start = untried(origin.at);
+    if !is_large(lookup, set) {
+        return rules_reach(lookup, items, origin, set, Way::Each, start);
+    }
+    match seen_after(lookup, items, origin.at, origin.at) {
+        Some(next) => match surely(lookup, items, next) {
+            Some(next) => large_reach(lookup, items, origin, set, next),
+            None => rules_reach(lookup, items, origin, set, Way::Each, start),
+        },
+        None => rules_reach(lookup, items, origin, set, Way::Lone, start),
+    }
 }
 
 fn number_reach(
@@ -217,7 +304,7 @@ fn number_reach(
     let glyph = items.item(origin.at).glyph_id;
     let is_chain = is_chained(lookup, subtable);
     match set_for(lookup.table, is_chain, subtable.start, glyph, number) {
-        Some(set) => set_reach(lookup, items, origin, subtable, set),
+        Some(place) => set_reach(lookup, items, origin, RuleSet { subtable, place }),
         None => untried(origin.at),
     }
 }

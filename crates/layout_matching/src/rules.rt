@@ -1,4 +1,5 @@
-//! Rules of context: what stands before, what is matched, what stands after, and the lookups that are applied then.
+//! Rules of context: what stands before, what is matched, what stands after, and the lookups that
+//! are applied then.
 ghost use Rattle.std.specs.Prelude.{◌≡◌, ◌<◌, ◌+◌, ◌^◌, nat_le, length};
 ghost use Rattle.std.specs.Option.{IfSome};
 ghost use Rattle.layout_matching.specs.Rules;
@@ -12,7 +13,8 @@ use shape_font::bytes::{records, u16_at};
 /// No table is so long.
 pub const FAR: usize = 274_877_906_944;
 
-/// What a value of a row says of a glyph: which one it is, its class, a list that has it, or nothing.
+/// What a value of a row says of a glyph: which one it is, its class, a list that has it, or
+/// nothing.
 #[derive(Clone, Copy, PartialEq, Eq, Debug)]
 pub enum Test {
     Glyph,
@@ -30,8 +32,8 @@ pub struct Row {
     pub values: usize,
 }
 
-/// A rule: the row before, nearest first; that of the glyphs after the first one, whose count has the first too; the row
-/// after; and where its lookups stand, so many.
+/// A rule: the row before, nearest first; that of the glyphs after the first one, whose count has
+/// the first too; the row after; and where its lookups stand, so many.
 #[derive(Clone, Copy, PartialEq, Eq, Debug)]
 pub struct Rule {
     pub before: Row,
@@ -95,10 +97,12 @@ pub(crate) fn rule_at(table: &[u8], rules: usize, r: u32) -> Option<usize>
     offset16(table, rules, rules + 2 + 2 * r as usize)
 }
 
-/// How many bytes a rule has at least: how many glyphs it has, and how many lookups, or what is before and what is matched.
+/// How many bytes a rule has at least: how many glyphs it has, and how many lookups, or what is
+/// before and what is matched.
 const LEAST_RULE: usize = 4;
 
-/// Whether the table has the first bytes of a rule. One that hasn't matches nothing, and needn't be read.
+/// Whether the table has the first bytes of a rule. One that hasn't matches nothing, and needn't be
+/// read.
 #[inline(always)]
 pub(crate) fn begins_inside(table: &[u8], place: usize) -> bool
     requires { place < 2 ^ 37 }
@@ -144,7 +148,8 @@ pub(crate) fn plain(table: &[u8], test: Test, from: usize, at: usize, values: us
     }
 }
 
-/// What the values of a chained rule's rows say of a glyph, and where the classes or lists of each row stand.
+/// What the values of a chained rule's rows say of a glyph, and where the classes or lists of each
+/// row stand.
 #[derive(Clone, Copy)]
 pub struct RowTests {
     pub test: Test,
@@ -153,8 +158,8 @@ pub struct RowTests {
     pub after: usize,
 }
 
-/// A rule with what stands before and after. `whole` is 1 if the first glyph has a value too, else 0.
-/// Inlined, as a rule has a hundred bytes, which each call would copy.
+/// A rule with what stands before and after. `whole` is 1 if the first glyph has a value too, else
+/// 0. Inlined, as a rule has a hundred bytes, which each call would copy.
 #[inline(always)]
 pub(crate) fn chain(table: &[u8], rows: RowTests, whole: usize, at: usize) -> Rule
     requires at { at < 2 ^ 38 }

@@ -1,7 +1,7 @@
 //! Where the next glyph that is looked for stands, after a place or before it.
 //!
-//! What is looked for is a row of values, one for each glyph. Between two of them stand only glyphs that the lookup skips, and
-//! transparent ones that don't fit.
+//! What is looked for is a row of values, one for each glyph. Between two of them stand only glyphs
+//! that the lookup skips, and transparent ones that don't fit.
 ghost use Rattle.std.specs.Prelude.{◌≡◌, ◌<◌, ◌≤◌, ◌-◌, ◌++◌, length, not, OnOk, IsOkUnless};
 ghost use Rattle.std.specs.Option.{IfSome};
 ghost use Rattle.shape_font.specs.Search.{first_at};
@@ -14,7 +14,8 @@ use crate::skipping::{is_skipped, passes_ignorable};
 use layout_buffer::ItemList;
 use shape_buffer::{ShapeError, hb_glyph_info_t};
 
-/// What is looked for: a row, within what is matched (`is_input`) or around it, and the syllable to stay in (0 for any).
+/// What is looked for: a row, within what is matched (`is_input`) or around it, and the syllable to
+/// stay in (0 for any).
 #[derive(Clone, Copy, PartialEq, Eq, Debug)]
 pub struct Seek {
     pub row: Row,
@@ -43,8 +44,8 @@ pub fn fits(lookup: &Lookup<'_>, seek: &Seek, k: u32, there: &hb_glyph_info_t) -
         && fits_row(lookup.table, &seek.row, k, there.glyph_id)
 }
 
-/// Whether a default ignorable may stand before the glyph that is looked for. Few glyphs are default ignorables, so this
-/// isn't inlined.
+/// Whether a default ignorable may stand before the glyph that is looked for. Few glyphs are
+/// default ignorables, so this isn't inlined.
 #[inline(never)]
 fn lets_past(lookup: &Lookup<'_>, seek: &Seek, k: u32, there: &hb_glyph_info_t) -> bool
     ensures { result ≡ Seeking.lets_past lookup.now seek.now k there.now }
@@ -174,7 +175,8 @@ pub(crate) fn prev(
     }
 }
 
-/// Where the last of `n` glyphs of the row stands after place `i`: place `i` itself if there are none.
+/// Where the last of `n` glyphs of the row stands after place `i`: place `i` itself if there are
+/// none.
 #[tactic(auto, using(crate::proofs::LoopLemmas::steps_next, crate::proofs::LoopLemmas::steps_none, crate::proofs::LoopLemmas::steps_end))]
 pub fn last_after(
     lookup: &Lookup<'_>,
@@ -197,7 +199,8 @@ pub fn last_after(
     Some(last)
 }
 
-/// Where the farthest of `n` glyphs of the row stands before place `i`: place `i` itself if there are none.
+/// Where the farthest of `n` glyphs of the row stands before place `i`: place `i` itself if there
+/// are none.
 #[tactic(auto, using(crate::proofs::LoopLemmas::steps_next, crate::proofs::LoopLemmas::steps_none, crate::proofs::LoopLemmas::steps_end))]
 pub fn last_before(
     lookup: &Lookup<'_>,

@@ -1,5 +1,6 @@
 //! What a set of rules, or of ligatures, costs at a place: its rules, and what they pass over.
 ghost use Rattle.std.specs.Prelude.{◌≡◌, ◌<◌, ◌^◌, length};
+ghost use Rattle.std.specs.Option.{IfSome};
 ghost use Rattle.layout_matching.specs.Work;
 
 use crate::formats::rows_of;
@@ -18,10 +19,12 @@ use layout_buffer::ItemList;
 use layout_tables::lookups::LookupSubtable;
 use shape_font::bytes::{records, u16_at};
 
-/// How many marks cost one that are looked at for the ligature that a mark stands on: nothing but their ligature is read.
+/// How many marks cost one that are looked at for the ligature that a mark stands on: nothing but
+/// their ligature is read.
 const MARKS_PART: usize = 4;
 
-/// What a rule or a set passes over beside a place, by glyphs that are `listed` or aren't. Nearly always that is nothing.
+/// What a rule or a set passes over beside a place, by glyphs that are `listed` or aren't. Nearly
+/// always that is nothing.
 #[inline(never)]
 pub(crate) fn passed(
     lookup: &Lookup<'_>,
@@ -72,7 +75,7 @@ pub(crate) fn passed_charged(
 }
 
 /// What is left after the searches of a rule's lists: one for each glyph.
-fn lists_charged(rule: &Rule, left: usize) -> Option<usize>
+pub(crate) fn lists_charged(rule: &Rule, left: usize) -> Option<usize>
     ensures { result ≡ Work.lists_charged rule.now left }
 {
     let glyphs = short(rule.before.count) + short(rule.input.count) + short(rule.after.count);
@@ -131,7 +134,7 @@ fn part_counts(lookup: &Lookup<'_>, subtable: LookupSubtable, place: usize) -> C
 /// Number `r` of the rules, or ligatures, at `set`.
 #[tactic(auto, using(crate::proofs::TallyLemmas::part_counted_by))]
 #[inline(always)]
-fn part_counted(
+pub(crate) fn part_counted(
     lookup: &Lookup<'_>,
     subtable: LookupSubtable,
     set: usize,
@@ -287,11 +290,11 @@ pub(crate) fn has_classes(lookup: &Lookup<'_>, subtable: LookupSubtable) -> bool
     is_context_subtable(lookup, subtable) && u16_at(lookup.table, subtable.start) == 2
 }
 
-/// What is left after what the rules, or ligatures, at `set` pass over. Nearly always that is nothing, so that none of them is
-/// asked how often it looks there.
+/// What is left after what the rules, or ligatures, at `set` pass over. Nearly always that is
+/// nothing, so that none of them is asked how often it looks there.
 #[tactic(auto, using(crate::proofs::PassingLemmas::passed_free))]
 #[inline(always)]
-fn set_passed(
+pub(crate) fn set_passed(
     lookup: &Lookup<'_>,
     items: &ItemList<'_>,
     at: usize,

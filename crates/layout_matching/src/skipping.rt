@@ -1,9 +1,11 @@
 //! Which glyphs a lookup sees (OpenType, "Lookup table", lookup flags).
 //!
-//! A glyph is skipped by the lookup's flags, whatever is looked for. A default ignorable is transparent: it is passed over
-//! unless it is the very glyph that is looked for. Positioning passes over more of them than substitution does.
+//! A glyph is skipped by the lookup's flags, whatever is looked for. A default ignorable is
+//! transparent: it is passed over unless it is the very glyph that is looked for. Positioning
+//! passes over more of them than substitution does.
 //!
-//! These are asked of each glyph that a rule looks at, so what most glyphs need is inlined, and the rest isn't.
+//! These are asked of each glyph that a rule looks at, so what most glyphs need is inlined, and the
+//! rest isn't.
 ghost use Rattle.std.specs.Prelude.{◌≡◌, ◌||◌, nat_lt};
 ghost use Rattle.layout_matching.specs.Skipping.{shares};
 ghost use Rattle.layout_matching.specs.Skipping;
@@ -23,8 +25,9 @@ pub fn item_at(items: &[hb_glyph_info_t], i: usize) -> hb_glyph_info_t
     }
 }
 
-/// Whether a mark is out of the lookup's set of marks, or of another class of marks than the lookup's.
-/// A call of its own, so that the tests before it are inlined where glyphs are walked over.
+/// Whether a mark is out of the lookup's set of marks, or of another class of marks than the
+/// lookup's. A call of its own, so that the tests before it are inlined where glyphs are walked
+/// over.
 #[inline(never)]
 fn mark_is_left_out(lookup: &Lookup<'_>, item: &hb_glyph_info_t) -> bool
     ensures { result ≡ Skipping.is_mark_left_out lookup.now item.now }
@@ -76,7 +79,8 @@ pub(crate) fn passes_ignorable(lookup: &Lookup<'_>, is_input: bool, item: &hb_gl
         && (lookup.positioning || !item._hb_glyph_info_get_hidden())
 }
 
-/// Whether a default ignorable is passed over unless it is looked for. `is_input` within what is matched, else around it.
+/// Whether a default ignorable is passed over unless it is looked for. `is_input` within what is
+/// matched, else around it.
 #[inline(always)]
 pub fn is_transparent(lookup: &Lookup<'_>, is_input: bool, item: &hb_glyph_info_t) -> bool
     ensures { result ≡ Skipping.is_transparent lookup.now is_input item.now }

@@ -1,30 +1,29 @@
 //! The rule of a lookup of context that applies at a place, and what is left after looking for it.
 //!
-//! One walk does both: a subtable, a set and a rule are charged for before they are looked at, and nothing after the rule that
-//! applies. Most rules of a set are refused by the glyphs beside the place, and cost nothing more than their part of the set.
-ghost use Rattle.std.specs.Prelude.{◌≡◌, ℕ, Some, ◌<◌, ◌^◌, length};
-ghost use Rattle.std.specs.Option.{IfSome, option_map_or};
-ghost use Rattle.layout_matching.specs.Found.{found_of};
-ghost use Rattle.layout_matching.specs.Glance as glances;
+//! One walk does both: a subtable, a set and a rule are charged for before they are looked at, and
+//! nothing after the rule that applies.
+ghost use Rattle.std.specs.Prelude.{◌≡◌, None, Some, ◌<◌, ◌^◌, length, true, false};
+ghost use Rattle.std.specs.Option.{IfSome, option_and_then};
+ghost use Rattle.layout_matching.specs.Found as found_rules;
+ghost use Rattle.layout_matching.specs.Found.{found_of, is_first, whole_rule as whole_rule_of};
+ghost use Rattle.layout_matching.specs.Skipping.{nth};
 ghost use Rattle.layout_matching.specs.Sought as sought_rules;
+ghost use Rattle.layout_matching.specs.Work;
 
-use crate::around::{GlancedSet, glanced, is_refused_there};
-use crate::formats::{begins_whole, set_for, whole_rule};
-use crate::found::{
-    Found, found_at, found_if, is_chained, is_context_subtable, number_in, subtable_at,
-};
-use crate::glance::Glances;
+use crate::formats::{begins_rule, whole_rule};
+use crate::found::{Found, found_if, is_chained, is_context_subtable, subtable_at};
 use crate::indexed::Indexed;
 use crate::lookup::Lookup;
 use crate::nearest::is_missed;
-use crate::rules::{begins_inside, rule_at};
-use crate::sets::{has_classes, passed_charged, rule_charged};
+use crate::remembered::{Beside, rule_charged_again};
+use crate::set_rules::sets_sought;
+use crate::sets::rule_charged;
 use crate::spans::Origin;
-use crate::tally::{beside, charged, counted, counts_at, uncounted};
+use crate::tally::charged;
 use crate::work::SUBTABLE_WORK;
 use layout_buffer::ItemList;
 use layout_tables::lookups::{LookupSubtable, subtable_count};
-use shape_font::bytes::{records, u16_at};
+use shape_font::bytes::u16_at;
 
 /// What is left, and the rule that applies, if there is one.
 #[derive(Clone, Copy, PartialEq, Eq, Debug)]
@@ -33,193 +32,96 @@ pub struct Sought {
     pub found: Option<Found>,
 }
 
-fn unfound(left: usize) -> Sought
+pub(crate) fn unfound(left: usize) -> Sought
     ensures { result ≡ sought_rules.unfound left }
 {
     Sought { left, found: None }
 }
 
-/// Whether the rule of the set that stands at `place` matches nothing, as a few numbers say of most rules.
+/// Whether the one rule of a subtable of format 3 has to be looked at; if not, it was charged for.
+/// It has not, if it doesn't begin with the glyph, or a glyph right beside the place refuses it.
+/// Most rules are done with here, and nothing of them is stored.
 #[inline(always)]
-fn is_idle(
+fn whole_begins(
     lookup: &Lookup<'_>,
     items: &ItemList<'_>,
     origin: Origin,
-    set: &GlancedSet,
-    place: usize,
-    known: &mut Option<Glances>,
+    subtable: LookupSubtable,
+    left: &mut usize,
+    known: &mut Option<Beside>,
 ) -> bool
-    requires near { set.now.subtable.start < 2 ^ 35 }
-    requires place { place < 2 ^ 37 }
-    requires inside { origin.at < length items.now }
-    requires before { set.now.before
-        ≡ (glances.glances_in lookup.now items.now origin set.now.subtable).before }
-    requires known { IfSome known.old
-        (λ g. g ≡ glances.glances_in lookup.now items.now origin set.now.subtable) }
-    ensures value { result ≡ sought_rules.is_idle lookup.now items.now origin set.now.subtable place }
-    ensures known { IfSome known.new
-        (λ g. g ≡ glances.glances_in lookup.now items.now origin set.now.subtable) }
-{
-    !begins_inside(lookup.table, place)
-        || is_refused_there(lookup, items, origin, set, place, known)
-}
-
-/// Where rule `r` of the set stands, unless it matches nothing.
-#[inline(always)]
-fn unrefused(
-    lookup: &Lookup<'_>,
-    items: &ItemList<'_>,
-    origin: Origin,
-    set: &GlancedSet,
-    r: u32,
-    known: &mut Option<Glances>,
-) -> Option<usize>
-    requires near { set.now.subtable.start < 2 ^ 35 }
-    requires set { set.now.place < 2 ^ 36 }
-    requires few { r < 2 ^ 16 }
-    requires inside { origin.at < length items.now }
-    requires before { set.now.before
-        ≡ (glances.glances_in lookup.now items.now origin set.now.subtable).before }
-    requires known { IfSome known.old
-        (λ g. g ≡ glances.glances_in lookup.now items.now origin set.now.subtable) }
-    ensures value { (left : ℕ) → sought_rules.rule_sought lookup.now items.now origin set.now.subtable
-        set.now.place r left
-        ≡ option_map_or (sought_rules.tried_sought lookup.now items.now origin set.now.subtable left)
-        result (Some (sought_rules.unfound left)) }
-    ensures near { IfSome result (λ place. place < 2 ^ 37) }
-    ensures known { IfSome known.new
-        (λ g. g ≡ glances.glances_in lookup.now items.now origin set.now.subtable) }
-{
-    match rule_at(lookup.table, set.place, r) {
-        Some(place) if !is_idle(lookup, items, origin, set, place, known) => Some(place),
-        _ => None,
-    }
-}
-
-/// What is left after a rule that isn't refused.
-fn rule_paid(
-    lookup: &Lookup<'_>,
-    items: &ItemList<'_>,
-    at: usize,
-    subtable: LookupSubtable,
-    left: usize,
-    place: usize,
-) -> Option<usize>
     requires near { subtable.start < 2 ^ 35 }
-    requires place { place < 2 ^ 37 }
-    requires inside { at < length items.now }
-    ensures { result ≡ sought_rules.rule_paid lookup.now items.now at subtable left place }
-{
-    let counts = counts_at(lookup.table, is_chained(lookup, subtable), place);
-    match counted(counts, uncounted(left)) {
-        Some(count) => passed_charged(lookup, has_classes(lookup, subtable), items, at, count),
-        None => None,
-    }
-}
-
-/// The first rule of the set that applies.
-#[tactic(auto, using(crate::proofs::LoopLemmas::steps_next, crate::proofs::LoopLemmas::steps_none, crate::proofs::LoopLemmas::steps_end))]
-fn rules_sought(
-    lookup: &Lookup<'_>,
-    items: &ItemList<'_>,
-    origin: Origin,
-    set: &GlancedSet,
-    count: u32,
-    left: usize,
-) -> Option<Sought>
-    requires near { set.now.subtable.start < 2 ^ 35 }
-    requires set { set.now.place < 2 ^ 36 }
-    requires count { count ≡ sought_rules.rules_in lookup.now set.now.place }
-    requires few { count < 2 ^ 16 }
     requires inside { origin.at < length items.now }
-    requires before { set.now.before
-        ≡ (glances.glances_in lookup.now items.now origin set.now.subtable).before }
-    ensures value { result
-        ≡ sought_rules.rules_sought lookup.now items.now origin set.now.subtable set.now.place left }
-    ensures last { IfSome result (λ s. IfSome s.found (λ f. f.span.last < length items.now)) }
+    requires known { IfSome known.old (Work.IsBeside lookup.now true items.now origin.at) }
+    ensures missed { result ≡ false → sought_rules.whole_sought lookup.now items.now origin subtable left.old
+        ≡ Some (sought_rules.unfound left.new) }
+    ensures kept { result ≡ true → left.new ≡ left.old }
+    ensures begun { result ≡ true → is_first lookup.now.table.now subtable.start
+        (whole_rule_of lookup.now.table.now (found_rules.is_chained lookup.now subtable) subtable.start)
+        (nth items.now origin.at).glyph_id ≡ true }
+    ensures known { IfSome known.new (Work.IsBeside lookup.now true items.now origin.at) }
 {
-    let mut left = left;
-    let mut known = None;
-    for r in 0..count {
-        if let Some(place) = unrefused(lookup, items, origin, set, r, &mut known) {
-            match rule_paid(lookup, items, origin.at, set.subtable, left, place) {
-                Some(rest) => left = rest,
-                None => return None,
-            }
-            if let Some(found) = found_at(lookup, items, origin, set.subtable, place) {
-                return Some(Sought {
-                    left,
-                    found: Some(found),
-                });
-            }
-        }
-    }
-    Some(unfound(left))
-}
-
-/// The first rule of the set at `set` that applies.
-fn set_sought(
-    lookup: &Lookup<'_>,
-    items: &ItemList<'_>,
-    origin: Origin,
-    subtable: LookupSubtable,
-    left: usize,
-    set: usize,
-) -> Option<Sought>
-    requires near { subtable.start < 2 ^ 35 }
-    requires set { set < 2 ^ 36 }
-    requires inside { origin.at < length items.now }
-    ensures value { result ≡ sought_rules.set_sought lookup.now items.now origin subtable left set }
-    ensures last { IfSome result (λ s. IfSome s.found (λ f. f.span.last < length items.now)) }
-{
-    let count = records(
+    let rule = whole_rule(lookup.table, is_chained(lookup, subtable), subtable.start);
+    if !begins_rule(
         lookup.table,
-        u32::from(u16_at(lookup.table, set)),
-        set + 2,
-        2,
-    );
-    let Some(rest) = charged(count as usize, left) else {
-        return None;
+        subtable.start,
+        &rule,
+        items.at(origin.at).glyph_id,
+    ) {
+        return false;
+    }
+    if !is_missed(lookup, items, origin, &rule) {
+        return true;
+    }
+    let Some(rest) = charged(SUBTABLE_WORK, *left) else {
+        return true;
     };
-    let listed = has_classes(lookup, subtable);
-    match passed_charged(lookup, listed, items, origin.at, beside(rest)) {
-        Some(left) => {
-            let glanced = glanced(lookup, items, origin, subtable, set);
-            rules_sought(lookup, items, origin, &glanced, count, left)
+    match rule_charged_again(lookup, items, origin.at, &rule, rest, known) {
+        Some(rest) => {
+            *left = rest;
+            false
         }
-        None => None,
+        None => true,
     }
 }
 
-/// The first rule of a subtable of format 1 or 2 that applies. A call of its own, as what it returns would be copied.
-#[inline(never)]
-fn sets_sought(
+/// Subtable `i`, if it has to be looked at; if not, it was charged for.
+#[inline(always)]
+fn begun_at(
     lookup: &Lookup<'_>,
     items: &ItemList<'_>,
     origin: Origin,
-    subtable: LookupSubtable,
-    left: usize,
-) -> Option<Sought>
-    requires near { subtable.start < 2 ^ 35 }
+    i: u32,
+    left: &mut usize,
+    known: &mut Option<Beside>,
+) -> Option<LookupSubtable>
+    requires near { lookup.now.place < 2 ^ 17 }
+    requires few { i < 2 ^ 16 }
     requires inside { origin.at < length items.now }
-    ensures value { result ≡ sought_rules.sets_sought lookup.now items.now origin subtable left }
-    ensures last { IfSome result (λ s. IfSome s.found (λ f. f.span.last < length items.now)) }
+    requires known { IfSome known.old (Work.IsBeside lookup.now true items.now origin.at) }
+    ensures missed { result ≡ None → sought_rules.sought_at_subtable lookup.now items.now origin i left.old
+        ≡ Some (sought_rules.unfound left.new) }
+    ensures begun { IfSome result (λ s. sought_rules.sought_at_subtable lookup.now items.now origin i left.old
+        ≡ sought_rules.begun_sought lookup.now items.now origin left.new s) }
+    ensures near { IfSome result (λ s. s.start < 2 ^ 35) }
+    ensures known { IfSome known.new (Work.IsBeside lookup.now true items.now origin.at) }
 {
-    let glyph = items.at(origin.at).glyph_id;
-    let Some(number) = number_in(lookup.table, subtable.start, glyph) else {
-        return Some(unfound(left));
-    };
-    let Some(left) = charged(SUBTABLE_WORK, left) else {
+    let Some(subtable) = subtable_at(lookup, i) else {
         return None;
     };
-    let is_chain = is_chained(lookup, subtable);
-    match set_for(lookup.table, is_chain, subtable.start, glyph, number) {
-        Some(set) => set_sought(lookup, items, origin, subtable, left, set),
-        None => Some(unfound(left)),
+    if !is_context_subtable(lookup, subtable) {
+        return None;
     }
+    if u16_at(lookup.table, subtable.start) == 3
+        && !whole_begins(lookup, items, origin, subtable, left, known)
+    {
+        return None;
+    }
+    Some(subtable)
 }
 
-/// The one rule of a subtable of format 3, if it applies. It is read once. A call of its own, as what it returns would be copied.
+/// The one rule of a subtable of format 3 that begins with the glyph, if it applies. It is read
+/// once. A call of its own, as what it returns would be copied.
 #[inline(never)]
 fn whole_sought(
     lookup: &Lookup<'_>,
@@ -230,50 +132,38 @@ fn whole_sought(
 ) -> Option<Sought>
     requires near { subtable.start < 2 ^ 35 }
     requires inside { origin.at < length items.now }
-    ensures value { result ≡ sought_rules.whole_sought lookup.now items.now origin subtable left }
+    ensures value { result ≡ option_and_then
+        (sought_rules.first_sought lookup.now items.now origin subtable)
+        (Work.charged Work.SUBTABLE_WORK left) }
     ensures last { IfSome result (λ s. IfSome s.found (λ f. f.span.last < length items.now)) }
 {
     let is_chain = is_chained(lookup, subtable);
-    let glyph = items.at(origin.at).glyph_id;
-    if !begins_whole(lookup.table, is_chain, subtable.start, glyph) {
-        return Some(unfound(left));
-    }
     let Some(left) = charged(SUBTABLE_WORK, left) else {
         return None;
     };
     let rule = whole_rule(lookup.table, is_chain, subtable.start);
-    let Some(left) = rule_charged(lookup, items, origin.at, &rule, left) else {
-        return None;
-    };
-    if is_missed(lookup, items, origin, &rule) {
-        return Some(unfound(left));
+    match rule_charged(lookup, items, origin.at, &rule, left) {
+        Some(left) => Some(Sought {
+            left,
+            found: found_if(lookup, items, origin, rule),
+        }),
+        None => None,
     }
-    Some(Sought {
-        left,
-        found: found_if(lookup, items, origin, rule),
-    })
 }
 
-/// The first rule of subtable `i` that applies.
-fn sought_at_subtable(
+/// The first rule of a subtable that begins with the glyph, or has sets of rules, that applies.
+fn begun_sought(
     lookup: &Lookup<'_>,
     items: &ItemList<'_>,
     origin: Origin,
-    i: u32,
+    subtable: LookupSubtable,
     left: usize,
 ) -> Option<Sought>
-    requires near { lookup.now.place < 2 ^ 17 }
-    requires few { i < 2 ^ 16 }
+    requires near { subtable.start < 2 ^ 35 }
     requires inside { origin.at < length items.now }
-    ensures value { result ≡ sought_rules.sought_at_subtable lookup.now items.now origin i left }
+    ensures value { result ≡ sought_rules.begun_sought lookup.now items.now origin left subtable }
     ensures last { IfSome result (λ s. IfSome s.found (λ f. f.span.last < length items.now)) }
 {
-    let Some(subtable) = subtable_at(lookup, i) else {
-        return Some(unfound(left));
-    };
-    if !is_context_subtable(lookup, subtable) {
-        return Some(unfound(left));
-    }
     if u16_at(lookup.table, subtable.start) == 3 {
         whole_sought(lookup, items, origin, subtable, left)
     } else {
@@ -281,8 +171,9 @@ fn sought_at_subtable(
     }
 }
 
-/// The first rule of a lookup of context that applies at `origin`, and what is left after looking for it; none if what is left
-/// doesn't suffice. Subtables that don't begin with the glyph there cost nothing.
+/// The first rule of a lookup of context that applies at `origin`, and what is left after looking
+/// for it; none if what is left doesn't suffice. Subtables that don't begin with the glyph there
+/// cost nothing.
 #[tactic(auto, using(crate::proofs::LoopLemmas::steps_next, crate::proofs::LoopLemmas::steps_none, crate::proofs::LoopLemmas::steps_end, crate::proofs::SoughtLemmas::found_there))]
 pub fn seek_rule(
     indexed: &Indexed<'_>,
@@ -299,9 +190,15 @@ pub fn seek_rule(
     let glyph = items.at(origin.at).glyph_id;
     let count = subtable_count(indexed.lookup.table, indexed.lookup.place);
     let mut left = left;
+    let mut known = None;
     let mut i = indexed.next_begun(0, count, glyph);
     while i < count {
-        let Some(next) = sought_at_subtable(indexed.lookup, items, origin, i, left) else {
+        let begun = begun_at(indexed.lookup, items, origin, i, &mut left, &mut known);
+        let Some(subtable) = begun else {
+            i = indexed.next_begun(i + 1, count, glyph);
+            continue;
+        };
+        let Some(next) = begun_sought(indexed.lookup, items, origin, subtable, left) else {
             return None;
         };
         if next.found.is_some() {

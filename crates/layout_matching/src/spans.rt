@@ -11,15 +11,17 @@ use crate::skipping::syllable;
 use layout_buffer::ItemList;
 use shape_buffer::hb_glyph_info_t;
 
-/// Where a match begins: its first glyph, and whether the list is as long as the lookup found it. In such a list what
-/// stands before has to be in the syllable of the first glyph too, if the lookup stays in one.
+/// Where a match begins: its first glyph, and whether the list is as long as the lookup found it.
+/// In such a list what stands before has to be in the syllable of the first glyph too, if the
+/// lookup stays in one.
 #[derive(Clone, Copy, PartialEq, Eq, Debug)]
 pub struct Origin {
     pub at: usize,
     pub is_steady: bool,
 }
 
-/// Where a rule stands: from `start` up to `end` with what is around it; `last` is the last glyph that it matches.
+/// Where a rule stands: from `start` up to `end` with what is around it; `last` is the last glyph
+/// that it matches.
 #[derive(Clone, Copy, PartialEq, Eq, Debug)]
 pub struct Span {
     pub start: usize,
@@ -90,7 +92,8 @@ fn span_from(
     }
 }
 
-/// The span of a rule which begins at `origin`, if it matches there. The first glyph itself isn't looked at.
+/// The span of a rule which begins at `origin`, if it matches there. The first glyph itself isn't
+/// looked at.
 pub fn span_at(
     lookup: &Lookup<'_>,
     items: &ItemList<'_>,

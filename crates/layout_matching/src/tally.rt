@@ -5,8 +5,8 @@ ghost use Rattle.layout_matching.specs.Work;
 use crate::rules::{Rule, Test, row_of};
 use shape_font::bytes::u16_at;
 
-/// What is left after some rules, the most glyphs that one of them has before the place and after it, and how often glyphs are
-/// looked for: once for each rule, and for each lookup that it names.
+/// What is left after some rules, the most glyphs that one of them has before the place and after
+/// it, and how often glyphs are looked for: once for each rule, and for each lookup that it names.
 #[derive(Clone, Copy, PartialEq, Eq, Debug)]
 pub struct Tally {
     pub left: usize,
@@ -15,15 +15,16 @@ pub struct Tally {
     pub tries: usize,
 }
 
-/// How many rules of a set aren't refused by what stands beside the place, and the most lookups that one of them names: only one of
-/// them applies.
+/// How many rules of a set aren't refused by what stands beside the place, and the most lookups
+/// that one of them names: only one of them applies.
 #[derive(Clone, Copy)]
 pub struct Tries {
     pub rules: usize,
     pub lookups: usize,
 }
 
-/// How often a set looks beside the place: once for itself, once for each rule, and once for each lookup of the one that applies.
+/// How often a set looks beside the place: once for itself, once for each rule, and once for each
+/// lookup of the one that applies.
 pub(crate) fn tries_made(tries: Tries) -> usize
     ensures { result ≡ Work.tries_made tries }
 {
@@ -71,7 +72,8 @@ pub(crate) fn short(count: u16) -> usize
     usize::from(count)
 }
 
-/// How many glyphs a rule has before its place, from there on and behind these, and how many lookups it names.
+/// How many glyphs a rule has before its place, from there on and behind these, and how many
+/// lookups it names.
 #[derive(Clone, Copy)]
 pub struct Counts {
     pub before: u16,

@@ -1,8 +1,9 @@
 //! How far searches look that find nothing.
 //!
-//! A glyph that a rule or a ligature looked at in vain may match where other glyphs follow: it is unsafe to concat. The spans are
-//! those that HarfBuzz marks: from the first glyph to the one that ended the search, and before it to a glyph before that one.
-//! [`reaching`](crate::reaching) says it of rules. Nothing is changed here.
+//! A glyph that a rule or a ligature looked at in vain may match where other glyphs follow: it is
+//! unsafe to concat. The spans are those that HarfBuzz marks: from the first glyph to the one that
+//! ended the search, and before it to a glyph before that one. [`reaching`](crate::reaching) says
+//! it of rules. Nothing is changed here.
 ghost use Rattle.std.specs.Prelude.{◌≡◌, ◌<◌, ◌≤◌, length, true};
 ghost use Rattle.layout_matching.specs.Loops.{stopped};
 ghost use Rattle.layout_matching.specs.Input;
@@ -90,8 +91,8 @@ fn stop_before(lookup: &Lookup<'_>, seek: &Seek, items: &ItemList<'_>, k: u32, i
     }
 }
 
-/// Where the search for glyph `k` of what a rule matches ended. A glyph that fits, and belongs to another ligature, counts for
-/// nothing.
+/// Where the search for glyph `k` of what a rule matches ended. A glyph that fits, and belongs to
+/// another ligature, counts for nothing.
 fn input_stop(
     lookup: &Lookup<'_>,
     seek: &Seek,
@@ -130,8 +131,8 @@ fn glyphs_stop(lookup: &Lookup<'_>, seek: &Seek, items: &ItemList<'_>, at: usize
     0
 }
 
-/// Where the glyphs of a row stopped that aren't all there, from the one at `at` on; 0 if all are, and for a row of more than
-/// `MAX_CONTEXT_LENGTH`.
+/// Where the glyphs of a row stopped that aren't all there, from the one at `at` on; 0 if all are,
+/// and for a row of more than `MAX_CONTEXT_LENGTH`.
 pub fn input_end(lookup: &Lookup<'_>, items: &ItemList<'_>, at: usize, row: Row) -> usize
     requires { at < length items.now }
     ensures { result ≡ Tried.input_end lookup.now items.now at row }

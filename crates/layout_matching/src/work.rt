@@ -1,8 +1,10 @@
-//! What a lookup is charged for at a place before it is tried there, so that a font can't make shaping long.
+//! What a lookup is charged for at a place before it is tried there, so that a font can't make
+//! shaping long.
 //!
-//! Parts of a table may be shared, so that a small font names very many. Each subtable that begins with the glyph is charged for,
-//! with the rules or ligatures of its set: one for each glyph that they name, and for each that is passed over beside the place.
-//! A lookup is tried only if what is left of a count suffices for all of them; nothing is read that isn't paid for.
+//! Parts of a table may be shared, so that a small font names very many. Each subtable that begins
+//! with the glyph is charged for, with the rules or ligatures of its set: one for each glyph that
+//! they name, and for each that is passed over beside the place. A lookup is tried only if what is
+//! left of a count suffices for all of them; nothing is read that isn't paid for.
 ghost use Rattle.std.specs.Prelude.{◌≡◌, ◌<◌, ◌+◌, ◌*◌, ◌^◌, length};
 ghost use Rattle.std.specs.Option.{IfSome};
 ghost use Rattle.layout_tables.specs.Lookups.{subtable_count_of};
@@ -76,7 +78,7 @@ fn whole_list(lookup: &Lookup<'_>, items: &ItemList<'_>, subtable: LookupSubtabl
 
 /// What is left after a subtable without its rules or ligatures.
 #[inline(always)]
-fn begun_charged(
+pub(crate) fn begun_charged(
     lookup: &Lookup<'_>,
     items: &ItemList<'_>,
     subtable: LookupSubtable,
@@ -97,7 +99,8 @@ fn is_backward(lookup: &Lookup<'_>, subtable: LookupSubtable) -> bool
     !lookup.positioning && subtable.kind == 8
 }
 
-/// What is left after the rules, or the ligatures, for the glyph at a place, or after the glyphs beside it.
+/// What is left after the rules, or the ligatures, for the glyph at a place, or after the glyphs
+/// beside it.
 #[inline(always)]
 fn parts_charged(
     lookup: &Lookup<'_>,
@@ -141,7 +144,8 @@ fn numbered_charged(
     }
 }
 
-/// What is left after the one rule of a subtable of format 3, if it begins with the glyph at a place.
+/// What is left after the one rule of a subtable of format 3, if it begins with the glyph at a
+/// place.
 fn whole_charged(
     lookup: &Lookup<'_>,
     items: &ItemList<'_>,
@@ -197,7 +201,8 @@ fn subtable_charged(
     }
 }
 
-/// What is left after a subtable of ligatures. Its kind is a constant here, so that no test for another kind is left.
+/// What is left after a subtable of ligatures. Its kind is a constant here, so that no test for
+/// another kind is left.
 #[inline(never)]
 fn ligatures_charged(
     lookup: &Lookup<'_>,
@@ -251,8 +256,8 @@ pub(crate) fn charged_at_subtable(
     }
 }
 
-/// Whether no subtable of the lookup has rules or ligatures, nor marks a whole list, by the lookup's type: in `GPOS` all but
-/// context, in `GSUB` kinds 1 and 2, and 3 if it isn't at random.
+/// Whether no subtable of the lookup has rules or ligatures, nor marks a whole list, by the
+/// lookup's type: in `GPOS` all but context, in `GSUB` kinds 1 and 2, and 3 if it isn't at random.
 #[inline(always)]
 fn is_plain(lookup: &Lookup<'_>) -> bool
     requires { lookup.now.place < 2 ^ 17 }
@@ -304,8 +309,9 @@ fn is_paid(lookup: &Lookup<'_>, item: &hb_glyph_info_t) -> bool
     is_plain(lookup) && !is_transparent(lookup, false, item)
 }
 
-/// What is left after the lookup was charged for the subtables that begin with the glyph at a place; none if it doesn't suffice.
-/// One without rules and ligatures is paid by the walk over the list, or where a rule names it.
+/// What is left after the lookup was charged for the subtables that begin with the glyph at a
+/// place; none if it doesn't suffice. One without rules and ligatures is paid by the walk over the
+/// list, or where a rule names it.
 #[inline(always)]
 pub fn lookup_charged(
     indexed: &Indexed<'_>,
@@ -357,7 +363,8 @@ pub fn named_paid(lookup: &Lookup<'_>, left: usize) -> Option<usize>
     charged(steps_work(lookup) + NESTED_WORK, left)
 }
 
-/// What is left after a lookup that a rule names was charged for all of its subtables, and for those that begin with the glyph.
+/// What is left after a lookup that a rule names was charged for all of its subtables, and for
+/// those that begin with the glyph.
 pub fn nested_charged(
     lookup: &Lookup<'_>,
     items: &ItemList<'_>,
@@ -379,7 +386,8 @@ pub fn walk_work(lookup: &Lookup<'_>, count: usize) -> usize
     requires { lookup.now.place < 2 ^ 17 }
     ensures { result ≡ Work.walk_work lookup.now count }
 {
-    // Substitution may have emptied the list. Then the lookup's subtables aren't read, however many it has.
+    // Substitution may have emptied the list. Then the lookup's subtables aren't read, however many
+    // it has.
     if count == 0 {
         return 0;
     }

@@ -7,8 +7,10 @@ ghost use Rattle.layout_matching.specs.Worked.Sought.{WorkedSought};
 ghost use Rattle.layout_matching.specs.Worked.Tries.{WorkedTries};
 ghost use Rattle.layout_matching.specs.Worked.Work.{WorkedWork};
 ghost use Rattle.layout_matching.specs.Worked.Would.{WorkedWould};
+ghost use Rattle.layout_matching.specs.Worked.Tried.{WorkedTried, WorkedLets};
 
-/// Rules of context: a NULL ClassDef has all glyphs in class 0, and a rule that leads past the end of the table matches nothing.
+/// Rules of context: a NULL ClassDef has all glyphs in class 0, and a rule that leads past the end
+/// of the table matches nothing.
 pub fn rules_meet_worked_cases()
     ensures null_classes { WorkedNullClasses }
     ensures ends { WorkedEnds }
@@ -19,7 +21,8 @@ pub fn types_meet_worked_cases()
     ensures { WorkedTypes }
 {}
 
-/// What lookups are charged for at a place, by rule, ligature and subtable, and what is passed over beside it.
+/// What lookups are charged for at a place, by rule, ligature and subtable, and what is passed over
+/// beside it.
 pub fn work_meets_worked_cases()
     ensures { WorkedWork }
 {}
@@ -39,12 +42,14 @@ pub fn glances_meet_worked_cases()
     ensures { WorkedGlance }
 {}
 
-/// Which rules of context match glyphs that stand alone, and at which glyphs subtables of context begin.
+/// Which rules of context match glyphs that stand alone, and at which glyphs subtables of context
+/// begin.
 pub fn would_meets_worked_cases()
     ensures { WorkedWould }
 {}
 
-/// How many subtables are asked at a place, and how many rules are compared there, up to the first that applies.
+/// How many subtables are asked at a place, and how many rules are compared there, up to the first
+/// that applies.
 pub fn tries_meet_worked_cases()
     ensures { WorkedTries }
 {}
@@ -52,4 +57,11 @@ pub fn tries_meet_worked_cases()
 /// Which glyphs a search finds, how many a rule may have, and which syllable it keeps to.
 pub fn searches_meet_worked_cases()
     ensures { WorkedSeeking }
+{}
+
+/// How far sets of rules look that are tried in vain, and what rules look for after their first
+/// glyph.
+pub fn reaches_meet_worked_cases()
+    ensures tried { WorkedTried }
+    ensures lets { WorkedLets }
 {}

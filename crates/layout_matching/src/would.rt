@@ -1,4 +1,5 @@
-//! Whether a subtable of context would match glyphs that stand alone: no glyph is skipped, and nothing is around them.
+//! Whether a subtable of context would match glyphs that stand alone: no glyph is skipped, and
+//! nothing is around them.
 ghost use Rattle.std.specs.Prelude.{◌≡◌, ◌<◌, ◌+◌, ◌^◌, length, slice_index};
 ghost use Rattle.std.specs.Option.{IfSome};
 ghost use Rattle.layout_matching.specs.Rules.{fits_row as fits};
@@ -9,7 +10,8 @@ use crate::found::number_in;
 use crate::rules::{Row, Rule, fits_row, is_inside, rule_at};
 use shape_font::bytes::{records, u16_at};
 
-/// Glyphs that stand alone. With `zero_context` only rules count that want no glyph before them and none after.
+/// Glyphs that stand alone. With `zero_context` only rules count that want no glyph before them and
+/// none after.
 #[derive(Clone, Copy, Debug)]
 pub struct Alone<'a> {
     pub glyphs: &'a [u32],
@@ -31,7 +33,8 @@ fn fits_after(table: &[u8], row: &Row, k: u16, glyphs: &[u32]) -> bool
     fits_row(table, row, u32::from(k), glyphs[usize::from(k) + 1])
 }
 
-/// Whether the glyphs are as many as the row has, counted with the first one, and those after that what the row names.
+/// Whether the glyphs are as many as the row has, counted with the first one, and those after that
+/// what the row names.
 #[tactic(auto, using(crate::proofs::LoopLemmas::each_next, crate::proofs::LoopLemmas::each_fails, crate::proofs::LoopLemmas::each_end))]
 pub fn is_input(table: &[u8], row: &Row, glyphs: &[u32]) -> bool
     ensures { result ≡ would_rules.is_input table.now row.now glyphs.now }
@@ -116,8 +119,8 @@ fn set_of_first(table: &[u8], is_chain: bool, start: usize, glyph: u32) -> Optio
     }
 }
 
-/// Whether the subtable of context at `start` has a rule for exactly these glyphs. Formats 2 and 3 don't ask their list for
-/// the first one: [`context_begins`] does.
+/// Whether the subtable of context at `start` has a rule for exactly these glyphs. Formats 2 and 3
+/// don't ask their list for the first one: [`context_begins`] does.
 pub fn context_would(table: &[u8], is_chain: bool, start: usize, alone: Alone<'_>) -> bool
     requires { start < 2 ^ 35 }
     ensures { result ≡ would_rules.context_would table.now is_chain start alone.entry.glyphs.now

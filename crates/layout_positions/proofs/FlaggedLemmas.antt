@@ -1,8 +1,10 @@
 -- Of a span that is marked unsafe to break, and is marked again as a longer one, only what is new is marked.
-use Rattle.std.proofs.Common.{◌≡◌, ℕ, ◌+◌, ◌-◌, ◌≤◌, ◌<◌, ◌==◌, Bool, true, false, List, [], ◌∷◌, ◌++◌, map, take, drop, min, max, fold, length, get_or, set, slice_range, nat_le, nat_lt, refl, sym, ap, ap₂, ◌∙◌, subst, arith, bit_or, if◌then◌else◌}
+use Rattle.std.proofs.Common.{◌≡◌, ℕ, ◌+◌, ◌-◌, ◌≤◌, ◌<◌, ◌==◌, Bool, true, false, List, [], ◌∷◌, ◌++◌, map, take, drop, min, max, fold, length}
+use Rattle.std.proofs.Common.{get_or, set, slice_range, nat_le, nat_lt, refl, sym, ap, ap₂, ◌∙◌, subst, arith, bit_or, if◌then◌else◌}
 use Rattle.std.specs.Int.{bit_at}
 use Rattle.std.proofs.lemmas.Bool.Decides.{nat_tests}
-use Rattle.std.proofs.lemmas.List.{take-take, drop-take, drop-drop, take-append-drop, append_assoc, map-append, take-map, length-append, length-take-le, length-drop, length-map, take_at, drop_at, drop_more, set_at, get_or_at, get_or_default}
+use Rattle.std.proofs.lemmas.List.{take-take, drop-take, drop-drop, take-append-drop, append_assoc, map-append, take-map, length-append}
+use Rattle.std.proofs.lemmas.List.{length-take-le, length-drop, length-map, take_at, drop_at, drop_more, set_at, get_or_at, get_or_default}
 use Rattle.std.proofs.lemmas.Nat.Bits.{bit_at_or, same_from_bits}
 use Rattle.shape_items.specs.Buffer.{Buffer}
 use Rattle.shape_items.specs.BufferClusters.{unsafe_to_break, unsafe_to_concat, with_glyph_flags}

@@ -16,7 +16,9 @@ use Rattle.layout_matching.specs.declared.lookup.Lookup.{Lookup}
 use Rattle.layout_matching.specs.declared.rules.Rule.{Rule}
 use Rattle.layout_positions.specs.Edits.{broken}
 use Rattle.layout_positions.specs.Marks.{base_seen, seek_work}
-use Rattle.layout_positions.specs.Nested.{LEVELS, named_index, named_place, named_lookup, Nest, skipped, spent, record_within, record_at_place, seek_charged, record_for, record_step, rule_placed, origin_at, tried_concat_marked, first_rule_placed, level_placed, nested_placed}
+use Rattle.layout_positions.specs.Nested.{LEVELS, named_index, named_place, named_lookup, Nest, skipped, spent, record_within, record_at_place}
+use Rattle.layout_positions.specs.Nested.{seek_charged, record_for, record_step, rule_placed, origin_at, tried_concat_marked, first_rule_placed}
+use Rattle.layout_positions.specs.Nested.{level_placed, nested_placed}
 use Rattle.layout_positions.specs.Subtables.{looks_for_base, Placing, unplaced, sought_from, links_of, links_charged, unsought, sought, kind_placed, subtable_placed, Trial, trial_of, subtable_tried, next_tried, trial_step, lookup_placed}
 use Rattle.layout_positions.specs.Walk.{Budgeted, Walk, tried_within, tried, lookup_step, first_walk, gone_over, walk_charged, lookup_applied, budgeted, positioned}
 use Rattle.layout_positions.specs.declared.bases.BaseSeen.{BaseSeen}

@@ -28,3 +28,5 @@ pub mod TriesLemmas
 pub mod SightLemmas
 pub mod TrialLemmas
 pub mod StageLemmas
+pub mod ValueLemmas
+pub mod PairedLemmas

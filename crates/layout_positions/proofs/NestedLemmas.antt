@@ -14,7 +14,8 @@ use Rattle.layout_matching.specs.declared.found.Found.{Found}
 use Rattle.layout_matching.specs.declared.lookup.Lookup.{Lookup}
 use Rattle.layout_matching.specs.declared.sought.Sought.{Sought}
 use Rattle.layout_positions.specs.Edits.{asks_for_concat, concat_marked}
-use Rattle.layout_positions.specs.Nested.{LEVELS, Nest, nest_of, spent, record_within, record_at_place, rule_placed, origin_at, tried_concat_marked, first_rule_placed, level_placed, nested_placed, placed_by_charge, sought_placed, walk_placed, named_placed}
+use Rattle.layout_positions.specs.Nested.{LEVELS, Nest, nest_of, spent, record_within, record_at_place, rule_placed, origin_at, tried_concat_marked}
+use Rattle.layout_positions.specs.Nested.{first_rule_placed, level_placed, nested_placed, placed_by_charge, sought_placed, walk_placed, named_placed}
 use Rattle.layout_positions.specs.Subtables.{unplaced, lookup_placed}
 use Rattle.layout_positions.specs.Walk.{Walk, gone_on, tried_within, tried}
 use Rattle.layout_positions.specs.declared.bases.BaseSeen.{BaseSeen}

@@ -13,7 +13,9 @@ use Rattle.layout_matching.specs.declared.found.Found.{Found}
 use Rattle.layout_matching.specs.declared.lookup.Lookup.{Lookup}
 use Rattle.layout_matching.specs.declared.rules.Rule.{Rule}
 use Rattle.layout_positions.specs.Edits.{broken, concat_marked}
-use Rattle.layout_positions.specs.Nested.{named_place, named_lookup, Nest, skipped, spent, seek_charged, record_within, record_at_place, record_for, record_step, rule_placed, origin_at, tried_concat_marked, first_rule_placed, level_placed, LEVELS, nested_placed}
+use Rattle.layout_positions.specs.Nested.{named_place, named_lookup, Nest, skipped, spent, seek_charged, record_within, record_at_place, record_for}
+use Rattle.layout_positions.specs.Nested.{record_step, rule_placed, origin_at, tried_concat_marked, first_rule_placed, level_placed, LEVELS}
+use Rattle.layout_positions.specs.Nested.{nested_placed}
 use Rattle.layout_positions.specs.Subtables.{Placing, unplaced, lookup_placed}
 use Rattle.layout_positions.specs.Walk.{Walk, tried_within, lookup_step, Budgeted, first_walk, gone_over, walk_charged, lookup_applied}
 use Rattle.layout_positions.specs.declared.bases.BaseSeen.{BaseSeen}

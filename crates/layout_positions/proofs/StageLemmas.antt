@@ -23,7 +23,9 @@ use Rattle.layout_positions.specs.Attachment.{each}
 use Rattle.layout_positions.specs.Edits.{broken, concat_marked}
 use Rattle.layout_positions.specs.Lookups.{Applied, unapplied}
 use Rattle.layout_positions.specs.Marks.{is_base_seen}
-use Rattle.layout_positions.specs.Nested.{LEVELS, named_index, named_place, named_lookup, Nest, skipped, spent, record_within, record_at_place, seek_charged, record_for, record_step, rule_placed, origin_at, tried_concat_marked, first_rule_placed, level_placed, nested_placed}
+use Rattle.layout_positions.specs.Nested.{LEVELS, named_index, named_place, named_lookup, Nest, skipped, spent, record_within, record_at_place}
+use Rattle.layout_positions.specs.Nested.{seek_charged, record_for, record_step, rule_placed, origin_at, tried_concat_marked, first_rule_placed}
+use Rattle.layout_positions.specs.Nested.{level_placed, nested_placed}
 use Rattle.layout_positions.specs.Stage.{by_subtables, at_named, by_named, by_record, by_rule, by_rules, by_level, by_lookup, Going, going_on, at_glyph, over_line, stage_applied, HasNoLaterComponents, LeavesFlags}
 use Rattle.layout_positions.specs.Subtables.{Placing, unplaced, Trial, trial_step, lookup_placed}
 use Rattle.layout_positions.specs.Walk.{Budgeted, Walk, tried_within, tried, lookup_step, none_seen, first_walk, gone_over, walk_charged, lookup_applied, budgeted, positioned}

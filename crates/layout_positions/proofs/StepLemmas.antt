@@ -18,7 +18,10 @@ use Rattle.layout_positions.specs.Attachment.{parent_of, freed, followed, settle
 use Rattle.layout_positions.specs.Cursive.{joined_across, joined_along, cursive_put, cursive_with, cursive_at, cursive_applied, entry_of, exit_of, left_at}
 use Rattle.layout_positions.specs.Edits.{position_at, position_put, broken, concat_marked}
 use Rattle.layout_positions.specs.Lookups.{Applied, unapplied, glyph_after, end_after, glyph_before, start_before}
-use Rattle.layout_positions.specs.Marks.{mark_put, mark_array, base_anchor, mark_attached, mark_number, row_of, mark_on_row, mark_on_glyph, mark_base_at, mark_base_applied, ligature_matrix, component_of, mark_on_matrix, mark_on_ligature, mark_ligature_at, mark_ligature_applied, for_marks, are_together, mark_on_mark, mark_mark_at, mark_mark_applied}
+use Rattle.layout_positions.specs.Marks.{mark_put, mark_array, base_anchor, mark_attached, mark_number, row_of, mark_on_row, mark_on_glyph}
+use Rattle.layout_positions.specs.Marks.{mark_base_at, mark_base_applied, ligature_matrix, component_of, mark_on_matrix, mark_on_ligature}
+use Rattle.layout_positions.specs.Marks.{mark_ligature_at, mark_ligature_applied, for_marks, are_together, mark_on_mark, mark_mark_at}
+use Rattle.layout_positions.specs.Marks.{mark_mark_applied}
 use Rattle.layout_positions.specs.Pairs.{glyph_adjusted, single_of, single_put, single_applied, pair_of, pair_marked, pair_ended, pair_moves, pair_put, pair_with, pair_at_number, has_pairs, pair_applied}
 use Rattle.layout_positions.specs.Turning.{Turn, turn_next, turn_at, turn_step, first_turn, turned, follows, parent_freed, link_put, attached}
 use Rattle.layout_positions.specs.Subtables.{if_first_format, kind_applied, unplaced, sought, kind_placed, Trial, trial_of, subtable_tried, next_tried, trial_step, lookup_tried}

@@ -19,9 +19,12 @@ use Rattle.layout_matching.specs.declared.sought.Sought.{Sought}
 use Rattle.layout_matching.proofs.ChargeLemmas.{clash, lookup_charged-lessens, subtables_charged-lessens}
 use Rattle.layout_matching.proofs.TriesLemmas.{along-few, along-paid, charged-pays, sought-pays, subtables-few, steps-cover, walk-covers}
 use Rattle.layout_positions.specs.Edits.{broken}
-use Rattle.layout_positions.specs.Nested.{LEVELS, Nest, skipped, spent, record_within, record_at_place, record_for, named_index, named_lookup, named_place, seek_charged, record_step, rule_placed, origin_at, tried_concat_marked, first_rule_placed, level_placed, nested_placed}
+use Rattle.layout_positions.specs.Nested.{LEVELS, Nest, skipped, spent, record_within, record_at_place, record_for, named_index, named_lookup}
+use Rattle.layout_positions.specs.Nested.{named_place, seek_charged, record_step, rule_placed, origin_at, tried_concat_marked, first_rule_placed}
+use Rattle.layout_positions.specs.Nested.{level_placed, nested_placed}
 use Rattle.layout_positions.specs.Subtables.{Placing, unplaced, Trial, trial_step, lookup_placed}
-use Rattle.layout_positions.specs.Tries.{trial_tries, subtables_tried, tries_within, tries_there, tries_for, record_tries, rule_tries, named_tries, others_tried, nested_tries, tried_with, step_tries, walk_tries, lookup_tries, lookups_tries, position_tries}
+use Rattle.layout_positions.specs.Tries.{trial_tries, subtables_tried, tries_within, tries_there, tries_for, record_tries, rule_tries, named_tries}
+use Rattle.layout_positions.specs.Tries.{others_tried, nested_tries, tried_with, step_tries, walk_tries, lookup_tries, lookups_tries, position_tries}
 use Rattle.layout_positions.specs.Walk.{Budgeted, Walk, tried_within, tried, lookup_step, first_walk, gone_over, walk_charged, lookup_applied, budgeted, positioned}
 use Rattle.layout_positions.specs.declared.bases.BaseSeen.{BaseSeen}
 use Rattle.layout_positions.proofs.LeftLemmas.{NextLess, level-less, nested-less}

@@ -30,7 +30,9 @@ use Rattle.layout_positions.specs.Lookups.{Applied, unapplied}
 use Rattle.layout_positions.specs.Marks.{mark_base_at, mark_base_applied, mark_number, base_seen, mark_ligature_at, mark_ligature_applied, mark_mark_at, mark_mark_applied}
 use Rattle.layout_positions.specs.Nested.{rule_placed, origin_at, tried_concat_marked, first_rule_placed, level_placed, nested_placed, LEVELS}
 use Rattle.layout_positions.specs.Pairs.{single_value, single_put, single_applied, pair_at_number, has_pairs, pair_applied}
-use Rattle.layout_positions.specs.Subtables.{if_first_format, kind_applied, LINK_WORK, links_of, links_charged, unsought, sought_from, sought, kind_placed, subtable_placed, Trial, subtable_tried, trial_of, trial_step, Placing, unplaced, placed_by, lookup_placed}
+use Rattle.layout_positions.specs.Subtables.{if_first_format, kind_applied, LINK_WORK, links_of, links_charged, unsought, sought_from, sought}
+use Rattle.layout_positions.specs.Subtables.{kind_placed, subtable_placed, Trial, subtable_tried, trial_of, trial_step, Placing, unplaced, placed_by}
+use Rattle.layout_positions.specs.Subtables.{lookup_placed}
 use Rattle.layout_positions.specs.Uncovered.{is_listed_at, rule_lists, subtable_lists, IsUnlisted, IsUncovered}
 use Rattle.layout_positions.specs.Walk.{Walk, gone_on, tried_within, tried, lookup_step, Budgeted, first_walk, gone_over, walk_charged, lookup_applied, budgeted, settled_up, positioned}
 use Rattle.layout_positions.specs.declared.bases.BaseSeen.{BaseSeen}

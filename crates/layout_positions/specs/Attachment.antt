@@ -1,6 +1,7 @@
 -- Glyphs attached to others: how far, and where they end up.
 use Prim.Native.Nat.{zero}
-use Rattle.std.specs.Prelude.{ℕ, suc, ℤ, pos, neg_ℤ, Bool, true, false, Option, Some, None, ◌+◌, ◌-◌, ◌||◌, length, nat_eq, nat_lt, nat_le, int_lt, unsigned_abs, if◌then◌else◌}
+use Rattle.std.specs.Prelude.{ℕ, suc, ℤ, pos, neg_ℤ, Bool, true, false, Option, Some, None, ◌+◌, ◌-◌, ◌||◌, length, nat_eq, nat_lt, nat_le, int_lt}
+use Rattle.std.specs.Prelude.{unsigned_abs, if◌then◌else◌}
 use Rattle.std.specs.Option.{option_map_or}
 use Rattle.shape_common.specs.Direction.{is_horizontal, is_forward}
 use Rattle.shape_common.specs.Wrapping.{◌+ʷ◌, ◌-ʷ◌}

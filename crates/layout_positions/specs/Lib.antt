@@ -7,6 +7,7 @@ pub mod Ways
 pub mod Attachment
 pub mod Turning
 pub mod Lookups
+pub mod Paired
 pub mod Pairs
 pub mod Cursive
 pub mod Marks

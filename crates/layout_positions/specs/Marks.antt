@@ -1,6 +1,7 @@
 -- Marks attached to bases, to ligatures and to marks (OpenType, `GPOS`, lookup types 4, 5 and 6).
 use Prim.Native.Nat.{zero}
-use Rattle.std.specs.Prelude.{ℕ, suc, Bool, true, List, Option, Some, None, ◌+◌, ◌-◌, ◌*◌, ◌/◌, ◌&&◌, ◌||◌, not, max, min, is_some, unwrap_or, nat_eq, nat_lt, if◌then◌else◌}
+use Rattle.std.specs.Prelude.{ℕ, suc, Bool, true, List, Option, Some, None, ◌+◌, ◌-◌, ◌*◌, ◌/◌, ◌&&◌, ◌||◌, not, max, min, is_some, unwrap_or, nat_eq}
+use Rattle.std.specs.Prelude.{nat_lt, if◌then◌else◌}
 use Rattle.std.specs.Option.{option_map, option_map_or, option_and_then, option_or}
 use Rattle.std.specs.Int.RustNames.{bit_and}
 use Rattle.shape_common.specs.Wrapping.{◌-ʷ◌}

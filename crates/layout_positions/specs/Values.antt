@@ -32,6 +32,10 @@ plain_value t format at = record {
   devices = no_devices;
 }
 
+-- the advance along a horizontal line alone
+abbrev pub advance_only : ℤ → Adjustment
+advance_only x = record { x_placement = pos 0; y_placement = pos 0; x_advance = x; y_advance = pos 0; devices = no_devices }
+
 -- bits 0x10 to 0x80 are offsets of devices for these four, which count from `base`
 abbrev pub device_for : List ℕ → ℕ → ℕ → ℕ → ℕ
 device_for t format at bit = if nat_eq (bit_and format bit) 0 then 0 else u16_of t (at + 2 * count_ones (bit_and format (bit - 1)))

@@ -4,6 +4,8 @@ pub mod Values
 pub mod Devices
 pub mod Pairs
 pub mod Marks
+pub mod Known
+pub mod Paired
 pub mod Cursive
 pub mod Attachment
 pub mod Forest

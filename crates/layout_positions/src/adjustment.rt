@@ -84,7 +84,7 @@ fn end_pair(buffer: &mut hb_buffer_t, values: &PairValues, i: usize, j: usize) -
 }
 
 /// Adjusts the two glyphs of a pair.
-fn put_pair(
+pub(crate) fn put_pair(
     buffer: &mut hb_buffer_t,
     listed: bool,
     i: usize,
@@ -160,7 +160,7 @@ fn pair_from(
 }
 
 /// Whether the subtable is of a known format.
-fn has_pairs(table: &[u8], start: usize) -> bool
+pub(crate) fn has_pairs(table: &[u8], start: usize) -> bool
     requires { start < 2 ^ 34 }
     ensures { result ≡ Pairs.has_pairs table.now start }
 {
@@ -169,8 +169,8 @@ fn has_pairs(table: &[u8], start: usize) -> bool
 
 /// Applies pair adjustment to the glyph at place `i` and the next one that the lookup sees. Returns
 /// the place where the lookup goes on. `ahead` is the first glyph after the place that isn't passed
-/// over, once a subtable has sought it. A call of its own: inlined, its sums are made at each glyph,
-/// whatever the lookup is.
+/// over, once a subtable has sought it. A call of its own: inlined, its sums are made at each
+/// glyph, whatever the lookup is.
 #[inline(never)]
 pub(crate) fn apply_pair(
     lookup: &Lookup<'_>,

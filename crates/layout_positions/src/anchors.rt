@@ -88,8 +88,8 @@ fn anchor_if(lookup: &Lookup<'_>, start: usize) -> Option<Anchor>
     }
 }
 
-/// The anchor whose offset stands at `at` and counts from `start`; none if the offset is 0, or leads
-/// past the end of the table.
+/// The anchor whose offset stands at `at` and counts from `start`; none if the offset is 0, or
+/// leads past the end of the table.
 pub fn anchor_there(lookup: &Lookup<'_>, start: usize, at: usize) -> Option<Anchor>
     requires start { start < 2 ^ 38 }
     requires at { at < 2 ^ 40 }

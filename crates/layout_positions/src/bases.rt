@@ -1,6 +1,6 @@
 //! The glyph that a mark stands on: the nearest one before it that is no mark. Of a glyph that a
-//! multiple substitution took apart, attachment to bases takes the first component, or a component that the
-//! subtable lists.
+//! multiple substitution took apart, attachment to bases takes the first component, or a component
+//! that the subtable lists.
 ghost use Rattle.std.specs.Prelude.{◌≡◌, ◌<◌, ◌≤◌, ◌-◌, ◌^◌, length};
 ghost use Rattle.std.specs.Option.{IfSome};
 ghost use Rattle.shape_font.specs.Search.{first_at};
@@ -65,8 +65,8 @@ fn is_listed_base(lookup: &Lookup<'_>, start: usize, item: &hb_glyph_info_t) -> 
     number_there(lookup.table, start, start + 4, item.glyph_id).is_some()
 }
 
-/// Whether the subtable takes the glyph at place `j` as a base if it is a component: a subtable of bases
-/// takes the first component, or one that it lists.
+/// Whether the subtable takes the glyph at place `j` as a base if it is a component: a subtable of
+/// bases takes the first component, or one that it lists.
 fn takes_component(
     lookup: &Lookup<'_>,
     subtable: LookupSubtable,
@@ -188,8 +188,8 @@ fn places_looked_at(i: usize, seen: BaseSeen, from: usize) -> usize
 }
 
 /// What the places cost that were looked at for the base of the mark at place `i`, and attachment
-/// to the base that was found: one for each of them, and one for every four glyphs from the base on,
-/// which are marked.
+/// to the base that was found: one for each of them, and one for every four glyphs from the base
+/// on, which are marked.
 fn base_work(i: usize, seen: BaseSeen, base: Option<usize>) -> usize
     ensures { result ≡ Marks.base_work i seen base }
 {

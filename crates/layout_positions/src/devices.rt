@@ -81,8 +81,9 @@ fn most_columns(store: &[u8]) -> u16
     most
 }
 
-/// What the devices of an item may cost at the coordinates: a step for each column of a set of deltas, and one for
-/// each axis of the column's region. A walk pays it for each item. Takes time in step with the store.
+/// What the devices of an item may cost at the coordinates: a step for each column of a set of
+/// deltas, and one for each axis of the column's region. A walk pays it for each item. Takes time
+/// in step with the store.
 pub fn device_work(gdef: &[u8], coordinates: &[i32]) -> u32
     ensures { result ≡ Devices.work_of gdef.now coordinates.now }
 {

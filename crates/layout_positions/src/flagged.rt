@@ -1,5 +1,6 @@
-//! What attachment has marked unsafe to break. Attaching a mark marks all from its base on, and in a run of marks on one base
-//! nearly all of that was marked for the one before: only what is new is written, so that a run takes time in step with it.
+//! What attachment has marked unsafe to break. Attaching a mark marks all from its base on, and in
+//! a run of marks on one base nearly all of that was marked for the one before: only what is new is
+//! written, so that a run takes time in step with it.
 ghost use Rattle.std.specs.Prelude.{◌≡◌, ◌+◌, ◌<◌, ◌≤◌, List, length};
 ghost use Rattle.shape_items.specs.BufferClusters.{unsafe_to_break, with_glyph_flags};
 ghost use Rattle.shape_items.specs.Clusters.{map_range, mark_break};
@@ -13,7 +14,8 @@ use shape_buffer::{UNSAFE_TO_BREAK, UNSAFE_TO_CONCAT, hb_buffer_t, hb_glyph_info
 use shape_common::ScratchFlags;
 use shape_items::clusters::least_cluster;
 
-/// A span that is marked unsafe to break, but for its least cluster; up to place `low` all of it is.
+/// A span that is marked unsafe to break, but for its least cluster; up to place `low` all of it
+/// is.
 #[derive(Clone, Copy)]
 pub struct Flagged {
     pub from: usize,
@@ -76,7 +78,8 @@ fn break_anew(buffer: &mut hb_buffer_t, from: usize, to: usize) -> Flagged
     }
 }
 
-/// Marks a longer span than the one that is marked. If its least cluster is a new one, the items of the former are marked too.
+/// Marks a longer span than the one that is marked. If its least cluster is a new one, the items of
+/// the former are marked too.
 fn break_further(buffer: &mut hb_buffer_t, flagged: Flagged, to: usize) -> Flagged
     requires before { IsFlagged flagged buffer.old.items }
     requires some { flagged.from < flagged.to }
@@ -102,7 +105,8 @@ fn break_further(buffer: &mut hb_buffer_t, flagged: Flagged, to: usize) -> Flagg
     Flagged { to, ..flagged }
 }
 
-/// Marks the items from `start` up to `end`, or to the end of the list, unsafe to break, of which a span may be marked.
+/// Marks the items from `start` up to `end`, or to the end of the list, unsafe to break, of which a
+/// span may be marked.
 pub fn break_from(buffer: &mut hb_buffer_t, flagged: Flagged, start: usize, end: usize) -> Flagged
     requires before { IsFlagged flagged buffer.old.items }
     ensures made { buffer.new ≡ Edits.broken start end buffer.old }

@@ -1,6 +1,6 @@
-//! What a walk over a long list knows of its glyphs: which subtables of marks don't list them. A text has few marks, which come
-//! again and again, and a lookup many subtables, of which most don't list a mark: those aren't searched again for a glyph as
-//! long as it is kept in mind.
+//! What a walk over a long list knows of its glyphs: which subtables of marks don't list them. A
+//! text has few marks, which come again and again, and a lookup many subtables, of which most don't
+//! list a mark: those aren't searched again for a glyph as long as it is kept in mind.
 ghost use Rattle.std.specs.Prelude.{◌≡◌, ◌<◌, ◌+◌, ◌&&◌, ◌^◌, ◌||◌, All, true, false, length, nat_eq, nat_lt, Some, None};
 ghost use Rattle.std.specs.Int.{bit_at};
 ghost use Rattle.layout_tables.specs.Lookups.{subtable_of};
@@ -102,8 +102,8 @@ pub(crate) fn attaches_marks(lookup: &Lookup<'_>) -> bool
     }
 }
 
-/// What a lookup has made of a glyph by some of its subtables, which are known not to list it, and what is marked unsafe to
-/// break.
+/// What a lookup has made of a glyph by some of its subtables, which are known not to list it, and
+/// what is marked unsafe to break.
 #[derive(Clone, Copy)]
 struct Tried {
     placed: Outcome,
@@ -160,8 +160,8 @@ fn try_marks(
     tried
 }
 
-/// Applies a subtable of type 1 or 2 to the glyph at place `i`, and none of another type. It isn't shared with the walks that
-/// keep nothing in mind: there it would no longer be inlined.
+/// Applies a subtable of type 1 or 2 to the glyph at place `i`, and none of another type. It isn't
+/// shared with the walks that keep nothing in mind: there it would no longer be inlined.
 fn place_values(
     lookup: &Lookup<'_>,
     subtable: LookupSubtable,
@@ -189,8 +189,8 @@ fn place_values(
     Outcome { next, carried }
 }
 
-/// Applies a subtable that doesn't attach marks to the glyph at place `i`. A call of its own: in a lookup of marks only one that
-/// stands far away may be of another type.
+/// Applies a subtable that doesn't attach marks to the glyph at place `i`. A call of its own: in a
+/// lookup of marks only one that stands far away may be of another type.
 #[inline(never)]
 fn try_other(
     lookup: &Lookup<'_>,
@@ -255,7 +255,8 @@ fn try_new(
     }
 }
 
-/// Tries subtable number `k` at place `i`, unless one before it applied, or it is known not to list the glyph.
+/// Tries subtable number `k` at place `i`, unless one before it applied, or it is known not to list
+/// the glyph.
 #[tactic(auto, using(crate::proofs::KnownLemmas::known_tried))]
 #[inline(always)]
 fn try_known(lookup: &Lookup<'_>, buffer: &mut hb_buffer_t, i: usize, k: u32, tried: Tried) -> Tried

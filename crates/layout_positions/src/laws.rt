@@ -49,8 +49,8 @@ pub fn uncovered_lists_stay()
         ≡ record b { max_ops = walks_charged lookups (length b.items) b.max_ops } }
 {}
 
-/// The base of a mark is the nearest glyph before it that a mark may stand on, and there is one such
-/// glyph at most. A search that goes on from the mark before finds it, too.
+/// The base of a mark is the nearest glyph before it that a mark may stand on, and there is one
+/// such glyph at most. A search that goes on from the mark before finds it, too.
 pub fn marks_stand_on_the_nearest_base()
     ensures afresh { (l : LookupOf) (subtable : Subtable) (items : List Item) (i : ℕ)
         → IsBaseOf l subtable items i (nearest_base l subtable items 0 i) }
@@ -108,9 +108,9 @@ pub fn lookups_with_work_left_are_the_stage()
     ensures work { (lookups : List LookupOf) (b : Buffer) → (positioned lookups b).max_ops ≤ b.max_ops }
 {}
 
-/// No font makes positioning try more than it may: all subtables that its lookups ask, and all rules
-/// that they compare, nested ones included, are at most what was left before less what is left after.
-/// They are counted over the steps of the definitions (`Tries`).
+/// No font makes positioning try more than it may: all subtables that its lookups ask, and all
+/// rules that they compare, nested ones included, are at most what was left before less what is
+/// left after. They are counted over the steps of the definitions (`Tries`).
 pub fn lookups_try_no_more_than_is_left()
     ensures { (lookups : List LookupOf) (b : Buffer)
         → position_tries lookups b + (positioned lookups b).max_ops ≤ b.max_ops }

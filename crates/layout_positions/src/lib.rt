@@ -23,6 +23,8 @@ pub mod listed;
 pub mod marks;
 pub mod neighbours;
 pub mod nested;
+pub mod pair_walk;
+pub mod paired;
 pub mod pairs;
 pub mod places;
 pub mod subtables;

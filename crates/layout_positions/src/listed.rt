@@ -1,4 +1,5 @@
-//! Subtables that attach marks (types 4, 5 and 6). Most don't list a glyph: then nothing but their list is read.
+//! Subtables that attach marks (types 4, 5 and 6). Most don't list a glyph: then nothing but their
+//! list is read.
 ghost use Rattle.std.specs.Prelude.{◌≡◌, ◌<◌, ◌^◌, ◌||◌, true, length, nat_eq, Some, None, if◌then◌else◌};
 ghost use Rattle.shape_font.specs.Bytes.{u16_of};
 ghost use Rattle.layout_positions.specs.Flagged.{IsFlagged};
@@ -208,8 +209,8 @@ pub(crate) fn listed_mark(
     number_there(lookup.table, start, start + 2, buffer.infos()[i].glyph_id)
 }
 
-/// Applies a subtable of type 4, 5 or 6 to the glyph at place `i`. Its marks are searched once. If it doesn't list the glyph,
-/// as most don't, what is carried on isn't touched.
+/// Applies a subtable of type 4, 5 or 6 to the glyph at place `i`. Its marks are searched once. If
+/// it doesn't list the glyph, as most don't, what is carried on isn't touched.
 #[tactic(auto, using(crate::proofs::SubtableLemmas::unlisted_unplaced))]
 #[inline(always)]
 pub(crate) fn try_mark(

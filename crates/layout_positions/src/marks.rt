@@ -18,7 +18,8 @@ use shape_buffer::wrapping::difference;
 use shape_buffer::{GlyphPosition, hb_buffer_t, hb_glyph_info_t};
 use shape_font::bytes::{records, u16_at};
 
-/// A mark, the glyph that it may stand on, which mark of its subtable it is, and what is marked unsafe to break.
+/// A mark, the glyph that it may stand on, which mark of its subtable it is, and what is marked
+/// unsafe to break.
 #[derive(Clone, Copy)]
 pub struct Pairing {
     pub mark: usize,

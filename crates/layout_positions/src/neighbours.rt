@@ -11,7 +11,8 @@ use layout_matching::lookup::Lookup;
 use layout_matching::skipping::{is_skipped, is_transparent};
 use shape_buffer::hb_glyph_info_t;
 
-/// Whether a default ignorable is passed over. In positioning, where runs of them are searched, that is decided by ZWJ alone.
+/// Whether a default ignorable is passed over. In positioning, where runs of them are searched,
+/// that is decided by ZWJ alone.
 #[tactic(auto, using(crate::proofs::StopLemmas::transparent_there))]
 #[inline(always)]
 fn is_transparent_there(lookup: &Lookup<'_>, item: &hb_glyph_info_t) -> bool
@@ -114,7 +115,8 @@ fn if_on(lookup: &Lookup<'_>, items: &[hb_glyph_info_t], j: usize) -> Option<usi
     }
 }
 
-/// The first place after place `i` whose glyph isn't passed over, sought unless it is known already.
+/// The first place after place `i` whose glyph isn't passed over, sought unless it is known
+/// already.
 pub(crate) fn known_stop(
     lookup: &Lookup<'_>,
     items: &[hb_glyph_info_t],

@@ -105,7 +105,8 @@ pub(crate) fn unpaid(carried: Carried) -> Outcome
     }
 }
 
-/// Applies a lookup that a rule names, if what is left suffices for what it may try. Else nothing is left.
+/// Applies a lookup that a rule names, if what is left suffices for what it may try. Else nothing
+/// is left.
 #[cycle(nesting)]
 #[tactic(auto, using(crate::proofs::NestedLemmas::named_context, crate::proofs::NestedLemmas::named_unpaid, crate::proofs::NestedLemmas::named_plain, crate::proofs::NestedLemmas::named_stopped))]
 fn apply_named(
@@ -270,8 +271,8 @@ fn origin_at(at: usize) -> Origin
     }
 }
 
-/// Marks what the rules that are tried at place `at` look at in vain unsafe to concat, up to the first
-/// that matches, if the buffer asks for that.
+/// Marks what the rules that are tried at place `at` look at in vain unsafe to concat, up to the
+/// first that matches, if the buffer asks for that.
 #[tactic(auto, using(crate::proofs::NestedLemmas::tried_unasked))]
 fn mark_tried(here: &Lookup<'_>, buffer: &mut hb_buffer_t, at: usize)
     requires place { here.now.place < 2 ^ 17 }
@@ -317,8 +318,8 @@ fn apply_first(
     }
 }
 
-/// Applies the rule that is found at place `at`, if there is one. Where the buffer asks what is unsafe to concat, what was looked
-/// at before is marked first.
+/// Applies the rule that is found at place `at`, if there is one. Where the buffer asks what is
+/// unsafe to concat, what was looked at before is marked first.
 #[cycle(nesting)]
 #[tactic(auto, using(crate::proofs::NestedLemmas::found_some, crate::proofs::NestedLemmas::found_none))]
 fn apply_found(
@@ -355,8 +356,8 @@ fn apply_found(
     }
 }
 
-/// Applies a lookup of context at place `at`, if what is left suffices for what is looked at. Else nothing is left. Its rule is
-/// sought once.
+/// Applies a lookup of context at place `at`, if what is left suffices for what is looked at. Else
+/// nothing is left. Its rule is sought once.
 #[cycle(nesting)]
 #[inline(never)]
 #[tactic(auto, using(crate::proofs::NestedLemmas::sought_some, crate::proofs::NestedLemmas::sought_none))]

@@ -31,7 +31,8 @@ pub struct Outcome {
     pub carried: Carried,
 }
 
-/// The base that was seen last, and what is left once the search for it was charged; none if what was left didn't suffice.
+/// The base that was seen last, and what is left once the search for it was charged; none if what
+/// was left didn't suffice.
 #[derive(Clone, Copy)]
 pub struct Sought {
     pub seen: BaseSeen,
@@ -67,8 +68,8 @@ fn charge_links(links: usize, left: usize) -> usize
     left.saturating_sub(links).saturating_sub(links)
 }
 
-/// Applies a subtable of type 3 to the glyph at place `i`, unless nothing is left for the links that
-/// it may turn round.
+/// Applies a subtable of type 3 to the glyph at place `i`, unless nothing is left for the links
+/// that it may turn round.
 #[tactic(auto, using(crate::proofs::SubtableLemmas::links_placed, crate::proofs::SubtableLemmas::links_unpaid))]
 pub(crate) fn place_cursive(
     lookup: &Lookup<'_>,
@@ -103,8 +104,8 @@ pub(crate) fn place_cursive(
     }
 }
 
-/// Applies a subtable by its type to the glyph at place `i`, but none of cursive attachment, and none
-/// that attaches marks. Returns where the lookup goes on.
+/// Applies a subtable by its type to the glyph at place `i`, but none of cursive attachment, and
+/// none that attaches marks. Returns where the lookup goes on.
 #[inline(always)]
 fn apply_kind(
     lookup: &Lookup<'_>,
@@ -197,8 +198,8 @@ fn may_begin_at(indexed: &Indexed<'_>, buffer: &hb_buffer_t, i: usize, k: u32) -
     indexed.may_begin(k, buffer.infos()[i].glyph_id)
 }
 
-/// Tries subtable number `k` at place `i`. `ahead` is the first glyph after the place that isn't passed over, once it was
-/// sought. Returns where the lookup goes on.
+/// Tries subtable number `k` at place `i`. `ahead` is the first glyph after the place that isn't
+/// passed over, once it was sought. Returns where the lookup goes on.
 #[inline(always)]
 fn try_subtable(
     indexed: &Indexed<'_>,
@@ -240,7 +241,8 @@ fn try_subtable(
     }
 }
 
-/// Applies a lookup that names no other to the glyph at place `i`: its first subtable that applies. Returns where it goes on.
+/// Applies a lookup that names no other to the glyph at place `i`: its first subtable that applies.
+/// Returns where it goes on.
 #[tactic(auto, using(layout_matching::proofs::LoopLemmas::times_step, crate::proofs::SubtableLemmas::length_tried))]
 pub fn apply_lookup(
     indexed: &Indexed<'_>,

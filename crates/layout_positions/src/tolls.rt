@@ -8,10 +8,12 @@ use layout_matching::lookup::Lookup;
 use layout_matching::work::walk_work;
 use layout_tables::lookups::{lookup_type, subtable_count};
 
-/// What a subtable costs at each item of a list if the lookup names no other, without what its devices cost.
+/// What a subtable costs at each item of a list if the lookup names no other, without what its
+/// devices cost.
 const PLAIN_WORK: usize = 16;
 
-/// Whether the lookup's type says that it names no other. Of one whose subtables stand far away it says nothing.
+/// Whether the lookup's type says that it names no other. Of one whose subtables stand far away it
+/// says nothing.
 #[tactic(auto, using(crate::proofs::TollLemmas::plain_kind))]
 #[inline(always)]
 fn is_plain_kind(lookup: &Lookup<'_>) -> bool
@@ -33,7 +35,8 @@ pub(crate) fn has_rules(lookup: &Lookup<'_>) -> bool
     is_context(lookup)
 }
 
-/// What a lookup of positioning that names no other costs that goes over so many items, for each of its subtables.
+/// What a lookup of positioning that names no other costs that goes over so many items, for each of
+/// its subtables.
 #[inline(always)]
 fn plain_toll(lookup: &Lookup<'_>, count: usize) -> usize
     requires place { lookup.now.place < 2 ^ 17 }

@@ -131,11 +131,27 @@ fn varied(lookup: &Lookup<'_>, format: u16, base: usize, at: usize, value: Adjus
     }
 }
 
-/// The record of this format at `at` in the table of a lookup. Offsets of its devices count from
-/// `base`; at the default instance of a variable font none is read.
-/// Inlined, since most pairs have no second record.
+/// A record of the advance along a horizontal line alone.
 #[inline(always)]
-pub fn value_record(lookup: &Lookup<'_>, format: u16, base: usize, at: usize) -> Adjustment
+pub(crate) fn advance_only(advance: i32) -> Adjustment
+    ensures { result ≡ Values.advance_only advance }
+{
+    Adjustment {
+        x_placement: 0,
+        y_placement: 0,
+        x_advance: advance,
+        y_advance: 0,
+        devices: Devices {
+            placement: false,
+            x_advance: false,
+            y_advance: false,
+        },
+    }
+}
+
+/// A record of any format. A call of its own, since few formats need it.
+#[inline(never)]
+fn any_record(lookup: &Lookup<'_>, format: u16, base: usize, at: usize) -> Adjustment
     requires base { base < 2 ^ 39 }
     requires at { at < 2 ^ 39 }
     ensures { result ≡ Values.value_at lookup.now format base at }
@@ -145,6 +161,23 @@ pub fn value_record(lookup: &Lookup<'_>, format: u16, base: usize, at: usize) ->
         return value;
     }
     varied(lookup, format, base, at, value)
+}
+
+/// The record of this format at `at` in the table of a lookup. Offsets of its devices count from
+/// `base`; at the default instance of a variable font none is read.
+/// Inlined, since most pairs have no second record, and the advance alone in the first one.
+#[tactic(auto, using(crate::proofs::ValueLemmas::none_said))]
+#[inline(always)]
+pub fn value_record(lookup: &Lookup<'_>, format: u16, base: usize, at: usize) -> Adjustment
+    requires base { base < 2 ^ 39 }
+    requires at { at < 2 ^ 39 }
+    ensures { result ≡ Values.value_at lookup.now format base at }
+{
+    match format {
+        0 => advance_only(0),
+        4 => advance_only(i16_at(lookup.table, at)),
+        _ => any_record(lookup, format, base, at),
+    }
 }
 
 /// Whether the table has so many bytes at `at`.

@@ -1,4 +1,5 @@
-//! Positioning: no glyph is attached at first; then lookups go over the buffer, one after the other.
+//! Positioning: no glyph is attached at first; then lookups go over the buffer, one after the
+//! other.
 ghost use Rattle.std.specs.Prelude.{◌≡◌, ℕ, ◌<◌, ◌≤◌, ◌+◌, ◌-◌, ◌^◌, false, fold, length, true, All};
 ghost use Rattle.shape_buffer.specs.Outcome.{Made};
 ghost use Rattle.layout_matching.specs.Found as found_rules;
@@ -15,6 +16,7 @@ use crate::bases::BaseSeen;
 use crate::flagged::{Flagged, none_flagged};
 use crate::known::{Known, LONG, ROOM, apply_known, attaches_marks};
 use crate::nested::{apply_sought, unpaid};
+use crate::pair_walk::{go_over_pairs, keeps_pairs};
 use crate::places::after;
 use crate::subtables::{Carried, Outcome, apply_lookup};
 use crate::tolls::{has_rules, walk_toll};
@@ -57,7 +59,13 @@ pub fn position_start(buffer: &mut hb_buffer_t)
 }
 
 /// What is left after a lookup that isn't one of context was charged at a place.
-fn charge(indexed: &Indexed<'_>, buffer: &hb_buffer_t, at: usize, left: usize) -> Option<usize>
+#[inline(always)]
+pub(crate) fn charge(
+    indexed: &Indexed<'_>,
+    buffer: &hb_buffer_t,
+    at: usize,
+    left: usize,
+) -> Option<usize>
     requires near { indexed.now.lookup.now.place < 2 ^ 17 }
     requires plain { found_rules.is_context indexed.now.lookup.now ≡ false }
     requires inside { at < length buffer.now.items }
@@ -109,7 +117,8 @@ fn apply_plain(
     apply_known(indexed.lookup, buffer, at, carried, known, flagged)
 }
 
-/// Applies a lookup at a place of the walk, if what is left suffices for what it may try there. Else nothing is left.
+/// Applies a lookup at a place of the walk, if what is left suffices for what it may try there.
+/// Else nothing is left.
 #[tactic(auto, using(crate::proofs::NestedLemmas::walk_context, crate::proofs::NestedLemmas::walk_plain, crate::proofs::NestedLemmas::walk_stopped))]
 fn apply_at(
     indexed: &Indexed<'_>,
@@ -212,8 +221,15 @@ fn unheld(digest: &Digest, items: &[hb_glyph_info_t], from: usize, most: usize) 
     most
 }
 
-/// How many steps of a walk, at most so many, lead to the next glyph that the digest of the lookup holds.
-fn steps_over(named: &Digested<'_>, buffer: &hb_buffer_t, at: usize, most: usize) -> usize
+/// How many steps of a walk, at most so many, lead to the next glyph that the digest of the lookup
+/// holds.
+#[inline(always)]
+pub(crate) fn steps_over(
+    named: &Digested<'_>,
+    buffer: &hb_buffer_t,
+    at: usize,
+    most: usize,
+) -> usize
     requires said { IsDigested named.now }
     ensures few { result ≤ most }
     ensures fits { at + result < 2 ^ 64 }
@@ -236,7 +252,8 @@ fn steps_over(named: &Digested<'_>, buffer: &hb_buffer_t, at: usize, most: usize
     )
 }
 
-/// Goes over a buffer with a lookup, from its first glyph on, with what is known of glyphs. Returns what is left.
+/// Goes over a buffer with a lookup, from its first glyph on, with what is known of glyphs. Returns
+/// what is left.
 #[inline(never)]
 fn go_along(
     named: &Digested<'_>,
@@ -274,8 +291,8 @@ fn go_along(
     spot.carried.left
 }
 
-/// Goes over a long list with a lookup that attaches marks, and keeps in mind which subtables don't list a glyph. A call of its
-/// own, so that what is kept stands in no other frame.
+/// Goes over a long list with a lookup that attaches marks, and keeps in mind which subtables don't
+/// list a glyph. A call of its own, so that what is kept stands in no other frame.
 #[inline(never)]
 fn go_over_marks(named: &Digested<'_>, buffer: &mut hb_buffer_t, left: usize) -> usize
     requires { IsDigested named.now }
@@ -295,6 +312,9 @@ fn go_over(named: &Digested<'_>, buffer: &mut hb_buffer_t, left: usize) -> usize
     if LONG <= buffer.len() && attaches_marks(&named.lookup) {
         return go_over_marks(named, buffer, left);
     }
+    if keeps_pairs(&named.lookup, buffer.len()) && !has_rules(&named.lookup) {
+        return go_over_pairs(named, buffer, left);
+    }
     go_along(named, buffer, left, &mut [])
 }
 
@@ -306,7 +326,8 @@ fn charge_walk(lookup: &Lookup<'_>, count: usize, left: usize) -> usize
     left.saturating_sub(walk_toll(lookup, count))
 }
 
-/// Goes over a buffer with a lookup, if what is left suffices for a walk. Else nothing is left. Returns what is left.
+/// Goes over a buffer with a lookup, if what is left suffices for a walk. Else nothing is left.
+/// Returns what is left.
 pub fn apply_over(named: &Digested<'_>, buffer: &mut hb_buffer_t, left: usize) -> usize
     requires { IsDigested named.now }
     ensures { record { buffer = buffer.new; left = result }
@@ -319,8 +340,8 @@ pub fn apply_over(named: &Digested<'_>, buffer: &mut hb_buffer_t, left: usize) -
     go_over(named, buffer, left - work)
 }
 
-/// Whether nothing is left for lookups: each costs something, unless the list is empty. That is told at once, however many
-/// subtables a lookup has.
+/// Whether nothing is left for lookups: each costs something, unless the list is empty. That is
+/// told at once, however many subtables a lookup has.
 fn is_spent(count: usize, left: usize) -> bool
     ensures none { result ≡ true → left ≡ 0 }
     ensures some { result ≡ true → 0 < count }
@@ -340,8 +361,8 @@ fn run_digest(items: &[hb_glyph_info_t]) -> Digest
     all
 }
 
-/// Goes over a buffer with each lookup, and returns what is left; all of them share one bound. A lookup whose digest shares no glyph with
-/// the buffer is passed over.
+/// Goes over a buffer with each lookup, and returns what is left; all of them share one bound. A
+/// lookup whose digest shares no glyph with the buffer is passed over.
 #[tactic(auto, using(crate::proofs::DigestLemmas::applied_on, crate::proofs::DigestLemmas::passed_over, crate::proofs::GlyphLemmas::held_applied))]
 fn apply_each(lookups: &[Digested<'_>], buffer: &mut hb_buffer_t) -> usize
     requires { All IsDigested lookups.now }

@@ -3,6 +3,8 @@ ghost use Rattle.layout_positions.specs.Worked.Values.{WorkedValues, WorkedAncho
 ghost use Rattle.layout_positions.specs.Worked.Devices.{WorkedDevices};
 ghost use Rattle.layout_positions.specs.Worked.Pairs.{WorkedTables, WorkedLines};
 ghost use Rattle.layout_positions.specs.Worked.Marks.{WorkedMarks, WorkedBases, WorkedBaseWork, WorkedSearchWork, WorkedMultiplied, WorkedComponents};
+ghost use Rattle.layout_positions.specs.Worked.Known.{WorkedKnown};
+ghost use Rattle.layout_positions.specs.Worked.Paired.{WorkedPaired};
 ghost use Rattle.layout_positions.specs.Worked.Cursive.{WorkedCursive};
 ghost use Rattle.layout_positions.specs.Worked.Walk.{WorkedBounds, WorkedWalk};
 ghost use Rattle.layout_positions.specs.Worked.Attachment.{WorkedAttachment, WorkedTurning};
@@ -58,4 +60,14 @@ pub fn joins_meet_worked_cases()
 /// What lookups try over lines: subtables, rules, and lookups that rules name.
 pub fn tries_meet_worked_cases()
     ensures { WorkedTries }
+{}
+
+/// Which subtables of marks are known not to list a glyph.
+pub fn known_marks_meet_worked_cases()
+    ensures { WorkedKnown }
+{}
+
+/// What lookups of pairs have for two glyphs.
+pub fn known_pairs_meet_worked_cases()
+    ensures { WorkedPaired }
 {}

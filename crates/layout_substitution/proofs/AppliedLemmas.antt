@@ -12,14 +12,21 @@ use Rattle.layout_matching.specs.Loops.{times}
 use Rattle.layout_substitution.specs.Replaced.{replaced, with_class, with_glyph, as_component, is_multiplied, taken_apart, with_components, is_ligated, as_ligature}
 use Rattle.layout_matching.specs.Skipping.{shares}
 use Rattle.layout_substitution.specs.Substitutes.{single_of, set_of, alternate_of, listed_count, listed_at, ligature_glyph, component_count}
-use Rattle.layout_substitution.specs.Applied.{Applied, unapplied, put_one, single_applied, value_of, is_random, next_random, random_put, random_applied, alternate_applied, cluster_at, is_left_in, Handing, is_handed, handed_step, handed_back, left_to_neighbours, gone, Copying, copy_put, copies_put, first_put, several_put, list_put, deleted, taken_away, glyphs_put, sequence_put, multiple_applied}
-use Rattle.layout_substitution.specs.Ligatures.{Joined, between_stays, component_gone, stays, join_step, follows, follow_step, followed, first_joined, joined, ligation_of, id_given, ligatures_reach, ligature_found, ligature_put, ligature_made, set_ligated, ligature_applied}
+use Rattle.layout_substitution.specs.Applied.{Applied, unapplied, put_one, single_applied, value_of, is_random, next_random, random_put}
+use Rattle.layout_substitution.specs.Applied.{random_applied, alternate_applied, cluster_at, is_left_in, Handing, is_handed, handed_step, handed_back}
+use Rattle.layout_substitution.specs.Applied.{left_to_neighbours, gone, Copying, copy_put, copies_put, first_put, several_put, list_put, deleted}
+use Rattle.layout_substitution.specs.Applied.{taken_away, glyphs_put, sequence_put, multiple_applied}
+use Rattle.layout_substitution.specs.Ligatures.{Joined, between_stays, component_gone, stays, join_step, follows, follow_step, followed, first_joined}
+use Rattle.layout_substitution.specs.Ligatures.{joined, ligation_of, id_given, ligatures_reach, ligature_found, ligature_put, ligature_made}
+use Rattle.layout_substitution.specs.Ligatures.{set_ligated, ligature_applied}
 use Rattle.layout_matching.specs.declared.lookup.Lookup.{Lookup}
 use Rattle.layout_substitution.specs.declared.ligature.Components.{Components}
 use Rattle.layout_substitution.specs.declared.ligature.Ligation.{Ligation}
 use Rattle.layout_substitution.specs.declared.apply.Spot.{Spot}
 use Rattle.layout_substitution.proofs.CopyLemmas.{length-put_at}
-use Rattle.layout_substitution.proofs.PreservedLemmas.{Preserves, Preserves-same, Preserves-then, Preserves-times, Preserves-if, IsLike, IsLike-same, IsLike-then, Preserves-handed, Preserves-put, Preserves-put_after, Preserves-taken_out, Preserves-merged, Preserves-broken, Preserves-concat_marked}
+use Rattle.layout_substitution.proofs.PreservedLemmas.{Preserves, Preserves-same, Preserves-then, Preserves-times, Preserves-if, IsLike, IsLike-same}
+use Rattle.layout_substitution.proofs.PreservedLemmas.{IsLike-then, Preserves-handed, Preserves-put, Preserves-put_after, Preserves-taken_out}
+use Rattle.layout_substitution.proofs.PreservedLemmas.{Preserves-merged, Preserves-broken, Preserves-concat_marked}
 
 -- ---- items
 

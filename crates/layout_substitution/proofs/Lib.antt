@@ -10,6 +10,7 @@ pub mod OffLemmas
 pub mod OutLemmas
 pub mod OffKinds
 pub mod SingleLemmas
+pub mod SoughtLemmas
 pub mod LeftLemmas
 pub mod TriesLemmas
 pub mod LigatureListLemmas

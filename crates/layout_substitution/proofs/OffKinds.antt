@@ -15,10 +15,15 @@ use Rattle.layout_matching.specs.Loops.{times}
 use Rattle.layout_matching.specs.Seeking.{fits}
 use Rattle.layout_matching.specs.Skipping.{shares, is_skipped}
 use Rattle.layout_matching.specs.declared.lookup.Lookup.{Lookup}
-use Rattle.layout_substitution.specs.Applied.{Applied, unapplied, put_one, single_applied, value_of, is_random, next_random, random_put, random_applied, alternate_applied, cluster_at, is_left_in, Handing, is_handed, handed_step, handed_back, left_to_neighbours, gone, Copying, copy_like, copy_put, first_put, several_put, list_put, deleted, taken_away, glyphs_put, sequence_put, multiple_applied}
+use Rattle.layout_substitution.specs.Applied.{Applied, unapplied, put_one, single_applied, value_of, is_random, next_random, random_put}
+use Rattle.layout_substitution.specs.Applied.{random_applied, alternate_applied, cluster_at, is_left_in, Handing, is_handed, handed_step, handed_back}
+use Rattle.layout_substitution.specs.Applied.{left_to_neighbours, gone, Copying, copy_like, copy_put, first_put, several_put, list_put, deleted}
+use Rattle.layout_substitution.specs.Applied.{taken_away, glyphs_put, sequence_put, multiple_applied}
 use Rattle.layout_substitution.specs.Edits.{item_at, is_inside, is_past, put_at, put_after, taken_out, merged, broken, concat_marked}
 use Rattle.layout_substitution.specs.Kinds.{kind_applied, subtable_applied, or_else, subtables_applied, lookup_applied}
-use Rattle.layout_substitution.specs.Ligatures.{Joined, between_stays, component_gone, looked_for, stays, join_step, follows, follow_step, followed, component_among, first_joined, joined, ligation_of, id_given, ligatures_reach, ligature_found, ligature_put, ligature_made, set_ligated, ligature_applied}
+use Rattle.layout_substitution.specs.Ligatures.{Joined, between_stays, component_gone, looked_for, stays, join_step, follows, follow_step, followed}
+use Rattle.layout_substitution.specs.Ligatures.{component_among, first_joined, joined, ligation_of, id_given, ligatures_reach, ligature_found}
+use Rattle.layout_substitution.specs.Ligatures.{ligature_put, ligature_made, set_ligated, ligature_applied}
 use Rattle.layout_substitution.specs.Off.{off_glyphs, HasNoFlag}
 use Rattle.layout_substitution.specs.Replaced.{replaced, as_component}
 use Rattle.layout_substitution.specs.Substitutes.{single_of, set_of, alternate_of, listed_count, listed_at, ligature_glyph, component_count}

@@ -3,6 +3,7 @@ pub mod Substitutes
 pub mod Replaced
 pub mod Applied
 pub mod Ligatures
+pub mod Sought
 pub mod LigatureList
 pub mod Kinds
 pub mod Tries

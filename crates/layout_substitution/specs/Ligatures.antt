@@ -6,11 +6,11 @@ use Rattle.shape_items.specs.Buffer.{Buffer, next_ligature_id}
 use Rattle.shape_items.specs.Items.{Item}
 use Rattle.shape_items.specs.Merging.{merged_beside}
 use Rattle.layout_tables.specs.Offsets.{offset16_of}
-use Rattle.layout_matching.specs.Glance.{glance_after, refuses}
 use Rattle.layout_matching.specs.Input.{input_matched, is_mark_glyph, seek_input}
 use Rattle.layout_matching.specs.Loops.{times, first_some}
-use Rattle.layout_matching.specs.Rules.{FAR, row}
+use Rattle.layout_matching.specs.Rules.{row}
 use Rattle.layout_matching.specs.Seeking.{fits, next_place}
+use Rattle.layout_matching.specs.Sifted as sifted
 use Rattle.layout_matching.specs.Skipping.{nth, shares, is_skipped, is_transparent, syllable_of}
 use Rattle.layout_matching.specs.Tried.{untried, match_at, vain, until_matched, input_end}
 use Rattle.layout_matching.specs.declared.glance.Glance.{Glance}
@@ -44,12 +44,9 @@ ligature_matched l b at ligature = if has_components l.table.now ligature
 abbrev pub ligature_in : Lookup → Buffer → ℕ → ℕ → ℕ → Option Components
 ligature_in l b at set i = option_and_then (ligature_matched l b at) (offset16_of l.table.now set (set + 2 + 2 * i))
 
--- what the next glyph says of the second component of all ligatures, and which ones it refuses
+-- what the next glyph says of the second component of all ligatures
 abbrev pub second_glance : Lookup → Buffer → ℕ → Glance
-second_glance l b at = glance_after l (seek_input l (nth b.items at) (row Glyph 0 0 0)) b.items at
-
-abbrev pub begins_with_another : List ℕ → Glance → ℕ → Bool
-begins_with_another t second ligature = nat_lt 1 (component_count t ligature) && refuses t (min (ligature + 4) FAR) second
+second_glance l b at = sifted.second_glance l b.items at
 
 -- the first ligature of the set whose components stand there
 abbrev pub ligature_found : Lookup → Buffer → ℕ → ℕ → Option Components

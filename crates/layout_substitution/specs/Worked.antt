@@ -9,11 +9,12 @@ use Rattle.shape_common.specs.declared.general_category.hb_unicode_general_categ
 use Rattle.shape_items.specs.Buffer.{Buffer, new_buffer}
 use Rattle.shape_items.specs.Clusters.{merge}
 use Rattle.shape_items.specs.Items.{Item, new_item, new_properties}
+use Rattle.layout_matching.specs.Sifted.{begins_with_another}
 use Rattle.layout_matching.specs.declared.glance.Glance.{Glance}
 use Rattle.layout_matching.specs.declared.glance.Glance.TheVariants.{Open, Closed, Only}
 use Rattle.layout_matching.specs.declared.lookup.Lookup.{Lookup}
 use Rattle.layout_substitution.specs.Applied.{deleted}
-use Rattle.layout_substitution.specs.Ligatures.{ligature_matched, second_glance, begins_with_another, following_charged, merging_charged, ligature_put}
+use Rattle.layout_substitution.specs.Ligatures.{ligature_matched, second_glance, following_charged, merging_charged, ligature_put}
 use Rattle.layout_substitution.specs.Replaced.{replaced, is_multiplied, taken_apart, with_components, as_ligature}
 use Rattle.layout_substitution.specs.Start.{begun_item}
 use Rattle.layout_substitution.specs.Substitutes.{has_components}

@@ -23,7 +23,8 @@ fn value(lookup: &Lookup<'_>, there: &hb_glyph_info_t) -> u32
     }
 }
 
-/// Whether the mask asks for an alternate at random: by the greatest value of a feature that lets it.
+/// Whether the mask asks for an alternate at random: by the greatest value of a feature that lets
+/// it.
 fn is_random(lookup: &Lookup<'_>, there: &hb_glyph_info_t) -> bool
     ensures { result ≡ Applied.is_random lookup.now there.now }
 {
@@ -38,7 +39,8 @@ fn next_random(state: u32) -> u32
     product % 2_147_483_647
 }
 
-/// An alternate at random of those listed at `set`. It depends on all that was shaped before, so that nothing is safe to break.
+/// An alternate at random of those listed at `set`. It depends on all that was shaped before, so
+/// that nothing is safe to break.
 fn replace_at_random(
     lookup: &Lookup<'_>,
     buffer: &mut GapBuffer,

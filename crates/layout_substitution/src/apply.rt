@@ -250,7 +250,7 @@ pub(crate) fn apply_multiple(
 }
 
 /// A ligature that was found; one of a single component replaces it.
-fn make_ligature(
+pub(crate) fn make_ligature(
     lookup: &Lookup<'_>,
     buffer: &mut GapBuffer,
     spot: Spot,

@@ -1,7 +1,9 @@
-//! A glyph deleted, as by a substitution of several for one whose list is empty. Its cluster is left to its neighbours.
+//! A glyph deleted, as by a substitution of several for one whose list is empty. Its cluster is
+//! left to its neighbours.
 //!
-//! A cluster may be handed to many glyphs before it, and to these again with the next deletion: so each is charged for.
-//! What is merged at the first place isn't: it stands at the start in one cluster from then on, so no glyph is grown over twice.
+//! A cluster may be handed to many glyphs before it, and to these again with the next deletion: so
+//! each is charged for. What is merged at the first place isn't: it stands at the start in one
+//! cluster from then on, so no glyph is grown over twice.
 ghost use Rattle.std.specs.Prelude.{◌≡◌, ◌<◌, ◌-◌, length, None, IsTrue};
 ghost use Rattle.layout_matching.specs.Loops.{times};
 ghost use Rattle.layout_substitution.specs.Applied;
@@ -50,8 +52,8 @@ fn hand_one(buffer: &mut GapBuffer, at: usize)
     put(buffer, at - 1, there);
 }
 
-/// Hands the cluster and the defined flags of the item at `i` to all items before it that stand in one cluster. Returns where
-/// the first of these is.
+/// Hands the cluster and the defined flags of the item at `i` to all items before it that stand in
+/// one cluster. Returns where the first of these is.
 #[tactic(auto, using(layout_matching::proofs::LoopLemmas::times_step, crate::proofs::CopyLemmas::handed_on))]
 fn hand_back(buffer: &mut GapBuffer, cluster: u32, i: usize) -> usize
     ensures { record { buffer = buffer.new; at = result }
@@ -68,8 +70,8 @@ fn hand_back(buffer: &mut GapBuffer, cluster: u32, i: usize) -> usize
     at
 }
 
-/// Leaves the cluster of an item that is to go to its neighbours, if it isn't theirs. Returns how many items before it it was
-/// handed to.
+/// Leaves the cluster of an item that is to go to its neighbours, if it isn't theirs. Returns how
+/// many items before it it was handed to.
 fn leave_to_neighbours(buffer: &mut GapBuffer, i: usize) -> usize
     requires { i < length buffer.old.items }
     ensures made { buffer.new ≡ Applied.left_to_neighbours i buffer.old }
@@ -91,7 +93,8 @@ fn leave_to_neighbours(buffer: &mut GapBuffer, i: usize) -> usize
     }
 }
 
-/// Takes an item out, whose cluster is left to its neighbours. Returns how many items before it it was handed to.
+/// Takes an item out, whose cluster is left to its neighbours. Returns how many items before it it
+/// was handed to.
 fn take_away(buffer: &mut GapBuffer, i: usize) -> usize
     requires { i < length buffer.old.items }
     ensures made { buffer.new ≡ Applied.gone i buffer.old }
@@ -102,8 +105,8 @@ fn take_away(buffer: &mut GapBuffer, i: usize) -> usize
     handed
 }
 
-/// Deletes the glyph at the place, unless nothing is left. Returns where the lookup goes on, charged for each glyph that the
-/// cluster was handed to.
+/// Deletes the glyph at the place, unless nothing is left. Returns where the lookup goes on,
+/// charged for each glyph that the cluster was handed to.
 pub(crate) fn delete(buffer: &mut GapBuffer, spot: Spot) -> Option<Spot>
     requires { spot.at < length buffer.old.items }
     ensures made { buffer.new ≡ (Applied.deleted spot buffer.old).buffer }

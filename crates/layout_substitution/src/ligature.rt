@@ -1,5 +1,6 @@
-//! Ligatures: one glyph in place of several (kind 4). Of those of a set the first whose components stand in a row is made; the
-//! clusters of its components are merged, and marks between them, and after the last one, stand on it from then on.
+//! Ligatures: one glyph in place of several (kind 4). Of those of a set the first whose components
+//! stand in a row is made; the clusters of its components are merged, and marks between them, and
+//! after the last one, stand on it from then on.
 ghost use Rattle.std.specs.Prelude.{◌≡◌, ◌<◌, ◌-◌, ◌+◌, ◌^◌, Some, length, true, IsTrue};
 ghost use Rattle.std.specs.Option.{IfSome};
 ghost use Rattle.layout_matching.specs.Loops.{times};
@@ -10,18 +11,19 @@ use crate::edits::{item, merge, next_place, put, take_out};
 use crate::ligation::{count_behind, how_to_ligate, with_left};
 use crate::merging::charge_merging;
 use crate::replaced::{as_component, as_ligature, components_of};
-use crate::second_component::{begins_with_another, second_glance};
 use crate::substitutes::{components, count, has_components, ligature_at, ligature_glyph};
 use layout_buffer::GapBuffer;
 use layout_matching::glance::Glance;
 use layout_matching::input::match_input;
+use layout_matching::ligatures::{begins_with_another, second_glance};
 use layout_matching::lookup::Lookup;
 use layout_matching::rules::{Row, Test};
 use layout_matching::seeking::{Seek, fits};
 use layout_matching::skipping::is_skipped;
 use shape_buffer::hb_glyph_info_t;
 
-/// A ligature whose components were found: where the last one stands, and whether all after the first are marks.
+/// A ligature whose components were found: where the last one stands, and whether all after the
+/// first are marks.
 #[derive(Clone, Copy, PartialEq, Eq, Debug)]
 pub struct Components {
     pub ligature: usize,
@@ -29,7 +31,8 @@ pub struct Components {
     pub all_marks: bool,
 }
 
-/// How a ligature is made: its components, whether it has a number of its own, whether of marks alone, and its number.
+/// How a ligature is made: its components, whether it has a number of its own, whether of marks
+/// alone, and its number.
 #[derive(Clone, Copy, PartialEq, Eq, Debug)]
 pub struct Ligation {
     pub seek: Seek,
@@ -38,8 +41,9 @@ pub struct Ligation {
     pub id: u8,
 }
 
-/// A walk over the items of a ligature: how many components are still to come, the number of the ligature that the last
-/// component belonged to, how many components that had, and how many all had so far.
+/// A walk over the items of a ligature: how many components are still to come, the number of the
+/// ligature that the last component belonged to, how many components that had, and how many all had
+/// so far.
 #[derive(Clone, Copy, PartialEq, Eq, Debug)]
 pub struct Joining {
     pub at: usize,
@@ -130,7 +134,7 @@ pub(crate) fn found(
     ensures inside { IfSome result (λ m. m.last < length buffer.now.items) }
     ensures near { IfSome result (λ m. m.ligature < 2 ^ 37) }
 {
-    let second = second_glance(lookup, buffer, at);
+    let second = second_glance(lookup, &buffer.items(), at);
     for i in 0..count(lookup.table, set) {
         if let Some(one) = matched_in(lookup, buffer, at, set, i, second) {
             return Some(one);
@@ -202,7 +206,8 @@ fn looked_for(made: &Ligation, walk: Joining) -> u32
     )
 }
 
-/// Whether the item at the walk stays: the lookup skips it, or it isn't the component that is looked for.
+/// Whether the item at the walk stays: the lookup skips it, or it isn't the component that is
+/// looked for.
 fn stays(lookup: &Lookup<'_>, buffer: &GapBuffer, made: &Ligation, walk: Joining) -> bool
     ensures { result ≡ Ligatures.stays lookup.now made.now
         (record { buffer = buffer.now; walk = walk }) }
@@ -340,7 +345,8 @@ fn put_over(
     );
 }
 
-/// Puts a ligature, made in this way, in place of its components. Returns where the lookup goes on: with `left` items after it.
+/// Puts a ligature, made in this way, in place of its components. Returns where the lookup goes on:
+/// with `left` items after it.
 fn ligate(
     lookup: &Lookup<'_>,
     buffer: &mut GapBuffer,

@@ -1,4 +1,5 @@
-//! How far the search for a ligature looked in vain, up to the first ligature of a set that stands there.
+//! How far the search for a ligature looked in vain, up to the first ligature of a set that stands
+//! there.
 ghost use Rattle.std.specs.Prelude.{◌≡◌, ◌<◌, ◌^◌, length, true};
 ghost use Rattle.shape_items.specs.Buffer.{limit_of};
 ghost use Rattle.layout_substitution.specs.Edits.{concat_marked};
@@ -162,8 +163,9 @@ fn quickly_reached(
     reach
 }
 
-/// How far the ligatures of a set look that are tried at `at`, up to the first that stands there. In a set of more than four
-/// HarfBuzz compares the second components first, and doesn't mark that if a ligature is made.
+/// How far the ligatures of a set look that are tried at `at`, up to the first that stands there.
+/// In a set of more than four HarfBuzz compares the second components first, and doesn't mark that
+/// if a ligature is made.
 fn ligatures_reach(lookup: &Lookup<'_>, buffer: &GapBuffer, at: usize, set: usize) -> Reach
     requires near { set < 2 ^ 36 }
     requires inside { at < length buffer.now.items }
@@ -179,7 +181,8 @@ fn ligatures_reach(lookup: &Lookup<'_>, buffer: &GapBuffer, at: usize, set: usiz
     }
 }
 
-/// Marks what the ligatures of a set looked at in vain unsafe to concat, if the buffer asks for that.
+/// Marks what the ligatures of a set looked at in vain unsafe to concat, if the buffer asks for
+/// that.
 #[tactic(auto, using(crate::proofs::EditLemmas::concat_marked_unasked))]
 pub(crate) fn mark_tried(lookup: &Lookup<'_>, buffer: &mut GapBuffer, at: usize, set: usize)
     requires near { set < 2 ^ 36 }

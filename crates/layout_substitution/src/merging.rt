@@ -1,7 +1,8 @@
 //! What the merging of a ligature's components writes beside them.
 //!
-//! A cluster may be as long as the text, and may be merged again with each ligature: so each item beside the components is
-//! charged for. Beside the components the walks look at no more items than are charged, and at the one that ends each.
+//! A cluster may be as long as the text, and may be merged again with each ligature: so each item
+//! beside the components is charged for. Beside the components the walks look at no more items than
+//! are charged, and at the one that ends each.
 ghost use Rattle.std.specs.Prelude.{◌≡◌, ◌<◌, ◌≤◌, ◌+◌, ◌-◌, drop, length, slice_range, take};
 ghost use Rattle.std.specs.List.{prefix_len, suffix_len};
 ghost use Rattle.layout_substitution.specs.Ligatures;
@@ -66,7 +67,8 @@ fn growth_left(items: &ItemList<'_>, start: usize, least: u32) -> usize
     count_before(items, start, first)
 }
 
-/// How many items after a span of that least cluster, which ends with `last`, its merging grows over.
+/// How many items after a span of that least cluster, which ends with `last`, its merging grows
+/// over.
 #[tactic(auto, using(crate::proofs::MergingLemmas::cluster_there))]
 fn growth_right(items: &ItemList<'_>, last: usize, least: u32) -> usize
     requires { last < length items.now }

@@ -7,8 +7,8 @@ use layout_tables::gdef::{glyph_props, has_glyph_classes};
 use shape_buffer::hb_glyph_info_t;
 use shape_common::{GlyphPropsFlags, hb_unicode_general_category_t};
 
-/// An item with the class of its glyph, and with the mark attachment class in the upper byte of `props`. A glyph that is no
-/// ligature any more counts as one component.
+/// An item with the class of its glyph, and with the mark attachment class in the upper byte of
+/// `props`. A glyph that is no ligature any more counts as one component.
 #[inline(always)]
 pub(crate) fn with_class(props: u16, item: hb_glyph_info_t) -> hb_glyph_info_t
     ensures { result ≡ Replaced.with_class props item }
@@ -21,7 +21,8 @@ pub(crate) fn with_class(props: u16, item: hb_glyph_info_t) -> hb_glyph_info_t
     item
 }
 
-/// Another glyph, of the class that the font says, or else of the one that is guessed, if it isn't 0.
+/// Another glyph, of the class that the font says, or else of the one that is guessed, if it isn't
+/// 0.
 #[inline(always)]
 pub(crate) fn replaced(
     lookup: &Lookup<'_>,
@@ -104,8 +105,8 @@ fn with_components(id: u8, components: u32, item: hb_glyph_info_t) -> hb_glyph_i
     item
 }
 
-/// The ligature in place of its first component, which isn't multiplied any more. `own` if it isn't one of marks, or of a base
-/// and marks.
+/// The ligature in place of its first component, which isn't multiplied any more. `own` if it isn't
+/// one of marks, or of a base and marks.
 #[tactic(auto, unfolding(crate::specs::Replaced::as_ligature))]
 pub(crate) fn as_ligature(
     lookup: &Lookup<'_>,

@@ -1,5 +1,6 @@
-//! Lookups of type 1: one glyph for one. They are most of what is tried, so they have a path of their own, on which no table
-//! says anew of what type a subtable is, and nothing but a glyph is handed on.
+//! Lookups of type 1: one glyph for one. They are most of what is tried, so they have a path of
+//! their own, on which no table says anew of what type a subtable is, and nothing but a glyph is
+//! handed on.
 ghost use Rattle.std.specs.Prelude.{◌≡◌, ◌<◌, ◌^◌, length};
 ghost use Rattle.layout_substitution.specs.Kinds.{single_in, first_single, single_put, singles_applied};
 ghost use Rattle.layout_substitution.specs.Edits.{item_at};

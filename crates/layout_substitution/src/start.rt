@@ -29,8 +29,9 @@ fn begun_item(gdef: &[u8], item: &hb_glyph_info_t) -> hb_glyph_info_t
     untouched(with_class(glyph_props(gdef, item.glyph_id), *item))
 }
 
-/// Gives each glyph the class and the mark attachment class that `GDEF` says, as one that no lookup has made: both are 0 if the
-/// table has no classes of glyphs. Substitution begins with it (OpenType, "GDEF"). Takes no memory.
+/// Gives each glyph the class and the mark attachment class that `GDEF` says, as one that no lookup
+/// has made: both are 0 if the table has no classes of glyphs. Substitution begins with it
+/// (OpenType, "GDEF"). Takes no memory.
 #[tactic(auto, unfolding(crate::specs::Start::begun))]
 pub fn begin_substitution(gdef: &[u8], buffer: &mut hb_buffer_t)
     ensures { Made (Start.begun gdef.now) buffer.old buffer.new }

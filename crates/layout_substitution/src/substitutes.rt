@@ -1,4 +1,5 @@
-//! What the subtables of lookups put in place of glyphs (OpenType, "GSUB", single, multiple, alternate and ligature).
+//! What the subtables of lookups put in place of glyphs (OpenType, "GSUB", single, multiple,
+//! alternate and ligature).
 ghost use Rattle.std.specs.Prelude.{◌≡◌, ◌<◌, ◌+◌, ◌*◌, ◌^◌};
 ghost use Rattle.std.specs.Option.{IfSome};
 ghost use Rattle.layout_tables.specs.Offsets.{offset16_of};
@@ -133,7 +134,8 @@ pub(crate) fn components(table: &[u8], ligature: usize) -> u16
     u16_at(table, ligature + 2)
 }
 
-/// Whether a ligature has a component, and the table all of its bytes. The first component isn't listed.
+/// Whether a ligature has a component, and the table all of its bytes. The first component isn't
+/// listed.
 pub(crate) fn has_components(table: &[u8], ligature: usize) -> bool
     requires { ligature < 2 ^ 37 }
     ensures { result ≡ Substitutes.has_components table.now ligature }

@@ -31,7 +31,8 @@ pub fn deletions_meet_worked_cases()
     ensures { WorkedDeletions }
 {}
 
-/// What a ligature costs after it is made: what merging its components writes beside them, and the marks that follow it.
+/// What a ligature costs after it is made: what merging its components writes beside them, and the
+/// marks that follow it.
 pub fn ligating_meets_worked_cases()
     ensures mergings { WorkedMergings }
     ensures ligating { WorkedLigating }
@@ -42,7 +43,8 @@ pub fn would_meets_worked_cases()
     ensures { WorkedWould }
 {}
 
-/// What items are after glyphs were taken apart, joined or deleted, and which glyph a lookup of type 1 puts in place of one.
+/// What items are after glyphs were taken apart, joined or deleted, and which glyph a lookup of
+/// type 1 puts in place of one.
 pub fn replaced_items_meet_worked_cases()
     ensures { WorkedMade }
 {}

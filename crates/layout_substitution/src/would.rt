@@ -1,4 +1,5 @@
-//! Whether a lookup would substitute glyphs that stand alone. Nothing is changed, and no memory is taken.
+//! Whether a lookup would substitute glyphs that stand alone. Nothing is changed, and no memory is
+//! taken.
 ghost use Rattle.std.specs.Prelude.{◌≡◌, ◌<◌, ◌^◌};
 ghost use Rattle.layout_substitution.specs.Would as would_rules;
 
@@ -159,8 +160,8 @@ fn lookup_begins(table: &[u8], place: usize, glyph: u32) -> bool
     false
 }
 
-/// Whether the lookup at `place` would substitute exactly these glyphs. Where the lookup begins is asked last: most lookups
-/// are of fewer glyphs, or of more, and no list is searched then.
+/// Whether the lookup at `place` would substitute exactly these glyphs. Where the lookup begins is
+/// asked last: most lookups are of fewer glyphs, or of more, and no list is searched then.
 pub fn lookup_would(table: &[u8], place: usize, alone: Alone<'_>) -> bool
     requires { place < 2 ^ 17 }
     ensures { result ≡ would_rules.lookup_would table.now place alone.entry.glyphs.now

@@ -1,13 +1,13 @@
 -- digests of the tags of features
 use Prim.Native.Nat.{zero}
-use Rattle.std.proofs.Common.{◌≡◌, ℕ, suc, List, Bool, true, false, Option, Some, None, ◌+◌, ◌*◌, ◌/◌, ◌%◌, ◌^◌, ◌<◌, ◌&&◌, max, nat_eq, nat_lt, cond, refl, sym, ap, subst, ◌∙◌, arith, bit_and, bit_or}
+use Rattle.std.proofs.Common.{◌≡◌, ◌≢◌, ℕ, suc, List, Bool, true, false, Option, Some, None, ◌+◌, ◌*◌, ◌/◌, ◌%◌, ◌^◌, ◌<◌, ◌&&◌, max, nat_eq, nat_lt, cond, refl, sym, ap, subst, ◌∙◌, arith, bit_and, bit_or}
 use Rattle.std.proofs.lemmas.Bool.Decides.{nat_tests}
 use Rattle.std.proofs.lemmas.Nat.{one_shl}
-use Rattle.std.proofs.lemmas.Nat.Bits.{shr_and_one, bit_at_or, bit_at-pow_same, bit_at-lt}
+use Rattle.std.proofs.lemmas.Nat.Bits.{shr_and_one, bit_at_or, bit_at-zero, bit_at-pow_same, bit_at-pow_other, bit_at-lt}
 use Rattle.std.specs.Int.{bit_at}
 use Rattle.shape_font.specs.Bytes.{u16_of, fitting}
 use Rattle.shape_font.specs.Search.{first_at}
-use Rattle.layout_tables.specs.Features.{tag_place, may_hold, KeepsTags, HoldsFirst, HoldsListed, feature_tag_of, listed_tag_of, has_tag, has_feature_tag, feature_index_of}
+use Rattle.layout_tables.specs.Features.{tag_place, may_hold, KeepsTags, HoldsFirst, HoldsListed, HasOnlyFirst, feature_tag_of, listed_tag_of, has_tag, has_feature_tag, feature_index_of}
 
 pub tested : (digest tag : ℕ) → nat_eq (bit_and (digest / 2 ^ tag_place tag) 1) 1 ≡ may_hold digest tag
 unfolding may_hold
@@ -35,6 +35,30 @@ bit_set digest tag place is inside =
     let i = bit_at-lt digest (tag_place tag) in
     let j : bit_at bit (tag_place tag) ≡ 1 = ap (λ b. bit_at b (tag_place tag)) (whole ∙ ap (λ k. 2 ^ k) is) ∙ bit_at-pow_same (tag_place tag) in
     has_of (bit_or digest bit) tag (bit_at_or digest bit (tag_place tag) ∙ omega (arith, i, j))
+
+-- and no other bit is set
+pub other_bits : (digest tag place other : ℕ) → place ≡ tag_place tag → place < 64 → tag_place other ≢ tag_place tag
+    → may_hold (bit_or digest (1 * 2 ^ place % 18446744073709551616)) other ≡ may_hold digest other
+unfolding may_hold
+other_bits digest tag place other is inside apart =
+    let bit : ℕ = 1 * 2 ^ place % 18446744073709551616 in
+    let whole : bit ≡ 2 ^ place = one_shl place 64 inside in
+    let away : bit_at bit (tag_place other) ≡ 0 =
+    ap (λ b. bit_at b (tag_place other)) whole ∙ bit_at-pow_other place (tag_place other) (λ same. apart (same ∙ is)) in
+    ap (λ x. nat_eq x 1) (bit_at_or digest bit (tag_place other) ∙ omega (arith, away))
+
+-- an empty digest
+pub none_yet : (t : List ℕ) (lang_sys : ℕ) → HasOnlyFirst t lang_sys 0 0
+unfolding may_hold
+none_yet t lang_sys tag none = ap (λ x. nat_eq x 1) (bit_at-zero (tag_place tag))
+
+-- a digest of one feature more has its bit more
+pub only_more : (t : List ℕ) (lang_sys n d e : ℕ) → HasOnlyFirst t lang_sys n d
+    → ((other : ℕ) → tag_place other ≢ tag_place (listed_tag_of t lang_sys n) → may_hold e other ≡ may_hold d other)
+    → HasOnlyFirst t lang_sys (n + 1) e
+only_more t lang_sys n d e before new tag none =
+    let last : n < n + 1 = omega arith in
+    new tag (λ same. none n last (sym same)) ∙ before tag (λ i less. none i (omega (arith, less)))
 
 -- none of `n` from `i` on, nor the one after them
 none_more : (p : ℕ → Bool) (n i : ℕ) → first_at p n i ≡ None → p (i + n) ≡ false → first_at p (suc n) i ≡ None

@@ -1,5 +1,6 @@
 -- Features (OpenType, "OpenType Layout Common Table Formats", Language System Table, Feature List and Feature Table).
-use Rattle.std.specs.Prelude.{◌≡◌, ℕ, List, Option, Some, None, Bool, true, false, ◌+◌, ◌*◌, ◌/◌, ◌%◌, ◌^◌, ◌||◌, ◌&&◌, length, nat_eq, nat_lt, if◌then◌else◌}
+use Rattle.std.specs.Prelude.{◌≡◌, ◌≢◌, ◌<◌, ℕ, List, Option, Some, None, Bool, true, false, ◌+◌, ◌*◌, ◌/◌, ◌%◌, ◌^◌, ◌||◌, ◌&&◌, length, nat_eq}
+use Rattle.std.specs.Prelude.{nat_lt, if◌then◌else◌}
 use Rattle.std.specs.Int.{bit_at}
 use Rattle.std.specs.Option.{option_map, option_and_then, option_map_or}
 use Rattle.shape_font.specs.Bytes.{u16_of, u32_of, fitting}
@@ -58,6 +59,14 @@ HoldsFirst t lang_sys n digest = (tag : ℕ) → may_hold digest tag ≡ false �
 -- the same of all that it lists
 abbrev pub HoldsListed : List ℕ → ℕ → ℕ → Type 0
 HoldsListed t lang_sys digest = (tag : ℕ) → may_hold digest tag ≡ false → feature_index_of t lang_sys tag ≡ None
+
+-- each bit is that of the tag of one of the first `n`
+abbrev pub HasOnlyFirst : List ℕ → ℕ → ℕ → ℕ → Type 0
+HasOnlyFirst t lang_sys n digest = (tag : ℕ)
+    → ((i : ℕ) → i < n → tag_place (listed_tag_of t lang_sys i) ≢ tag_place tag) → may_hold digest tag ≡ false
+
+abbrev pub HasOnlyListed : List ℕ → ℕ → ℕ → Type 0
+HasOnlyListed t lang_sys digest = HasOnlyFirst t lang_sys (fitting t (u16_of t (lang_sys + 4)) (lang_sys + 6) 2) digest
 
 -- the first feature of the table with the tag, whatever the language system
 abbrev pub any_feature_of : List ℕ → ℕ → Option ℕ

@@ -1,6 +1,7 @@
 -- Feature variations (OpenType, "OpenType Layout Common Table Formats", FeatureVariations Table), at some coordinates of a
 -- font: normalized, in units of 1/16384.
-use Rattle.std.specs.Prelude.{ℕ, ℤ, pos, List, Option, Some, None, Bool, true, not, is_none, ◌+◌, ◌*◌, ◌&&◌, int_le, int_lt, nat_eq, nat_le, if◌then◌else◌, slice_index_or}
+use Rattle.std.specs.Prelude.{ℕ, ℤ, pos, List, Option, Some, None, Bool, true, not, is_none, ◌+◌, ◌*◌, ◌&&◌, int_le, int_lt, nat_eq, nat_le}
+use Rattle.std.specs.Prelude.{if◌then◌else◌, slice_index_or}
 use Rattle.std.specs.Option.{option_and_then, option_map_or}
 use Rattle.shape_font.specs.Bytes.{u16_of, u32_of, i16_of, fitting}
 use Rattle.shape_font.specs.Search.{first_at}

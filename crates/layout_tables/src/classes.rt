@@ -30,7 +30,8 @@ fn in_ranges(table: &[u8], start: usize, glyph: u32) -> u16
     }
 }
 
-/// The class of a glyph by the ClassDef table at `start`; 0 if it names none, or its format is neither 1 nor 2.
+/// The class of a glyph by the ClassDef table at `start`; 0 if it names none, or its format is
+/// neither 1 nor 2.
 #[inline(never)]
 pub fn class(table: &[u8], start: usize, glyph: u32) -> u16
     requires { start < 2 ^ 40 }

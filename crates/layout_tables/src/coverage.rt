@@ -16,8 +16,8 @@ fn nth_listed(table: &[u8], start: usize, i: u32) -> u32
     u32::from(word(table, start + 2 + 2 * i as usize))
 }
 
-/// How many glyphs the list has. Most tables have room for all that are said, which is told without a
-/// division.
+/// How many glyphs the list has. Most tables have room for all that are said, which is told without
+/// a division.
 #[tactic(auto, using(crate::proofs::SearchLemmas::glyphs_fit))]
 #[inline(always)]
 fn glyph_count(table: &[u8], start: usize) -> u32
@@ -45,8 +45,8 @@ fn range_count(table: &[u8], start: usize) -> u32
     records(table, said, start + 4, 6)
 }
 
-/// The middle one of the places from one to another. Searches count them from 1, so that no step takes 1 off before it
-/// halves.
+/// The middle one of the places from one to another. Searches count them from 1, so that no step
+/// takes 1 off before it halves.
 #[inline(always)]
 fn halfway(from: u32, end: u32) -> u32
     requires some { from ≤ end }
@@ -58,8 +58,8 @@ fn halfway(from: u32, end: u32) -> u32
 
 /// The index of a glyph in a list of glyphs.
 ///
-/// A search of its own, as that of ranges: of `search::found_within` LLVM keeps the three answers of each step apart, which
-/// takes half of the time of layout.
+/// A search of its own, as that of ranges: of `search::found_within` LLVM keeps the three answers
+/// of each step apart, which takes half of the time of layout.
 #[tactic(auto, using(crate::proofs::SearchLemmas::nowhere))]
 fn in_list(table: &[u8], start: usize, glyph: u32) -> Option<u32>
     requires { start < 2 ^ 40 }
@@ -135,8 +135,8 @@ fn index_in_range(table: &[u8], start: usize, glyph: u32, i: u32) -> u32
     u32::from(u16_at(table, at + 4)) + glyph.saturating_sub(first)
 }
 
-/// The Coverage Index of a glyph by the Coverage table at `start`; none if it does not cover the glyph, or its
-/// format is neither 1 nor 2.
+/// The Coverage Index of a glyph by the Coverage table at `start`; none if it does not cover the
+/// glyph, or its format is neither 1 nor 2.
 pub fn coverage_index(table: &[u8], start: usize, glyph: u32) -> Option<u32>
     requires { start < 2 ^ 40 }
     ensures { result ≡ Coverage.coverage_index table.now start glyph }

@@ -1,5 +1,5 @@
 //! Features of a table of lookups (`GSUB`, `GPOS`), and the lookups of each.
-ghost use Rattle.std.specs.Prelude.{◌≡◌, ◌<◌, ◌^◌, true};
+ghost use Rattle.std.specs.Prelude.{◌≡◌, ◌≢◌, ◌<◌, ◌^◌, ℕ, true};
 ghost use Rattle.std.specs.Option.{IfSome};
 ghost use Rattle.shape_font.specs.Search.{first_at};
 ghost use Rattle.layout_tables.specs.Features;
@@ -17,8 +17,8 @@ fn features(table: &[u8], list: usize) -> u32
     records(table, u32::from(u16_at(table, list)), list + 2, 6)
 }
 
-/// Where the FeatureList of a table stands, none if it has none, and how many features it has. Searches share them, and
-/// don't read them for each feature that they look at.
+/// Where the FeatureList of a table stands, none if it has none, and how many features it has.
+/// Searches share them, and don't read them for each feature that they look at.
 #[derive(Clone, Copy)]
 pub struct FeatureList {
     pub place: Option<usize>,
@@ -71,8 +71,8 @@ pub fn feature_tag(table: &[u8], index: u16) -> u32
     tag_in(table, feature_list(table), index)
 }
 
-/// The index of the feature that is on for the language system at `lang_sys` whatever is asked; none if it has none, or leads
-/// past the end of the table.
+/// The index of the feature that is on for the language system at `lang_sys` whatever is asked;
+/// none if it has none, or leads past the end of the table.
 pub fn required_feature(table: &[u8], lang_sys: usize) -> Option<u16>
     requires { lang_sys < 2 ^ 18 }
     ensures { result ≡ Features.required_feature_of table.now lang_sys }
@@ -136,8 +136,8 @@ fn feature_number(
     None
 }
 
-/// The index of the feature with this tag that the language system at `lang_sys` lists, by the table's FeatureList: the
-/// first one, if it lists several; none if it lists none, or the tag is 0.
+/// The index of the feature with this tag that the language system at `lang_sys` lists, by the
+/// table's FeatureList: the first one, if it lists several; none if it lists none, or the tag is 0.
 pub fn listed_feature(table: &[u8], list: FeatureList, lang_sys: usize, tag: u32) -> Option<u16>
     requires near_system { lang_sys < 2 ^ 18 }
     requires place { list.place ≡ header_offset_of table.now 6 }
@@ -151,7 +151,8 @@ pub fn listed_feature(table: &[u8], list: FeatureList, lang_sys: usize, tag: u32
     Some(u16_at(table, lang_sys + 6 + 2 * i as usize))
 }
 
-/// The place of a tag's bit in a digest of tags. A product spreads them, so that few of a font's share one.
+/// The place of a tag's bit in a digest of tags. A product spreads them, so that few of a font's
+/// share one.
 fn tag_place(tag: u32) -> u32
     ensures value { result ≡ Features.tag_place tag }
     ensures inside { result < 64 }
@@ -169,11 +170,13 @@ pub fn may_hold(digest: u64, tag: u32) -> bool
 }
 
 /// A digest with one tag more.
-#[tactic(auto, using(crate::proofs::DigestLemmas::bit_set, crate::proofs::DigestLemmas::set_before))]
+#[tactic(auto, using(crate::proofs::DigestLemmas::bit_set, crate::proofs::DigestLemmas::set_before, crate::proofs::DigestLemmas::other_bits))]
 #[inline]
 fn with_tag(digest: u64, tag: u32) -> u64
     ensures set { Features.may_hold result tag ≡ true }
     ensures kept { Features.KeepsTags digest result }
+    ensures others { (other : ℕ) → Features.tag_place other ≢ Features.tag_place tag
+        → Features.may_hold result other ≡ Features.may_hold digest other }
 {
     digest | 1 << tag_place(tag)
 }
@@ -196,7 +199,8 @@ fn first_tags(table: &[u8], list: FeatureList, lang_sys: usize, count: u32) -> u
     requires place { list.place ≡ header_offset_of table.now 6 }
     requires near { IfSome list.place (λ place. place < 2 ^ 16) }
     requires count { list.count ≡ Features.feature_count_of table.now }
-    ensures { Features.HoldsFirst table.now lang_sys count result }
+    ensures held { Features.HoldsFirst table.now lang_sys count result }
+    ensures only { Features.HasOnlyFirst table.now lang_sys count result }
 {
     let mut digest = 0;
     for i in 0..count {
@@ -205,23 +209,24 @@ fn first_tags(table: &[u8], list: FeatureList, lang_sys: usize, count: u32) -> u
     digest
 }
 
-/// A digest of the tags of the features that the language system at `lang_sys` lists, by the table's FeatureList: a tag that
-/// it doesn't hold need not be searched.
+/// A digest of the tags of the features that the language system at `lang_sys` lists, by the
+/// table's FeatureList: a tag that it doesn't hold need not be searched. It has no bit but theirs.
 #[tactic(auto, using(crate::proofs::DigestLemmas::first_are_listed))]
 pub fn listed_tags(table: &[u8], list: FeatureList, lang_sys: usize) -> u64
     requires near_system { lang_sys < 2 ^ 18 }
     requires place { list.place ≡ header_offset_of table.now 6 }
     requires near { IfSome list.place (λ place. place < 2 ^ 16) }
     requires count { list.count ≡ Features.feature_count_of table.now }
-    ensures { Features.HoldsListed table.now lang_sys result }
+    ensures held { Features.HoldsListed table.now lang_sys result }
+    ensures only { Features.HasOnlyListed table.now lang_sys result }
 {
     let stated = u32::from(u16_at(table, lang_sys + 4));
     let count = records(table, stated, lang_sys + 6, 2);
     first_tags(table, list, lang_sys, count)
 }
 
-/// The index of the first feature of the table with this tag, whatever the language system; none if it has none, or the tag is
-/// 0.
+/// The index of the first feature of the table with this tag, whatever the language system; none if
+/// it has none, or the tag is 0.
 #[tactic(auto, using(shape_font::proofs::SearchLemmas::first_at_next, shape_font::proofs::SearchLemmas::first_at_found, shape_font::proofs::SearchLemmas::first_at_end))]
 pub fn any_feature(table: &[u8], tag: u32) -> Option<u16>
     ensures { result ≡ Features.any_feature_of table.now tag }
@@ -235,7 +240,8 @@ pub fn any_feature(table: &[u8], tag: u32) -> Option<u16>
     None
 }
 
-/// Where the Feature table of the feature with this index stands; none if the table has no such feature.
+/// Where the Feature table of the feature with this index stands; none if the table has no such
+/// feature.
 pub fn feature(table: &[u8], index: u16) -> Option<usize>
     ensures value { result ≡ Features.feature_of table.now index }
     ensures near { IfSome result (λ feature. feature < 2 ^ 17) }

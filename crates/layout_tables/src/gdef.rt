@@ -15,7 +15,8 @@ pub fn has_glyph_classes(gdef: &[u8]) -> bool
     header_offset(gdef, 4).is_some()
 }
 
-/// The class of a glyph: 1 a base, 2 a ligature, 3 a mark, 4 a component; 0 if the table names none.
+/// The class of a glyph: 1 a base, 2 a ligature, 3 a mark, 4 a component; 0 if the table names
+/// none.
 #[inline(always)]
 pub fn glyph_class(gdef: &[u8], glyph: u32) -> u16
     ensures { result ≡ Gdef.glyph_class gdef.now glyph }
@@ -37,7 +38,8 @@ pub fn mark_attachment_class(gdef: &[u8], glyph: u32) -> u16
     }
 }
 
-/// The properties of an item: 2 of a base, 4 of a ligature, 8 of a mark with its attachment class in the upper byte.
+/// The properties of an item: 2 of a base, 4 of a ligature, 8 of a mark with its attachment class
+/// in the upper byte.
 #[inline(always)]
 pub fn glyph_props(gdef: &[u8], glyph: u32) -> u16
     ensures { result ≡ Gdef.glyph_props gdef.now glyph }

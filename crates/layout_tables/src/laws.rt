@@ -5,8 +5,8 @@ ghost use Rattle.layout_tables.specs.Coverage.{listed, ranged};
 ghost use Rattle.layout_tables.specs.Scripts.{tagged};
 ghost use Rattle.layout_tables.specs.Order.{glyph_at, glyphs_of, range_start, range_end, ranges_of, record_tag, records_of};
 
-/// In lists of glyphs in order, in ranges in order that don't meet, and in records in order of their tags, a search
-/// by midpoints finds what a walk from the first on finds.
+/// In lists of glyphs in order, in ranges in order that don't meet, and in records in order of
+/// their tags, a search by midpoints finds what a walk from the first on finds.
 pub fn searches_find_what_walks_find()
     ensures glyphs { (t : List ℕ) (start glyph : ℕ)
         → AreRangesInOrder (glyph_at t start) (glyph_at t start) (glyphs_of t start)

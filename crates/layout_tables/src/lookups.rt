@@ -6,8 +6,8 @@ ghost use Rattle.layout_tables.specs.Lookups;
 use crate::offsets::{header_offset, offset16, offset32};
 use shape_font::bytes::{records, u16_at};
 
-/// Of the flags of a lookup (OpenType, LookupFlag bit enumeration): in cursive attachment the last glyph of a sequence
-/// stands on the baseline, and not the first.
+/// Of the flags of a lookup (OpenType, LookupFlag bit enumeration): in cursive attachment the last
+/// glyph of a sequence stands on the baseline, and not the first.
 pub const RIGHT_TO_LEFT: u16 = 0x0001;
 
 /// Glyphs of class 1 are passed over.
@@ -91,7 +91,8 @@ pub fn mark_filtering_set(table: &[u8], lookup: usize) -> u16
     )
 }
 
-/// What an extension subtable at `start` stands for. A call of its own, so that the rest is inlined where subtables are tried.
+/// What an extension subtable at `start` stands for. A call of its own, so that the rest is inlined
+/// where subtables are tried.
 #[inline(never)]
 fn extended(table: &[u8], start: usize) -> Option<LookupSubtable>
     requires { start < 2 ^ 18 }
@@ -121,8 +122,9 @@ fn resolved(table: &[u8], extension: u16, kind: u16, start: usize) -> Option<Loo
     }
 }
 
-/// Subtable `i` of the lookup at `lookup`; none if its offset is NULL. A subtable of type `extension` (7 in `GSUB`,
-/// 9 in `GPOS`) stands for one of another type far away, which is returned in its place.
+/// Subtable `i` of the lookup at `lookup`; none if its offset is NULL. A subtable of type
+/// `extension` (7 in `GSUB`, 9 in `GPOS`) stands for one of another type far away, which is
+/// returned in its place.
 #[inline(always)]
 pub fn subtable(table: &[u8], extension: u16, lookup: usize, i: u32) -> Option<LookupSubtable>
     requires lookup { lookup < 2 ^ 17 }

@@ -31,8 +31,8 @@ pub fn offset32(table: &[u8], start: usize, at: usize) -> Option<usize>
     }
 }
 
-/// Where the table stands whose `Offset16` is at `at` in the header of a table of major version 1; none if it is
-/// NULL, or the version is another one.
+/// Where the table stands whose `Offset16` is at `at` in the header of a table of major version 1;
+/// none if it is NULL, or the version is another one.
 pub fn header_offset(table: &[u8], at: usize) -> Option<usize>
     requires { at < 2 ^ 40 }
     ensures value { result ≡ header_offset_of table.now at }

@@ -39,7 +39,8 @@ fn script_record(table: &[u8], tag: u32) -> Option<u32>
     record(table, header_offset(table, 4)?, tag)
 }
 
-/// Where the Script table of a script stands; none if the table lacks the script, or its offset is NULL.
+/// Where the Script table of a script stands; none if the table lacks the script, or its offset is
+/// NULL.
 fn script(table: &[u8], tag: u32) -> Option<usize>
     ensures value { result ≡ Scripts.script_of table.now tag }
     ensures near { IfSome result (λ script. script < 2 ^ 17) }
@@ -61,8 +62,9 @@ fn first_script(table: &[u8], tags: &[u32]) -> Option<u32>
     None
 }
 
-/// The script that is taken for a text whose script has these tags, the preferred one first: the first of them that
-/// the table has, else `DFLT`, `dflt` or `latn`; none if the table has none of these.
+/// The script that is taken for a text whose script has these tags, the preferred one first: the
+/// first of them that the table has, else `DFLT`, `dflt` or `latn`; none if the table has none of
+/// these.
 pub fn chosen_script(table: &[u8], tags: &[u32]) -> Option<u32>
     ensures { result ≡ Scripts.chosen_script table.now tags.now }
 {
@@ -105,9 +107,9 @@ fn chosen_record(table: &[u8], script: usize, tags: &[u32]) -> Option<u32>
     }
 }
 
-/// Where the LangSys table stands that is taken for a text whose language has these tags, the preferred one first:
-/// of the first of them that the script has, else of `dflt`, else the default one of the script. None if the table
-/// lacks the script, or the offset is NULL.
+/// Where the LangSys table stands that is taken for a text whose language has these tags, the
+/// preferred one first: of the first of them that the script has, else of `dflt`, else the default
+/// one of the script. None if the table lacks the script, or the offset is NULL.
 pub fn chosen_lang_sys(table: &[u8], script_tag: u32, tags: &[u32]) -> Option<usize>
     ensures value { result ≡ Scripts.chosen_lang_sys table.now script_tag tags.now }
     ensures near { IfSome result (λ lang_sys. lang_sys < 2 ^ 18) }

@@ -1,5 +1,5 @@
-//! Feature variations at some coordinates of a font: normalized, in units of 1/16384. Where there are none, it is the default
-//! instance.
+//! Feature variations at some coordinates of a font: normalized, in units of 1/16384. Where there
+//! are none, it is the default instance.
 ghost use Rattle.std.specs.Prelude.{◌≡◌, ◌<◌, ◌^◌, false};
 ghost use Rattle.std.specs.Option.{IfSome, ForSome};
 ghost use Rattle.shape_font.specs.Search.{first_at};
@@ -29,8 +29,8 @@ fn is_within(table: &[u8], coordinates: &[i32], at: usize) -> bool
     i16_at(table, at + 4) <= there && there <= i16_at(table, at + 6)
 }
 
-/// Whether the Condition at `at` holds. Format 2, which OpenType does not have, counts by its value at the default
-/// instance, and of formats 3 to 5, which it does not have either, none does.
+/// Whether the Condition at `at` holds. Format 2, which OpenType does not have, counts by its value
+/// at the default instance, and of formats 3 to 5, which it does not have either, none does.
 fn condition_holds(table: &[u8], coordinates: &[i32], at: usize) -> bool
     requires { at < 2 ^ 38 }
     ensures { result ≡ Variations.condition_holds table.now coordinates.now at }
@@ -67,8 +67,8 @@ fn first_failing(table: &[u8], coordinates: &[i32], set: usize, count: u32) -> O
     None
 }
 
-/// Whether all conditions of the ConditionSet at `set` hold. A set of more than 256 conditions does not, so that
-/// sets that overlap don't take more work than the bytes that are there.
+/// Whether all conditions of the ConditionSet at `set` hold. A set of more than 256 conditions does
+/// not, so that sets that overlap don't take more work than the bytes that are there.
 fn set_holds(table: &[u8], coordinates: &[i32], set: usize) -> bool
     requires { set < 2 ^ 37 }
     ensures { result ≡ Variations.set_holds table.now coordinates.now set }
@@ -142,8 +142,9 @@ fn feature_variations(table: &[u8]) -> Option<usize>
     }
 }
 
-/// Where the FeatureTableSubstitution table stands that counts at the coordinates; none if no feature varies there. Coordinates are
-/// normalized, in units of 1/16384; an axis past the last of them is at its default.
+/// Where the FeatureTableSubstitution table stands that counts at the coordinates; none if no
+/// feature varies there. Coordinates are normalized, in units of 1/16384; an axis past the last of
+/// them is at its default.
 pub fn substitution(table: &[u8], coordinates: &[i32]) -> Option<usize>
     ensures value { result ≡ Variations.substitution_of table.now coordinates.now }
     ensures near { IfSome result (λ at. at < 2 ^ 34) }
@@ -187,9 +188,9 @@ fn varied_in(table: &[u8], index: u16, at: usize) -> Option<usize>
     }
 }
 
-/// Where the Feature table of the feature with this index stands: the one that takes its place by the
-/// FeatureTableSubstitution table at `substitution`, else its own. None if the table has no such feature, or the
-/// offset is NULL.
+/// Where the Feature table of the feature with this index stands: the one that takes its place by
+/// the FeatureTableSubstitution table at `substitution`, else its own. None if the table has no
+/// such feature, or the offset is NULL.
 pub fn varied_feature(table: &[u8], substitution: Option<usize>, index: u16) -> Option<usize>
     requires { ForSome substitution (λ at. at < 2 ^ 34) }
     ensures value { result ≡ Variations.varied_feature_of table.now substitution index }

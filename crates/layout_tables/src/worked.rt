@@ -1,7 +1,8 @@
 //! The definitions, computed on bytes that were read by hand.
 ghost use Rattle.layout_tables.specs.Worked.Glyphs.{WorkedCoverage, WorkedClasses, WorkedDefinitions};
 ghost use Rattle.layout_tables.specs.Worked.Scripts.{WorkedOffsets, WorkedScriptChoice, WorkedLanguageChoice};
-ghost use Rattle.layout_tables.specs.Worked.Features.{WorkedFeatureLists, WorkedConditions, WorkedVariations};
+ghost use Rattle.layout_tables.specs.Worked.Features.{WorkedFeatureLists, WorkedConditions};
+ghost use Rattle.layout_tables.specs.Worked.Features.{WorkedTagDigests, WorkedVariations};
 ghost use Rattle.layout_tables.specs.Worked.Lookups.{WorkedLookups};
 
 /// Coverage, classes, and what `GDEF` says of glyphs.
@@ -21,6 +22,7 @@ pub fn scripts_meet_worked_cases()
 /// Features and their variations, and lookups.
 pub fn lookups_meet_worked_cases()
     ensures features { WorkedFeatureLists }
+    ensures digests { WorkedTagDigests }
     ensures conditions { WorkedConditions }
     ensures variations { WorkedVariations }
     ensures lookups { WorkedLookups }

@@ -3,3 +3,4 @@ pub mod PreservationLemmas
 pub mod DigestLemmas
 pub mod StageLemmas
 pub mod StoredLemmas
+pub mod CallLemmas

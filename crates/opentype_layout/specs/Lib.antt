@@ -7,5 +7,6 @@ pub mod Stage
 pub mod Would
 pub mod Engine
 pub mod EngineLaws
+pub mod Tries
 pub mod Worked
 pub mod Fonts

@@ -39,8 +39,8 @@ fn number_of(tag: Option<hb_tag_t>) -> Option<u32>
     }
 }
 
-/// The script of a table of lookups that is taken for a text: the first of its script's tags that the table has, or
-/// one that stands for all others.
+/// The script of a table of lookups that is taken for a text: the first of its script's tags that
+/// the table has, or one that stands for all others.
 pub fn script_in(
     table: &[u8],
     script: Option<Script>,
@@ -57,7 +57,8 @@ pub fn script_in(
     }
 }
 
-/// A table of lookups with the language system that is taken for these tags, within the script with a tag.
+/// A table of lookups with the language system that is taken for these tags, within the script with
+/// a tag.
 fn chosen_by<'a>(
     table: &'a [u8],
     coordinates: &[i32],
@@ -70,8 +71,8 @@ fn chosen_by<'a>(
     ChosenTable::new(table, coordinates, script, &numbers(tags)[..tags.len()])
 }
 
-/// A table of lookups with the language system that is taken for a text in this language, within a script of the
-/// table.
+/// A table of lookups with the language system that is taken for a text in this language, within a
+/// script of the table.
 fn chosen_in<'a>(
     table: &'a [u8],
     coordinates: &[i32],
@@ -85,7 +86,8 @@ fn chosen_in<'a>(
     chosen_by(table, coordinates, number_of(script), list.as_slice())
 }
 
-/// A table of lookups with what is taken in it for the texts of a plan, at the coordinates of the font.
+/// A table of lookups with what is taken in it for the texts of a plan, at the coordinates of the
+/// font.
 pub fn chosen_for<'a>(
     table: &'a [u8],
     coordinates: &[i32],

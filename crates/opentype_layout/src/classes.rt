@@ -10,7 +10,8 @@ use shape_buffer::{ShapeError, hb_buffer_t, hb_glyph_info_t};
 use shape_common::GlyphPropsFlags;
 use std::alloc::Global;
 
-/// What `GDEF` says of glyphs, and what it says of the first ones, stored one after the other. None need be stored.
+/// What `GDEF` says of glyphs, and what it says of the first ones, stored one after the other. None
+/// need be stored.
 #[derive(Clone, Copy)]
 pub(crate) struct GlyphClasses<'a> {
     gdef: &'a [u8],
@@ -39,8 +40,8 @@ impl<'a> GlyphClasses<'a> {
     }
 }
 
-/// What the table says of the first `count` glyphs; nothing if it has no classes. Refuses with `Memory` if a growth was
-/// refused.
+/// What the table says of the first `count` glyphs; nothing if it has no classes. Refuses with
+/// `Memory` if a growth was refused.
 pub(crate) fn props_of(alloc: Global, gdef: &[u8], count: u16) -> Result<Vec<u16>, ShapeError>
     ensures ok { IfOk result (λ props. Classes.AreProps gdef.now props.items) }
     ensures few { IfOk result (λ props. length props.items ≤ count) }

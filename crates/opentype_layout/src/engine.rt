@@ -1,5 +1,5 @@
 //! The engine.
-ghost use Rattle.std.specs.Prelude.{◌≡◌, true, MatchResult};
+ghost use Rattle.std.specs.Prelude.{◌≡◌, true, IsOk, MatchResult};
 ghost use Rattle.shape_buffer.specs.Outcome.{IsWithinLimit, Made, Outcome, step};
 ghost use Rattle.layout_digests.specs.Stored.{AreStored};
 ghost use Rattle.layout_map.specs.Map.{OtMap, map_meaning};
@@ -27,7 +27,8 @@ use shape_buffer::buffer::{
 use shape_buffer::interfaces::{TableIndex, hb_ot_layout_t, hb_ot_map_builder_t};
 use std::alloc::Global;
 
-/// The engine of OpenType layout: `GDEF`, `GSUB` and `GPOS`, and `kern` in texts that `GPOS` doesn't kern.
+/// The engine of OpenType layout: `GDEF`, `GSUB` and `GPOS`, and `kern` in texts that `GPOS`
+/// doesn't kern.
 pub struct OpenTypeLayout;
 
 /// A table of lookups.
@@ -90,7 +91,8 @@ pub(crate) fn position_by(
     }
 }
 
-/// Compiles the requests of a plan for the scripts that it has chosen. Refuses with `Memory` alone, if a growth was refused.
+/// Compiles the requests of a plan for the scripts that it has chosen. Refuses with `Memory` alone,
+/// if a growth was refused.
 pub(crate) fn compiled(
     alloc: Global,
     face: &OpenTypeFace<'_>,
@@ -225,11 +227,16 @@ impl<'a> hb_ot_layout_t<OpenTypeFace<'a>> for OpenTypeLayout {
 
     fn aat_substitute(
         _alloc: Global,
-        _map: &hb_ot_map_t,
-        _user_features: &[Feature],
-        _face: &OpenTypeFace<'a>,
-        _buffer: &mut hb_buffer_t,
-    ) -> Result<(), ShapeError> {
+        map: &hb_ot_map_t,
+        user_features: &[Feature],
+        face: &OpenTypeFace<'a>,
+        buffer: &mut hb_buffer_t,
+    ) -> Result<(), ShapeError>
+        requires { IsWithinLimit buffer.old }
+        ensures made { Outcome (step ((Engine.opentype_lookups map.now face.now).aat_substitute user_features.now))
+            buffer.old buffer.new result }
+        ensures ok { IsOk result }
+    {
         Ok(())
     }
 
@@ -273,11 +280,16 @@ impl<'a> hb_ot_layout_t<OpenTypeFace<'a>> for OpenTypeLayout {
 
     fn aat_position(
         _alloc: Global,
-        _map: &hb_ot_map_t,
-        _kern_mask: hb_mask_t,
-        _face: &OpenTypeFace<'a>,
-        _buffer: &mut hb_buffer_t,
-    ) -> Result<(), ShapeError> {
+        map: &hb_ot_map_t,
+        kern_mask: hb_mask_t,
+        face: &OpenTypeFace<'a>,
+        buffer: &mut hb_buffer_t,
+    ) -> Result<(), ShapeError>
+        requires { IsWithinLimit buffer.old }
+        ensures made { Outcome (step ((Engine.opentype_lookups map.now face.now).aat_position kern_mask))
+            buffer.old buffer.new result }
+        ensures ok { IsOk result }
+    {
         Ok(())
     }
 
@@ -286,7 +298,12 @@ impl<'a> hb_ot_layout_t<OpenTypeFace<'a>> for OpenTypeLayout {
         kern_mask: hb_mask_t,
         face: &OpenTypeFace<'a>,
         buffer: &mut hb_buffer_t,
-    ) -> Result<(), ShapeError> {
+    ) -> Result<(), ShapeError>
+        requires { IsWithinLimit buffer.old }
+        ensures made { (map : OtMap) → Outcome (step ((Engine.opentype_lookups map face.now).kern kern_mask))
+            buffer.old buffer.new result }
+        ensures ok { IsOk result }
+    {
         kern_table(face.kern(), kern_mask, buffer);
         Ok(())
     }

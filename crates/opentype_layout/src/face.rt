@@ -9,9 +9,9 @@ use shape_buffer::{GlyphId, hb_font_t, hb_glyph_extents_t, hb_tables_t};
 use shape_font::FontFace;
 use shape_font::bytes::u16_at;
 
-/// A font file as OpenType layout sees it: a [`FontFace`] without tables that this engine doesn't read. So no plan
-/// leaves kerning or marks to a table (`morx`, `kerx`, `trak`, or tables of lookups of a version to come) that nobody
-/// reads.
+/// A font file as OpenType layout sees it: a [`FontFace`] without tables that this engine doesn't
+/// read. So no plan leaves kerning or marks to a table (`morx`, `kerx`, `trak`, or tables of
+/// lookups of a version to come) that nobody reads.
 #[derive(Clone, Copy)]
 pub struct OpenTypeFace<'a> {
     font: FontFace<'a>,
@@ -59,8 +59,8 @@ impl<'a> OpenTypeFace<'a> {
         }
     }
 
-    /// The font with this number in a collection, or number 0, the one of a file of one font. None if the file has no
-    /// such font, or its em square is empty.
+    /// The font with this number in a collection, or number 0, the one of a file of one font. None
+    /// if the file has no such font, or its em square is empty.
     pub fn from_slice(bytes: &'a [u8], index: u32) -> Option<Self>
         ensures found { is_some result ≡ nat_lt 0 (units_of bytes.now index) }
         ensures face { IfSome result (λ face. IsFaceOf bytes.now index face) }

@@ -18,8 +18,8 @@ use layout_tables::offsets::{header_offset, offset16};
 use shape_buffer::ShapeError;
 use std::alloc::Global;
 
-/// The tables that lookups read: `GSUB`, or `GPOS` if `positioning`, and `GDEF`; and the coordinates
-/// of the font, with what devices of `GPOS` may cost there.
+/// The tables that lookups read: `GSUB`, or `GPOS` if `positioning`, and `GDEF`; and the
+/// coordinates of the font, with what devices of `GPOS` may cost there.
 #[derive(Clone, Copy)]
 pub struct LookupTables<'a> {
     pub table: &'a [u8],
@@ -36,7 +36,8 @@ pub struct Stored<'a> {
     pub firsts: &'a [First],
 }
 
-/// The list of lookups of a table, read once for all lookups of a stage: where it stands, and how many it has.
+/// The list of lookups of a table, read once for all lookups of a stage: where it stands, and how
+/// many it has.
 #[derive(Clone, Copy)]
 pub(crate) struct LookupList {
     place: Option<usize>,
@@ -101,7 +102,8 @@ fn made_ready<'a>(tables: LookupTables<'a>, map: &LookupMap, head: &Head) -> Loo
     }
 }
 
-/// The head of the lookup with this index, as the table has it; none if it has no such lookup. Where a face is opened none is read.
+/// The head of the lookup with this index, as the table has it; none if it has no such lookup.
+/// Where a face is opened none is read.
 #[inline(never)]
 fn head_in(table: &[u8], list: LookupList, index: u16) -> Option<Head>
     requires list { Lookups.IsListOf table.now list }
@@ -115,7 +117,8 @@ fn head_in(table: &[u8], list: LookupList, index: u16) -> Option<Head>
     }
 }
 
-/// What is stored of the lookup with this index; if nothing is, its head and a digest of all glyphs.
+/// What is stored of the lookup with this index; if nothing is, its head and a digest of all
+/// glyphs.
 #[inline(always)]
 pub(crate) fn stored_at(
     tables: LookupTables<'_>,
@@ -143,8 +146,8 @@ pub(crate) fn stored_at(
     }
 }
 
-/// A lookup with the use that a plan makes of it, and its digest; none if the table has no such lookup. Inlined, since what it
-/// returns would be copied twice.
+/// A lookup with the use that a plan makes of it, and its digest; none if the table has no such
+/// lookup. Inlined, since what it returns would be copied twice.
 #[tactic(auto, using(crate::proofs::StoredLemmas::known_none, crate::proofs::StoredLemmas::known_some))]
 #[inline(always)]
 pub(crate) fn digested<'a>(
@@ -174,8 +177,8 @@ pub(crate) fn digested<'a>(
     })
 }
 
-/// Appends a lookup with the use that a plan makes of it, if the table has it. Refuses with `Memory` if a growth was
-/// refused.
+/// Appends a lookup with the use that a plan makes of it, if the table has it. Refuses with
+/// `Memory` if a growth was refused.
 fn append<'a>(
     lookups: &mut Vec<Digested<'a>>,
     tables: LookupTables<'a>,
@@ -199,8 +202,8 @@ fn append<'a>(
     Ok(())
 }
 
-/// The lookups of a stage, each with a digest of the glyphs that it may begin at. Refuses with `Memory` if a growth was
-/// refused.
+/// The lookups of a stage, each with a digest of the glyphs that it may begin at. Refuses with
+/// `Memory` if a growth was refused.
 pub fn lookups<'a>(
     alloc: Global,
     tables: LookupTables<'a>,

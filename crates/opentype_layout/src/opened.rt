@@ -16,9 +16,11 @@ use shape_buffer::{GlyphId, ShapeError, hb_font_t, hb_glyph_extents_t, hb_tables
 use std::alloc::Global;
 use std::marker::Model;
 
-/// A face over the bytes of a font file with tables beside it: those of [`OpenedFace`], for each glyph what `GDEF` says of it, in
-/// 2 bytes, for each lookup of `GSUB` and `GPOS` what it begins with and a digest of the glyphs that it may begin at, in 88 bytes with
-/// the place of those of its subtables, and for these 24 each. It returns what the [`OpenTypeFace`] returns, and contracts see it as that face.
+/// A face over the bytes of a font file with tables beside it: those of [`OpenedFace`], for each
+/// glyph what `GDEF` says of it, in 2 bytes, for each lookup of `GSUB` and `GPOS` what it begins
+/// with and a digest of the glyphs that it may begin at, in 88 bytes with the place of those of its
+/// subtables, and for these 24 each. It returns what the [`OpenTypeFace`] returns, and contracts
+/// see it as that face.
 #[derive(Drop)]
 pub struct OpenedOpenTypeFace<'a> {
     face: OpenTypeFace<'a>,
@@ -40,8 +42,9 @@ impl<'a> Model for OpenedOpenTypeFace<'a> {
 }
 
 impl<'a> OpenedOpenTypeFace<'a> {
-    /// Opens a face: stores the pages of its character map, the advances and classes of its glyphs, and the digests of its lookups. Takes time in
-    /// step with the bytes of the tables, whatever they are. Refuses with `Memory` if a growth was refused.
+    /// Opens a face: stores the pages of its character map, the advances and classes of its glyphs,
+    /// and the digests of its lookups. Takes time in step with the bytes of the tables, whatever
+    /// they are. Refuses with `Memory` if a growth was refused.
     pub fn new(alloc: Global, face: OpenTypeFace<'a>) -> Result<OpenedOpenTypeFace<'a>, ShapeError>
         ensures ok { IfOk result (λ opened. opened ≡ face.entry) }
         ensures memory { IsOkUnless result ShapeError.Memory }

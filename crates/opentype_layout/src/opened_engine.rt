@@ -1,7 +1,7 @@
-//! The engine over the face that is opened once: what it makes is what it makes over the face below, and lookups are passed
-//! over by their digests.
-ghost use Rattle.std.specs.Prelude.{◌≡◌};
-ghost use Rattle.shape_buffer.specs.Outcome.{Made};
+//! The engine over the face that is opened once: what it makes is what it makes over the face
+//! below, and lookups are passed over by their digests.
+ghost use Rattle.std.specs.Prelude.{◌≡◌, IsOk};
+ghost use Rattle.shape_buffer.specs.Outcome.{IsWithinLimit, Made, Outcome, step};
 ghost use Rattle.layout_map.specs.Map.{OtMap, map_meaning};
 ghost use Rattle.opentype_layout.specs.declared.face.OpenTypeFace.{OpenTypeFace as Face};
 ghost use Rattle.opentype_layout.specs.Engine.{opentype_layout, opentype_lookups};
@@ -140,11 +140,16 @@ impl<'a> hb_ot_layout_t<OpenedOpenTypeFace<'a>> for OpenTypeLayout {
 
     fn aat_substitute(
         _alloc: Global,
-        _map: &hb_ot_map_t,
-        _user_features: &[Feature],
-        _face: &OpenedOpenTypeFace<'a>,
-        _buffer: &mut hb_buffer_t,
-    ) -> Result<(), ShapeError> {
+        map: &hb_ot_map_t,
+        user_features: &[Feature],
+        face: &OpenedOpenTypeFace<'a>,
+        buffer: &mut hb_buffer_t,
+    ) -> Result<(), ShapeError>
+        requires { IsWithinLimit buffer.old }
+        ensures made { Outcome (step ((opentype_lookups map.now face.now).aat_substitute user_features.now))
+            buffer.old buffer.new result }
+        ensures ok { IsOk result }
+    {
         Ok(())
     }
 
@@ -185,11 +190,16 @@ impl<'a> hb_ot_layout_t<OpenedOpenTypeFace<'a>> for OpenTypeLayout {
 
     fn aat_position(
         _alloc: Global,
-        _map: &hb_ot_map_t,
-        _kern_mask: hb_mask_t,
-        _face: &OpenedOpenTypeFace<'a>,
-        _buffer: &mut hb_buffer_t,
-    ) -> Result<(), ShapeError> {
+        map: &hb_ot_map_t,
+        kern_mask: hb_mask_t,
+        face: &OpenedOpenTypeFace<'a>,
+        buffer: &mut hb_buffer_t,
+    ) -> Result<(), ShapeError>
+        requires { IsWithinLimit buffer.old }
+        ensures made { Outcome (step ((opentype_lookups map.now face.now).aat_position kern_mask))
+            buffer.old buffer.new result }
+        ensures ok { IsOk result }
+    {
         Ok(())
     }
 
@@ -198,7 +208,12 @@ impl<'a> hb_ot_layout_t<OpenedOpenTypeFace<'a>> for OpenTypeLayout {
         kern_mask: hb_mask_t,
         face: &OpenedOpenTypeFace<'a>,
         buffer: &mut hb_buffer_t,
-    ) -> Result<(), ShapeError> {
+    ) -> Result<(), ShapeError>
+        requires { IsWithinLimit buffer.old }
+        ensures made { (map : OtMap) → Outcome (step ((opentype_lookups map face.now).kern kern_mask))
+            buffer.old buffer.new result }
+        ensures ok { IsOk result }
+    {
         let kern = face.face().kern();
         kern_table_by(kern, face.pair_sides(), kern_mask, buffer);
         Ok(())

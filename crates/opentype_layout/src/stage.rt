@@ -1,8 +1,8 @@
 //! A stage of substitution: lookups of a plan one after the other, in their order.
 //!
-//! Most lookups of a stage find no glyph of the text. What is stored of a lookup tells that at once: then it is charged for its
-//! walk, and nothing of it is made ready. Only where a lookup meets a glyph are the items taken over into a buffer that edits in
-//! linear time.
+//! Most lookups of a stage find no glyph of the text. What is stored of a lookup tells that at
+//! once: then it is charged for its walk, and nothing of it is made ready. Only where a lookup
+//! meets a glyph are the items taken over into a buffer that edits in linear time.
 ghost use Rattle.std.specs.Prelude.{◌≡◌, ◌<◌, ◌≤◌, ◌^◌, ℕ, List, min, length, true, false, OnOk, IfOk, IsErrOf, IsOkUnless};
 ghost use Rattle.std.specs.Option.{IfSome};
 ghost use Rattle.shape_items.specs.Items.{Item};
@@ -28,7 +28,8 @@ use layout_substitution::apply::Spot;
 use shape_buffer::{ShapeError, hb_buffer_t, hb_glyph_info_t};
 use std::alloc::Global;
 
-/// The lookups of a stage: the tables that they read, where their list stands, what is stored of them, and how a plan uses them.
+/// The lookups of a stage: the tables that they read, where their list stands, what is stored of
+/// them, and how a plan uses them.
 #[derive(Clone, Copy)]
 pub(crate) struct StageLookups<'a> {
     pub tables: LookupTables<'a>,
@@ -63,7 +64,8 @@ fn steps_work_by(head: &Head, random: bool) -> usize
     }
 }
 
-/// What is left after a lookup that finds none of so many glyphs of a digest, or that can't be paid; none of any other one.
+/// What is left after a lookup that finds none of so many glyphs of a digest, or that can't be
+/// paid; none of any other one.
 #[inline(always)]
 fn left_if_idle(
     stage: &StageLookups<'_>,
@@ -130,7 +132,8 @@ fn left_if_unmet(
     }
 }
 
-/// The first lookup of a stage that meets an item of a buffer, if one does, and what is left after those before it.
+/// The first lookup of a stage that meets an item of a buffer, if one does, and what is left after
+/// those before it.
 fn first_met(stage: &StageLookups<'_>, run: &Digest, buffer: &hb_buffer_t) -> Progress
     requires ready { Stages.AreReady stage.now }
     requires run { HoldsGlyphs run.now buffer.now.items }
@@ -291,8 +294,9 @@ fn apply_stage(
     Ok(())
 }
 
-/// Applies the lookups of a stage of substitution, with what is stored of the table's. Refuses with `Length` if the list passes
-/// the limit of the run, and with `Memory` if a growth of the list, or of the places of a rule, was refused.
+/// Applies the lookups of a stage of substitution, with what is stored of the table's. Refuses with
+/// `Length` if the list passes the limit of the run, and with `Memory` if a growth of the list, or
+/// of the places of a rule, was refused.
 pub(crate) fn substitute_by(
     alloc: Global,
     tables: LookupTables<'_>,

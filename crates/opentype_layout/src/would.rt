@@ -33,8 +33,8 @@ fn some_would(table: &[u8], alone: Alone<'_>, maps: &[LookupMap]) -> bool
     false
 }
 
-/// Whether a lookup of `GSUB` in the stage of a feature would substitute exactly these glyphs; none would if the map lacks the
-/// feature.
+/// Whether a lookup of `GSUB` in the stage of a feature would substitute exactly these glyphs; none
+/// would if the map lacks the feature.
 pub(crate) fn feature_would(
     table: &[u8],
     map: &hb_ot_map_t,

@@ -1,6 +1,7 @@
 -- Sets of glyphs, and the glyphs that subtables begin at, worked out by hand.
-use Rattle.std.specs.Prelude.{◌≡◌, ℕ, true, false, List, [], ◌∷◌, map, refl}
+use Rattle.std.specs.Prelude.{◌≡◌, ℕ, true, false, List, [], ◌∷◌, ◌++◌, map, refl}
 use Rattle.std.proofs.Common.{lit<, arith}
+use Rattle.shape_font.specs.Worked.Glyphs.{words}
 use Rattle.layout_tables.specs.declared.lookups.LookupSubtable.{LookupSubtable}
 use Rattle.layout_matching.specs.declared.firsts.First.{First}
 use Rattle.layout_digests.specs.Coverages.{listed_count, range_count}
@@ -33,6 +34,15 @@ pub record WorkedDigests : Type 0 where
   pub not_by_coarse : has (record of_one { coarse = 0 }) 4660 ≡ false
   -- 32768 further on all six come again
   pub not_put_in : has of_one 37428 ≡ true
+  -- the bits of 511 are 63, 63 (of 255), 63 (of 127), 31, 7 and 0
+  pub last_of_a_512th : has (record {
+    fine = 0x8000000000000000;
+    halves = 0x8000000000000000;
+    quarters = 0x8000000000000000;
+    middle = 0x80000000;
+    blocks = 0x80;
+    coarse = 1;
+  }) 511 ≡ true
   -- the three words that are stored for a subtable
   pub words_its_glyph : may_begin words_of_one 4660 ≡ true
   pub words_of_another_number : may_begin words_of_one 4661 ≡ false
@@ -57,6 +67,7 @@ worked_digests = record {
   not_by_blocks = refl;
   not_by_coarse = refl;
   not_put_in = refl;
+  last_of_a_512th = refl;
   words_its_glyph = refl;
   words_of_another_number = refl;
   words_of_another_sixteenth = refl;
@@ -87,11 +98,18 @@ pub record WorkedFirsts : Type 0 where
   pub extensions : map extension_kind (false ∷ true ∷ []) ≡ 7 ∷ 9 ∷ []
   pub of_a_list : map (begins_at single false (at 1 8)) (4 ∷ 5 ∷ 6 ∷ []) ≡ false ∷ true ∷ false ∷ []
   pub of_a_context : map (begins_at context false (at 5 0)) (4 ∷ 5 ∷ []) ≡ false ∷ true ∷ []
+  -- a context of format 1, whose list at 6 has glyph 5
+  pub of_a_context_by_glyphs : map (begins_at (words (1 ∷ 6 ∷ 0 ∷ 1 ∷ 1 ∷ 5 ∷ [])) false (at 5 0)) (4 ∷ 5 ∷ []) ≡ false ∷ true ∷ []
   pub of_a_chain : map (begins_at chain false (at 6 0)) (4 ∷ 5 ∷ []) ≡ false ∷ true ∷ []
   pub of_a_chain_of_positions : map (begins_at chain true (at 8 0)) (4 ∷ 5 ∷ []) ≡ false ∷ true ∷ []
   -- four glyphs are stated and two are there; two ranges and one
   pub listed : listed_count (0 ∷ 1 ∷ 0 ∷ 4 ∷ 0 ∷ 5 ∷ 0 ∷ 9 ∷ []) 0 ≡ 2
+  -- one is stated
+  pub listed_stated : listed_count (words (1 ∷ 1 ∷ 5 ∷ 9 ∷ [])) 0 ≡ 1
   pub ranges : range_count (0 ∷ 2 ∷ 0 ∷ 2 ∷ 0 ∷ 5 ∷ 0 ∷ 9 ∷ 0 ∷ 0 ∷ []) 0 ≡ 1
+  pub listed_no_room : listed_count (words (1 ∷ 4 ∷ []) ++ 7 ∷ []) 0 ≡ 0
+  pub ranges_stated : range_count (words (2 ∷ 1 ∷ 5 ∷ 9 ∷ 0 ∷ 10 ∷ 11 ∷ 5 ∷ [])) 0 ≡ 1
+  pub no_room_for_a_range : range_count (words (2 ∷ 4 ∷ 5 ∷ 9 ∷ []) ++ 0 ∷ []) 0 ≡ 0
   pub none : AreDigests [] false []
   pub of_the_lookup : (d : Digest) → IsDigest single false 0 d → has d 5 ≡ true
 
@@ -104,10 +122,15 @@ worked_firsts = record {
   extensions = refl;
   of_a_list = refl;
   of_a_context = refl;
+  of_a_context_by_glyphs = refl;
   of_a_chain = refl;
   of_a_chain_of_positions = refl;
   listed = refl;
+  listed_stated = refl;
   ranges = refl;
+  listed_no_room = refl;
+  ranges_stated = refl;
+  no_room_for_a_range = refl;
   none = λ index less. absurd (omega (arith, less));
   of_the_lookup = λ d is. is 0 (lit< tt) (at 1 8) 5 refl refl;
 }

@@ -3,8 +3,10 @@ use Rattle.std.specs.Prelude.{◌≡◌, ℕ, Bool, List, [], ◌∷◌, true, f
 use Rattle.shape_font.specs.Worked.Glyphs.{words}
 use Rattle.shape_items.specs.Items.{Item, new_item, new_properties}
 use Rattle.layout_tables.specs.declared.lookups.LookupSubtable.{LookupSubtable}
-use Rattle.layout_matching.specs.Glance.{value_of, glance_of, any_glyph, glance_after, glance_before, glances_of, glances_in, plain_refused, chain_refused, is_refused}
+use Rattle.layout_matching.specs.Glance.{value_of, glance_of, any_glyph, glance_after, glance_before, glances_of, glances_in, plain_refused}
+use Rattle.layout_matching.specs.Glance.{chain_refused, is_refused}
 use Rattle.layout_matching.specs.Rules.{row}
+use Rattle.layout_matching.specs.Sifted.{is_out}
 use Rattle.layout_matching.specs.declared.glance.Glance.{Glance}
 use Rattle.layout_matching.specs.declared.glance.Glance.TheVariants.{Open, Closed, Only}
 use Rattle.layout_matching.specs.declared.glance.Glances.{Glances}
@@ -67,6 +69,10 @@ second_of test = record { row = row test 0 2 20; is_input = true; syllable = 0 }
 abbrev pub of_kind : ℕ → LookupSubtable
 of_kind kind = record { kind = kind; start = 0 }
 
+-- a set at 0: a NULL offset, and ligatures with glyph 5 and with glyph 6
+abbrev pub three_ligatures : List ℕ
+three_ligatures = words (3 ∷ 0 ∷ 8 ∷ 14 ∷ 9 ∷ 2 ∷ 5 ∷ 9 ∷ 2 ∷ 6 ∷ [])
+
 pub record WorkedGlance : Type 0 where
   pub value_of_a_glyph : value_of class_lists 0 6 Glyph ≡ Only 6
   pub value_of_its_class : value_of class_lists 0 6 Class ≡ Only 3
@@ -109,6 +115,10 @@ pub record WorkedGlance : Type 0 where
   -- one glyph before, as a chained rule; one glyph alone, as a rule that isn't
   pub as_chained : is_refused one_of_each (around (Only 3) Closed Open) true 0 ≡ true
   pub as_plain : is_refused one_of_each (around (Only 3) Closed Open) false 0 ≡ false
+  -- ligatures of a set, before glyph 6
+  pub null_ligature : is_out three_ligatures (Only 6) 0 0 ≡ true
+  pub another_ligature : is_out three_ligatures (Only 6) 0 1 ≡ true
+  pub its_ligature : is_out three_ligatures (Only 6) 0 2 ≡ false
 
 pub worked_glance : WorkedGlance
 worked_glance = record {
@@ -147,4 +157,7 @@ worked_glance = record {
   another_of_two = refl;
   as_chained = refl;
   as_plain = refl;
+  null_ligature = refl;
+  another_ligature = refl;
+  its_ligature = refl;
 }

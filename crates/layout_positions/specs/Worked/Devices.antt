@@ -141,7 +141,9 @@ pub record WorkedDevices : Type 0 where
   pub work_before_version_1_3 : work_of (gdef 1 2 18) there ≡ 0
 
 pub worked_devices : WorkedDevices
-unfolding i16_of ◌+ʷ◌ int_wrap ones font.i8_of font.i16_of font.i32_of delta_of part_of delta_in rounded round_with region_scalar axis_scalar tent ratio div mul add sum eq to_signed of_int round size span climb units odd count_trailing_zeros of_bits of_fields
+unfolding i16_of ◌+ʷ◌ int_wrap ones font.i8_of font.i16_of font.i32_of delta_of part_of delta_in rounded
+    round_with region_scalar axis_scalar tent ratio div mul add sum eq to_signed of_int round size span climb
+    units odd count_trailing_zeros of_bits of_fields
 worked_devices = record {
   x_placed = λ _. refl;
   y_placed = λ _. refl;

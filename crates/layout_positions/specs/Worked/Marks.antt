@@ -8,7 +8,8 @@ use Rattle.shape_items.specs.Items.{Item}
 use Rattle.layout_tables.specs.declared.lookups.LookupSubtable.{LookupSubtable}
 use Rattle.layout_matching.specs.declared.lookup.Lookup.{Lookup}
 use Rattle.layout_positions.specs.Lookups.{Applied}
-use Rattle.layout_positions.specs.Marks.{base_of, base_work, search_work, seek_work, mark_base_applied, mark_ligature_applied, mark_mark_applied, for_marks, is_base_seen}
+use Rattle.layout_positions.specs.Marks.{base_of, base_work, search_work, seek_work, mark_base_applied, mark_ligature_applied, mark_mark_applied}
+use Rattle.layout_positions.specs.Marks.{for_marks, is_base_seen}
 use Rattle.layout_positions.specs.Walk.{none_seen}
 use Rattle.layout_positions.specs.Worked.Lines.{base, mark, ligature, mark_on, component_of, ignorable, line, offsets, chains, masks}
 use Rattle.layout_positions.specs.Worked.Pairs.{IsLookup}

@@ -48,7 +48,7 @@ pairs_of_classes firsts seconds = 0 ∷ 2 ∷ 0 ∷ 24 ∷ 0 ∷ 4 ∷ 0 ∷ 0 �
     ∷ 0 ∷ 1 ∷ 0 ∷ 2 ∷ 0 ∷ 3 ∷ 0 ∷ 4
     ∷ (list ++ (0 ∷ 1 ∷ 0 ∷ 3 ∷ 0 ∷ 1 ∷ 0 ∷ 1 ∷ 0 ∷ 1 ∷ 0 ∷ 5 ∷ 0 ∷ 1 ∷ 0 ∷ 1 ∷ []))
 
-abbrev pairs_two : List ℕ
+abbrev pub pairs_two : List ℕ
 pairs_two = pairs_of_classes 2 2
 
 -- format 2 without lists of classes, so that all glyphs are of class 0, and one value

@@ -8,7 +8,7 @@ use Rattle.shape_common.specs.Wrapping.{◌+ʷ◌, ◌-ʷ◌}
 use Rattle.shape_font.specs.Bytes.{i16_of}
 use Rattle.layout_matching.specs.declared.lookup.Lookup.{Lookup}
 use Rattle.layout_positions.specs.Anchors.{anchor_at, anchor_by, anchor_in, class_of_mark, anchor_of_mark}
-use Rattle.layout_positions.specs.Values.{value_size, no_devices, value_at, value_in, adjusted, has_effect}
+use Rattle.layout_positions.specs.Values.{value_size, advance_only, no_devices, value_at, value_in, adjusted, has_effect}
 use Rattle.layout_positions.specs.Worked.Lines.{over, varying}
 use Rattle.layout_positions.specs.declared.values.Adjustment.{Adjustment}
 
@@ -25,6 +25,7 @@ pub record WorkedValues : Type 0 where
   pub nothing : (l : Lookup) → value_at (over numbers l) 0 0 0 ≡ adjustment (pos 0) (pos 0) (pos 0) (pos 0)
   pub all : (l : Lookup) → value_at (over numbers l) 15 0 0 ≡ adjustment (pos 10) (negsuc 19) (pos 30) (negsuc 39)
   pub advance_alone : (l : Lookup) → value_at (over numbers l) 4 0 0 ≡ adjustment (pos 0) (pos 0) (pos 10) (pos 0)
+  pub of_an_advance : advance_only (pos 10) ≡ adjustment (pos 0) (pos 0) (pos 10) (pos 0)
   pub lower_bits_first : (l : Lookup) → value_at (over numbers l) 10 0 0 ≡ adjustment (pos 0) (pos 10) (pos 0) (negsuc 19)
   pub devices_passed_over : (l : Lookup) → value_at (varying numbers [] [] l) 0xF5 0 0 ≡ adjustment (pos 10) (pos 0) (negsuc 19) (pos 0)
   pub past_the_end : (l : Lookup) → value_at (over numbers l) 3 0 6 ≡ adjustment (negsuc 39) (pos 0) (pos 0) (pos 0)
@@ -53,6 +54,7 @@ worked_values = record {
   nothing = λ _. refl;
   all = λ _. refl;
   advance_alone = λ _. refl;
+  of_an_advance = refl;
   lower_bits_first = λ _. refl;
   devices_passed_over = λ _. refl;
   past_the_end = λ _. refl;

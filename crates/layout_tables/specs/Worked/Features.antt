@@ -1,9 +1,11 @@
 -- Features and their variations, on tables that were read by hand.
 use Prim.Native.Nat.{zero}
-use Rattle.std.specs.Prelude.{◌≡◌, ℕ, suc, pos, negsuc, List, [], ◌∷◌, ◌++◌, Some, None, true, false, refl}
+use Rattle.std.specs.Prelude.{◌≡◌, ℕ, suc, pos, negsuc, List, [], ◌∷◌, ◌++◌, Some, None, true, false, map, refl}
 use Rattle.shape_font.specs.Bytes.{i16_of}
 use Rattle.shape_font.specs.Worked.Glyphs.{words}
-use Rattle.layout_tables.specs.Features.{feature_count_of, feature_tag_of, required_feature_of, feature_index_of, any_feature_of, feature_of, feature_lookup_count_of, feature_lookup_of}
+use Rattle.layout_tables.specs.Features.{tag_place, may_hold, feature_count_of, feature_tag_of, required_feature_of, feature_index_of, any_feature_of}
+use Rattle.layout_tables.specs.Features.{feature_of, feature_lookup_count_of, feature_lookup_of}
+use Rattle.layout_tables.specs.Features.{KeepsTags, HoldsListed, HasOnlyFirst, HasOnlyListed}
 use Rattle.layout_tables.specs.Variations.{condition_holds, set_holds, substitution_of, varied_feature_of}
 
 -- tags
@@ -29,6 +31,10 @@ same_tags = words (1 ∷ 0 ∷ 0 ∷ 10 ∷ 0 ∷ 2 ∷ 0x6B65 ∷ 0x726E ∷ 14
 pub record WorkedFeatureLists : Type 0 where
   pub count : feature_count_of two_features ≡ 2
   pub count_cut : feature_count_of (words (1 ∷ 0 ∷ 0 ∷ 10 ∷ 0 ∷ 9 ∷ 0 ∷ 0 ∷ 0 ∷ 0 ∷ 0 ∷ [])) ≡ 1
+  -- 5 bytes are no record, 6 are one
+  pub no_room_for_a_feature : feature_count_of (words (1 ∷ 0 ∷ 0 ∷ 10 ∷ 0 ∷ 1 ∷ 0 ∷ 0 ∷ []) ++ 0 ∷ []) ≡ 0
+  pub just_room : feature_count_of (words (1 ∷ 0 ∷ 0 ∷ 10 ∷ 0 ∷ 1 ∷ 0 ∷ 0 ∷ 0 ∷ [])) ≡ 1
+  pub tag_without_list : feature_tag_of [] 0 ≡ 0
   pub other_version : feature_count_of (words (2 ∷ 0 ∷ 0 ∷ 10 ∷ 0 ∷ 1 ∷ 0 ∷ 0 ∷ 0 ∷ [])) ≡ 0
   pub first_tag : feature_tag_of two_features 0 ≡ KERN
   pub second_tag : feature_tag_of two_features 1 ≡ LIGA
@@ -45,6 +51,11 @@ pub record WorkedFeatureLists : Type 0 where
   -- a language system that lists feature 5, which the table doesn't have
   pub tag_0 : feature_index_of (two_features ++ words (0 ∷ 65535 ∷ 1 ∷ 5 ∷ [])) 60 0 ≡ None
   pub tag_0_of_all : any_feature_of (words (1 ∷ 0 ∷ 0 ∷ 10 ∷ 0 ∷ 1 ∷ 0 ∷ 0 ∷ 14 ∷ [])) 0 ≡ None
+  pub tag_1 : any_feature_of (words (1 ∷ 0 ∷ 0 ∷ 10 ∷ 0 ∷ 1 ∷ 0 ∷ 1 ∷ 14 ∷ [])) 1 ≡ Some 0
+  -- a language system that lists features 0, 0 and 1, and one that lists 1 and says that there are nine
+  pub listed_third : feature_index_of (two_features ++ words (0 ∷ 65535 ∷ 3 ∷ 0 ∷ 0 ∷ 1 ∷ [])) 60 LIGA ≡ Some 1
+  pub listed_last : feature_index_of (two_features ++ words (0 ∷ 65535 ∷ 9 ∷ 1 ∷ [])) 60 LIGA ≡ Some 1
+  pub past_the_end_of_the_list : feature_index_of (two_features ++ words (0 ∷ 65535 ∷ 9 ∷ 1 ∷ [])) 60 KERN ≡ None
   pub first_of_two : feature_index_of same_tags 24 KERN ≡ Some 1
   pub first_of_all : any_feature_of same_tags KERN ≡ Some 0
   pub of_all : any_feature_of two_features LIGA ≡ Some 1
@@ -56,11 +67,33 @@ pub record WorkedFeatureLists : Type 0 where
   pub first_lookup : feature_lookup_of two_features 30 0 ≡ 3
   pub second_lookup : feature_lookup_of two_features 30 1 ≡ 9
   pub lookups_cut : feature_lookup_count_of (words (0 ∷ 9 ∷ 5 ∷ [])) 0 ≡ 1
+  pub no_room_for_a_lookup : feature_lookup_count_of (words (0 ∷ 9 ∷ []) ++ 5 ∷ []) 0 ≡ 0
+  -- the bit of a tag in a digest: the upper six bits of its product with 0x9E3779B1 in 32 bits
+  pub bits_of_tags : map tag_place (KERN ∷ LIGA ∷ 1 ∷ 0 ∷ []) ≡ 43 ∷ 54 ∷ 39 ∷ 0 ∷ []
+  -- a digest of `kern`, one of `liga`, and one of both
+  pub holds_kern : map (λ digest. may_hold digest KERN) (0x80000000000 ∷ 0x40000000000000 ∷ 0x40080000000000 ∷ 0 ∷ [])
+      ≡ true ∷ false ∷ true ∷ false ∷ []
+  pub holds_liga : map (λ digest. may_hold digest LIGA) (0x80000000000 ∷ 0x40000000000000 ∷ 0x40080000000000 ∷ 0 ∷ [])
+      ≡ false ∷ true ∷ true ∷ false ∷ []
+
+-- digests of what a language system lists: the one at 50 lists `liga` alone, that at 38 both
+pub record WorkedTagDigests : Type 0 where
+  pub only_liga : HasOnlyListed two_features 50 0x40000000000000
+  pub not_kern : HasOnlyListed two_features 50 0x40080000000000 → ⊥
+  pub of_none : HasOnlyFirst two_features 38 0 0
+  -- the first of the three that are listed is `liga`
+  pub not_the_second : HasOnlyFirst two_features 38 1 0x80000000000 → ⊥
+  pub not_held : HoldsListed two_features 38 0x80000000000 → ⊥
+  pub lost : KeepsTags 0x40080000000000 0x80000000000 → ⊥
 
 pub worked_feature_lists : WorkedFeatureLists
+unfolding may_hold
 worked_feature_lists = record {
   count = refl;
   count_cut = refl;
+  no_room_for_a_feature = refl;
+  just_room = refl;
+  tag_without_list = refl;
   other_version = refl;
   first_tag = refl;
   second_tag = refl;
@@ -75,6 +108,10 @@ worked_feature_lists = record {
   past_the_list = refl;
   tag_0 = refl;
   tag_0_of_all = refl;
+  tag_1 = refl;
+  listed_third = refl;
+  listed_last = refl;
+  past_the_end_of_the_list = refl;
   first_of_two = refl;
   first_of_all = refl;
   of_all = refl;
@@ -86,6 +123,10 @@ worked_feature_lists = record {
   first_lookup = refl;
   second_lookup = refl;
   lookups_cut = refl;
+  no_room_for_a_lookup = refl;
+  bits_of_tags = refl;
+  holds_kern = refl;
+  holds_liga = refl;
 }
 
 -- the header of a minor version, with one feature whose table is at 22 (in the place of the header of feature variations)
@@ -125,12 +166,17 @@ pub record WorkedConditions : Type 0 where
   pub below_the_default : condition_holds (words (1 ∷ 0 ∷ 0xC000 ∷ 0xE000 ∷ [])) (negsuc 0x2FFF ∷ []) 0 ≡ true
   pub no_such_axis : condition_holds (words (1 ∷ 1 ∷ 0x1000 ∷ 0x2000 ∷ [])) (pos 0x1800 ∷ []) 0 ≡ false
   pub other_format : condition_holds (words (3 ∷ 1 ∷ 0 ∷ 0 ∷ [])) [] 0 ≡ false
+  pub format_0 : condition_holds (words (0 ∷ 1 ∷ 0 ∷ 0 ∷ [])) [] 0 ≡ false
   pub empty_set : set_holds (words (0 ∷ [])) [] 0 ≡ true
   pub null_condition : set_holds (words (1 ∷ 0 ∷ 0 ∷ [])) [] 0 ≡ false
   pub one_fails : set_holds (words (2 ∷ 0 ∷ 10 ∷ 0 ∷ 18 ∷ 2 ∷ 1 ∷ 0 ∷ 0 ∷ 2 ∷ 0 ∷ [])) [] 0 ≡ false
   pub all_hold : set_holds (words (2 ∷ 0 ∷ 10 ∷ 0 ∷ 18 ∷ 2 ∷ 1 ∷ 0 ∷ 0 ∷ 2 ∷ 1 ∷ [])) [] 0 ≡ true
   -- offsets to one condition after them, 1030 bytes from the start
   pub more_than_256 : set_holds (1 ∷ 1 ∷ same_offsets 257 4 6 ++ words (2 ∷ 1 ∷ [])) [] 0 ≡ false
+  -- 256 offsets to one condition after them, 1026 bytes from the start
+  pub just_256 : set_holds (1 ∷ 0 ∷ same_offsets 256 4 2 ++ words (2 ∷ 1 ∷ [])) [] 0 ≡ true
+  -- 3 bytes are no offset
+  pub no_room_for_a_condition : set_holds (words (1 ∷ 0 ∷ []) ++ 0 ∷ []) [] 0 ≡ true
 
 pub worked_conditions : WorkedConditions
 unfolding i16_of
@@ -149,11 +195,14 @@ worked_conditions = record {
   below_the_default = refl;
   no_such_axis = refl;
   other_format = refl;
+  format_0 = refl;
   empty_set = refl;
   null_condition = refl;
   one_fails = refl;
   all_hold = refl;
   more_than_256 = refl;
+  just_256 = refl;
+  no_room_for_a_condition = refl;
 }
 
 pub record WorkedVariations : Type 0 where
@@ -164,8 +213,11 @@ pub record WorkedVariations : Type 0 where
   pub since_1_1 : substitution_of (header 0 ++ two_records 1 0 0 1 1) [] ≡ None
   pub other_version : substitution_of (header 1 ++ two_records 2 0 0 1 1) [] ≡ None
   pub other_substitution : substitution_of (header 1 ++ two_records 1 0 0 2 1) [] ≡ None
+  pub version_0 : substitution_of (header 1 ++ two_records 0 0 0 1 1) [] ≡ None
+  pub version_0_of_a_substitution : substitution_of (header 1 ++ two_records 1 0 0 0 1) [] ≡ None
   pub no_variations : substitution_of two_features [] ≡ None
   pub substitute : varied_feature_of (varied 0 0) (Some 72) 0 ≡ Some 372
+  pub of_another_feature : varied_feature_of (varied 0 0) (Some 72) 1 ≡ None
   pub own_feature : varied_feature_of (varied 1 1) (Some 84) 1 ≡ None
   pub second_substitute : varied_feature_of (varied 1 1) (Some 84) 7 ≡ Some 484
   -- a substitute whose offset is NULL takes the place of the feature all the same
@@ -183,8 +235,11 @@ worked_variations = record {
   since_1_1 = refl;
   other_version = refl;
   other_substitution = refl;
+  version_0 = refl;
+  version_0_of_a_substitution = refl;
   no_variations = refl;
   substitute = refl;
+  of_another_feature = refl;
   own_feature = refl;
   second_substitute = refl;
   null_substitute = refl;

@@ -1,5 +1,5 @@
 -- Coverage, classes and what GDEF says of glyphs, on tables that were read by hand.
-use Rattle.std.specs.Prelude.{◌≡◌, ℕ, List, [], ◌∷◌, Some, None, true, false, refl}
+use Rattle.std.specs.Prelude.{◌≡◌, ℕ, List, [], ◌∷◌, ◌++◌, Some, None, true, false, refl}
 use Rattle.shape_font.specs.Worked.Glyphs.{words}
 use Rattle.layout_tables.specs.Coverage.{coverage_index, covers}
 use Rattle.layout_tables.specs.Classes.{class_of}
@@ -29,6 +29,12 @@ pub record WorkedCoverage : Type 0 where
   pub ranges_past_the_count : coverage_index (words (2 ∷ 1 ∷ 10 ∷ 12 ∷ 5 ∷ 20 ∷ 20 ∷ 3 ∷ [])) 0 20 ≡ None
   pub other_format : coverage_index (words (3 ∷ 1 ∷ 10 ∷ 10 ∷ 0 ∷ [])) 0 10 ≡ None
   pub no_table : coverage_index [] 0 0 ≡ None
+  -- there is no room for a whole glyph, or for a whole range
+  pub no_room : coverage_index (words (1 ∷ 4 ∷ []) ++ 0 ∷ []) 0 0 ≡ None
+  pub no_room_for_a_range : coverage_index (words (2 ∷ 4 ∷ 5 ∷ 9 ∷ []) ++ 0 ∷ []) 0 7 ≡ None
+  pub within_the_second_range : coverage_index (words (2 ∷ 2 ∷ 5 ∷ 6 ∷ 0 ∷ 9 ∷ 11 ∷ 2 ∷ [])) 0 10 ≡ Some 3
+  pub greatest_glyph : coverage_index (words (1 ∷ 1 ∷ 0xFFFF ∷ [])) 0 0xFFFF ≡ Some 0
+  pub format_0 : coverage_index (words (0 ∷ 1 ∷ 10 ∷ 10 ∷ 0 ∷ [])) 0 10 ≡ None
   pub covered : covers two_ranges 0 11 ≡ true
   pub not_covered : covers two_ranges 0 19 ≡ false
 
@@ -48,6 +54,11 @@ worked_coverage = record {
   ranges_past_the_count = refl;
   other_format = refl;
   no_table = refl;
+  no_room = refl;
+  no_room_for_a_range = refl;
+  within_the_second_range = refl;
+  greatest_glyph = refl;
+  format_0 = refl;
   covered = refl;
   not_covered = refl;
 }
@@ -70,6 +81,7 @@ pub record WorkedClasses : Type 0 where
   pub after_a_range : class_of two_class_ranges 0 13 ≡ 0
   pub second_range : class_of two_class_ranges 0 20 ≡ 8
   pub other_format : class_of (words (3 ∷ 1 ∷ 10 ∷ 12 ∷ 7 ∷ [])) 0 10 ≡ 0
+  pub format_0 : class_of (words (0 ∷ 10 ∷ 1 ∷ 4 ∷ [])) 0 10 ≡ 0
   pub no_table : class_of [] 0 0 ≡ 0
 
 pub worked_classes : WorkedClasses
@@ -83,6 +95,7 @@ worked_classes = record {
   after_a_range = refl;
   second_range = refl;
   other_format = refl;
+  format_0 = refl;
   no_table = refl;
 }
 
@@ -102,6 +115,10 @@ pub record WorkedDefinitions : Type 0 where
   pub no_table : has_glyph_classes [] ≡ false
   pub component : glyph_class (definitions 1 2 1) 13 ≡ 4
   pub no_class : glyph_class (definitions 1 2 1) 14 ≡ 0
+  -- the offset of classes has two bytes, at 4
+  pub low_offset : has_glyph_classes (words (1 ∷ 0 ∷ 0x100 ∷ 0 ∷ [])) ≡ true
+  pub without_classes : glyph_class (words (1 ∷ 0 ∷ 0 ∷ 0 ∷ 0 ∷ 0 ∷ [])) 10 ≡ 0
+  pub without_attachment_classes : mark_attachment_class (words (1 ∷ 0 ∷ 0 ∷ 0 ∷ 0 ∷ 0 ∷ [])) 10 ≡ 0
   pub attachment_class : mark_attachment_class (definitions 1 2 1) 11 ≡ 6
   pub base_props : glyph_props (definitions 1 2 1) 10 ≡ 2
   pub ligature_props : glyph_props (definitions 1 2 1) 11 ≡ 4
@@ -115,6 +132,9 @@ pub record WorkedDefinitions : Type 0 where
   pub no_set : mark_set_covers (definitions 1 2 1) 2 12 ≡ false
   pub since_1_2 : mark_set_covers (definitions 1 1 1) 0 12 ≡ false
   pub other_format : mark_set_covers (definitions 1 2 2) 0 12 ≡ false
+  pub format_0_of_sets : mark_set_covers (definitions 1 2 0) 0 12 ≡ false
+  -- set 0 is NULL, set 1 has glyph 12
+  pub second_set : mark_set_covers (words (1 ∷ 2 ∷ 0 ∷ 0 ∷ 0 ∷ 0 ∷ 14 ∷ 1 ∷ 2 ∷ 0 ∷ 0 ∷ 0 ∷ 12 ∷ 1 ∷ 1 ∷ 12 ∷ [])) 1 12 ≡ true
   -- two offsets of a set with glyph 12, of which one is stated
   pub past_the_count_of_sets : mark_set_covers (words (1 ∷ 2 ∷ 0 ∷ 0 ∷ 0 ∷ 0 ∷ 14 ∷ 1 ∷ 1 ∷ 0 ∷ 12 ∷ 0 ∷ 12 ∷ 1 ∷ 1 ∷ 12 ∷ [])) 1 12 ≡ false
 
@@ -126,6 +146,9 @@ worked_definitions = record {
   no_table = refl;
   component = refl;
   no_class = refl;
+  low_offset = refl;
+  without_classes = refl;
+  without_attachment_classes = refl;
   attachment_class = refl;
   base_props = refl;
   ligature_props = refl;
@@ -138,5 +161,7 @@ worked_definitions = record {
   no_set = refl;
   since_1_2 = refl;
   other_format = refl;
+  format_0_of_sets = refl;
+  second_set = refl;
   past_the_count_of_sets = refl;
 }

@@ -1,5 +1,5 @@
 -- The choice of scripts and language systems, on tables that were read by hand.
-use Rattle.std.specs.Prelude.{◌≡◌, ℕ, List, [], ◌∷◌, Some, None, refl}
+use Rattle.std.specs.Prelude.{◌≡◌, ℕ, List, [], ◌∷◌, ◌++◌, Some, None, refl}
 use Rattle.shape_font.specs.Worked.Glyphs.{words}
 use Rattle.layout_tables.specs.Offsets.{offset16_of, offset32_of, header_offset_of}
 use Rattle.layout_tables.specs.Scripts.{script_of, chosen_script, chosen_lang_sys}
@@ -61,6 +61,8 @@ pub record WorkedScriptChoice : Type 0 where
   pub first_script : script_of two_scripts DFLT ≡ Some 24
   pub second_script : script_of two_scripts LATN ≡ Some 28
   pub no_script : script_of two_scripts CYRL ≡ None
+  -- 5 bytes are no record
+  pub no_room_for_a_script : script_of (words (1 ∷ 0 ∷ 10 ∷ 0 ∷ 0 ∷ 1 ∷ 0x6C61 ∷ 0x746E ∷ []) ++ 1 ∷ []) LATN ≡ None
   pub preferred : chosen_script two_scripts (LATN ∷ DFLT ∷ []) ≡ Some LATN
   pub first_that_is_there : chosen_script two_scripts (CYRL ∷ LATN ∷ []) ≡ Some LATN
   pub default : chosen_script two_scripts (CYRL ∷ []) ≡ Some DFLT
@@ -80,6 +82,7 @@ worked_script_choice = record {
   first_script = refl;
   second_script = refl;
   no_script = refl;
+  no_room_for_a_script = refl;
   preferred = refl;
   first_that_is_there = refl;
   default = refl;

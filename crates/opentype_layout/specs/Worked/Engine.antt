@@ -9,13 +9,15 @@ use Rattle.shape_common.specs.declared.text_types.Script.{Script}
 use Rattle.layout_map.specs.Map.{OtMap, compiled}
 use Rattle.layout_map.specs.declared.lookups.LookupMap.{LookupMap}
 use Rattle.layout_matching.specs.declared.lookup.Lookup.{Lookup}
+use Rattle.shape_font.specs.Directory.{bytes_of}
 use Rattle.opentype_layout.specs.Chosen.{script_in, chosen_in}
 use Rattle.opentype_layout.specs.Classes.{begun}
 use Rattle.opentype_layout.specs.Engine.{gsub_tables, gpos_tables, opentype_layout, opentype_lookups}
-use Rattle.opentype_layout.specs.Face.{tables_of}
+use Rattle.opentype_layout.specs.Face.{opentype_face, tables_of}
+use Rattle.opentype_layout.specs.Fonts.{units_of}
 use Rattle.opentype_layout.specs.Lookups.{least_bit, lookups_of}
 use Rattle.opentype_layout.specs.Would.{feature_would}
-use Rattle.opentype_layout.specs.Worked.Fonts.{words, gsub, gsub_of_two, gdef, kern}
+use Rattle.opentype_layout.specs.Worked.Fonts.{words, gsub, gsub_of_two, gdef, kern, font}
 use Rattle.opentype_layout.specs.declared.face.OpenTypeFace.{OpenTypeFace}
 
 abbrev pub tag : ℕ → hb_tag_t
@@ -71,6 +73,10 @@ ligated n = record (new_item 0x41 0) {
   };
 }
 
+-- and as one of those that a glyph was taken apart into
+abbrev pub taken_apart : ℕ → Item
+taken_apart n = record (ligated n) { properties = record (ligated n).properties { multiplied = true } }
+
 abbrev pub classes_of : Item → List ℕ
 classes_of item = item.properties.glyph_class.0 ∷ item.properties.mark_attachment_class ∷ item.properties.ligature_id
     ∷ item.properties.ligature_component ∷ item.properties.number_of_components ∷ []
@@ -85,6 +91,12 @@ pub record WorkedEngine : Type 0 where
   pub read : (f : OpenTypeFace) → f.gsub.now ≡ gsub → (tables_of f).gsub ≡ true
   pub not_read : (f : OpenTypeFace) → f.gpos.now ≡ words (2 ∷ 0 ∷ []) → (tables_of f).gpos ≡ false
   pub no_table : (f : OpenTypeFace) → f.gpos.now ≡ [] → (tables_of f).gpos ≡ false
+  pub no_others : (f : OpenTypeFace) → (tables_of f).morx ∷ (tables_of f).kerx ∷ (tables_of f).trak ∷ [] ≡ false ∷ false ∷ false ∷ []
+  pub face_says_so : (f : OpenTypeFace) → (opentype_face f).tables ≡ tables_of f
+  -- a font of 1000 units
+  pub units : units_of font 0 ≡ 1000
+  pub no_second_font : units_of font 1 ≡ 0
+  pub no_font : units_of [] 0 ≡ 0
   -- masks
   pub no_bit : least_bit 0 ≡ 0
   pub bit : least_bit 0x30 ≡ 0x10
@@ -94,6 +106,10 @@ pub record WorkedEngine : Type 0 where
       → map seen (lookups_of (gsub_tables f) (use_of 1 ∷ use_of 0 ∷ [])) ≡ (48 ∷ 8 ∷ 7 ∷ 0x30 ∷ 0x10 ∷ []) ∷ []
   pub uses : (f : OpenTypeFace) → f.gpos.now ≡ gsub
       → map turned_on (lookups_of (gpos_tables f) (use_of 0 ∷ [])) ≡ (true ∷ false ∷ true ∷ false ∷ true ∷ []) ∷ []
+  pub uses_in_gsub : (f : OpenTypeFace) → f.gsub.now ≡ gsub
+      → map turned_on (lookups_of (gsub_tables f) (use_of 0 ∷ [])) ≡ (true ∷ false ∷ true ∷ false ∷ false ∷ []) ∷ []
+  -- devices are those of GPOS
+  pub devices : (f : OpenTypeFace) → (gsub_tables f).device_work ∷ (gpos_tables f).device_work ∷ [] ≡ 0 ∷ f.device_work ∷ []
   -- what is asked for, compiled: lookup 0, on everywhere
   pub compiled : (f : OpenTypeFace) → f.gsub.now ≡ gsub → f.gpos.now ≡ []
       → map (λ (m : LookupMap). m.index) ((opentype_layout f).compiled asked).gsub.lookups ≡ 0 ∷ []
@@ -104,6 +120,8 @@ pub record WorkedEngine : Type 0 where
   pub classes : (f : OpenTypeFace) → f.gdef.now ≡ gdef → (opentype_layout f).has_glyph_classes ≡ true
   pub kerns : (f : OpenTypeFace) → f.font.kern.now ≡ kern → (opentype_layout f).has_kerning ≡ true
   pub no_kern : (f : OpenTypeFace) → f.font.kern.now ≡ [] → (opentype_layout f).has_kerning ≡ false
+  -- neither state machines nor kerning across the line
+  pub no_machines : (f : OpenTypeFace) → (opentype_layout f).has_machine_kerning ∷ (opentype_layout f).has_cross_kerning ∷ [] ≡ false ∷ false ∷ []
   -- by the first lookup, by the second, by none; for a feature that wasn't asked for
   pub first_would : Would 0x6C696761 (5 ∷ []) true
   pub second_would : Would 0x6C696761 (5 ∷ 6 ∷ []) true
@@ -117,9 +135,10 @@ pub record WorkedEngine : Type 0 where
   pub other : classes_of (begun gdef (ligated 7)) ≡ 0 ∷ 0 ∷ 0 ∷ 0 ∷ 1 ∷ []
   pub not_made : (begun gdef (ligated 5)).properties.substituted ≡ false
   pub no_ligature : (begun gdef (ligated 5)).properties.ligated ≡ false
+  pub not_taken_apart : (begun gdef (taken_apart 5)).properties.multiplied ≡ false
 
 pub worked_engine : WorkedEngine
-unfolding lib.Count.count_trailing_zeros
+unfolding lib.Count.count_trailing_zeros bytes_of
 worked_engine = record {
   script = refl;
   other_script = refl;
@@ -127,18 +146,26 @@ worked_engine = record {
   lang_sys = refl;
   read = λ f e. rw e refl;
   not_read = λ f e. rw e refl;
+  no_others = λ f. refl;
+  face_says_so = λ f. refl;
+  units = refl;
+  no_second_font = refl;
+  no_font = refl;
   no_table = λ f e. rw e refl;
   no_bit = refl;
   bit = refl;
   last_bit = refl;
   lookups = λ f e. rw e refl;
   uses = λ f e. rw e refl;
+  uses_in_gsub = λ f e. rw e refl;
+  devices = λ f. refl;
   compiled = λ f e none. rw e refl;
   in_gsub = λ f e none. rw e refl;
   in_gpos = λ f e none. rw none refl;
   classes = λ f e. rw e refl;
   kerns = λ f e. rw e refl;
   no_kern = λ f e. rw e refl;
+  no_machines = λ f. refl;
   first_would = refl;
   second_would = refl;
   none_would = refl;
@@ -149,4 +176,5 @@ worked_engine = record {
   other = refl;
   not_made = refl;
   no_ligature = refl;
+  not_taken_apart = refl;
 }

@@ -28,3 +28,8 @@ gdef = words (1 ∷ 0 ∷ 12 ∷ 0 ∷ 0 ∷ 22 ∷ 1 ∷ 5 ∷ 2 ∷ 1 ∷ 3 �
 -- one subtable, of a format that isn't read
 abbrev pub kern : List ℕ
 kern = words (0 ∷ 1 ∷ 0 ∷ 6 ∷ 0x0100 ∷ [])
+
+-- a font of one table, `head`, of 20 bytes at byte 28, whose last word has the units of the em square
+abbrev pub font : List ℕ
+font = words (1 ∷ 0 ∷ 1 ∷ 0 ∷ 0 ∷ 0 ∷ 0x6865 ∷ 0x6164 ∷ 0 ∷ 0 ∷ 0 ∷ 28 ∷ 0 ∷ 20 ∷ [])
+    ++ words (1 ∷ 0 ∷ 0 ∷ 0 ∷ 0 ∷ 0 ∷ 0 ∷ 0 ∷ 0 ∷ 1000 ∷ [])
