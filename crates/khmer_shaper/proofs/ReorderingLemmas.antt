@@ -7,13 +7,15 @@ use Rattle.shape_items.specs.Buffer.{Buffer}
 use Rattle.shape_buffer.specs.Layout.{HasNoDefinedFlag}
 use Rattle.shape_buffer.proofs.Flags.FeatureBitLemmas.{added_brings_none}
 use Rattle.syllabic.specs.Circles.{with_circles}
-use Rattle.syllabic.specs.Moving.{brought_before, both_brought_before}
+use Rattle.syllabic.specs.Moving.{brought_before, reversed, run_brought_before}
 use Rattle.syllabic.specs.Walking.{item_at, syllable_of, kind_of_byte}
 use Rattle.syllabic.proofs.CircleLemmas.{Preserved-circles}
-use Rattle.syllabic.proofs.PreservationLemmas.{Keeps, Keeps-same, Keeps-then, Keeps-set, Keeps-brought_before, Keeps-both_brought_before, Keeps-each_syllable, KeepsSyllables, LeavesBoth, Preserved, Preserved-then, Preserved-kept}
+use Rattle.syllabic.proofs.PreservationLemmas.{Keeps, Keeps-same, Keeps-then, Keeps-set, Keeps-brought_before, Keeps-each_syllable, KeepsSyllables, JoinedIf, LeavesBoth, Preserved, Preserved-then, Preserved-kept}
+use Rattle.syllabic.proofs.ReversingLemmas.{Keeps-reversed, Keeps-run_joined}
 use Rattle.syllables.specs.IndicCategories.{H, VPre}
-use Rattle.khmer_shaper.specs.Reordering.{with_mask, mask_added, masks_added, has_category, ro_moved, is_coeng, is_ro, moved_at, moved_to, each_moved, reordered, reordered_some, each_reordered, circled, all_reordered}
+use Rattle.khmer_shaper.specs.Reordering.{with_mask, mask_added, masks_added, has_category, turned_at, turned, ros_moved, is_coeng, is_ro, pair_follows, from_of, pair_moved, moved_at, moved_to, each_moved, reordered, reordered_some, each_reordered, circled, all_reordered}
 use Rattle.khmer_shaper.specs.declared.reordering.KhmerMasks.{KhmerMasks}
+use Rattle.khmer_shaper.specs.declared.reordering.Seen.{Seen}
 
 -- none of the masks has a flag
 pub record MasksFlagless (masks : KhmerMasks) : Type 0 where
@@ -34,23 +36,69 @@ Keeps-masks_added mask none start (suc k) b =
     Keeps-then b before (mask_added mask (start + k) before) (Keeps-masks_added mask none start k b)
     (Keeps-set (with_mask mask) (leaves-with_mask mask none) (start + k) before)
 
-module _ (masks : KhmerMasks) (none : MasksFlagless masks) where
-  Keeps-ro_moved : (start end i : ℕ) (b : Buffer) → start ≤ i → i + 1 < end → end ≤ length b.items → Keeps b (ro_moved masks start end i b)
-  Keeps-ro_moved start end i b ordered inside within =
-      let one = masks_added masks.prebase i (i + 2 - i) b in
-      let first = Keeps-masks_added masks.prebase none.prebase i (i + 2 - i) b in
-      let two = both_brought_before start i one in
-      let second = Keeps-both_brought_before start i one ordered (omega (arith, inside, within, first.count)) in
-      Keeps-then b one (ro_moved masks start end i b) first
-      (Keeps-then one two (ro_moved masks start end i b) second (Keeps-masks_added masks.after_ro none.after_ro (i + 2) (end - (i + 2)) two))
+Keeps-turned_at : (start to i : ℕ) (b : Buffer) → start ≤ i → i + 2 ≤ to → to ≤ length b.items → JoinedIf start to b
+    → Keeps b (turned_at i b) × JoinedIf start to (turned_at i b)
+Keeps-turned_at start to i b ordered inside within joined =
+    elim (has_category H (item_at b.items (i + 1))) as (λ t. let c = if t then reversed i (i + 2) b else b in Keeps b c × JoinedIf start to c) [
+      | true ↦ Keeps-reversed start to i (i + 2) b ordered (omega arith) inside within joined
+      | false ↦ (Keeps-same b, joined)
+    ]
 
-  Keeps-moved_at : (start end coengs i : ℕ) (b : Buffer) → start ≤ i → i < end → end ≤ length b.items → Keeps b (moved_at masks start end coengs i b)
-  Keeps-moved_at start end coengs i b ordered inside within = elim (cases_Bool (is_coeng end coengs i b)) [
+Keeps-turned : (start to n : ℕ) (b : Buffer) → start + n + 1 ≤ to → to ≤ length b.items → JoinedIf start to b
+    → Keeps b (turned start n b) × JoinedIf start to (turned start n b)
+Keeps-turned start to zero b inside within joined = (Keeps-same b, joined)
+Keeps-turned start to (suc k) b inside within joined =
+    let c = turned start k b in
+    let first = Keeps-turned start to k b (omega (arith, inside)) within joined in
+    let kept = first.0 in
+    let second = Keeps-turned_at start to (start + k) c (omega arith) (omega (arith, inside)) (omega (arith, within, kept.count)) first.1 in
+    (Keeps-then b c (turned_at (start + k) c) kept second.0, second.1)
+
+pub from-bounds : (seen : Seen) (start i : ℕ) → start ≤ i → (start ≤ from_of seen start i) × (from_of seen start i ≤ i)
+from-bounds seen start i ordered = elim (cases_Bool (seen.waits && nat_le start seen.from && nat_le seen.from i)) [
+  | inl is ↦
+      let parts = and_parts (seen.waits && nat_le start seen.from) (nat_le seen.from i) is in
+      let low = (and_parts seen.waits (nat_le start seen.from) parts.0).1 in
+      let high = parts.1 in
+      let least : start ≤ seen.from = grind (arith, nat_tests, low) in
+      let most : seen.from ≤ i = grind (arith, nat_tests, high) in
+      rw is (least, most)
+  | inr other ↦ let same : i ≤ i = omega arith in rw other (ordered, same)
+]
+
+module _ (masks : KhmerMasks) (none : MasksFlagless masks) where
+  Keeps-ros_moved : (start end from i : ℕ) (b : Buffer) → start ≤ from → from ≤ i → i + 1 < end → end ≤ length b.items
+      → Keeps b (ros_moved masks start end from i b)
+  Keeps-ros_moved start end from i b ordered some inside within =
+      let one = masks_added masks.prebase from (i + 2 - from) b in
+      let first = Keeps-masks_added masks.prebase none.prebase from (i + 2 - from) b in
+      let two = masks_added masks.after_ro (from + 2) (end - (from + 2)) one in
+      let second = Keeps-masks_added masks.after_ro none.after_ro (from + 2) (end - (from + 2)) one in
+      let long : i + 2 ≤ length two.items = omega (arith, inside, within, first.count, second.count) in
+      let three = run_brought_before start from (i + 2) two in
+      let third = Keeps-run_joined start from (i + 2) two ordered (omega (arith, some)) long in
+      let moved = third.0 in
+      let last = Keeps-turned start (i + 2) (i + 1 - from) three (omega (arith, ordered, some)) (omega (arith, long, moved.count)) third.1 in
+      let ready = Keeps-then b one two first second in
+      Keeps-then b three (ros_moved masks start end from i b) (Keeps-then b two three ready moved) last.0
+
+  Keeps-pair_moved : (start end : ℕ) (seen : Seen) (i : ℕ) (b : Buffer) → start ≤ i → i + 1 < end → end ≤ length b.items
+      → Keeps b (pair_moved masks start end seen i b)
+  Keeps-pair_moved start end seen i b ordered inside within =
+      let bounds = from-bounds seen start i ordered in
+      elim (pair_follows end i b.items) as (λ t. Keeps b (if t then b else ros_moved masks start end (from_of seen start i) i b)) [
+        | true ↦ Keeps-same b
+        | false ↦ Keeps-ros_moved start end (from_of seen start i) i b bounds.0 bounds.1 inside within
+      ]
+
+  Keeps-moved_at : (start end : ℕ) (seen : Seen) (i : ℕ) (b : Buffer) → start ≤ i → i < end → end ≤ length b.items
+      → Keeps b (moved_at masks start end seen i b)
+  Keeps-moved_at start end seen i b ordered inside within = elim (cases_Bool (is_coeng end seen.coengs i b.items)) [
     | inl coeng ↦
-        let parts = and_parts (has_category H (item_at b.items i) && nat_le coengs 2) (nat_lt (i + 1) end) coeng in
+        let parts = and_parts (has_category H (item_at b.items i) && nat_le seen.coengs 2) (nat_lt (i + 1) end) coeng in
         let more : i + 1 < end = (let e = parts.1 in grind (arith, nat_tests, e)) in
-        rw coeng (elim (is_ro i b) as (λ t. Keeps b (if t then ro_moved masks start end i b else b)) [
-          | true ↦ Keeps-ro_moved start end i b ordered more within
+        rw coeng (elim (is_ro i b.items) as (λ t. Keeps b (if t then pair_moved masks start end seen i b else b)) [
+          | true ↦ Keeps-pair_moved start end seen i b ordered more within
           | false ↦ Keeps-same b
         ])
     | inr other ↦ rw other (elim (has_category VPre (item_at b.items i)) as (λ t. Keeps b (if t then brought_before start i b else b)) [
@@ -63,10 +111,10 @@ module _ (masks : KhmerMasks) (none : MasksFlagless masks) where
   Keeps-moved_to start end zero b inside within = Keeps-same b
   Keeps-moved_to start end (suc k) b inside within =
       let c = (moved_to masks start end k b).0 in
-      let coengs = (moved_to masks start end k b).1 in
+      let seen = (moved_to masks start end k b).1 in
       let first = Keeps-moved_to start end k b (omega (arith, inside)) within in
-      Keeps-then b c (moved_at masks start end coengs (start + k + 1) c) first
-      (Keeps-moved_at start end coengs (start + k + 1) c (omega arith) (omega (arith, inside)) (omega (arith, within, first.count)))
+      Keeps-then b c (moved_at masks start end seen (start + k + 1) c) first
+      (Keeps-moved_at start end seen (start + k + 1) c (omega arith) (omega (arith, inside)) (omega (arith, within, first.count)))
 
   Keeps-reordered : (b : Buffer) (start end : ℕ) → start < end → end ≤ length b.items → Keeps b (reordered masks b start end)
   Keeps-reordered b start end some within =

@@ -1,5 +1,6 @@
 -- A text of syllables that the face has, with nothing after one that is part of it, stays as it is.
-use Rattle.std.proofs.Common.{◌≡◌, ℕ, suc, zero, ◌+◌, ◌-◌, ◌≤◌, ◌<◌, ◌&&◌, ◌||◌, ◌⊎◌, Bool, true, false, not, Option, Some, None, List, [], ◌∷◌, ◌++◌, drop, length, min, get_or, nat_lt, slice_get, refl, sym, ap, ap₂, ◌∙◌, arith, inl, inr, if◌then◌else◌}
+use Rattle.std.proofs.Common.{◌≡◌, ℕ, suc, zero, ◌+◌, ◌-◌, ◌≤◌, ◌<◌, ◌&&◌, ◌||◌, ◌⊎◌, Bool, true, false, not, Option, Some, None, List, [], ◌∷◌, ◌++◌}
+use Rattle.std.proofs.Common.{drop, length, min, get_or, nat_lt, slice_get, refl, sym, ap, ap₂, ◌∙◌, arith, inl, inr, if◌then◌else◌}
 use Rattle.std.proofs.lemmas.Bool.Decides.{nat_tests}
 use Rattle.std.proofs.lemmas.List.{drop_more, length-drop}
 use Rattle.shape_items.specs.Buffer.{Buffer, limit_of}
@@ -13,7 +14,10 @@ use Rattle.shape_common.specs.declared.text_types.BufferClusterLevel.{BufferClus
 use Rattle.shape_common.specs.declared.text_types.BufferClusterLevel.TheVariants.{MonotoneGraphemes, MonotoneCharacters, Characters}
 use Rattle.script_shapers.specs.declared.hangul.syllables.Syllable.{Syllable}
 use Rattle.script_shapers.specs.declared.hangul.syllables.Syllable.TheVariants as is
-use Rattle.script_shapers.specs.Hangul.{is_leading, is_trailing, is_tone, is_syllable, has, trailing_of, parts_of, by_parts, syllable_at, char_of_item, char_in, if_tone, tone_after, taken_of, without_trailing, open_trailing, marks_of, at_graphemes, merged_syllable, joined_syllable, with_tone, joined_at, joined_next, joined_to, taken_at, glyphs_of, block_at, block_taken, built, wants_circle, with_items, composed_text, is_part, is_alone, are_alone}
+use Rattle.script_shapers.specs.Hangul.{is_leading, is_trailing, is_tone, is_syllable, has, trailing_of, parts_of, by_parts, syllable_at}
+use Rattle.script_shapers.specs.Hangul.{char_of_item, char_in, if_tone, tone_after, taken_of, without_trailing, open_trailing, marks_of, at_graphemes}
+use Rattle.script_shapers.specs.Hangul.{merged_syllable, joined_syllable, with_tone, joined_at, joined_next, joined_to, taken_at, glyphs_of, block_at}
+use Rattle.script_shapers.specs.Hangul.{block_taken, built, wants_circle, with_items, composed_text, is_part, is_alone, are_alone}
 
 -- ---- tests
 

@@ -20,7 +20,8 @@ use Rattle.shape_items.proofs.Flags.FlagLemmas.{PreservesFlags-then}
 use Rattle.shape_items.proofs.Order.DrawsInOrder.{DrawsInOrder, DrawsInOrder-same, DrawsInOrder-after, DrawsInOrder-again}
 use Rattle.shape_buffer.specs.Preservation.{IsClusterPreserving, IsFlagPreserving}
 use Rattle.shape_buffer.proofs.Steps.PreservationLemmas.{PreservesOrder-then}
-use Rattle.script_shapers.specs.Hangul.{at_graphemes, merged_syllable, joined_syllable, joined_tone, with_tone, is_zero_width, is_nothing, is_tone, if_tone, tone_after, taken_of, syllable_at, marks_of, joined_at, joined_next, joined_to, taken_at}
+use Rattle.script_shapers.specs.Hangul.{at_graphemes, merged_syllable, joined_syllable, joined_tone, with_tone, is_zero_width, is_nothing, is_tone}
+use Rattle.script_shapers.specs.Hangul.{if_tone, tone_after, taken_of, syllable_at, marks_of, joined_at, joined_next, joined_to, taken_at}
 use Rattle.script_shapers.specs.Hangul.{glyphs_of, of_kind, with_circle, turned, both_of, glyphs_with, block_at, block_taken, one_more_if, built, wants_circle, composed_text}
 use Rattle.script_shapers.specs.declared.hangul.syllables.Size.TheVariants.{Two, Three}
 use Rattle.script_shapers.specs.declared.hangul.syllables.Syllable.{Syllable}

@@ -1,5 +1,6 @@
 -- The forms of Thai at private characters, which fonts without GSUB have.
-use Rattle.std.specs.Prelude.{ℕ, zero, suc, ◌==◌, ◌&&◌, ◌||◌, nat_le, Bool, true, false, if◌then◌else◌, Option, None, Some, is_some, is_none, not, List, length, min, drop, set, slice_get, slice_index_or}
+use Rattle.std.specs.Prelude.{ℕ, zero, suc, ◌==◌, ◌&&◌, ◌||◌, nat_le, Bool, true, false, if◌then◌else◌, Option, None, Some, is_some, is_none, not}
+use Rattle.std.specs.Prelude.{List, length, min, drop, set, slice_get, slice_index_or}
 use Rattle.std.specs.List.{find}
 use Rattle.std.specs.Option.{option_map}
 use Rattle.shape_common.specs.Face.{FaceMeaning}

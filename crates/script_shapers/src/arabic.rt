@@ -1,8 +1,9 @@
-//! The script shaper for Arabic and Syriac. Letters get the forms that their neighbours ask for, and modifier marks
-//! step to the front of their letter's marks.
+//! The script shaper for Arabic and Syriac. Letters get the forms that their neighbours ask for,
+//! and modifier marks step to the front of their letter's marks.
 //!
-//! The shaper gives five hooks. Signs that stretch over a word (`stch`) are noted at the first pause, and stretched once glyphs
-//! have positions. Fonts of Arabic without forms get them at the pause after `rlig`.
+//! The shaper gives five hooks. Signs that stretch over a word (`stch`) are noted at the first
+//! pause, and stretched once glyphs have positions. Fonts of Arabic without forms get them at the
+//! pause after `rlig`.
 ghost use Rattle.std.specs.Prelude.{◌≡◌, true, false, None, pos, refl};
 ghost use Rattle.shape_buffer.specs.Preservation.{LookupsPreserveClusters, LookupsPreserveFlags};
 ghost use Rattle.shape_plan.specs.Preservation.{RunPreservesFlags};
@@ -225,8 +226,8 @@ impl<U: hb_unicode_funcs_t, F: hb_font_t, M: hb_ot_layout_t<F>> postprocess_glyp
     }
 }
 
-/// A run by this shaper preserves clusters if its engine's lookups do, and flags if they do, whatever the
-/// Unicode functions, the plan and the face.
+/// A run by this shaper preserves clusters if its engine's lookups do, and flags if they do,
+/// whatever the Unicode functions, the plan and the face.
 pub fn arabic_runs_preserve<U: hb_unicode_funcs_t, F: hb_font_t, M: hb_ot_layout_t<F>>()
     ensures clusters { (plan : Plan AnyShaper M.Map Unit) (face : F)
         → let run = ⟦<ArabicShaper as Runs<U, F, M>>⟧.run plan face in
@@ -238,13 +239,15 @@ pub fn arabic_runs_preserve<U: hb_unicode_funcs_t, F: hb_font_t, M: hb_ot_layout
     given_hooks_preserve::<U, F, M, ArabicShaper>();
 }
 
-/// Which marks step to the front of a run, which don't, and their clusters, on runs worked out by hand.
+/// Which marks step to the front of a run, which don't, and their clusters, on runs worked out by
+/// hand.
 pub fn modifiers_meet_worked_cases()
     ensures { WorkedModifiers }
 {}
 
-/// What a run takes from the shaper: marks lose their widths late, whatever their class (2), and are placed by their boxes if
-/// no table places them; positioning lookups of any script serve; texts are normalised as the font's tables ask (4).
+/// What a run takes from the shaper: marks lose their widths late, whatever their class (2), and
+/// are placed by their boxes if no table places them; positioning lookups of any script serve;
+/// texts are normalised as the font's tables ask (4).
 pub fn arabic_marks_are_placed<U: hb_unicode_funcs_t, F: hb_font_t, M: hb_ot_layout_t<F>>()
     ensures normalises { ⟦<ArabicShaper as hb_ot_shaper_t<U, F, M>>⟧.constants.preference ≡ pos 4 }
     ensures script { ⟦<ArabicShaper as hb_ot_shaper_t<U, F, M>>⟧.constants.gpos_tag ≡ None }

@@ -1,8 +1,9 @@
-//! A script shaper for Hebrew: points are composed with their letters if the face has a glyph for the two
-//! as one character and `GPOS` attaches no marks, and a mark below steps before the point that it stands beside.
+//! A script shaper for Hebrew: points are composed with their letters if the face has a glyph for
+//! the two as one character and `GPOS` attaches no marks, and a mark below steps before the point
+//! that it stands beside.
 //!
-//! The shaper gives two of the ten hooks; `no_hook` stands for the others. What a run by it must provide is what
-//! its engine's lookups must provide, and no more: [`hebrew_runs_preserve`].
+//! The shaper gives two of the ten hooks; `no_hook` stands for the others. What a run by it must
+//! provide is what its engine's lookups must provide, and no more: [`hebrew_runs_preserve`].
 ghost use Rattle.std.specs.Prelude.{◌≡◌, true, false, Some, pos, refl};
 ghost use Rattle.std.specs.Option.{option_or};
 ghost use Rattle.shape_buffer.specs.Preservation.{LookupsPreserveClusters, LookupsPreserveFlags};
@@ -128,8 +129,8 @@ impl<U: hb_unicode_funcs_t, F, M: hb_ot_layout_t<F>> reorder_marks_hook<HebrewSh
     ghost reorders = { λ _ _. points_reordered-reorders };
 }
 
-/// A run by this shaper preserves clusters if its engine's lookups do, and flags if they do, whatever the
-/// Unicode functions, the plan and the face.
+/// A run by this shaper preserves clusters if its engine's lookups do, and flags if they do,
+/// whatever the Unicode functions, the plan and the face.
 pub fn hebrew_runs_preserve<U: hb_unicode_funcs_t, F: hb_font_t, M: hb_ot_layout_t<F>>()
     ensures clusters { (plan : Plan AnyShaper M.Map Unit) (face : F)
         → let run = ⟦<HebrewShaper as Runs<U, F, M>>⟧.run plan face in
@@ -151,9 +152,9 @@ pub fn points_meet_worked_cases()
     ensures { WorkedPoints }
 {}
 
-/// What a run takes from the shaper: `GPOS` is applied if it has the script `hebr`, and not by another one; marks lose
-/// their widths late, whatever their class (2), and are placed by their boxes if no table places them; texts are normalised as
-/// the font's tables ask (4).
+/// What a run takes from the shaper: `GPOS` is applied if it has the script `hebr`, and not by
+/// another one; marks lose their widths late, whatever their class (2), and are placed by their
+/// boxes if no table places them; texts are normalised as the font's tables ask (4).
 pub fn hebrew_marks_are_placed<U: hb_unicode_funcs_t, F: hb_font_t, M: hb_ot_layout_t<F>>()
     ensures normalises { ⟦<HebrewShaper as hb_ot_shaper_t<U, F, M>>⟧.constants.preference ≡ pos 4 }
     ensures own { ⟦<HebrewShaper as hb_ot_shaper_t<U, F, M>>⟧.constants.is_default ≡ false }

@@ -1,8 +1,8 @@
-//! The script shaper for Thai and Lao: SARA AM is taken apart into NIKHAHIT and SARA AA, and the first of them
-//! stands before the marks above the base, in one cluster with what it steps over.
+//! The script shaper for Thai and Lao: SARA AM is taken apart into NIKHAHIT and SARA AA, and the
+//! first of them stands before the marks above the base, in one cluster with what it steps over.
 //!
-//! The shaper gives one hook. Fonts of Thai without `GSUB` may have forms of marks and letters at private characters: the
-//! same hook puts these in.
+//! The shaper gives one hook. Fonts of Thai without `GSUB` may have forms of marks and letters at
+//! private characters: the same hook puts these in.
 ghost use Rattle.std.specs.Prelude.{◌≡◌, true, false, None, pos, refl};
 ghost use Rattle.shape_buffer.specs.Preservation.{LookupsPreserveClusters, LookupsPreserveFlags};
 ghost use Rattle.shape_plan.specs.Preservation.{RunPreservesFlags};
@@ -153,8 +153,8 @@ impl<U: hb_unicode_funcs_t, F: hb_font_t, M: hb_ot_layout_t<F>> preprocess_text_
     }
 }
 
-/// A run by this shaper preserves clusters if its engine's lookups do, and flags if they do, whatever the
-/// Unicode functions, the plan and the face.
+/// A run by this shaper preserves clusters if its engine's lookups do, and flags if they do,
+/// whatever the Unicode functions, the plan and the face.
 pub fn thai_runs_preserve<U: hb_unicode_funcs_t, F: hb_font_t, M: hb_ot_layout_t<F>>()
     ensures clusters { (plan : Plan AnyShaper M.Map Unit) (face : F)
         → let run = ⟦<ThaiShaper as Runs<U, F, M>>⟧.run plan face in
@@ -166,8 +166,9 @@ pub fn thai_runs_preserve<U: hb_unicode_funcs_t, F: hb_font_t, M: hb_ot_layout_t
     given_hooks_preserve::<U, F, M, ThaiShaper>();
 }
 
-/// What a run takes from the shaper: marks lose their widths late, whatever their class (2), and aren't placed by their boxes;
-/// positioning lookups of any script serve; texts are normalised as the font's tables ask (4).
+/// What a run takes from the shaper: marks lose their widths late, whatever their class (2), and
+/// aren't placed by their boxes; positioning lookups of any script serve; texts are normalised as
+/// the font's tables ask (4).
 pub fn thai_marks_are_placed<U: hb_unicode_funcs_t, F: hb_font_t, M: hb_ot_layout_t<F>>()
     ensures normalises { ⟦<ThaiShaper as hb_ot_shaper_t<U, F, M>>⟧.constants.preference ≡ pos 4 }
     ensures script { ⟦<ThaiShaper as hb_ot_shaper_t<U, F, M>>⟧.constants.gpos_tag ≡ None }

@@ -1,9 +1,11 @@
 //! The choice of a shaper by the script of a text.
 //!
-//! A shaper is a type, so a run is compiled once for each shaper and engine. One enum of shapers, whose constants are values, would
-//! be one shaper and compile it once: measured in `fontshape`, built with checks of memory, a run takes some 135 KB, so the ten here
-//! take 1.4 MB, and an enum would take little more than one. It can't be one while which hooks are given, and what the constants are,
-//! belong to the type: laws of a shaper (`lawful_preference`, `EachHook`) and every run's proof stand on them.
+//! A shaper is a type, so a run is compiled once for each shaper and engine. One enum of shapers,
+//! whose constants are values, would be one shaper and compile it once: measured in `fontshape`,
+//! built with checks of memory, a run takes some 135 KB, so the ten here take 1.4 MB, and an enum
+//! would take little more than one. It can't be one while which hooks are given, and what the
+//! constants are, belong to the type: laws of a shaper (`lawful_preference`, `EachHook`) and every
+//! run's proof stand on them.
 ghost use Rattle.std.specs.Prelude.{◌≡◌, List};
 ghost use Rattle.shape_items.specs.Buffer.{Buffer};
 ghost use Rattle.shape_common.specs.declared.text_types.Feature.{Feature as AnyFeature};
@@ -81,7 +83,8 @@ fn is_for_any(chosen: Option<hb_tag_t>) -> bool
     has_chosen(chosen, DFLT) || has_chosen(chosen, LATN)
 }
 
-/// Whether it chose a tag that ends in 3, as `knd3`: the lookups are made for the Universal Shaping Engine.
+/// Whether it chose a tag that ends in 3, as `knd3`: the lookups are made for the Universal Shaping
+/// Engine.
 fn is_third(chosen: Option<hb_tag_t>) -> bool
     ensures { result ≡ is_third chosen }
 {
@@ -128,8 +131,8 @@ pub fn category_of(
     }
 }
 
-/// The shaper that serves a script: that of horizontal texts with a font that has lookups for the script, or none at all.
-/// `Default` if the script needs none of its own, as Latin and Chinese.
+/// The shaper that serves a script: that of horizontal texts with a font that has lookups for the
+/// script, or none at all. `Default` if the script needs none of its own, as Latin and Chinese.
 pub fn served_by(script: Script) -> Category
     ensures { result ≡ served_by script }
 {
@@ -192,8 +195,9 @@ where
     shape::<U, F, M, S>(alloc, face, shaper, features, buffer)
 }
 
-/// The glyphs of a text by the shaper that its script asks for, guessed if it isn't set, with any engine and any face.
-/// Else it is `shape`, refuses as that does, and promises the same of the run by that shaper.
+/// The glyphs of a text by the shaper that its script asks for, guessed if it isn't set, with any
+/// engine and any face. Else it is `shape`, refuses as that does, and promises the same of the run
+/// by that shaper.
 pub fn shape_by_script<U, F, M>(
     alloc: Global,
     face: &F,

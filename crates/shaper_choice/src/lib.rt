@@ -1,6 +1,7 @@
 //! Which shaper a text gets: the one that its script asks for, as HarfBuzz chooses it.
 //!
-//! [`scripts`] has the scripts, [`choice`] shapes a text by the shaper that its script asks for, and [`plans`] makes a plan so.
+//! [`scripts`] has the scripts, [`choice`] shapes a text by the shaper that its script asks for,
+//! and [`plans`] makes a plan so.
 #![tactic(auto)]
 #![allow(non_camel_case_types)]
 

@@ -1,4 +1,5 @@
-//! Plans by the shaper that a script asks for, to be made once and used for every text that they fit.
+//! Plans by the shaper that a script asks for, to be made once and used for every text that they
+//! fit.
 ghost use Rattle.std.specs.Prelude.{◌≡◌, ◌≢◌, ℕ, [], List, Option, IsOk, IfOk, IfErr, string_bytes};
 ghost use Rattle.std.specs.Option.{option_map};
 ghost use Rattle.shape_buffer.specs.declared.interfaces.map_request.TableIndex.TheVariants.{GSUB};
@@ -123,12 +124,12 @@ impl<U: hb_unicode_funcs_t, F: hb_font_t, M: hb_ot_layout_t<F>> ScriptPlans<U, F
         }) };
 }
 
-/// What a plan is made of: a face, the texts that it is for by their direction, script and language, and the features that a
-/// user asks for.
+/// What a plan is made of: a face, the texts that it is for by their direction, script and
+/// language, and the features that a user asks for.
 #[derive(Drop)]
-struct Asked<'a, 'l, F> {
+struct Asked<'l, F> {
     alloc: Global,
-    face: &'a F,
+    face: &'l F,
     direction: Direction,
     script: Option<Script>,
     language: Option<&'l Language>,
@@ -137,7 +138,7 @@ struct Asked<'a, 'l, F> {
 
 /// A plan by one shaper.
 fn plan_of<'a, U, F, M, S>(
-    asked: &Asked<'a, '_, F>,
+    asked: &Asked<'_, F>,
     shaper: &'a S,
 ) -> Result<hb_ot_shape_plan_t<'a, S, M::Map, S::Data>, ShapeError>
 where
@@ -162,12 +163,12 @@ where
     )
 }
 
-/// A plan for texts of a direction and a script, by the shaper that these ask for, with the features that the user asks
-/// for; `language` helps the engine to choose the scripts of its tables. The direction must not be Invalid. Refuses with
-/// `Memory` alone.
+/// A plan for texts of a direction and a script, by the shaper that these ask for, with the
+/// features that the user asks for; `language` helps the engine to choose the scripts of its
+/// tables. The direction must not be Invalid. Refuses with `Memory` alone.
 pub fn plan_by_script<'a, U, F, M>(
     alloc: Global,
-    face: &'a F,
+    face: &F,
     shapers: &'a ScriptShapers,
     direction: Direction,
     script: Option<Script>,
@@ -210,7 +211,8 @@ where
     Ok(plan)
 }
 
-/// The glyphs of a text by a plan of one shaper. It is `shape_with_plan`, with its promises in one record.
+/// The glyphs of a text by a plan of one shaper. It is `shape_with_plan`, with its promises in one
+/// record.
 fn shape_planned<U, F, M, S>(
     alloc: Global,
     face: &F,
@@ -229,8 +231,8 @@ where
     shape_with_plan::<U, F, M, S>(alloc, face, plan, buffer)
 }
 
-/// The glyphs of a text by a plan that fits it. Else it is `shape_with_plan`, and refuses as that does; `shaped` has all
-/// of its promises by their names.
+/// The glyphs of a text by a plan that fits it. Else it is `shape_with_plan`, and refuses as that
+/// does; `shaped` has all of its promises by their names.
 pub fn shape_with_script_plan<U, F, M>(
     alloc: Global,
     face: &F,

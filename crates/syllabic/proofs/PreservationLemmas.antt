@@ -21,7 +21,7 @@ use Rattle.shape_items.proofs.Order.DrawsInOrder.{DrawsInOrder, PreservesCluster
 use Rattle.shape_buffer.specs.Preservation.{PreservesOrder}
 use Rattle.shape_buffer.specs.Walks.{items_mapped}
 use Rattle.shape_buffer.proofs.Steps.PreservationLemmas.{PreservesOrder-same, PreservesOrder-then, PreservesClusters-equal, order-unsafe_to_break, order-items_mapped, flags-items_mapped}
-use Rattle.syllabic.specs.Moving.{exchanged, stepped_before, stepped_after, brought_before, sent_after, both_brought_before}
+use Rattle.syllabic.specs.Moving.{exchanged, stepped_before, stepped_after, brought_before, sent_after}
 use Rattle.syllabic.specs.Walking.{item_at, begins_at, end_of, count_in, syllable_of, is_in, at_syllable, to_syllable, each_syllable, OfSyllable, marked}
 use Rattle.syllabic.specs.Constraints.{with_items}
 use Rattle.syllabic.proofs.MovingLemmas.{length-stepped_before, length-stepped_after}
@@ -220,20 +220,6 @@ Keeps-sent_after place to b ordered within =
     let moved = Keeps-stepped_after place (to + 1) place (to - place) merged (omega arith) (omega (arith, ordered))
     (omega (arith, within, one.count)) joined in
     Keeps-then b merged (sent_after place to b) one moved.0
-
-pub Keeps-both_brought_before : (place from : ℕ) (b : Buffer) → place ≤ from → from + 1 < length b.items
-    → Keeps b (both_brought_before place from b)
-Keeps-both_brought_before place from b ordered within =
-    let to = from + 2 in
-    let merged = merge_clusters place to b in
-    let one = Keeps-merge place to b (omega (arith, within)) in
-    let long : to ≤ length merged.items = omega (arith, within, one.count) in
-    let joined = joined-merged place to b (omega (arith, within)) in
-    let first = Keeps-stepped_before place to place (from - place) merged (omega arith) (omega (arith, ordered)) long joined in
-    let middle = stepped_before place (from - place) merged in
-    let second = Keeps-stepped_before place to (place + 1) (from + 1 - (place + 1)) middle (omega arith) (omega (arith, ordered))
-    (omega (arith, long, length-stepped_before place (from - place) merged)) first.1 in
-    Keeps-then b middle (both_brought_before place from b) (Keeps-then b merged middle one first.0) second.0
 
 -- ---- walks over syllables
 

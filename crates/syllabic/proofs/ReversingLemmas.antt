@@ -134,10 +134,10 @@ Keeps-reversed from to start end b low ordered high within joined =
       λ monotone. subst (AreJoined from to) (sym (same monotone)) (joined monotone),
     )
 
--- the items from one place up to another one, which go before those from a place on
-pub Keeps-run_brought_before : (place from to : ℕ) (b : Buffer) → place ≤ from → from ≤ to → to ≤ length b.items
-    → Keeps b (run_brought_before place from to b)
-Keeps-run_brought_before place from to b ordered some within =
+-- the items from one place up to another one, which go before those from a place on: they are in one cluster with these still
+pub Keeps-run_joined : (place from to : ℕ) (b : Buffer) → place ≤ from → from ≤ to → to ≤ length b.items
+    → Keeps b (run_brought_before place from to b) × JoinedIf place to (run_brought_before place from to b)
+Keeps-run_joined place from to b ordered some within =
     let merged = merge_clusters place to b in
     let one = Keeps-merge place to b within in
     let long : to ≤ length merged.items = omega (arith, within, one.count) in
@@ -146,4 +146,8 @@ Keeps-run_brought_before place from to b ordered some within =
     let turned = reversed place to merged in
     let last = Keeps-reversed place to (place + (to - from)) to turned (omega arith) (omega (arith, ordered, some)) (omega arith)
     (omega (arith, long, all.0.count)) all.1 in
-    Keeps-then b turned (run_brought_before place from to b) (Keeps-then b merged turned one all.0) last.0
+    (Keeps-then b turned (run_brought_before place from to b) (Keeps-then b merged turned one all.0) last.0, last.1)
+
+pub Keeps-run_brought_before : (place from to : ℕ) (b : Buffer) → place ≤ from → from ≤ to → to ≤ length b.items
+    → Keeps b (run_brought_before place from to b)
+Keeps-run_brought_before place from to b ordered some within = (Keeps-run_joined place from to b ordered some within).0

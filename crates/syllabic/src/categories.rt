@@ -1,5 +1,5 @@
-//! Categories of the characters of Khmer and Myanmar, and of the scripts of India. The tables are made by
-//! `tests/khmer-categories.py`, which also compares them with Unicode's files.
+//! Categories of the characters of Khmer and Myanmar, and of the scripts of India. The tables are
+//! made by `tests/khmer-categories.py`, which also compares them with Unicode's files.
 ghost use Rattle.std.specs.Prelude.{◌≡◌, ◌<◌, slice_index_or};
 ghost use Rattle.shape_buffer.specs.Outcome.{Made};
 ghost use Rattle.syllabic.specs.Categories.{category, with_category, categorized};
@@ -22,8 +22,8 @@ fn entry(table: &[u8], place: usize) -> u8
     }
 }
 
-/// The category of a character, one of `syllables::categories::indic`: a page is 32 characters, whose categories are a
-/// block.
+/// The category of a character, one of `syllables::categories::indic`: a page is 32 characters,
+/// whose categories are a block.
 pub fn category(c: char) -> u8
     ensures value { result ≡ category c }
     ensures within { result < 64 }

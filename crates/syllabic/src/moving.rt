@@ -13,7 +13,8 @@ fn exchange(buffer: &mut hb_buffer_t, i: usize, j: usize)
     buffer.swap_infos(i, j);
 }
 
-/// The item at `from` steps before those from a place up to it. Their clusters should be one by then.
+/// The item at `from` steps before those from a place up to it. Their clusters should be one by
+/// then.
 pub fn step_before(buffer: &mut hb_buffer_t, place: usize, from: usize)
     requires ordered { place ≤ from }
     requires within { from < length buffer.old.items }
@@ -61,20 +62,6 @@ pub fn send_after(buffer: &mut hb_buffer_t, place: usize, to: usize)
     step_after(buffer, place, to);
 }
 
-/// Moves the items at `from` and after it before those from a place up to them, once they are in one cluster.
-pub fn bring_both_before(buffer: &mut hb_buffer_t, place: usize, from: usize)
-    requires ordered { place ≤ from }
-    requires within { from + 1 < length buffer.old.items }
-    ensures made { buffer.new ≡ Moving.both_brought_before place from buffer.old }
-    ensures len { length buffer.new.items ≡ length buffer.old.items }
-    ensures limit { limit_of buffer.new ≡ limit_of buffer.old }
-{
-    let _count = buffer.len();
-    buffer.merge_clusters(place, from + 2);
-    step_before(buffer, place, from);
-    step_before(buffer, place + 1, from + 1);
-}
-
 /// Reverses items. A call of its own, since lemmas say what it leaves.
 pub fn reverse(buffer: &mut hb_buffer_t, start: usize, end: usize)
     requires ordered { start ≤ end }
@@ -86,8 +73,8 @@ pub fn reverse(buffer: &mut hb_buffer_t, start: usize, end: usize)
     buffer.reverse_range(start, end);
 }
 
-/// Moves the items from `from` up to `to` before those from a place up to them, the last one first, once they are in one
-/// cluster. Its time is in step with the span, however many items move.
+/// Moves the items from `from` up to `to` before those from a place up to them, the last one first,
+/// once they are in one cluster. Its time is in step with the span, however many items move.
 pub fn bring_run_before(buffer: &mut hb_buffer_t, place: usize, from: usize, to: usize)
     requires ordered { place ≤ from }
     requires some { from ≤ to }

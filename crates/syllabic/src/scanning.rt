@@ -1,7 +1,8 @@
 //! The syllables of a text, numbered.
 //!
-//! Each item gets the byte of its syllable: its number, 1 to 15 round and round, and its kind. The first syllable of a list of
-//! categories is found by the table of a grammar, in time that grows with the list alone.
+//! Each item gets the byte of its syllable: its number, 1 to 15 round and round, and its kind. The
+//! first syllable of a list of categories is found by the table of a grammar, in time that grows
+//! with the list alone.
 ghost use Rattle.std.specs.Prelude.{◌≡◌, ◌<◌, length, drop};
 ghost use Rattle.shape_items.specs.Buffer.{limit_of};
 ghost use Rattle.shape_buffer.specs.Outcome.{Made};
@@ -15,8 +16,8 @@ use shape_buffer::buffer::{hb_buffer_t, hb_glyph_info_t};
 use syllables::reading::{Scan, Stretch, begin, nowhere, read, remembered};
 use syllables::{Machine, Syllable};
 
-/// Where a walk stands that numbers syllables: the byte of the present one, how many of its items are left, and the number of the
-/// next one.
+/// Where a walk stands that numbers syllables: the byte of the present one, how many of its items
+/// are left, and the number of the next one.
 #[derive(Clone, Copy, Debug)]
 pub struct Numbering {
     pub byte: u8,
@@ -130,8 +131,9 @@ fn number_at(machine: Machine<'_>, walk: Walk, buffer: &mut hb_buffer_t, i: usiz
     }
 }
 
-/// Numbers the syllables of a text by its categories: each item gets the byte of its syllable, which is the first one that the
-/// grammar of the table has in the rest of the text. `skipped` items at the beginning belong to none, whose byte is 0.
+/// Numbers the syllables of a text by its categories: each item gets the byte of its syllable,
+/// which is the first one that the grammar of the table has in the rest of the text. `skipped`
+/// items at the beginning belong to none, whose byte is 0.
 pub fn number_syllables(machine: Machine<'_>, skipped: usize, buffer: &mut hb_buffer_t)
     ensures made { Made (Scanning.syllables_numbered (by_table machine.entry) skipped) buffer.old buffer.new }
     ensures grammar { (g : Grammar) → IsMachineOf machine.entry g

@@ -2,7 +2,8 @@
 use Rattle.std.specs.Prelude.{[], ◌∷◌}
 use Rattle.syllables.specs.Pattern.{Pattern, One, Or, Star, opt, one, in_turn, any_of}
 use Rattle.syllables.specs.Grammar.{Grammar}
-use Rattle.syllables.specs.IndicCategories.{C, V, N, H, ZWNJ, ZWJ, SM, A, PLACEHOLDER, DOTTED_CIRCLE, Ra, CS, SMPst, VAbv, VBlw, VPre, VPst, Asat, MH, MR, MW, MY, PT, VS, ML}
+use Rattle.syllables.specs.IndicCategories.{C, V, N, H, ZWNJ, ZWJ, SM, A, PLACEHOLDER, DOTTED_CIRCLE, Ra, CS, SMPst, VAbv, VBlw, VPre, VPst, Asat, MH}
+use Rattle.syllables.specs.IndicCategories.{MR, MW, MY, PT, VS, ML}
 
 abbrev pub joiner : Pattern
 joiner = One (ZWJ ∷ ZWNJ ∷ [])

@@ -2,7 +2,9 @@
 use Rattle.std.specs.Prelude.{ℕ, List, [], ◌∷◌}
 use Rattle.syllables.specs.Pattern.{Pattern, One, Then, Or, Star, opt, plus, in_turn, any_of}
 use Rattle.syllables.specs.Grammar.{Grammar}
-use Rattle.syllables.specs.UniversalCategories.{O, B, N, GB, CGJ, SUB, H, HN, ZWNJ, WJ, R, VPre, VMPre, FAbv, FBlw, FPst, MAbv, MBlw, MPst, MPre, CMAbv, CMBlw, VAbv, VBlw, VPst, VMAbv, VMBlw, VMPst, SMAbv, SMBlw, CS, IS, FMAbv, FMBlw, FMPst, Sk, G, J, SB, SE, HVM, HM, HR, RK}
+use Rattle.syllables.specs.UniversalCategories.{O, B, N, GB, CGJ, SUB, H, HN, ZWNJ, WJ, R, VPre, VMPre, FAbv, FBlw, FPst, MAbv, MBlw, MPst, MPre}
+use Rattle.syllables.specs.UniversalCategories.{CMAbv, CMBlw, VAbv, VBlw, VPst, VMAbv, VMBlw, VMPst, SMAbv, SMBlw, CS, IS, FMAbv, FMBlw, FMPst, Sk, G}
+use Rattle.syllables.specs.UniversalCategories.{J, SB, SE, HVM, HM, HR, RK}
 
 -- a character of one of some categories; CGJs behind it stay with it
 abbrev pub one_of : List ℕ → Pattern

@@ -9,7 +9,8 @@ ghost use Rattle.syllables.specs.Reading.{IsVain, nowhere, remembered, scan_at};
 ghost use Rattle.syllables.specs.declared.reading.Stretch.{Stretch as AnyStretch};
 ghost use Rattle.syllables.specs.declared.scanner.Machine.{Machine as AnyMachine};
 
-/// A pattern matches a character and a text after it exactly if what it leaves behind the character matches that text.
+/// A pattern matches a character and a text after it exactly if what it leaves behind the character
+/// matches that text.
 pub fn derivatives_leave_the_rest()
     ensures { (p : Pattern) (c : ℕ) (xs : List ℕ) → Matches p (c ∷ xs) ↔ Matches (deriv c p) xs }
 {}
@@ -26,7 +27,8 @@ pub fn tables_find_syllables()
         → by_table m xs ≡ first_syllable g m.other xs }
 {}
 
-/// The first syllable of a text is its longest beginning that a pattern matches, of the kind of the first such pattern.
+/// The first syllable of a text is its longest beginning that a pattern matches, of the kind of the
+/// first such pattern.
 pub fn first_syllables_are_longest()
     ensures { (g : Grammar) (other : ℕ) (xs : List ℕ) → IsFirstSyllable g other xs (first_syllable g other xs) }
 {}
@@ -36,8 +38,8 @@ pub fn categories_are_numbered()
     ensures { CategoriesAreNumbered }
 {}
 
-/// At the beginning of a text nothing is remembered. A scan at a place finds the syllable there, whatever was remembered before it,
-/// and what is to be remembered then was in vain indeed.
+/// At the beginning of a text nothing is remembered. A scan at a place finds the syllable there,
+/// whatever was remembered before it, and what is to be remembered then was in vain indeed.
 pub fn scans_find_syllables()
     ensures nowhere { (m : AnyMachine) (xs : List ℕ) → IsVain m xs nowhere }
     ensures found { (m : AnyMachine) (xs : List ℕ) (vain : AnyStretch) (place : ℕ) → IsVain m xs vain

@@ -1,8 +1,9 @@
 //! Reads a text syllable by syllable, in time that grows with the text alone.
 //!
-//! A scan may read far beyond the syllable that it finds: joiners, say, before a vowel that never comes. The next one would
-//! read them again, and so on from each of them. So where a scan went through many places in one state, and found nothing
-//! behind them, these places and the state are remembered: a later scan that gets there in this state is over.
+//! A scan may read far beyond the syllable that it finds: joiners, say, before a vowel that never
+//! comes. The next one would read them again, and so on from each of them. So where a scan went
+//! through many places in one state, and found nothing behind them, these places and the state are
+//! remembered: a later scan that gets there in this state is over.
 ghost use Rattle.std.specs.Prelude.{◌≡◌};
 ghost use Rattle.syllables.specs.Reading;
 
@@ -60,8 +61,8 @@ fn is_at(stretch: Stretch, state: u16, place: usize) -> bool
     state == stretch.state && stretch.from <= place && place <= stretch.to
 }
 
-/// The stretch once nothing was found at a place, which is taken in if the state is the same still. If none has been is yet
-/// longer than one place, it begins anew.
+/// The stretch once nothing was found at a place, which is taken in if the state is the same still.
+/// If none has been is yet longer than one place, it begins anew.
 fn followed(stretch: Stretch, state: u16, place: usize) -> Stretch
     ensures { result ≡ Reading.followed stretch state place }
 {
@@ -106,7 +107,8 @@ pub fn begin(machine: Machine<'_>, place: usize) -> Scan
     }
 }
 
-/// The scan once it has read one character more, up to a place. It is over where reading on was in vain before.
+/// The scan once it has read one character more, up to a place. It is over where reading on was in
+/// vain before.
 pub fn read(machine: Machine<'_>, vain: Stretch, scan: Scan, category: u8, place: usize) -> Scan
     ensures { result ≡ Reading.read_one machine.entry vain scan category place }
 {
@@ -124,7 +126,8 @@ pub fn read(machine: Machine<'_>, vain: Stretch, scan: Scan, category: u8, place
     }
 }
 
-/// What is to be remembered after a scan: its own stretch if that is longer than one place, and else what was before.
+/// What is to be remembered after a scan: its own stretch if that is longer than one place, and
+/// else what was before.
 pub fn remembered(scan: Scan, before: Stretch) -> Stretch
     ensures { result ≡ Reading.remembered scan before }
 {

@@ -61,8 +61,8 @@ pub fn better(kind: u8, read: usize, found: Syllable) -> Syllable
     }
 }
 
-/// The first syllable of a text by a table, of the categories of its characters. It reads on to the character behind which
-/// no pattern can match any more.
+/// The first syllable of a text by a table, of the categories of its characters. It reads on to the
+/// character behind which no pattern can match any more.
 pub fn first_syllable(machine: Machine<'_>, categories: &[u8]) -> Syllable
     ensures { result ≡ by_table machine.entry categories.now }
 {

@@ -8,7 +8,9 @@ use Rattle.shape_buffer.specs.Layout.{HasNoDefinedFlag}
 use Rattle.shape_buffer.proofs.Flags.FeatureBitLemmas.{feature_flagless, feature-or, added_brings_none}
 use Rattle.syllabic.specs.Walking.{item_at, begins_at, end_of, syllable_of}
 use Rattle.syllabic.proofs.PreservationLemmas.{Keeps, Keeps-same, Keeps-then, Keeps-set, Keeps-each_syllable, LeavesBoth}
-use Rattle.universal_shaper.specs.Masks.{with_mask, mask_added, masks_added, repha_count, repha_masked, rephas_masked, form_mask, all_masks, without_bits, in_form, form_set, forms_set, joins_on, joined, has_forms, form_after, both_set, formed_at, formed_to, all_forms_set, own_mask, own_masks, forms_set_if_any}
+use Rattle.universal_shaper.specs.Masks.{with_mask, mask_added, masks_added, repha_count, repha_masked, rephas_masked, form_mask, all_masks}
+use Rattle.universal_shaper.specs.Masks.{without_bits, in_form, form_set, forms_set, joins_on, joined, has_forms, form_after, both_set, formed_at}
+use Rattle.universal_shaper.specs.Masks.{formed_to, all_forms_set, own_mask, own_masks, forms_set_if_any}
 use Rattle.universal_shaper.specs.declared.masks.Form.{Form}
 use Rattle.universal_shaper.specs.declared.masks.Form.TheVariants as form
 use Rattle.universal_shaper.specs.declared.masks.FormMasks.{FormMasks}

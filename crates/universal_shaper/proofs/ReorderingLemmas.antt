@@ -14,7 +14,8 @@ use Rattle.syllabic.specs.Walking.{item_at, category_of, syllable_of}
 use Rattle.syllabic.proofs.CircleLemmas.{Preserved-circles}
 use Rattle.syllabic.proofs.ReversingLemmas.{Keeps-run_brought_before}
 use Rattle.syllabic.proofs.PreservationLemmas.{Keeps, Keeps-same, Keeps-then, Keeps-sent_after, Keeps-each_syllable, KeepsSyllables, Preserved, Preserved-then, Preserved-kept}
-use Rattle.universal_shaper.specs.Reordering.{is_halant, is_before, count_base, repha_moved, goes_first, count_first, ends_run, moved_at, moved_to, first_moved, is_reordered, reordered, reordered_some, each_reordered, circled, all_reordered}
+use Rattle.universal_shaper.specs.Reordering.{is_halant, is_before, count_base, repha_moved, goes_first, count_first, ends_run, moved_at, moved_to}
+use Rattle.universal_shaper.specs.Reordering.{first_moved, is_reordered, reordered, reordered_some, each_reordered, circled, all_reordered}
 
 -- the items that a repha goes behind are in the syllable
 count_base-within : (items : List Item) (start end : ℕ) → start < end → end ≤ length items

@@ -1,8 +1,9 @@
 //! The category of each character: what it is in a syllable.
 //!
-//! A category follows from Unicode's properties `Indic_Syllabic_Category`, `Indic_Positional_Category`, `General_Category`,
-//! `Joining_Type` and `Default_Ignorable_Code_Point` by the rules of the Universal Shaping Engine's specification. The table
-//! is made by `tests/syllable-categories.py`, which also compares it with Unicode's files.
+//! A category follows from Unicode's properties `Indic_Syllabic_Category`,
+//! `Indic_Positional_Category`, `General_Category`, `Joining_Type` and
+//! `Default_Ignorable_Code_Point` by the rules of the Universal Shaping Engine's specification. The
+//! table is made by `tests/syllable-categories.py`, which also compares it with Unicode's files.
 ghost use Rattle.std.specs.Prelude.{◌≡◌, slice_index_or};
 ghost use Rattle.shape_buffer.specs.Outcome.{Made};
 ghost use Rattle.universal_shaper.specs.Categories;
@@ -26,7 +27,8 @@ fn entry(table: &[u8], place: usize) -> u8
     }
 }
 
-/// The category of a character before U+20000: a page is 32 characters, whose categories are a block.
+/// The category of a character before U+20000: a page is 32 characters, whose categories are a
+/// block.
 fn near_category(c: usize) -> u8
     ensures { result ≡ Categories.near_category c }
 {
@@ -34,7 +36,8 @@ fn near_category(c: usize) -> u8
     entry(&BLOCKS, block * 32 + c % 32)
 }
 
-/// The category of a character from U+20000 on: some of plane 14 can't be seen, and of these the variation selectors are marks.
+/// The category of a character from U+20000 on: some of plane 14 can't be seen, and of these the
+/// variation selectors are marks.
 fn far_category(c: char) -> u8
     ensures { result ≡ Categories.far_category c }
 {

@@ -8,8 +8,8 @@ use letter_joining::forms::FormMasks;
 use letter_joining::join_all;
 use shape_buffer::buffer::{Script, hb_buffer_t};
 
-/// Whether a script joins: Adlam, Arabic, Chorasmian, Hanifi Rohingya, Mandaic, Manichaean, Mongolian, N'Ko, Old Uyghur, Phags-pa,
-/// Psalter Pahlavi, Sogdian, Syriac.
+/// Whether a script joins: Adlam, Arabic, Chorasmian, Hanifi Rohingya, Mandaic, Manichaean,
+/// Mongolian, N'Ko, Old Uyghur, Phags-pa, Psalter Pahlavi, Sogdian, Syriac.
 pub fn joins(script: Option<Script>) -> bool
     ensures { result ≡ Joining.joins script }
 {

@@ -1,8 +1,9 @@
 //! *Lawful hooks*: what canonical form asks of a shaper's splits and of what it composes.
 //!
-//! The shaper splits as Unicode does, composes nothing that Unicode doesn't, and reorders no marks before texts are normalised,
-//! so its hooks are lawful over any Unicode functions. Runs still don't preserve equivalence for every text, since before
-//! normalising a dotted circle goes between vowels that look like another one, and that circle counts as a mark.
+//! The shaper splits as Unicode does, composes nothing that Unicode doesn't, and reorders no marks
+//! before texts are normalised, so its hooks are lawful over any Unicode functions. Runs still
+//! don't preserve equivalence for every text, since before normalising a dotted circle goes between
+//! vowels that look like another one, and that circle counts as a mark.
 ghost use Rattle.std.specs.Prelude.{◌≡◌, None};
 ghost use Rattle.shape_normalize.specs.CanonicalForm.{HasLawfulHooks};
 

@@ -1,4 +1,5 @@
-//! Masks of features that belong to places of a syllable: the sign for a repha at its beginning, and forms of whole syllables.
+//! Masks of features that belong to places of a syllable: the sign for a repha at its beginning,
+//! and forms of whole syllables.
 ghost use Rattle.std.specs.Prelude.{◌≡◌, ◌<◌, ◌≤◌, ◌+◌, ◌-◌, length};
 ghost use Rattle.shape_items.specs.Buffer.{limit_of};
 ghost use Rattle.shape_buffer.specs.Outcome.{Made};

@@ -64,7 +64,8 @@ fn record_rephas_if(mask: hb_mask_t, buffer: &mut hb_buffer_t)
     }
 }
 
-/// Does what a pause is for. Refuses with `Length` if dotted circles would pass the limit, and with `Memory`.
+/// Does what a pause is for. Refuses with `Length` if dotted circles would pass the limit, and with
+/// `Memory`.
 pub fn pause_at<F: hb_font_t, M: hb_ot_layout_t<F>>(
     alloc: Global,
     n: u32,

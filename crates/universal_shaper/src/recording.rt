@@ -59,7 +59,8 @@ fn count_before(mask: hb_mask_t, infos: &[hb_glyph_info_t]) -> usize
         .count()
 }
 
-/// The first masked item between two places that a lookup has made, if only masked ones stand before it, is a sign for a repha.
+/// The first masked item between two places that a lookup has made, if only masked ones stand
+/// before it, is a sign for a repha.
 fn record_repha(mask: hb_mask_t, buffer: &mut hb_buffer_t, start: usize, end: usize)
     requires ordered { start ≤ end }
     requires within { end ≤ length buffer.old.items }

@@ -1,4 +1,5 @@
-//! The order of a syllable: a sign for a repha goes behind the base, and vowels before the base go to the front.
+//! The order of a syllable: a sign for a repha goes behind the base, and vowels before the base go
+//! to the front.
 ghost use Rattle.std.specs.Prelude.{◌≡◌, ◌<◌, ◌≤◌, ◌+◌, ◌-◌, length};
 ghost use Rattle.shape_items.specs.Buffer.{limit_of};
 ghost use Rattle.shape_buffer.specs.Outcome.{IsWithinLimit, Made, Outcome, step};
@@ -23,7 +24,8 @@ fn is_halant(info: &hb_glyph_info_t) -> bool
         && matches!(info._hb_glyph_info_get_shaper_category(), H | HVM | IS)
 }
 
-/// Whether a category is one of those that stand after the base: vowels and their modifiers, finals, medials.
+/// Whether a category is one of those that stand after the base: vowels and their modifiers,
+/// finals, medials.
 fn follows_base(category: u8) -> bool
     ensures { result ≡ Reordering.follows_base category }
 {
@@ -58,7 +60,8 @@ fn move_repha(buffer: &mut hb_buffer_t, start: usize, end: usize)
     }
 }
 
-/// A vowel or a modifier before the base, and of the glyphs that one lookup has made of it the first one.
+/// A vowel or a modifier before the base, and of the glyphs that one lookup has made of it the
+/// first one.
 fn goes_first(info: &hb_glyph_info_t) -> bool
     ensures { result ≡ Reordering.goes_first info.now }
 {
@@ -87,8 +90,9 @@ fn ends_run(infos: &[hb_glyph_info_t], end: usize, i: usize) -> bool
     goes_first(&infos[i]) && !(i + 1 < end && goes_first(&infos[i + 1]))
 }
 
-/// Moves those that go first to the front if the item at a place is the last of them, and returns where the front is for the
-/// next one: after a halant. Those of one run move together, so that a long run takes time in step with its length.
+/// Moves those that go first to the front if the item at a place is the last of them, and returns
+/// where the front is for the next one: after a halant. Those of one run move together, so that a
+/// long run takes time in step with its length.
 fn move_at(buffer: &mut hb_buffer_t, front: usize, end: usize, i: usize) -> usize
     requires inside { i < end }
     requires within { end ≤ length buffer.old.items }

@@ -70,7 +70,8 @@ const PSTS: hb_tag_t = hb_tag_t(0x7073_7473);
 /// Inside one syllable, and joiners aren't skipped in the input.
 const F_SYLLABLE: hb_ot_map_feature_flags_t = 72;
 
-/// Asks for what comes before reordering: forms of a language, compositions, nuktas and required ligatures of a syllable.
+/// Asks for what comes before reordering: forms of a language, compositions, nuktas and required
+/// ligatures of a syllable.
 fn ask_first(builder: &mut hb_ot_map_builder_t) -> Result<(), ShapeError>
     ensures ok { OnOk result (builder.new ≡ with_requests builder.old Requests.first_requests) }
     ensures memory { IfErr result (λ e. e ≡ ShapeError.Memory) }

@@ -214,8 +214,8 @@ impl<U: hb_unicode_funcs_t, F: hb_font_t, M: hb_ot_layout_t<F>> pause_hook<
     }
 }
 
-/// A run by this shaper preserves clusters if its engine's lookups do, and flags if they do, whatever the
-/// Unicode functions, the plan and the face.
+/// A run by this shaper preserves clusters if its engine's lookups do, and flags if they do,
+/// whatever the Unicode functions, the plan and the face.
 pub fn universal_runs_preserve<U: hb_unicode_funcs_t, F: hb_font_t, M: hb_ot_layout_t<F>>()
     ensures clusters { (plan : Plan AnyShaper M.Map Unit) (face : F)
         → let run = ⟦<UniversalShaper as Runs<U, F, M>>⟧.run plan face in
@@ -227,8 +227,9 @@ pub fn universal_runs_preserve<U: hb_unicode_funcs_t, F: hb_font_t, M: hb_ot_lay
     given_hooks_preserve::<U, F, M, UniversalShaper>();
 }
 
-/// What a run takes from the shaper: texts are composed, marks that stand by themselves too (3), a mark loses its width
-/// before positioning by its class in GDEF (1) and isn't placed by its box, and positioning lookups of any script serve.
+/// What a run takes from the shaper: texts are composed, marks that stand by themselves too (3), a
+/// mark loses its width before positioning by its class in GDEF (1) and isn't placed by its box,
+/// and positioning lookups of any script serve.
 pub fn universal_marks_are_placed<U: hb_unicode_funcs_t, F: hb_font_t, M: hb_ot_layout_t<F>>()
     ensures normalises { ⟦<UniversalShaper as hb_ot_shaper_t<U, F, M>>⟧.constants.preference ≡ pos 3 }
     ensures script { ⟦<UniversalShaper as hb_ot_shaper_t<U, F, M>>⟧.constants.gpos_tag ≡ None }

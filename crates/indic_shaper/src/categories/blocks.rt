@@ -1,4 +1,5 @@
-//! 64 times the position and the category of 32 characters each, every block once; the first has no category.
+//! 64 times the position and the category of 32 characters each, every block once; the first has no
+//! category.
 // Made by tests/indic-categories.py from the files of Unicode 16.0. Do not edit.
 
 #[rattlefmt::skip]

@@ -68,7 +68,7 @@ pub record WorkedOrders : Type 0 where
   -- a vowel goes before the base, in one cluster with it
   pub vowel : ordered 0 (ka ∷ e ∷ aa ∷ []) ≡ (0x17C1, 0, 16) ∷ (0x1780, 0, 0) ∷ (0x17B6, 2, 16) ∷ []
   pub vowel_of_two : ordered 0 (ka ∷ coeng ∷ ta ∷ e ∷ []) ≡ (0x17C1, 0, 16) ∷ (0x1780, 0, 0) ∷ (0x17D2, 0, 16) ∷ (0x178F, 0, 16) ∷ []
-  pub by_character : by_character (ka ∷ e ∷ []) ≡ (0x17C1, 1) ∷ (0x1780, 0) ∷ []
+  pub vowel_by_character : by_character (ka ∷ e ∷ []) ≡ (0x17C1, 1) ∷ (0x1780, 0) ∷ []
   -- COENG and RO go to the front and get pref; what follows them gets cfar
   pub ro_below : ordered 0 (ka ∷ coeng ∷ ro ∷ []) ≡ (0x17D2, 0, 48) ∷ (0x179A, 0, 48) ∷ (0x1780, 0, 0) ∷ []
   pub ro_first : ordered 0 (ka ∷ coeng ∷ ro ∷ coeng ∷ ta ∷ [])
@@ -80,6 +80,10 @@ pub record WorkedOrders : Type 0 where
       ≡ (0x17C1, 0, 80) ∷ (0x17D2, 0, 48) ∷ (0x179A, 0, 48) ∷ (0x1780, 0, 0) ∷ []
   -- of a second RO after the first the pair goes to the front, too; three COENGs are looked at, not four
   pub second_ro : characters (ka ∷ coeng ∷ ro ∷ coeng ∷ ro ∷ []) ≡ 0x17D2 ∷ 0x179A ∷ 0x17D2 ∷ 0x179A ∷ 0x1780 ∷ []
+  pub ros : ordered 0 (ka ∷ coeng ∷ ro ∷ coeng ∷ ro ∷ [])
+      ≡ (0x17D2, 0, 112) ∷ (0x179A, 0, 112) ∷ (0x17D2, 0, 48) ∷ (0x179A, 0, 48) ∷ (0x1780, 0, 0) ∷ []
+  pub ros_by_character : by_character (ka ∷ coeng ∷ ro ∷ coeng ∷ ro ∷ coeng ∷ ta ∷ [])
+      ≡ (0x17D2, 3) ∷ (0x179A, 4) ∷ (0x17D2, 1) ∷ (0x179A, 2) ∷ (0x1780, 0) ∷ (0x17D2, 5) ∷ (0x178F, 6) ∷ []
   pub third : characters (ka ∷ coeng ∷ ta ∷ coeng ∷ ta ∷ coeng ∷ ro ∷ [])
       ≡ 0x17D2 ∷ 0x179A ∷ 0x1780 ∷ 0x17D2 ∷ 0x178F ∷ 0x17D2 ∷ 0x178F ∷ []
   pub fourth : characters (ka ∷ coeng ∷ ta ∷ coeng ∷ ta ∷ coeng ∷ ta ∷ coeng ∷ ro ∷ [])
@@ -108,12 +112,14 @@ worked_orders = record {
   after_base = refl;
   vowel = refl;
   vowel_of_two = refl;
-  by_character = refl;
+  vowel_by_character = refl;
   ro_below = refl;
   ro_first = refl;
   ro_last = refl;
   ro_and_vowel = refl;
   second_ro = refl;
+  ros = refl;
+  ros_by_character = refl;
   third = refl;
   fourth = refl;
   ro_alone = refl;

@@ -2,7 +2,8 @@
 -- characters it has.
 use Rattle.std.specs.Prelude.{◌≡◌, ℕ, List, [], ◌∷◌, refl}
 use Rattle.syllables.specs.Grammar.{first_syllable}
-use Rattle.syllables.specs.IndicCategories.{X, C, V, N, H, ZWNJ, ZWJ, SM, A, PLACEHOLDER, DOTTED_CIRCLE, Ra, CS, SMPst, VAbv, VBlw, VPre, VPst, Asat, MH, MR, MW, MY, PT, VS, ML}
+use Rattle.syllables.specs.IndicCategories.{X, C, V, N, H, ZWNJ, ZWJ, SM, A, PLACEHOLDER, DOTTED_CIRCLE, Ra, CS, SMPst, VAbv, VBlw, VPre, VPst, Asat}
+use Rattle.syllables.specs.IndicCategories.{MH, MR, MW, MY, PT, VS, ML}
 use Rattle.syllables.specs.MyanmarGrammar.{myanmar_grammar}
 use Rattle.syllables.specs.declared.scanner.Syllable.{Syllable}
 

@@ -70,8 +70,8 @@ fn reclass(buffer: &mut hb_buffer_t, place: usize, ccc: u8)
     buffer.set_info(place, info);
 }
 
-/// The items from `from` up to `end` step before those from a place up to them, in their order, and get
-/// another ccc.
+/// The items from `from` up to `end` step before those from a place up to them, in their order, and
+/// get another ccc.
 fn bring_before(buffer: &mut hb_buffer_t, ccc: u8, place: usize, from: usize, end: usize)
     requires ordered { (place ≤ from) × (from ≤ end) }
     requires within { end ≤ length buffer.old.items }
@@ -83,8 +83,8 @@ fn bring_before(buffer: &mut hb_buffer_t, ccc: u8, place: usize, from: usize, en
     }
 }
 
-/// The modifier marks that begin the marks of a ccc step to the front of the run and get another ccc, once
-/// they are in one cluster with those that they move past. Returns how many they are.
+/// The modifier marks that begin the marks of a ccc step to the front of the run and get another
+/// ccc, once they are in one cluster with those that they move past. Returns how many they are.
 fn move_modifiers(buffer: &mut hb_buffer_t, ccc: u8, other: u8, start: usize, end: usize) -> usize
     requires ordered { start ≤ end }
     requires within { end ≤ length buffer.old.items }

@@ -1,5 +1,5 @@
-//! What the shaper does at its pauses: it notes the tiles of signs that stretch, and makes forms and ligatures for fonts whose
-//! tables have none of the four features of forms.
+//! What the shaper does at its pauses: it notes the tiles of signs that stretch, and makes forms
+//! and ligatures for fonts whose tables have none of the four features of forms.
 ghost use Rattle.std.specs.Prelude.{◌≡◌};
 ghost use Rattle.shape_buffer.specs.Outcome.{IsWithinLimit, Made, Outcome, step};
 ghost use Rattle.arabic_fallback.specs.Classes.{class_by};
@@ -55,7 +55,8 @@ fn note_tiles<F, M: hb_ot_layout_t<F>>(map: &M::Map, buffer: &mut hb_buffer_t)
     }
 }
 
-/// Puts letters in their forms and makes their ligatures, if the tables have no forms. Refuses with `Memory` alone.
+/// Puts letters in their forms and makes their ligatures, if the tables have no forms. Refuses with
+/// `Memory` alone.
 fn make_forms<F: hb_font_t, M: hb_ot_layout_t<F>>(
     alloc: Global,
     map: &M::Map,
@@ -74,7 +75,8 @@ fn make_forms<F: hb_font_t, M: hb_ot_layout_t<F>>(
     shape_fallback::<F, M>(alloc, face, map, masks_of::<F, M>(map), buffer)
 }
 
-/// Does what a pause is for: notes tiles after `stch`, makes forms after `rlig`. Refuses with `Memory` alone.
+/// Does what a pause is for: notes tiles after `stch`, makes forms after `rlig`. Refuses with
+/// `Memory` alone.
 pub fn pause_at<F: hb_font_t, M: hb_ot_layout_t<F>>(
     alloc: Global,
     n: u32,

@@ -66,7 +66,8 @@ pub fn has_fallback(script: Option<Script>) -> hb_ot_map_feature_flags_t
     }
 }
 
-/// Asks for what comes before the forms of letters. The tiles of stretching are noted at the first pause.
+/// Asks for what comes before the forms of letters. The tiles of stretching are noted at the first
+/// pause.
 pub fn ask_first(builder: &mut hb_ot_map_builder_t) -> Result<(), ShapeError>
     ensures ok { OnOk result (builder.new ≡ with_requests builder.old first_requests) }
     ensures memory { IfErr result (λ e. e ≡ ShapeError.Memory) }
@@ -118,9 +119,10 @@ pub fn ask_other_forms(
     ask_form(builder, INIT, fallback)
 }
 
-/// Asks for what comes after the forms of letters. Arabic has a pause after its required ligatures, where the forms
-/// of fonts without `GSUB` belong; the other scripts apply them together with contextual alternates. These come before the other
-/// ligatures, and together with them in a font that has required contextual alternates, too, as HarfBuzz does.
+/// Asks for what comes after the forms of letters. Arabic has a pause after its required ligatures,
+/// where the forms of fonts without `GSUB` belong; the other scripts apply them together with
+/// contextual alternates. These come before the other ligatures, and together with them in a font
+/// that has required contextual alternates, too, as HarfBuzz does.
 pub fn ask_last(builder: &mut hb_ot_map_builder_t, script: Option<Script>) -> Result<(), ShapeError>
     ensures ok { OnOk result (builder.new ≡ with_requests builder.old (last_requests script)) }
     ensures memory { IfErr result (λ e. e ≡ ShapeError.Memory) }

@@ -1,5 +1,6 @@
-//! Texts that stay as they are, as most do: their syllables stand as one character each, which the face has, and nothing after
-//! one is part of it. So no syllable is taken apart only to be left whole.
+//! Texts that stay as they are, as most do: their syllables stand as one character each, which the
+//! face has, and nothing after one is part of it. So no syllable is taken apart only to be left
+//! whole.
 ghost use Rattle.std.specs.Prelude.{◌≡◌};
 ghost use Rattle.script_shapers.specs.Hangul.{is_alone, are_alone, is_part};
 
@@ -18,7 +19,8 @@ fn is_part(c: Option<char>) -> bool
     }
 }
 
-/// Whether a character stays as it is: a syllable that the face has, with no part of it after it, or one that begins none.
+/// Whether a character stays as it is: a syllable that the face has, with no part of it after it,
+/// or one that begins none.
 fn is_alone<F: hb_font_t>(face: &F, c: char, next: Option<char>) -> bool
     ensures { result ≡ is_alone (F.face face.now) c next }
 {

@@ -1,7 +1,8 @@
-//! The list of a text whose syllables are composed or taken apart, with their tone marks before them.
+//! The list of a text whose syllables are composed or taken apart, with their tone marks before
+//! them.
 //!
-//! First each syllable is merged where it stands, then a new list is built: so the one call that the limit may refuse
-//! comes last.
+//! First each syllable is merged where it stands, then a new list is built: so the one call that
+//! the limit may refuse comes last.
 ghost use Rattle.std.specs.Prelude.{◌≡◌, ◌≤◌, ◌+◌, ◌++◌, true, length, OnOk, IfOk, IfErr};
 ghost use Rattle.shape_items.specs.Buffer.{limit_of};
 ghost use Rattle.shape_buffer.specs.Outcome.{Outcome, step};
@@ -235,8 +236,8 @@ fn put_block<U: hb_unicode_funcs_t, F: hb_font_t>(
     }
 }
 
-/// Goes over a place: appends what begins there, unless it belongs to what began before it. Says how many of the
-/// next items belong to what began before them.
+/// Goes over a place: appends what begins there, unless it belongs to what began before it. Says
+/// how many of the next items belong to what began before them.
 fn put_next<U: hb_unicode_funcs_t, F: hb_font_t>(
     face: &F,
     tones: Tones,

@@ -96,8 +96,8 @@ fn join_at<U: hb_unicode_funcs_t, F: hb_font_t>(
     taken
 }
 
-/// Goes over a place: what begins there is marked and merged, unless it belongs to what began before it. Says how
-/// many of the next items belong to what began before them.
+/// Goes over a place: what begins there is marked and merged, unless it belongs to what began
+/// before it. Says how many of the next items belong to what began before them.
 fn join_next<U: hb_unicode_funcs_t, F: hb_font_t>(
     face: &F,
     buffer: &mut hb_buffer_t,

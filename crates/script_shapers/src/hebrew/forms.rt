@@ -5,8 +5,8 @@
 ghost use Rattle.std.specs.Prelude.{◌≡◌};
 ghost use Rattle.script_shapers.specs.HebrewForms.{form_of, form_unless};
 
-/// A letter, a point, and the character that they make. A shin with both its dagesh and its dot is one
-/// character whichever of the two comes first: shaping puts the dot first, whose ccc is lower.
+/// A letter, a point, and the character that they make. A shin with both its dagesh and its dot is
+/// one character whichever of the two comes first: shaping puts the dot first, whose ccc is lower.
 pub const FORMS: [(char, char, char); 36] = [
     ('\u{05D9}', '\u{05B4}', '\u{FB1D}'),
     ('\u{05F2}', '\u{05B7}', '\u{FB1F}'),

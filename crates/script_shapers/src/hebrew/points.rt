@@ -32,7 +32,8 @@ fn third_place(run: &[hb_glyph_info_t]) -> Option<usize>
     None
 }
 
-/// Of the first three such marks in a row, the third is put before the second, once the two are one cluster.
+/// Of the first three such marks in a row, the third is put before the second, once the two are one
+/// cluster.
 #[tactic(auto, using(crate::specs::HebrewPoints::place_in_range))]
 pub fn reorder_points(buffer: &mut hb_buffer_t, start: usize, end: usize)
     requires ordered { start ≤ end }

@@ -1,5 +1,5 @@
-//! Forms of marks and letters that fonts of Thai without `GSUB` have at private characters: a mark moves down or left, by
-//! what stands below or beside it, and a letter loses its descender.
+//! Forms of marks and letters that fonts of Thai without `GSUB` have at private characters: a mark
+//! moves down or left, by what stands below or beside it, and a letter loses its descender.
 ghost use Rattle.std.specs.Prelude.{◌≡◌, ◌<◌, ◌≤◌, length};
 ghost use Rattle.std.specs.List.{find};
 ghost use Rattle.std.specs.Option.{option_map};
@@ -287,7 +287,8 @@ fn ends_marks(rest: &[hb_glyph_info_t]) -> bool
     }
 }
 
-/// Marks a letter and its marks unsafe to break once the last of them is reached, so that each is marked once.
+/// Marks a letter and its marks unsafe to break once the last of them is reached, so that each is
+/// marked once.
 fn span_marks(buffer: &mut hb_buffer_t, base: usize, i: usize)
     requires { i < length buffer.old.items }
     ensures made { buffer.new ≡ marks_spanned base i buffer.old }

@@ -2,7 +2,7 @@
 use Rattle.std.specs.Prelude.{◌≡◌, List, [], ◌∷◌, refl}
 use Rattle.shape_items.specs.Items.{Item}
 use Rattle.shape_items.specs.Clusters.{merge}
-use Rattle.syllabic.specs.Moving.{brought_before, sent_after, both_brought_before, run_brought_before}
+use Rattle.syllabic.specs.Moving.{brought_before, sent_after, run_brought_before}
 use Rattle.syllabic.specs.Worked.Items.{item, buffer, chars, clusters_of}
 
 abbrev four : List Item
@@ -14,11 +14,8 @@ pub record WorkedMoving : Type 0 where
   pub stays : brought_before 2 2 (buffer four) ≡ buffer four
   pub after : chars (sent_after 0 2 (buffer four)).items ≡ 0x62 ∷ 0x63 ∷ 0x61 ∷ 0x64 ∷ []
   pub after_clusters : clusters_of (sent_after 0 2 (buffer four)).items ≡ 0 ∷ 0 ∷ 0 ∷ 3 ∷ []
-  pub both : chars (both_brought_before 0 2 (buffer four)).items ≡ 0x63 ∷ 0x64 ∷ 0x61 ∷ 0x62 ∷ []
   -- from a place that isn't the first one
   pub after_inside : chars (sent_after 1 2 (buffer four)).items ≡ 0x61 ∷ 0x63 ∷ 0x62 ∷ 0x64 ∷ []
-  pub both_inside : chars (both_brought_before 1 2 (buffer four)).items ≡ 0x61 ∷ 0x63 ∷ 0x64 ∷ 0x62 ∷ []
-  pub both_clusters : clusters_of (both_brought_before 1 2 (buffer four)).items ≡ 0 ∷ 1 ∷ 1 ∷ 1 ∷ []
   -- a run of items goes before the others, the last one first; these keep their order
   pub run : chars (run_brought_before 0 2 4 (buffer four)).items ≡ 0x64 ∷ 0x63 ∷ 0x61 ∷ 0x62 ∷ []
   pub run_inside : chars (run_brought_before 1 2 4 (buffer four)).items ≡ 0x61 ∷ 0x64 ∷ 0x63 ∷ 0x62 ∷ []
@@ -33,10 +30,7 @@ worked_moving = record {
   stays = refl;
   after = refl;
   after_clusters = refl;
-  both = refl;
   after_inside = refl;
-  both_inside = refl;
-  both_clusters = refl;
   run = refl;
   run_inside = refl;
   run_clusters = refl;

@@ -1,7 +1,8 @@
 -- The first syllables of texts by `myanmar_grammar`, found by hand with its rules.
 use Rattle.std.specs.Prelude.{◌≡◌, ℕ, List, [], ◌∷◌, refl}
 use Rattle.syllables.specs.Grammar.{first_syllable}
-use Rattle.syllables.specs.IndicCategories.{X, C, V, N, H, ZWNJ, ZWJ, SM, A, PLACEHOLDER, DOTTED_CIRCLE, Ra, CS, SMPst, VAbv, VBlw, VPre, VPst, Asat, MH, MR, MW, MY, PT, VS, ML}
+use Rattle.syllables.specs.IndicCategories.{X, C, V, N, H, ZWNJ, ZWJ, SM, A, PLACEHOLDER, DOTTED_CIRCLE, Ra, CS, SMPst, VAbv, VBlw, VPre, VPst, Asat}
+use Rattle.syllables.specs.IndicCategories.{MH, MR, MW, MY, PT, VS, ML}
 use Rattle.syllables.specs.MyanmarGrammar.{myanmar_grammar}
 use Rattle.syllables.specs.declared.scanner.Syllable.{Syllable}
 

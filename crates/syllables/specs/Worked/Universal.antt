@@ -1,7 +1,9 @@
 -- The first syllables of texts by `universal_grammar`, found by hand with its rules.
 use Rattle.std.specs.Prelude.{◌≡◌, ℕ, List, [], ◌∷◌, map, replicate, refl}
 use Rattle.syllables.specs.Grammar.{first_syllable}
-use Rattle.syllables.specs.UniversalCategories.{O, B, N, GB, CGJ, SUB, H, HN, ZWNJ, WJ, R, VPre, VMPre, FAbv, FBlw, FPst, MAbv, MBlw, MPst, MPre, CMAbv, CMBlw, VAbv, VBlw, VPst, VMAbv, VMBlw, VMPst, SMAbv, SMBlw, CS, IS, FMAbv, FMBlw, FMPst, Sk, G, J, SB, SE, HVM, HM, HR, RK}
+use Rattle.syllables.specs.UniversalCategories.{O, B, N, GB, CGJ, SUB, H, HN, ZWNJ, WJ, R, VPre, VMPre, FAbv, FBlw, FPst, MAbv, MBlw, MPst, MPre}
+use Rattle.syllables.specs.UniversalCategories.{CMAbv, CMBlw, VAbv, VBlw, VPst, VMAbv, VMBlw, VMPst, SMAbv, SMBlw, CS, IS, FMAbv, FMBlw, FMPst, Sk, G}
+use Rattle.syllables.specs.UniversalCategories.{J, SB, SE, HVM, HM, HR, RK}
 use Rattle.syllables.specs.UniversalGrammar.{universal_grammar}
 use Rattle.syllables.specs.declared.scanner.Syllable.{Syllable}
 

@@ -1,4 +1,5 @@
-//! The categories of the scripts of India, of Khmer and of Myanmar: one numbering, since the three share many characters.
+//! The categories of the scripts of India, of Khmer and of Myanmar: one numbering, since the three
+//! share many characters.
 
 /// Any other character.
 pub const X: u8 = 0;

@@ -1,6 +1,7 @@
 -- Categories of characters, by the rules of the specification.
 use Rattle.std.specs.Prelude.{◌≡◌, [], ◌∷◌, refl}
-use Rattle.syllables.specs.UniversalCategories.{B, CGJ, CMAbv, CS, FMPst, FPst, G, GB, H, HN, HVM, IS, J, MBlw, MPre, N, O, R, RK, SB, SE, SMAbv, SUB, Sk, VAbv, VBlw, VMAbv, VMPre, VMPst, VPre, VPst, WJ, ZWNJ}
+use Rattle.syllables.specs.UniversalCategories.{B, CGJ, CMAbv, CS, FMPst, FPst, G, GB, H, HN, HVM, IS, J, MBlw, MPre, N, O, R, RK, SB, SE, SMAbv, SUB}
+use Rattle.syllables.specs.UniversalCategories.{Sk, VAbv, VBlw, VMAbv, VMPre, VMPst, VPre, VPst, WJ, ZWNJ}
 use Rattle.shape_buffer.specs.Walks.{items_mapped}
 use Rattle.syllabic.specs.Worked.Items.{item, buffer}
 use Rattle.universal_shaper.specs.Categories.{category, categorized}

@@ -3,7 +3,8 @@ use Rattle.std.specs.Prelude.{◌≡◌, ◌==◌, ℕ, Bool, true, false, List,
 use Rattle.shape_common.specs.declared.text_types.GlyphId.{GlyphId}
 use Rattle.shape_items.specs.Items.{Item}
 use Rattle.shape_items.specs.Clusters.{merge}
-use Rattle.syllables.specs.UniversalCategories.{O, B, N, R, H, HVM, IS, CS, Sk, G, SUB, ZWNJ, VPre, VMPre, VAbv, VBlw, VMPst, FAbv, MBlw, MPre, FMAbv, FMPst, CMAbv, CMBlw, SMAbv, SMBlw}
+use Rattle.syllables.specs.UniversalCategories.{O, B, N, R, H, HVM, IS, CS, Sk, G, SUB, ZWNJ, VPre, VMPre, VAbv, VBlw, VMPst, FAbv, MBlw, MPre, FMAbv}
+use Rattle.syllables.specs.UniversalCategories.{FMPst, CMAbv, CMBlw, SMAbv, SMBlw}
 use Rattle.syllabic.specs.Circles.{circled_items, no_circling}
 use Rattle.syllabic.specs.Worked.Items.{item, buffer, chars, clusters_of}
 use Rattle.universal_shaper.specs.Reordering.{each_reordered, circled}
