@@ -23,7 +23,9 @@ use Rattle.arabic_fallback.specs.Replaced.{with_glyph, classed_by, with_componen
 use Rattle.arabic_fallback.specs.Seeking.{nth, is_on}
 use Rattle.arabic_fallback.specs.Forms.{listed, formed, form_rows, formed_by}
 use Rattle.arabic_fallback.specs.Ligatures.{Row, found_in, ligature_rows}
-use Rattle.arabic_fallback.specs.Ligating.{put_at, merged, is_component, component_among, joined_item, joined_at, joined_to, followers, total_of, put_over, ligature_made, id_given, ligation_of, following_charged, ligature_given, ligature_put, Walked, tried_at, with_left, tried_with, searched_at, ligated_at, ligated_to, each_ligated, cleared_away}
+use Rattle.arabic_fallback.specs.Ligating.{put_at, merged, is_component, component_among, joined_item, joined_at, joined_to, followers, total_of}
+use Rattle.arabic_fallback.specs.Ligating.{put_over, ligature_made, id_given, ligation_of, following_charged, ligature_given, ligature_put, Walked}
+use Rattle.arabic_fallback.specs.Ligating.{tried_at, with_left, tried_with, searched_at, ligated_at, ligated_to, each_ligated, cleared_away}
 use Rattle.arabic_fallback.specs.Merging.{merging_charged}
 use Rattle.arabic_fallback.specs.Vain.{vain_end, concat_marked, vain_marked}
 use Rattle.arabic_fallback.specs.Work.{search_charged}

@@ -1,5 +1,6 @@
 -- How far the ligatures that are tried at a place look in vain: what was looked at is unsafe to concat.
-use Rattle.std.specs.Prelude.{ℕ, Bool, false, Option, Some, None, is_some, ◌+◌, ◌==◌, ◌&&◌, ◌||◌, not, max, nat_lt, nat_le, List, length, drop, fold, if◌then◌else◌}
+use Rattle.std.specs.Prelude.{ℕ, Bool, false, Option, Some, None, is_some, ◌+◌, ◌==◌, ◌&&◌, ◌||◌, not, max, nat_lt, nat_le, List, length, drop, fold}
+use Rattle.std.specs.Prelude.{if◌then◌else◌}
 use Rattle.std.specs.Int.RustNames.{bit_and}
 use Rattle.std.specs.List.{prefix_len}
 use Rattle.std.specs.Option.{option_map_or}

@@ -4,3 +4,4 @@ pub mod Faces
 pub mod Vain
 pub mod Charges
 pub mod Merging
+pub mod Parts

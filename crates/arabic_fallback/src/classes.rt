@@ -1,7 +1,7 @@
 //! The class that a layout engine gives a glyph.
 //!
-//! The engine gives classes to the glyphs of a text before its first lookup. The class of one glyph is asked of it by a text of
-//! that glyph alone.
+//! The engine gives classes to the glyphs of a text before its first lookup. The class of one glyph
+//! is asked of it by a text of that glyph alone.
 ghost use Rattle.std.specs.Prelude.{◌≡◌, IfOk, IsOkUnless, slice_get};
 ghost use Rattle.std.specs.Option.{option_map};
 ghost use Rattle.arabic_fallback.specs.Classes;
@@ -48,7 +48,8 @@ fn alone(alloc: Global, glyph: u32) -> Result<hb_buffer_t, ShapeError>
     }
 }
 
-/// The class that the engine gives a glyph; none if the face has no classes. Refuses with `Memory` alone.
+/// The class that the engine gives a glyph; none if the face has no classes. Refuses with `Memory`
+/// alone.
 pub fn class_of<F, M: hb_ot_layout_t<F>>(
     alloc: Global,
     face: &F,

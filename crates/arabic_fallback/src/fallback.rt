@@ -103,9 +103,10 @@ fn shape_all<F: hb_font_t, M: hb_ot_layout_t<F>>(
     ligate_tables::<F, M>(alloc, face, map, masks.rlig, buffer)
 }
 
-/// Puts Arabic letters of a buffer of glyphs in their forms, and makes their ligatures, by the glyphs that the face has for
-/// presentation forms: initial, medial, final and isolated forms, each where its mask is on, then ligatures. A glyph gets the class
-/// that the engine gives it, if the face has classes, and a ligature else that of ligatures. Refuses with `Memory` alone.
+/// Puts Arabic letters of a buffer of glyphs in their forms, and makes their ligatures, by the
+/// glyphs that the face has for presentation forms: initial, medial, final and isolated forms, each
+/// where its mask is on, then ligatures. A glyph gets the class that the engine gives it, if the
+/// face has classes, and a ligature else that of ligatures. Refuses with `Memory` alone.
 pub fn shape_fallback<F: hb_font_t, M: hb_ot_layout_t<F>>(
     alloc: Global,
     face: &F,

@@ -1,7 +1,7 @@
 //! Marks that follow a ligature, and what they cost.
 //!
-//! A glyph on a ligature of a lookup may be taken apart into more than the text has characters. Of ligatures made of these, each
-//! is followed by all that are left: so each of them is charged for.
+//! A glyph on a ligature of a lookup may be taken apart into more than the text has characters. Of
+//! ligatures made of these, each is followed by all that are left: so each of them is charged for.
 ghost use Rattle.std.specs.Prelude.{◌≡◌, ◌<◌, ◌≤◌, ◌+◌, length};
 ghost use Rattle.std.specs.List.{prefix_len};
 ghost use Rattle.shape_items.specs.Buffer.{limit_of};
@@ -29,7 +29,8 @@ fn count_following(id: u8, rest: &[hb_glyph_info_t]) -> usize
     rest.iter().take_while(|there| follows(id, there)).count()
 }
 
-/// How many marks after the last component follow it. None follow a ligature of marks, or a component that was no ligature.
+/// How many marks after the last component follow it. None follow a ligature of marks, or a
+/// component that was no ligature.
 pub fn followers(made: &Ligation, infos: &[hb_glyph_info_t]) -> usize
     requires { made.now.found.last < length infos.now }
     ensures value { result ≡ Ligating.followers made.now infos.now }

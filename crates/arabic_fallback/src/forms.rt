@@ -150,7 +150,8 @@ fn put_listed(rule: Rule, rows: &[FormGlyphs], buffer: &mut hb_buffer_t)
     update_items(buffer, |info| formed(rule, rows, info));
 }
 
-/// Puts a form in place of each letter for which it is on, if the face has both. Refuses with `Memory` alone.
+/// Puts a form in place of each letter for which it is on, if the face has both. Refuses with
+/// `Memory` alone.
 pub fn put_forms<F: hb_font_t, M: hb_ot_layout_t<F>>(
     alloc: Global,
     face: &F,

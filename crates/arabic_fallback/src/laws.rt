@@ -6,7 +6,8 @@ ghost use Rattle.arabic_fallback.specs.Fallback.{fallback_shaped};
 ghost use Rattle.arabic_fallback.specs.declared.classes.GlyphClass.{GlyphClass as AnyClass};
 ghost use Rattle.arabic_fallback.specs.declared.fallback.FallbackMasks.{FallbackMasks as AnyMasks};
 
-/// The fallback preserves clusters and flags, whatever the face, the classes of its glyphs and the masks are.
+/// The fallback preserves clusters and flags, whatever the face, the classes of its glyphs and the
+/// masks are.
 pub fn fallback_preserves()
     ensures clusters { (face : FaceMeaning) (classes : ℕ → Option AnyClass) (masks : AnyMasks)
         → IsClusterPreserving (fallback_shaped face classes masks) }

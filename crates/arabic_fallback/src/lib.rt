@@ -1,8 +1,8 @@
-//! Arabic for fonts whose `GSUB` has no forms of letters: the presentation forms of Unicode and their ligatures, where the font
-//! has glyphs for them.
+//! Arabic for fonts whose `GSUB` has no forms of letters: the presentation forms of Unicode and
+//! their ligatures, where the font has glyphs for them.
 //!
-//! [`shape_fallback`] does what lookups of initial, medial, final and isolated forms and of required ligatures would do to a
-//! buffer of glyphs. [`laws`] says what it preserves.
+//! [`shape_fallback`] does what lookups of initial, medial, final and isolated forms and of
+//! required ligatures would do to a buffer of glyphs. [`laws`] says what it preserves.
 #![tactic(auto)]
 #![allow(non_camel_case_types)]
 

@@ -1,4 +1,5 @@
-//! How a ligature is made: its components become one glyph, and marks between and after them stand on it.
+//! How a ligature is made: its components become one glyph, and marks between and after them stand
+//! on it.
 ghost use Rattle.std.specs.Prelude.{◌≡◌, ◌<◌, ◌≤◌, ◌+◌, length, IfOk, OnOk, IsOkUnless};
 ghost use Rattle.shape_items.specs.Buffer.{limit_of};
 ghost use Rattle.shape_buffer.specs.Outcome.{Made};
@@ -25,8 +26,8 @@ pub struct Counts {
     pub third: u8,
 }
 
-/// How a ligature is made: the places of its components, how many each of these has, whether it has an id of its own, whether
-/// it is one of marks, its id, and the id of its last component.
+/// How a ligature is made: the places of its components, how many each of these has, whether it has
+/// an id of its own, whether it is one of marks, its id, and the id of its last component.
 #[derive(Clone, Copy, PartialEq, Eq, Debug)]
 pub struct Ligation {
     pub at: usize,
@@ -153,8 +154,8 @@ fn is_component(found: Found, k: usize) -> bool
     k == found.second || found.third == Some(k)
 }
 
-/// What an item after the first component becomes: a component is to go, and what stands between them, or follows, is a mark on
-/// the ligature.
+/// What an item after the first component becomes: a component is to go, and what stands between
+/// them, or follows, is a mark on the ligature.
 fn joined_item(made: &Ligation, k: usize, there: hb_glyph_info_t) -> hb_glyph_info_t
     ensures { result ≡ Ligating.joined_item made.now k there }
 {
@@ -234,7 +235,8 @@ fn put_over(buffer: &mut hb_buffer_t, made: &Ligation)
     );
 }
 
-/// Makes a ligature of its components. Those after the first one are marked, to go when the lookup is done.
+/// Makes a ligature of its components. Those after the first one are marked, to go when the lookup
+/// is done.
 fn ligate(buffer: &mut hb_buffer_t, made: &Ligation)
     requires ordered { made.now.at < made.now.found.last }
     requires within { made.now.found.last < length buffer.old.items }
@@ -262,7 +264,8 @@ fn put_ligature(buffer: &mut hb_buffer_t, at: usize, found: Found)
     ligate(buffer, &made);
 }
 
-/// Marks what ligatures look at in vain, and makes the one that was found, if one was. Returns the place that the lookup goes on at.
+/// Marks what ligatures look at in vain, and makes the one that was found, if one was. Returns the
+/// place that the lookup goes on at.
 fn try_found(buffer: &mut hb_buffer_t, rule: Rule, rows: &[LigatureGlyphs], at: usize) -> usize
     requires { at < length buffer.old.items }
     ensures made { record { buffer = buffer.new; next = result }
@@ -302,7 +305,8 @@ fn search_at(buffer: &mut hb_buffer_t, rule: Rule, rows: &[LigatureGlyphs], at: 
     }
 }
 
-/// Makes the first ligature that stands at a place, if the lookup goes on there and is on. Returns the place that it goes on at.
+/// Makes the first ligature that stands at a place, if the lookup goes on there and is on. Returns
+/// the place that it goes on at.
 fn ligate_at(
     buffer: &mut hb_buffer_t,
     rule: Rule,

@@ -1,6 +1,7 @@
 //! What the merging of a ligature's components writes beside them, which it is charged for.
 //!
-//! Beside the components the walks look at no more items than are charged, and at the one that ends each.
+//! Beside the components the walks look at no more items than are charged, and at the one that ends
+//! each.
 ghost use Rattle.std.specs.Prelude.{◌≡◌, ◌<◌, ◌≤◌, ◌+◌, length};
 ghost use Rattle.shape_items.specs.Buffer.{limit_of};
 ghost use Rattle.shape_items.specs.Merging.{merged_beside};

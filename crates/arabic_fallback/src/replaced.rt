@@ -76,8 +76,8 @@ fn with_components(id: u8, components: u32, item: hb_glyph_info_t) -> hb_glyph_i
     item
 }
 
-/// The ligature in place of its first component, which isn't multiplied any more. `own` if it isn't one of marks, or of a base
-/// and marks.
+/// The ligature in place of its first component, which isn't multiplied any more. `own` if it isn't
+/// one of marks, or of a base and marks.
 #[tactic(auto, unfolding(crate::specs::Replaced::as_ligature))]
 pub fn as_ligature(
     own: bool,

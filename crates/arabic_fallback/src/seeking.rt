@@ -74,7 +74,8 @@ fn count_between(rule: Rule, glyph: u32, rest: &[hb_glyph_info_t]) -> usize
         .count()
 }
 
-/// The place of the first glyph of a list that may not stand between, if it is the one that is looked for.
+/// The place of the first glyph of a list that may not stand between, if it is the one that is
+/// looked for.
 fn place_in(rule: Rule, glyph: u32, rest: &[hb_glyph_info_t]) -> Option<usize>
     ensures value { result ≡ Seeking.place_in rule glyph rest.now }
     ensures inside { IfSome result (λ j. j < length rest.now) }
@@ -114,7 +115,8 @@ pub fn stop_from(rule: Rule, glyph: u32, infos: &[hb_glyph_info_t], from: usize)
     }
 }
 
-/// Whether a glyph may be a component together with the first one, by the ligatures that they belong to.
+/// Whether a glyph may be a component together with the first one, by the ligatures that they
+/// belong to.
 pub fn joins(first: &hb_glyph_info_t, there: &hb_glyph_info_t) -> bool
     ensures { result ≡ Seeking.joins first.now there.now }
 {

@@ -1,13 +1,15 @@
-//! The presentation forms of Arabic letters (The Unicode Standard, blocks Arabic Presentation Forms A and B), and the ligatures
-//! that HarfBuzz 10.2.0 makes of them, in its order.
+//! The presentation forms of Arabic letters (The Unicode Standard, blocks Arabic Presentation Forms
+//! A and B), and the ligatures that HarfBuzz 10.2.0 makes of them, in its order.
 
 /// A letter, and its initial, medial, final and isolated form; U+0000 stands for none.
 pub type Forms = (char, char, char, char, char);
 
-/// The first component of a ligature, the second, the third, and the ligature itself; U+0000 stands for no third one.
+/// The first component of a ligature, the second, the third, and the ligature itself; U+0000 stands
+/// for no third one.
 pub type Ligature = (char, char, char, char);
 
-/// The forms of letters, by the compatibility decompositions of the presentation forms from U+0621 to U+06D3.
+/// The forms of letters, by the compatibility decompositions of the presentation forms from U+0621
+/// to U+06D3.
 pub const FORMS: [Forms; 76] = [
     ('\u{0621}', '\0', '\0', '\0', '\u{FE80}'),
     ('\u{0622}', '\0', '\0', '\u{FE82}', '\u{FE81}'),

@@ -1,7 +1,8 @@
 //! How far the ligatures that are tried at a place look in vain, as lookups of `GSUB` do.
 //!
-//! A text may not be put together of parts that were shaped apart where a ligature was looked for across the parts' edge. So
-//! what a search looked at is marked unsafe to concat, if the buffer asks for that.
+//! A text may not be put together of parts that were shaped apart where a ligature was looked for
+//! across the parts' edge. So what a search looked at is marked unsafe to concat, if the buffer
+//! asks for that.
 ghost use Rattle.std.specs.Prelude.{◌≡◌, ◌<◌, ◌≤◌, length};
 ghost use Rattle.std.specs.List.{prefix_len};
 ghost use Rattle.shape_items.specs.Buffer.{limit_of};
@@ -213,7 +214,8 @@ fn asks_concat(buffer: &hb_buffer_t) -> bool
         .contains(BufferFlags::PRODUCE_UNSAFE_TO_CONCAT)
 }
 
-/// Marks what ligatures look at in vain from a place on. They are sought again only if the buffer asks for that.
+/// Marks what ligatures look at in vain from a place on. They are sought again only if the buffer
+/// asks for that.
 pub fn mark_vain(buffer: &mut hb_buffer_t, rule: Rule, rows: &[LigatureGlyphs], at: usize)
     requires { at < length buffer.old.items }
     ensures made { buffer.new ≡ Vain.vain_marked rule rows.now at buffer.old }

@@ -1,4 +1,5 @@
-//! What the search for ligatures at a place is charged before it is made, so that a text's time has a bound, whatever the font.
+//! What the search for ligatures at a place is charged before it is made, so that a text's time has
+//! a bound, whatever the font.
 ghost use Rattle.std.specs.Prelude.{◌≡◌, ◌<◌, ◌≤◌, length};
 ghost use Rattle.std.specs.List.{prefix_len};
 ghost use Rattle.arabic_fallback.specs.Work;
@@ -8,7 +9,8 @@ use crate::seeking::{Rule, is_skipped, passes};
 use crate::vain::count_of;
 use shape_buffer::buffer::hb_glyph_info_t;
 
-/// How often a ligature may be sought at a place: twice, and four times more for how far it looked in vain.
+/// How often a ligature may be sought at a place: twice, and four times more for how far it looked
+/// in vain.
 const SEARCHES: usize = 6;
 
 fn is_passed(rule: Rule, info: &hb_glyph_info_t) -> bool
@@ -52,8 +54,8 @@ fn search_work(count: usize, each: usize) -> usize
     count.saturating_mul(each).saturating_mul(SEARCHES)
 }
 
-/// What is left after the ligatures that begin with the glyph at a place were charged, if it suffices. Takes as long as what it
-/// charges, and no time once nothing is left.
+/// What is left after the ligatures that begin with the glyph at a place were charged, if it
+/// suffices. Takes as long as what it charges, and no time once nothing is left.
 pub fn search_charged(
     rule: Rule,
     rows: &[LigatureGlyphs],

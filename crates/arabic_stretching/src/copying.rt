@@ -1,7 +1,8 @@
 //! Tiles put side by side, over the word.
 //!
-//! They take no room of their own, so that the word stands below them: their advances are 0, and each is moved to its place by its
-//! offset. In text from right to left the pen moves against the order of the text.
+//! They take no room of their own, so that the word stands below them: their advances are 0, and
+//! each is moved to its place by its offset. In text from right to left the pen moves against the
+//! order of the text.
 ghost use Rattle.std.specs.Prelude.{◌≡◌, ◌<◌, ◌≤◌, ◌+◌, ◌++◌, ◌∷◌, [], None, length, OnOk, IfOk, IsErrOf};
 ghost use Rattle.shape_buffer.specs.declared.buffer.error.ShapeError.TheVariants.{Length};
 ghost use Rattle.arabic_stretching.specs.Copying.{moved, moved_by, placed, copies_of, extra_copies, closer, pen_at};
@@ -14,7 +15,8 @@ use shape_buffer::interfaces::hb_font_t;
 use shape_buffer::wrapping::{difference, sum};
 use std::alloc::Global;
 
-/// Where the next copy begins, how far the one after it is from it, and whether the text runs from right to left.
+/// Where the next copy begins, how far the one after it is from it, and whether the text runs from
+/// right to left.
 #[derive(Clone, Copy, PartialEq, Eq, Debug)]
 pub struct Pen {
     pub right_to_left: bool,
@@ -191,8 +193,8 @@ fn put_next<F: hb_font_t>(
     }
 }
 
-/// The glyphs of a text in its order, with their tiles over their words. Refuses with `Length` if there would be more than the
-/// limit, and with `Memory` if a growth was refused.
+/// The glyphs of a text in its order, with their tiles over their words. Refuses with `Length` if
+/// there would be more than the limit, and with `Memory` if a growth was refused.
 pub fn stretch<F: hb_font_t>(
     alloc: Global,
     face: &F,

@@ -1,8 +1,9 @@
 //! How tiles fill the width of their word.
 //!
-//! What the fixed tiles leave of it is filled by the repeating ones: as often as they go into it whole, and once more if
-//! something is left, where the copies then overlap so that they end with the word. The first tile begins where the word does if
-//! they overlap. Else it is moved by half of what the fixed ones leave, as HarfBuzz does, which doesn't take off what copies fill.
+//! What the fixed tiles leave of it is filled by the repeating ones: as often as they go into it
+//! whole, and once more if something is left, where the copies then overlap so that they end with
+//! the word. The first tile begins where the word does if they overlap. Else it is moved by half of
+//! what the fixed ones leave, as HarfBuzz does, which doesn't take off what copies fill.
 ghost use Rattle.std.specs.Prelude.{◌≡◌, ◌≤◌, length, fold};
 ghost use Rattle.std.specs.List.{prefix_len};
 ghost use Rattle.arabic_stretching.specs.Fitting;
@@ -27,7 +28,8 @@ pub struct Widths {
     pub count: i32,
 }
 
-/// How often each repeating tile is repeated, how far copies overlap, and the offset of what comes next.
+/// How often each repeating tile is repeated, how far copies overlap, and the offset of what comes
+/// next.
 #[derive(Clone, Copy, PartialEq, Eq, Debug)]
 pub struct Fit {
     pub copies: usize,
@@ -194,7 +196,8 @@ fn fit_over<F: hb_font_t>(face: &F, tiles: &[Glyph], rest: &[Glyph]) -> Fit
     fit_by(difference(word_at(rest), widths.fixed), widths)
 }
 
-/// How the tiles at the beginning of a list, in the order of the text, fill the width of the word after them.
+/// How the tiles at the beginning of a list, in the order of the text, fill the width of the word
+/// after them.
 pub fn fit_at<F: hb_font_t>(face: &F, glyphs: &[Glyph]) -> Fit
     ensures { result ≡ Fitting.fit_at (F.face face.now) glyphs.now }
 {

@@ -61,8 +61,8 @@ fn put(alloc: Global, glyphs: &[Glyph], buffer: &mut hb_buffer_t) -> Result<(), 
     buffer.put_lists(infos, positions)
 }
 
-/// Puts the tiles of a text in its order over their words, and marks them unsafe to break with these. Changes nothing if there
-/// would be more glyphs than the run may make, as HarfBuzz does.
+/// Puts the tiles of a text in its order over their words, and marks them unsafe to break with
+/// these. Changes nothing if there would be more glyphs than the run may make, as HarfBuzz does.
 #[tactic(auto, using(crate::proofs::OutcomeLemmas::too_long, crate::proofs::OutcomeLemmas::laid_fits))]
 fn lay_out<F: hb_font_t>(
     alloc: Global,
@@ -115,9 +115,10 @@ fn has_tiles(infos: &[hb_glyph_info_t]) -> bool
     infos.iter().any(|info| is_tile(info))
 }
 
-/// Repeats the tiles of signs, so that each sign is as wide as the word after it and stands over it, and marks both unsafe to
-/// break. It belongs after positioning, and changes nothing if no tile was noted, or if there would be more glyphs than the run
-/// may make. Refuses with `Memory` if a growth was refused, and with nothing else.
+/// Repeats the tiles of signs, so that each sign is as wide as the word after it and stands over
+/// it, and marks both unsafe to break. It belongs after positioning, and changes nothing if no tile
+/// was noted, or if there would be more glyphs than the run may make. Refuses with `Memory` if a
+/// growth was refused, and with nothing else.
 pub fn stretch_tiles<F: hb_font_t>(
     alloc: Global,
     face: &F,

@@ -32,8 +32,8 @@ fn recorded(info: &hb_glyph_info_t) -> hb_glyph_info_t
     item
 }
 
-/// Notes what a lookup has taken apart so far as tiles. It belongs into a pause right after the feature `stch`, if the font
-/// has that. Takes no memory.
+/// Notes what a lookup has taken apart so far as tiles. It belongs into a pause right after the
+/// feature `stch`, if the font has that. Takes no memory.
 pub fn record_tiles(buffer: &mut hb_buffer_t)
     ensures { Made Tiles.tiles_recorded buffer.old buffer.new }
 {

@@ -1,11 +1,13 @@
 -- The rule N0: brackets that are open, and one character on.
-use Rattle.std.proofs.Common.{◌≡◌, ℕ, ◌+◌, ◌<◌, ◌==◌, true, false, List, [], ◌∷◌, length, get_or, reverse, take, drop, ap, ap₂, sym, ◌∙◌}
-use Rattle.std.specs.Prelude.{slice_set}
-use Rattle.std.proofs.lemmas.Bool.{cond-true, cond-false}
+use Rattle.std.proofs.Common.{◌≡◌, ℕ, ◌+◌, ◌&&◌, not, Bool, ◌<◌, ◌==◌, true, false, List, [], ◌∷◌, length, get_or, reverse, take, drop, refl, ap, ap₂, sym, ◌∙◌, arith}
+use Rattle.std.specs.Prelude.{nat_lt, slice_set}
+use Rattle.std.proofs.lemmas.Bool.Decides.{nat_tests}
+use Rattle.std.proofs.lemmas.Bool.{cond-true, cond-false, or_parts}
 use Rattle.std.proofs.lemmas.List.{drop_more, reverse-append, take_more}
 use Rattle.ucd_bidi.specs.declared.BidiClass.{BidiClass}
 use Rattle.ucd_bidi.specs.declared.BidiClass.TheVariants.{ArabicLetter}
-use Rattle.bidi.specs.Brackets.{Pairs, closed, closed_at, from_match, n0_from, directed_then, pairs_from, pairs_step, with_pair}
+use Rattle.std.specs.List.{list_any}
+use Rattle.bidi.specs.Brackets.{Pairs, closed, closed_at, from_match, is_paired, n0_from, directed_then, pairs_from, pairs_step, with_pair}
 use Rattle.bidi.specs.Weak.{next_class}
 use Rattle.bidi.specs.declared.brackets.Open.{Open}
 use Rattle.bidi.specs.declared.members.Member.{Member}
@@ -54,3 +56,24 @@ n0_on embedding before next ms place closes old new lt is_new is_next =
     ap (λ b. n0_from embedding ms (place + 1) b (drop (place + 1) closes) new) is_next
     ∙ ap (λ l. n0_from embedding ms (place + 1) (directed_then before (next_class (drop place l))) (drop (place + 1) closes) l) is_new
     ∙ sym (ap (λ l. n0_from embedding ms place before l old) (drop_more closes place 0 lt))
+
+-- N0 where no bracket is paired
+close_none : (embedding before : BidiClass) (ms : List Member) (place close : ℕ) (cs : List BidiClass) → (close == 0) ≡ true
+    → with_pair embedding before ms place close cs ≡ cs
+close_none embedding before ms place close cs zero_close =
+    let e : close ≡ 0 = grind (arith, nat_tests) in
+    let off : nat_lt place close ≡ false = grind (arith, nat_tests) in
+    cond-false (nat_lt place close && nat_lt close (length cs)) _ cs (ap (λ b. b && nat_lt close (length cs)) off)
+
+not_false : (b : Bool) → not b ≡ false → b ≡ true
+not_false true h = refl
+not_false false h = cc
+
+pub no_pair : (embedding before : BidiClass) (ms : List Member) (place : ℕ) (closes : List ℕ) (cs : List BidiClass) → list_any is_paired closes ≡ false
+    → n0_from embedding ms place before closes cs ≡ cs
+no_pair embedding before ms place [] cs h = refl
+no_pair embedding before ms place (close ∷ closes) cs h =
+    let parts = or_parts (is_paired close) (list_any is_paired closes) h in
+    ap (λ l. n0_from embedding ms (place + 1) (directed_then before (next_class (drop place l))) closes l)
+    (close_none embedding before ms place close cs (not_false (close == 0) parts.0))
+    ∙ no_pair embedding (directed_then before (next_class (drop place cs))) ms (place + 1) closes cs parts.1

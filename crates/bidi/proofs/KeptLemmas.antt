@@ -6,7 +6,8 @@ use Rattle.ucd_bidi.specs.declared.BidiClass.{BidiClass}
 use Rattle.ucd_bidi.specs.declared.BidiClass.TheVariants.{PopDirectionalIsolate}
 use Rattle.bidi.specs.Classes.{is, is_initiator}
 use Rattle.bidi.specs.Neutral.{implicit_level}
-use Rattle.bidi.specs.Sequences.{AreAllWithin, AreWithin, IsWithin, Walk, all_made, class_of, ended, interrupted, joined, over_sequences, returned, returned_to, start, starts_anew, walk_step, walked, with_classes, with_levels, with_sequence, with_sequences}
+use Rattle.bidi.specs.Sequences.{AreAllWithin, AreWithin, IsWithin, Walk, all_made, class_of, ended, interrupted, joined, over_sequences, returned}
+use Rattle.bidi.specs.Sequences.{returned_to, start, starts_anew, walk_step, walked, with_classes, with_levels, with_sequence, with_sequences}
 use Rattle.bidi.specs.declared.members.Member.{Member}
 use Rattle.bidi.proofs.SequenceLemmas.{within_returned, within_step}
 

@@ -3,7 +3,9 @@ use Rattle.std.proofs.Common.{◌≡◌, ℕ, zero, suc, ◌+◌, ◌-◌, ◌&&
 use Rattle.std.specs.Prelude.{⊤, nat_lt, slice_set}
 use Rattle.std.proofs.lemmas.Bool.{cases_Bool, cond-true, cond-false}
 use Rattle.ucd_bidi.specs.declared.BidiClass.{BidiClass}
-use Rattle.ucd_bidi.specs.declared.BidiClass.TheVariants.{ArabicLetter, ArabicNumber, CommonSeparator, EuropeanNumber, EuropeanSeparator, EuropeanTerminator, LeftToRight, NonspacingMark, OtherNeutral, ParagraphSeparator, RightToLeft, SegmentSeparator, WhiteSpace}
+use Rattle.ucd_bidi.specs.declared.BidiClass.TheVariants.{ArabicLetter, ArabicNumber, CommonSeparator, EuropeanNumber, EuropeanSeparator}
+use Rattle.ucd_bidi.specs.declared.BidiClass.TheVariants.{EuropeanTerminator, LeftToRight, NonspacingMark, OtherNeutral, ParagraphSeparator}
+use Rattle.ucd_bidi.specs.declared.BidiClass.TheVariants.{RightToLeft, SegmentSeparator, WhiteSpace}
 use Rattle.bidi.specs.Brackets.{closes_of, directed_then, has_directed, has_direction, n0, n0_from, with_bracket, with_brackets, with_marks, with_pair}
 use Rattle.bidi.specs.Classes.{is, is_isolate}
 use Rattle.bidi.specs.Neutral.{direction_after, direction_then, implicit_level, n1_class, neutral}

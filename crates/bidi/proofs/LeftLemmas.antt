@@ -5,7 +5,9 @@ use Rattle.std.specs.List.{list_all}
 use Rattle.std.proofs.lemmas.Bool.{and_parts, cases_Bool, cond-true, cond-false}
 use Rattle.std.proofs.lemmas.List.{append-nil, length-map}
 use Rattle.ucd_bidi.specs.declared.BidiClass.{BidiClass}
-use Rattle.ucd_bidi.specs.declared.BidiClass.TheVariants.{BoundaryNeutral, FirstStrongIsolate, LeftToRightEmbedding, LeftToRightIsolate, LeftToRightOverride, PopDirectionalFormat, PopDirectionalIsolate, RightToLeftEmbedding, RightToLeftIsolate, RightToLeftOverride}
+use Rattle.ucd_bidi.specs.declared.BidiClass.TheVariants.{BoundaryNeutral, FirstStrongIsolate, LeftToRightEmbedding, LeftToRightIsolate}
+use Rattle.ucd_bidi.specs.declared.BidiClass.TheVariants.{LeftToRightOverride, PopDirectionalFormat, PopDirectionalIsolate, RightToLeftEmbedding}
+use Rattle.ucd_bidi.specs.declared.BidiClass.TheVariants.{RightToLeftIsolate, RightToLeftOverride}
 use Rattle.bidi.specs.Classes.{is, is_initiator, is_removed}
 use Rattle.bidi.specs.Explicit.{explicit, explicit_from, first_is_right, placed, stack_of, stepped}
 use Rattle.bidi.specs.Left.{is_left}

@@ -1,5 +1,6 @@
 pub mod WalkLemmas
 pub mod WeakLemmas
+pub mod NumberLemmas
 pub mod NeutralLemmas
 pub mod StackLemmas
 pub mod ExplicitLemmas
@@ -8,6 +9,7 @@ pub mod BracketLemmas
 pub mod SequenceLemmas
 pub mod KeptLemmas
 pub mod WithinLemmas
+pub mod PlainLemmas
 pub mod TextLemmas
 pub mod LineLemmas
 pub mod InverseLemmas

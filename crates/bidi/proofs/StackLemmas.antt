@@ -2,7 +2,11 @@
 use Rattle.std.proofs.Common.{◌≡◌, ℕ, ◌+◌, ◌-◌, ◌≤◌, ◌==◌, Bool, true, false, List, [], ◌∷◌, refl, subst, sym, arith, inl, inr}
 use Rattle.std.proofs.lemmas.Bool.{cases_Bool, cond-false}
 use Rattle.ucd_bidi.specs.declared.BidiClass.{BidiClass}
-use Rattle.ucd_bidi.specs.declared.BidiClass.TheVariants.{ArabicLetter, ArabicNumber, ParagraphSeparator, BoundaryNeutral, CommonSeparator, EuropeanNumber, EuropeanSeparator, EuropeanTerminator, FirstStrongIsolate, LeftToRight, LeftToRightEmbedding, LeftToRightIsolate, LeftToRightOverride, NonspacingMark, OtherNeutral, PopDirectionalFormat, PopDirectionalIsolate, RightToLeft, RightToLeftEmbedding, RightToLeftIsolate, RightToLeftOverride, SegmentSeparator, WhiteSpace}
+use Rattle.ucd_bidi.specs.declared.BidiClass.TheVariants.{ArabicLetter, ArabicNumber, ParagraphSeparator, BoundaryNeutral, CommonSeparator}
+use Rattle.ucd_bidi.specs.declared.BidiClass.TheVariants.{EuropeanNumber, EuropeanSeparator, EuropeanTerminator, FirstStrongIsolate, LeftToRight}
+use Rattle.ucd_bidi.specs.declared.BidiClass.TheVariants.{LeftToRightEmbedding, LeftToRightIsolate, LeftToRightOverride, NonspacingMark, OtherNeutral}
+use Rattle.ucd_bidi.specs.declared.BidiClass.TheVariants.{PopDirectionalFormat, PopDirectionalIsolate, RightToLeft, RightToLeftEmbedding}
+use Rattle.ucd_bidi.specs.declared.BidiClass.TheVariants.{RightToLeftIsolate, RightToLeftOverride, SegmentSeparator, WhiteSpace}
 use Rattle.bidi.specs.Explicit.{Stack, closed, embedded, has_room, isolated, popped, stepped, terminated, up_to_isolate, with_entries}
 use Rattle.bidi.specs.declared.explicit.Status.{Status}
 

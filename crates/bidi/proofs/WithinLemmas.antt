@@ -6,7 +6,11 @@ use Rattle.std.specs.Prelude.{⊤, nat_le}
 use Rattle.std.proofs.lemmas.List.Elements.{All-from_recursion}
 use Rattle.std.proofs.lemmas.Bool.{cases_Bool, cond-true, cond-false, and_parts}
 use Rattle.ucd_bidi.specs.declared.BidiClass.{BidiClass}
-use Rattle.ucd_bidi.specs.declared.BidiClass.TheVariants.{ArabicLetter, ArabicNumber, ParagraphSeparator, BoundaryNeutral, CommonSeparator, EuropeanNumber, EuropeanSeparator, EuropeanTerminator, FirstStrongIsolate, LeftToRight, LeftToRightEmbedding, LeftToRightIsolate, LeftToRightOverride, NonspacingMark, OtherNeutral, PopDirectionalFormat, PopDirectionalIsolate, RightToLeft, RightToLeftEmbedding, RightToLeftIsolate, RightToLeftOverride, SegmentSeparator, WhiteSpace}
+use Rattle.ucd_bidi.specs.declared.BidiClass.TheVariants.{ArabicLetter, ArabicNumber, ParagraphSeparator, BoundaryNeutral, CommonSeparator}
+use Rattle.ucd_bidi.specs.declared.BidiClass.TheVariants.{EuropeanNumber, EuropeanSeparator, EuropeanTerminator, FirstStrongIsolate, LeftToRight}
+use Rattle.ucd_bidi.specs.declared.BidiClass.TheVariants.{LeftToRightEmbedding, LeftToRightIsolate, LeftToRightOverride, NonspacingMark, OtherNeutral}
+use Rattle.ucd_bidi.specs.declared.BidiClass.TheVariants.{PopDirectionalFormat, PopDirectionalIsolate, RightToLeft, RightToLeftEmbedding}
+use Rattle.ucd_bidi.specs.declared.BidiClass.TheVariants.{RightToLeftIsolate, RightToLeftOverride, SegmentSeparator, WhiteSpace}
 use Rattle.bidi.specs.Classes.{is, is_removed}
 use Rattle.bidi.specs.Explicit.{Stack, closed, embedded, explicit, explicit_from, first_is_right, has_room, isolated, next_level, placed, stack_of, stepped, terminated, up_to_isolate, with_entries}
 use Rattle.bidi.specs.Members.{members, members_from}

@@ -1,5 +1,6 @@
 -- The rule N0: pairs of brackets, over an isolating run sequence.
-use Rattle.std.specs.Prelude.{ℕ, ◌+◌, ◌-◌, ◌==◌, ◌&&◌, nat_lt, Bool, true, false, List, [], ◌∷◌, length, take, drop, replicate, slice_set, Option, None, Some, option_map, if◌then◌else◌}
+use Rattle.std.specs.Prelude.{ℕ, ◌+◌, ◌-◌, ◌==◌, ◌&&◌, not, nat_lt, Bool, true, false, List, [], ◌∷◌, length, take, drop, replicate, slice_set}
+use Rattle.std.specs.Prelude.{Option, None, Some, option_map, if◌then◌else◌}
 use Rattle.std.specs.List.{find, list_any}
 use Rattle.ucd_bidi.specs.Binary.{is_bidi_mirrored}
 use Rattle.ucd_bidi.specs.declared.BidiClass.{BidiClass}
@@ -81,6 +82,10 @@ pairs_from place pairs (member ∷ members) (class ∷ classes) =
 
 abbrev pub closes_of : List Member → List BidiClass → List ℕ
 closes_of members classes = (pairs_from 0 (no_pairs (length members)) members classes).closes
+
+-- whether a bracket is paired, by the place that closes it
+abbrev pub is_paired : ℕ → Bool
+is_paired close = not (close == 0)
 
 abbrev pub has_directed : List BidiClass → Bool
 has_directed classes = list_any is_directed classes

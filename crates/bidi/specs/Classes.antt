@@ -2,7 +2,10 @@
 use Rattle.std.specs.Prelude.{ℕ, ◌==◌, ◌%◌, ◌||◌, Bool, if◌then◌else◌}
 use Rattle.ucd_bidi.specs.BidiClass.{bidi_class_number}
 use Rattle.ucd_bidi.specs.declared.BidiClass.{BidiClass}
-use Rattle.ucd_bidi.specs.declared.BidiClass.TheVariants.{ArabicLetter, ArabicNumber, BoundaryNeutral, EuropeanNumber, FirstStrongIsolate, LeftToRight, LeftToRightEmbedding, LeftToRightIsolate, LeftToRightOverride, OtherNeutral, ParagraphSeparator, PopDirectionalFormat, PopDirectionalIsolate, RightToLeft, RightToLeftEmbedding, RightToLeftIsolate, RightToLeftOverride, SegmentSeparator, WhiteSpace}
+use Rattle.ucd_bidi.specs.declared.BidiClass.TheVariants.{ArabicLetter, ArabicNumber, BoundaryNeutral, EuropeanNumber, FirstStrongIsolate}
+use Rattle.ucd_bidi.specs.declared.BidiClass.TheVariants.{LeftToRight, LeftToRightEmbedding, LeftToRightIsolate, LeftToRightOverride, OtherNeutral}
+use Rattle.ucd_bidi.specs.declared.BidiClass.TheVariants.{ParagraphSeparator, PopDirectionalFormat, PopDirectionalIsolate, RightToLeft}
+use Rattle.ucd_bidi.specs.declared.BidiClass.TheVariants.{RightToLeftEmbedding, RightToLeftIsolate, RightToLeftOverride, SegmentSeparator, WhiteSpace}
 
 abbrev pub is : BidiClass → BidiClass → Bool
 is class other = bidi_class_number class == bidi_class_number other
@@ -20,11 +23,17 @@ is_isolate class = is_initiator class || is class PopDirectionalIsolate
 
 -- X9: RLE, LRE, RLO, LRO, PDF, BN
 abbrev pub is_removed : BidiClass → Bool
-is_removed class = is class LeftToRightEmbedding || (is class RightToLeftEmbedding || (is class LeftToRightOverride || (is class RightToLeftOverride || (is class PopDirectionalFormat || is class BoundaryNeutral))))
+is_removed class = is class LeftToRightEmbedding || (is class RightToLeftEmbedding
+    || (is class LeftToRightOverride || (is class RightToLeftOverride
+    || (is class PopDirectionalFormat || is class BoundaryNeutral))))
 
 -- NI: B, S, WS, ON, FSI, LRI, RLI, PDI
 abbrev pub is_neutral : BidiClass → Bool
 is_neutral class = is class OtherNeutral || (is class WhiteSpace || (is class SegmentSeparator || (is class ParagraphSeparator || is_isolate class)))
+
+-- EN, AN
+abbrev pub is_number : BidiClass → Bool
+is_number class = is class EuropeanNumber || is class ArabicNumber
 
 -- among neutral characters numbers act as R
 abbrev pub direction : BidiClass → BidiClass

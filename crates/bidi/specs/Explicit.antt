@@ -1,7 +1,10 @@
 -- The rules P2, P3 and X1 to X8.
 use Rattle.std.specs.Prelude.{ℕ, ◌+◌, ◌-◌, ◌%◌, ◌==◌, ◌&&◌, not, Bool, true, false, List, [], ◌∷◌, nat_le, if◌then◌else◌}
 use Rattle.ucd_bidi.specs.declared.BidiClass.{BidiClass}
-use Rattle.ucd_bidi.specs.declared.BidiClass.TheVariants.{FirstStrongIsolate, LeftToRight, LeftToRightEmbedding, LeftToRightIsolate, LeftToRightOverride, OtherNeutral, ParagraphSeparator, PopDirectionalFormat, PopDirectionalIsolate, RightToLeft, RightToLeftEmbedding, RightToLeftIsolate, RightToLeftOverride}
+use Rattle.ucd_bidi.specs.declared.BidiClass.TheVariants.{FirstStrongIsolate, LeftToRight, LeftToRightEmbedding, LeftToRightIsolate}
+use Rattle.ucd_bidi.specs.declared.BidiClass.TheVariants.{LeftToRightOverride, OtherNeutral, ParagraphSeparator, PopDirectionalFormat}
+use Rattle.ucd_bidi.specs.declared.BidiClass.TheVariants.{PopDirectionalIsolate, RightToLeft, RightToLeftEmbedding, RightToLeftIsolate}
+use Rattle.ucd_bidi.specs.declared.BidiClass.TheVariants.{RightToLeftOverride}
 use Rattle.bidi.specs.Classes.{is, is_initiator, is_strong}
 use Rattle.bidi.specs.declared.explicit.Placed.{Placed}
 use Rattle.bidi.specs.declared.explicit.Status.{Status}
@@ -113,6 +116,19 @@ stepped base first class stack =
     else if is class PopDirectionalFormat then terminated stack
     else if is class ParagraphSeparator then stack_of base
     else stack
+
+-- whether none of X2 to X7 acts on a class
+abbrev pub is_plain : BidiClass → Bool
+is_plain LeftToRightEmbedding = false
+is_plain RightToLeftEmbedding = false
+is_plain LeftToRightOverride = false
+is_plain RightToLeftOverride = false
+is_plain PopDirectionalFormat = false
+is_plain LeftToRightIsolate = false
+is_plain RightToLeftIsolate = false
+is_plain FirstStrongIsolate = false
+is_plain PopDirectionalIsolate = false
+is_plain _ = true
 
 -- X5a to X6a: a character has the level of the last entry, and the class that it forces, if any: that entry is the one
 -- before the character, and for a PDI the one after it. X8: a paragraph separator has the level of the paragraph

@@ -1,7 +1,8 @@
 -- Texts in which nothing is right to left.
 use Rattle.std.specs.Prelude.{Bool, true, false}
 use Rattle.ucd_bidi.specs.declared.BidiClass.{BidiClass}
-use Rattle.ucd_bidi.specs.declared.BidiClass.TheVariants.{BoundaryNeutral, CommonSeparator, EuropeanNumber, EuropeanSeparator, EuropeanTerminator, LeftToRight, NonspacingMark, OtherNeutral, ParagraphSeparator, SegmentSeparator, WhiteSpace}
+use Rattle.ucd_bidi.specs.declared.BidiClass.TheVariants.{BoundaryNeutral, CommonSeparator, EuropeanNumber, EuropeanSeparator, EuropeanTerminator}
+use Rattle.ucd_bidi.specs.declared.BidiClass.TheVariants.{LeftToRight, NonspacingMark, OtherNeutral, ParagraphSeparator, SegmentSeparator, WhiteSpace}
 
 -- neither R, AL and AN nor the characters that embed, override and isolate
 abbrev pub is_left : BidiClass → Bool

@@ -1,5 +1,6 @@
 -- The rules L1 and L2, for the characters of a line.
-use Rattle.std.specs.Prelude.{◌≡◌, ℕ, zero, suc, ◌+◌, ◌-◌, ◌%◌, ◌==◌, ◌<◌, ◌||◌, length, replicate, slice_index_or, slice_set, min, max, Bool, true, false, List, [], ◌∷◌, ◌++◌, map, nat_le, if◌then◌else◌}
+use Rattle.std.specs.Prelude.{◌≡◌, ℕ, zero, suc, ◌+◌, ◌-◌, ◌%◌, ◌==◌, ◌<◌, ◌||◌, length, replicate, slice_index_or, slice_set, min, max, Bool, true}
+use Rattle.std.specs.Prelude.{false, List, [], ◌∷◌, ◌++◌, map, nat_le, if◌then◌else◌}
 use Rattle.ucd_bidi.specs.declared.BidiClass.{BidiClass}
 use Rattle.ucd_bidi.specs.declared.BidiClass.TheVariants.{ParagraphSeparator, SegmentSeparator, WhiteSpace}
 use Rattle.bidi.specs.Classes.{is, is_isolate, is_removed}

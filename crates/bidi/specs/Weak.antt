@@ -1,7 +1,8 @@
 -- The rules W1 to W7, each over the classes of an isolating run sequence.
 use Rattle.std.specs.Prelude.{◌&&◌, ◌||◌, Bool, false, List, [], ◌∷◌, map, if◌then◌else◌}
 use Rattle.ucd_bidi.specs.declared.BidiClass.{BidiClass}
-use Rattle.ucd_bidi.specs.declared.BidiClass.TheVariants.{ArabicLetter, ArabicNumber, CommonSeparator, EuropeanNumber, EuropeanSeparator, EuropeanTerminator, LeftToRight, NonspacingMark, OtherNeutral, RightToLeft}
+use Rattle.ucd_bidi.specs.declared.BidiClass.TheVariants.{ArabicLetter, ArabicNumber, CommonSeparator, EuropeanNumber, EuropeanSeparator}
+use Rattle.ucd_bidi.specs.declared.BidiClass.TheVariants.{EuropeanTerminator, LeftToRight, NonspacingMark, OtherNeutral, RightToLeft}
 use Rattle.bidi.specs.Classes.{is, is_isolate, is_strong}
 
 -- W1: a mark takes the class of the character before it, of sos at the start, and ON after an isolate initiator or a PDI

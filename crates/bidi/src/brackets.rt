@@ -1,5 +1,6 @@
 //! The rule N0: pairs of brackets, over an isolating run sequence.
 ghost use Rattle.std.specs.Prelude.{◌≡◌, ◌<◌, ◌≤◌, length, reverse, take, IfOk, OnOk};
+ghost use Rattle.std.specs.List.{list_any};
 ghost use Rattle.bidi.specs.Brackets;
 ghost use Rattle.bidi.specs.Brackets.{Pairs as PairsValue};
 
@@ -103,7 +104,8 @@ fn closing(class: BidiClass, c: char) -> Option<char>
 struct Pairs {
     /// The brackets that are open, the last one last.
     stack: Vec<Open>,
-    /// For the place of each opening bracket that is paired that of its closing one, for another place 0.
+    /// For the place of each opening bracket that is paired that of its closing one, for another
+    /// place 0.
     closes: Vec<usize>,
     /// Whether there was no room for a bracket, which ends the search.
     full: bool,
@@ -253,7 +255,8 @@ fn set_bracket(members: &[Member], classes: &mut [BidiClass], place: usize, dire
     }
 }
 
-/// N0 for the bracket at a place, if it is the opening one of a pair: `close` is the place of the other.
+/// N0 for the bracket at a place, if it is the opening one of a pair: `close` is the place of the
+/// other.
 fn resolve_pair(
     members: &[Member],
     classes: &mut [BidiClass],
@@ -297,10 +300,34 @@ pub(crate) fn brackets(
     ensures { OnOk result (classes.new ≡ Brackets.n0 embedding sos members.now classes.old) }
 {
     let closes = closes_of(alloc, members, classes)?;
+    if !has_pair(&closes) {
+        return Ok(());
+    }
+    resolve_pairs(members, classes, embedding, sos, &closes);
+    Ok(())
+}
+
+/// Whether any bracket is paired.
+fn has_pair(closes: &[usize]) -> bool
+    ensures { result ≡ list_any Brackets.is_paired closes.now }
+{
+    closes.iter().any(|close| *close != 0)
+}
+
+/// N0, given for each place the place of the bracket that closes the one there, or 0.
+fn resolve_pairs(
+    members: &[Member],
+    classes: &mut [BidiClass],
+    embedding: BidiClass,
+    sos: BidiClass,
+    closes: &[usize],
+)
+    requires { length classes.old ≡ length members.now }
+    ensures { classes.new ≡ Brackets.n0_from embedding members.now 0 sos closes.now classes.old }
+{
     let mut before = sos;
     for place in 0..closes.len() {
         resolve_pair(members, classes, embedding, before, place, closes[place]);
         before = directed_then(before, class_at(classes, place));
     }
-    Ok(())
 }

@@ -1,6 +1,7 @@
 //! Groups of bidirectional classes.
 ghost use Rattle.std.specs.Prelude.{◌≡◌};
 ghost use Rattle.bidi.specs.Classes;
+ghost use Rattle.bidi.specs.Explicit.{is_plain};
 ghost use Rattle.bidi.specs.Left.{is_left};
 
 use ucd_bidi::BidiClass;
@@ -38,8 +39,8 @@ pub(crate) fn is_isolate(class: BidiClass) -> bool
     is_initiator(class) || is(class, BidiClass::PopDirectionalIsolate)
 }
 
-/// Whether a class is one of texts in which nothing is right to left: none of R, AL and AN, and none of
-/// the characters that embed, override or isolate.
+/// Whether a class is one of texts in which nothing is right to left: none of R, AL and AN, and
+/// none of the characters that embed, override or isolate.
 pub(crate) fn is_left(class: BidiClass) -> bool
     ensures { result ≡ is_left class }
 {
@@ -57,6 +58,31 @@ pub(crate) fn is_left(class: BidiClass) -> bool
         | BidiClass::OtherNeutral => true,
         _ => false,
     }
+}
+
+/// Whether none of X2 to X7 acts on a class: it doesn't embed, override or isolate, nor end such.
+pub(crate) fn is_plain(class: BidiClass) -> bool
+    ensures { result ≡ is_plain class }
+{
+    match class {
+        BidiClass::LeftToRightEmbedding
+        | BidiClass::RightToLeftEmbedding
+        | BidiClass::LeftToRightOverride
+        | BidiClass::RightToLeftOverride
+        | BidiClass::PopDirectionalFormat
+        | BidiClass::LeftToRightIsolate
+        | BidiClass::RightToLeftIsolate
+        | BidiClass::FirstStrongIsolate
+        | BidiClass::PopDirectionalIsolate => false,
+        _ => true,
+    }
+}
+
+/// Whether a class is EN or AN.
+pub(crate) fn is_number(class: BidiClass) -> bool
+    ensures { result ≡ Classes.is_number class }
+{
+    is(class, BidiClass::EuropeanNumber) || is(class, BidiClass::ArabicNumber)
 }
 
 /// X9: whether characters of a class are removed.

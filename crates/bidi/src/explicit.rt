@@ -57,8 +57,8 @@ impl Model for Stack {
 }
 
 /// P2 and P3: whether the first strong character from a place on is right to left. What stands in
-/// isolates is passed over; the end of the isolate that the place is in ends the search, unless it is
-/// that of a whole paragraph.
+/// isolates is passed over; the end of the isolate that the place is in ends the search, unless it
+/// is that of a whole paragraph.
 pub(crate) fn first_is_right(classes: &[BidiClass], start: usize, whole: bool) -> bool
     ensures { result ≡ Explicit.first_is_right whole 0 (drop start classes.now) }
 {
@@ -225,8 +225,8 @@ impl Stack {
 }
 
 impl Stack {
-    /// X5c: whether the text after an FSI is right to left. Where the isolate isn't valid, this changes
-    /// nothing, and isn't looked up, so that a text takes time in step with its length.
+    /// X5c: whether the text after an FSI is right to left. Where the isolate isn't valid, this
+    /// changes nothing, and isn't looked up, so that a text takes time in step with its length.
     fn first(&self, classes: &[BidiClass], place: usize) -> bool
         requires { place < length classes.now }
         ensures { (base : ℕ) → Explicit.stepped base result (next_class (drop place classes.now)) self.now
@@ -242,8 +242,8 @@ impl Stack {
         first_is_right(classes, place + 1, false)
     }
 
-    /// X2 to X8 for a character, given the level of the paragraph and whether text after an FSI is right
-    /// to left.
+    /// X2 to X8 for a character, given the level of the paragraph and whether text after an FSI is
+    /// right to left.
     fn step(&mut self, base: u8, class: BidiClass, right: bool) -> Result<(), AllocError>
         requires embeddings { self.old.overflow_embeddings + 1 < 2 ^ 64 }
         requires isolates { self.old.isolates + 1 < 2 ^ 64 }
@@ -280,8 +280,8 @@ fn place_between(base: u8, before: Status, after: Status, class: BidiClass) -> P
     before.place(class)
 }
 
-/// X1 to X8: the level of each character, and the class that overrides leave it. Takes time in step with
-/// the text, and refuses if memory runs out.
+/// X1 to X8: the level of each character, and the class that overrides leave it. Takes time in step
+/// with the text, and refuses if memory runs out.
 pub fn explicit(alloc: Global, classes: &[BidiClass], base: u8) -> Result<Vec<Placed>, AllocError>
     ensures placed { IfOk result (λ placed. placed.items ≡ Explicit.explicit base classes.now) }
     ensures within { base ≤ 125 → IfOk result (λ placed. All (λ p. p.level ≤ 125) placed.items) }

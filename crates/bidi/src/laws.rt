@@ -14,8 +14,8 @@ pub fn sequences_part_members()
         → IsPermutation members (Sequences.members_of_all (Sequences.sequences members)) }
 {}
 
-/// A text with no character of R, AL or AN and none that embeds, overrides or isolates is on one level,
-/// unless its paragraphs are right to left.
+/// A text with no character of R, AL or AN and none that embeds, overrides or isolates is on one
+/// level, unless its paragraphs are right to left.
 pub fn left_to_right_texts_have_one_level()
     ensures { (text : List ℕ) → list_all is_left (classes_of text) ≡ true
         → (Text.text_levels None text ≡ replicate (length text) 0)

@@ -20,8 +20,8 @@ pub fn classes_of(alloc: Global, text: &[char]) -> Result<Vec<BidiClass>, AllocE
     text.iter().map(|c| BidiClass::for_char(*c)).collect(alloc)
 }
 
-/// The level of a paragraph, 0 or 1: that of the direction that is given, or by P2 and P3 that of its
-/// first strong character.
+/// The level of a paragraph, 0 or 1: that of the direction that is given, or by P2 and P3 that of
+/// its first strong character.
 pub fn paragraph_level(classes: &[BidiClass], base: Option<Direction>) -> u8
     ensures level { result ≡ Levels.paragraph_level base classes.now }
     ensures within { result ≤ 1 }

@@ -14,7 +14,8 @@ pub(crate) struct Place {
     pub place: usize,
 }
 
-/// Whether a character belongs to the end of a line or of a segment, given whether the next one does.
+/// Whether a character belongs to the end of a line or of a segment, given whether the next one
+/// does.
 fn ends_with(class: BidiClass, after: bool) -> bool
     ensures { result ≡ Lines.ends_with class after }
 {
@@ -114,8 +115,8 @@ fn reversed_runs(alloc: Global, places: &[Place], level: usize) -> Result<Vec<Pl
     Ok(out)
 }
 
-/// L2: the order of a line's characters from left to right, each by its place in the line. `levels` are
-/// those of the line, after L1. Takes time in step with the line, for each level in it.
+/// L2: the order of a line's characters from left to right, each by its place in the line. `levels`
+/// are those of the line, after L1. Takes time in step with the line, for each level in it.
 pub fn visual_order(alloc: Global, levels: &[u8]) -> Result<Vec<usize>, AllocError>
     ensures order { IfOk result (λ order. order.items ≡ Lines.visual_order levels.now) }
     ensures permutation { IfOk result (λ order. IsPermutation (Lines.indices levels.now) order.items) }
@@ -124,8 +125,8 @@ pub fn visual_order(alloc: Global, levels: &[u8]) -> Result<Vec<usize>, AllocErr
     Ok(order)
 }
 
-/// Where each character of a line stands from left to right, given the order of [`visual_order`]: the one
-/// is the inverse of the other.
+/// Where each character of a line stands from left to right, given the order of [`visual_order`]:
+/// the one is the inverse of the other.
 pub fn visual_places(alloc: Global, order: &[usize]) -> Result<Vec<usize>, AllocError>
     ensures places { IfOk result (λ places. places.items ≡ Lines.visual_places order.now) }
     ensures inverse { (levels : List ℕ) → IsPermutation (Lines.indices levels) order.now

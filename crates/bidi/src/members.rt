@@ -1,5 +1,7 @@
 //! The rule X9: the characters that it leaves, each with what the rules after it ask of it.
-ghost use Rattle.std.specs.Prelude.{◌≡◌, ◌≤◌, drop, length, IfOk};
+ghost use Rattle.std.specs.Prelude.{◌≡◌, ◌≤◌, drop, length, true, IfOk};
+ghost use Rattle.std.specs.List.{list_all};
+ghost use Rattle.bidi.specs.Explicit;
 ghost use Rattle.bidi.specs.Members;
 
 use crate::classes::is_removed;
@@ -39,8 +41,8 @@ fn level_after(base: u8, classes: &[BidiClass], placed: &[Placed], start: usize)
     base
 }
 
-/// The members of a paragraph. `classes` are those of its characters, `placed` what X1 to X8 make of
-/// them, and `base` is the level of the paragraph.
+/// The members of a paragraph. `classes` are those of its characters, `placed` what X1 to X8 make
+/// of them, and `base` is the level of the paragraph.
 pub(crate) fn members(
     alloc: Global,
     base: u8,
@@ -69,6 +71,37 @@ pub(crate) fn members(
             after: level_after(base, classes, placed, i + 1),
         })?;
         before = placed[i].level;
+    }
+    Ok(members)
+}
+
+/// The members of a paragraph on which none of X2 to X7 acts: all are on its level.
+pub(crate) fn plain_members(
+    alloc: Global,
+    base: u8,
+    text: &[char],
+    classes: &[BidiClass],
+) -> Result<Vec<Member>, AllocError>
+    requires same { length classes.now ≡ length text.now }
+    requires plain { list_all Explicit.is_plain classes.now ≡ true }
+    ensures { IfOk result (λ members. members.items
+        ≡ Members.members base text.now classes.now (Explicit.explicit base classes.now)) }
+{
+    let mut members = Vec::with_capacity(alloc, text.len())?;
+    for i in 0..text.len() {
+        let class = classes[i];
+        if is_removed(class) {
+            continue;
+        }
+        members.push(Member {
+            place: i,
+            character: text[i],
+            original: class,
+            class,
+            level: base,
+            before: base,
+            after: base,
+        })?;
     }
     Ok(members)
 }

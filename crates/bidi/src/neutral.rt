@@ -19,8 +19,8 @@ fn direction_after(classes: &[BidiClass], start: usize, eos: BidiClass) -> BidiC
     eos
 }
 
-/// The direction after a place. It is looked up at the first of neutral characters, and known at the
-/// others.
+/// The direction after a place. It is looked up at the first of neutral characters, and known at
+/// the others; where there is none, nothing asks for it.
 fn after_at(
     classes: &[BidiClass],
     place: usize,
@@ -33,6 +33,9 @@ fn after_at(
     ensures { Classes.is_neutral (Weak.next_class (drop place classes.now)) ≡ true
         → result ≡ Neutral.direction_after eos (drop (place + 1) classes.now) }
 {
+    if !is_neutral(classes[place]) {
+        return after;
+    }
     if inside {
         after
     } else {

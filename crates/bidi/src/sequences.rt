@@ -1,5 +1,5 @@
 //! The rule X10: isolating run sequences, and the rules that each of them takes.
-ghost use Rattle.std.specs.Prelude.{◌≡◌, ◌≤◌, ℕ, List, [], length, map, reverse, IfOk, OnOk};
+ghost use Rattle.std.specs.Prelude.{◌≡◌, ◌≤◌, ℕ, List, [], length, map, replicate, reverse, IfOk, OnOk};
 ghost use Rattle.bidi.specs.Sequences;
 ghost use Rattle.bidi.specs.Sequences.{AreWithin, IsWithin, Walk as WalkValue};
 
@@ -111,8 +111,8 @@ fn member_classes(alloc: Global, members: &[Member]) -> Result<Vec<BidiClass>, A
 pub(crate) struct Walk {
     /// The sequence so far.
     current: Vec<Member>,
-    /// For each isolate that is open the sequence that its initiator interrupts; empty if what follows it
-    /// is on its level.
+    /// For each isolate that is open the sequence that its initiator interrupts; empty if what
+    /// follows it is on its level.
     opened: Vec<Vec<Member>>,
     /// The levels, those of the sequences that ended resolved.
     pub levels: Vec<u8>,
@@ -257,4 +257,21 @@ pub(crate) fn resolve_sequences(
         walk.step(alloc, base, members[i])?;
     }
     walk.end(alloc, base)
+}
+
+/// X10 for members that are one sequence, in a paragraph of `count` characters on its level.
+pub(crate) fn one_sequence(
+    alloc: Global,
+    base: u8,
+    members: &[Member],
+    count: usize,
+) -> Result<Vec<u8>, AllocError>
+    requires { AreWithin members.now }
+    ensures levels { IfOk result (λ levels. levels.items
+        ≡ Sequences.with_sequence base members.now (replicate count base)) }
+    ensures count { IfOk result (λ levels. length levels.items ≡ count) }
+{
+    let mut levels = vec![in alloc; base; count]?;
+    resolve(alloc, base, members, &mut levels)?;
+    Ok(levels)
 }

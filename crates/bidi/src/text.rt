@@ -1,15 +1,19 @@
 //! The levels of a whole text: P1, and the rules up to I2 for each of its paragraphs.
-ghost use Rattle.std.specs.Prelude.{◌≡◌, ◌+◌, ◌-◌, ◌<◌, ◌≤◌, ◌∷◌, drop, take, length, map, slice_index_or, All, IfOk};
+ghost use Rattle.std.specs.Prelude.{◌≡◌, ◌+◌, ◌-◌, ◌<◌, ◌≤◌, ◌∷◌, drop, take, length, map, slice_index_or, true, All, IfOk};
 ghost use Rattle.std.specs.List.{list_all};
+ghost use Rattle.bidi.specs.Explicit;
+ghost use Rattle.bidi.specs.Explicit.{is_plain};
 ghost use Rattle.bidi.specs.Left.{is_left};
 ghost use Rattle.bidi.specs.Levels;
+ghost use Rattle.bidi.specs.Members;
+ghost use Rattle.bidi.specs.Sequences;
 ghost use Rattle.bidi.specs.Text;
 
-use crate::classes::{is, is_left, is_removed};
+use crate::classes::{is, is_left, is_plain, is_removed};
 use crate::explicit::{Placed, explicit};
 use crate::levels::{Direction, classes_of, paragraph_level};
-use crate::members::members;
-use crate::sequences::resolve_sequences;
+use crate::members::{members, plain_members};
+use crate::sequences::{one_sequence, resolve_sequences};
 use std::alloc::{AllocError, Global};
 use ucd_bidi::BidiClass;
 
@@ -84,8 +88,69 @@ fn levels_in(
     resolved_levels(alloc, base, text, classes)
 }
 
+/// Whether none of X2 to X7 acts on a paragraph.
+fn are_plain(classes: &[BidiClass]) -> bool
+    ensures { result ≡ list_all is_plain classes.now }
+{
+    classes.iter().all(|class| is_plain(*class))
+}
+
+/// X1 to X8 and X10 where none of X2 to X7 acts: the members are one sequence.
+fn plain_sequence(
+    alloc: Global,
+    base: u8,
+    text: &[char],
+    classes: &[BidiClass],
+) -> Result<Vec<u8>, AllocError>
+    requires same { length classes.now ≡ length text.now }
+    requires base { base ≤ 1 }
+    requires plain { list_all is_plain classes.now ≡ true }
+    ensures levels { let placed = Explicit.explicit base classes.now in
+        IfOk result (λ levels. levels.items ≡ Sequences.with_sequences base
+        (Members.members base text.now classes.now placed) (map Text.level_of placed)) }
+    ensures count { IfOk result (λ levels. length levels.items ≡ length text.now) }
+{
+    let members = plain_members(alloc, base, text, classes)?;
+    let levels = one_sequence(alloc, base, &members, text.len())?;
+    Ok(levels)
+}
+
+/// The levels of a paragraph on which none of X2 to X7 acts.
+fn plain_levels(
+    alloc: Global,
+    base: u8,
+    text: &[char],
+    classes: &[BidiClass],
+) -> Result<Vec<u8>, AllocError>
+    requires same { length classes.now ≡ length text.now }
+    requires base { base ≤ 1 }
+    requires plain { list_all is_plain classes.now ≡ true }
+    ensures { IfOk result (λ levels. levels.items ≡ Text.levels_in base text.now classes.now) }
+{
+    let mut levels = plain_sequence(alloc, base, text, classes)?;
+    fill_removed(base, classes, &mut levels);
+    Ok(levels)
+}
+
 /// The levels of a paragraph of a level, by the rules X1 to I2.
 fn resolved_levels(
+    alloc: Global,
+    base: u8,
+    text: &[char],
+    classes: &[BidiClass],
+) -> Result<Vec<u8>, AllocError>
+    requires same { length classes.now ≡ length text.now }
+    requires base { base ≤ 1 }
+    ensures { IfOk result (λ levels. levels.items ≡ Text.levels_in base text.now classes.now) }
+{
+    if are_plain(classes) {
+        return plain_levels(alloc, base, text, classes);
+    }
+    sequence_levels(alloc, base, text, classes)
+}
+
+/// The levels of a paragraph of a level, by its isolating run sequences.
+fn sequence_levels(
     alloc: Global,
     base: u8,
     text: &[char],
@@ -141,9 +206,9 @@ fn paragraph_end(text: &[char], classes: &[BidiClass], start: usize) -> usize
     text.len()
 }
 
-/// The levels of a text's characters by the rules P1 to I2, paragraph by paragraph, and its paragraphs.
-/// `base` is the direction of each paragraph; if it is `None`, each has that of its first strong
-/// character. Takes time in step with the text. Refuses if memory runs out.
+/// The levels of a text's characters by the rules P1 to I2, paragraph by paragraph, and its
+/// paragraphs. `base` is the direction of each paragraph; if it is `None`, each has that of its
+/// first strong character. Takes time in step with the text. Refuses if memory runs out.
 pub fn text_levels(
     alloc: Global,
     text: &[char],

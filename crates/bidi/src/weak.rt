@@ -1,10 +1,11 @@
 //! The rules W1 to W7, over the classes of an isolating run sequence.
-ghost use Rattle.std.specs.Prelude.{◌≡◌, ◌+◌, ◌<◌, drop, length, true};
+ghost use Rattle.std.specs.Prelude.{◌≡◌, ◌+◌, ◌<◌, ◌||◌, drop, length, true};
+ghost use Rattle.std.specs.List.{list_any};
 ghost use Rattle.bidi.specs.Classes;
 ghost use Rattle.ucd_bidi.specs.declared.BidiClass.TheVariants.{EuropeanTerminator};
 ghost use Rattle.bidi.specs.Weak;
 
-use crate::classes::{is, is_isolate, is_strong};
+use crate::classes::{is, is_isolate, is_number, is_strong};
 use ucd_bidi::BidiClass;
 
 /// The rules in their order. `sos` is the class before the sequence.
@@ -12,6 +13,34 @@ pub fn weak(classes: &mut [BidiClass], sos: BidiClass)
     ensures { classes.new ≡ Weak.weak sos classes.old }
 {
     w1(classes, sos);
+    if meets_number(classes, sos) {
+        with_numbers(classes, sos);
+    } else {
+        w3(classes);
+        w6(classes);
+    }
+}
+
+/// Whether one of classes, or the one before them, is EN or AN. Where none is, W2, W4, W5 and W7
+/// change nothing.
+fn meets_number(classes: &[BidiClass], sos: BidiClass) -> bool
+    ensures { result ≡ (Classes.is_number sos || list_any Classes.is_number classes.now) }
+{
+    is_number(sos) || has_number(classes)
+}
+
+/// Whether one of classes is EN or AN.
+fn has_number(classes: &[BidiClass]) -> bool
+    ensures { result ≡ list_any Classes.is_number classes.now }
+{
+    classes.iter().any(|class| is_number(*class))
+}
+
+/// The rules W2 to W7 in their order.
+fn with_numbers(classes: &mut [BidiClass], sos: BidiClass)
+    ensures { classes.new
+        ≡ Weak.w7 sos (Weak.w6 (Weak.w5 sos (Weak.w4 sos (Weak.w3 (Weak.w2 sos classes.old))))) }
+{
     w2(classes, sos);
     w3(classes);
     w4(classes, sos);
@@ -161,14 +190,17 @@ fn w5_class(before: BidiClass, class: BidiClass, leads: bool) -> BidiClass
     }
 }
 
-/// Whether a number comes after the terminators at a place. It is looked up at the first of them, and
-/// known at the others.
+/// Whether a number comes after the terminators at a place. It is looked up at the first of them,
+/// and known at the others; where there is none, nothing asks for it.
 fn leads_at(classes: &[BidiClass], place: usize, inside: bool, leads: bool) -> bool
     requires within { place < length classes.now }
     requires known { inside ≡ true → leads ≡ Weak.leads_to_number (drop place classes.now) }
     ensures { Classes.is (Weak.next_class (drop place classes.now)) EuropeanTerminator ≡ true
         → result ≡ Weak.leads_to_number (drop (place + 1) classes.now) }
 {
+    if !is(classes[place], BidiClass::EuropeanTerminator) {
+        return leads;
+    }
     if inside {
         leads
     } else {

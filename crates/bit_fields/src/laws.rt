@@ -17,16 +17,16 @@ pub fn a_field_is_read_at_its_place()
     ensures { FieldIsReadAtItsPlace }
 {}
 
-/// A word is made of its fields: it has those that it was made of, and made of its own it is itself. So two
-/// words with equal fields are equal.
+/// A word is made of its fields: it has those that it was made of, and made of its own it is
+/// itself. So two words with equal fields are equal.
 pub fn a_word_is_its_fields()
     ensures made { WordIsMadeOfItsFields }
     ensures read { FieldsAreThoseOfTheirWord }
     ensures equal { EqualFieldsEqualWords }
 {}
 
-/// The fields of two words, one of them directly above the other, are those of the lower one and then those
-/// of the upper one.
+/// The fields of two words, one of them directly above the other, are those of the lower one and
+/// then those of the upper one.
 pub fn fields_join()
     ensures { FieldsJoin }
 {}
@@ -36,7 +36,8 @@ pub fn a_put_field_stays_in_the_word()
     ensures { PutFieldStaysInWord }
 {}
 
-/// Clearing the bits of a field and setting those of a value that fits puts the value into the field.
+/// Clearing the bits of a field and setting those of a value that fits puts the value into the
+/// field.
 pub fn a_mask_puts_a_field()
     ensures { MaskPutsField }
 {}

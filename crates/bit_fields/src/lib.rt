@@ -1,9 +1,9 @@
 //! Fields of bits side by side in a word of 32 bits: one is read, or put in while the others stay.
 //!
-//! A field has a place, that of its lowest bit, and a width. With the widths of all its fields at hand, the
-//! lowest field first, a word is the list of their values, like a number that is the list of its digits.
-//! One law holds of all fields: putting a value into one leaves the others as they were,
-//! [`laws::a_put_field_changes_alone`]; [`laws`] has what else holds.
+//! A field has a place, that of its lowest bit, and a width. With the widths of all its fields at
+//! hand, the lowest field first, a word is the list of their values, like a number that is the list
+//! of its digits. One law holds of all fields: putting a value into one leaves the others as they
+//! were, [`laws::a_put_field_changes_alone`]; [`laws`] has what else holds.
 //!
 //! It is a crate of its own, below all others, since what an implementation of `Model` cites may
 //! not stand in the proofs of its own crate.
@@ -50,7 +50,8 @@ pub fn read_byte(word: u32, place: u32) -> u8
     read_field(word, place, 8) as u8
 }
 
-/// The word with the value in the field of eight bits that begins at this place; its other bits stay.
+/// The word with the value in the field of eight bits that begins at this place; its other bits
+/// stay.
 pub fn put_byte(word: u32, place: u32, value: u8) -> u32
     requires { place ≤ 24 }
     ensures { result ≡ with_field place 8 value word }

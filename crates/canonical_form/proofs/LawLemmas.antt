@@ -10,7 +10,9 @@ use Rattle.canonical_form.specs.Decompositions.{Decompositions}
 use Rattle.canonical_form.specs.Choice.{IsGreatestSupported, IsLeastSupported, HasNoneSupported}
 use Rattle.canonical_form.specs.Expansion.{least_supported, greatest_supported}
 use Rattle.canonical_form.specs.Recompose.{compose_with_glyph}
-use Rattle.canonical_form.specs.Laws.{FullIsByTwoRules, ExpansionIsEquivalent, ChoicesAreEquivalent, ChoiceIsGreatest, ChoiceIsLeast, ChoiceStays, DecomposedIsCanonical, DecomposedDecides, RecomposedIsEquivalent, RecomposedDecides, OrderedIsEquivalent, NormalisedIsEquivalent}
+use Rattle.canonical_form.specs.Laws.{FullIsByTwoRules, ExpansionIsEquivalent, ChoicesAreEquivalent, ChoiceIsGreatest, ChoiceIsLeast, ChoiceStays}
+use Rattle.canonical_form.specs.Laws.{DecomposedIsCanonical, DecomposedDecides, RecomposedIsEquivalent, RecomposedDecides, OrderedIsEquivalent}
+use Rattle.canonical_form.specs.Laws.{NormalisedIsEquivalent}
 
 full_within_rules : (D : Decompositions) → FallsAlong D.split D.height → (n c : ℕ) → D.height c ≤ n → IsFull D.split c (full D c)
 full_within_rules D falling zero c low = go (D.split c) refl

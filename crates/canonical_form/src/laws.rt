@@ -59,8 +59,8 @@ pub fn stable_order_is_reached<T>()
     ensures { StableOrderIsReached T }
 {}
 
-/// The canonical order of a list is reached by swaps and is ordered, and two ordered lists are equal if
-/// swaps lead from one to the other.
+/// The canonical order of a list is reached by swaps and is ordered, and two ordered lists are
+/// equal if swaps lead from one to the other.
 pub fn order_is_unique<T>()
     ensures reached { OrderIsReached T }
     ensures unique { OrderIsUnique T }
@@ -79,24 +79,24 @@ pub fn canonical_is_unique()
     ensures { CanonicalIsUnique }
 {}
 
-/// If each character of Full has a glyph and no run is too long: the greatest choices, settled run by
-/// run, are canonical, and two texts are equivalent exactly when these lists are equal.
+/// If each character of Full has a glyph and no run is too long: the greatest choices, settled run
+/// by run, are canonical, and two texts are equivalent exactly when these lists are equal.
 pub fn decomposed_is_canonical()
     ensures canonical { DecomposedIsCanonical }
     ensures decides { DecomposedDecides }
 {}
 
 /// If a composed character is always equivalent to its two parts, recomposing leaves a text that is
-/// equivalent, and so does each of its steps: a starter composes with a mark past others that do not
-/// block it (The Unicode Standard, D115 to D117).
+/// equivalent, and so does each of its steps: a starter composes with a mark past others that do
+/// not block it (The Unicode Standard, D115 to D117).
 pub fn recomposed_is_equivalent()
     ensures whole { RecomposedIsEquivalent }
     ensures step { ComposedPastMarksIsEquivalent }
 {}
 
 /// If a composed character is always equivalent to its two parts, each character of Full of both
-/// texts has a glyph, and no run is too long: two equivalent texts, decomposed and settled, have equal
-/// recomposed forms, and two others have different ones.
+/// texts has a glyph, and no run is too long: two equivalent texts, decomposed and settled, have
+/// equal recomposed forms, and two others have different ones.
 pub fn recomposed_decides()
     ensures { RecomposedDecides }
 {}
@@ -108,16 +108,18 @@ pub fn one_ccc_decides<T>()
     ensures greatest { GreatestDecides T }
 {}
 
-/// Normalising keeps a text equivalent in every mode: expanded, with the shortest choices asked for all
-/// characters, for those that stand by themselves or for none, then settled run by run; and then, if a
-/// composed character is always equivalent to its two parts, recomposed to composed characters that have glyphs.
+/// Normalising keeps a text equivalent in every mode: expanded, with the shortest choices asked for
+/// all characters, for those that stand by themselves or for none, then settled run by run; and
+/// then, if a composed character is always equivalent to its two parts, recomposed to composed
+/// characters that have glyphs.
 pub fn normalised_is_equivalent()
     ensures ordered { OrderedIsEquivalent }
     ensures recomposed { NormalisedIsEquivalent }
 {}
 
-/// A list may be cut: for expanding before an item that is no mark, for settling and recomposing before one
-/// of ccc 0 that is no mark. What the two parts become, each by itself, is together what the whole becomes.
+/// A list may be cut: for expanding before an item that is no mark, for settling and recomposing
+/// before one of ccc 0 that is no mark. What the two parts become, each by itself, is together what
+/// the whole becomes.
 pub fn cuts_apart<T>()
     ensures expanded { ExpandedCutsApart T }
     ensures settled { SettledCutsApart T }

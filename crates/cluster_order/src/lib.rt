@@ -1,8 +1,8 @@
 //! Clusters put in order: each joins the least one from it on, as the text runs.
 //!
-//! A shaper that moves glyphs and merges their clusters later leaves clusters out of order between two of its hooks.
-//! [`order_clusters`] is what its last hook calls: whatever was left, clusters are in order then, and those that were
-//! in order stay as they are.
+//! A shaper that moves glyphs and merges their clusters later leaves clusters out of order between
+//! two of its hooks. [`order_clusters`] is what its last hook calls: whatever was left, clusters
+//! are in order then, and those that were in order stay as they are.
 #![tactic(auto)]
 
 ghost use Rattle.std.specs.Prelude.{◌≡◌, ◌<◌, ◌+◌, length, drop, slice_index_or, slice_set};
@@ -15,9 +15,9 @@ pub mod worked;
 
 use shape_buffer::buffer::{BufferClusterLevel, DEFINED, hb_buffer_t};
 
-/// Puts the clusters of a buffer in order, rising, or falling if `backward`: each item joins the least cluster from
-/// it on, or up to it if `backward`. An item whose cluster changes loses its defined flags. Nothing happens at level
-/// CHARACTERS, and to a list in order. Takes no memory.
+/// Puts the clusters of a buffer in order, rising, or falling if `backward`: each item joins the
+/// least cluster from it on, or up to it if `backward`. An item whose cluster changes loses its
+/// defined flags. Nothing happens at level CHARACTERS, and to a list in order. Takes no memory.
 #[tactic(auto, using(crate::proofs::OrderedLemmas::length_joined_for), unfolding(crate::specs::Ordered::clusters_ordered))]
 pub fn order_clusters(buffer: &mut hb_buffer_t, backward: bool)
     ensures { Made (clusters_ordered backward) buffer.old buffer.new }

@@ -1,5 +1,6 @@
 -- Masks of the forms of letters that join.
-use Rattle.std.specs.Prelude.{◌≡◌, ℕ, zero, suc, ◌+◌, ◌&&◌, nat_lt, Bool, if◌then◌else◌, Option, None, Some, is_some, List, [], ◌∷◌, length, map, set, drop, reverse, slice_index_or, refl}
+use Rattle.std.specs.Prelude.{◌≡◌, ℕ, zero, suc, ◌+◌, ◌&&◌, nat_lt, Bool, if◌then◌else◌, Option, None, Some, is_some, List, [], ◌∷◌, length, map, set}
+use Rattle.std.specs.Prelude.{drop, reverse, slice_index_or, refl}
 use Rattle.std.specs.List.{find}
 use Rattle.std.specs.Option.{option_map}
 use Rattle.std.specs.Int.RustNames.{bit_or}

@@ -1,4 +1,5 @@
-//! The features of the forms of letters, and the one script in which a variation selector has a form, too.
+//! The features of the forms of letters, and the one script in which a variation selector has a
+//! form, too.
 ghost use Rattle.std.specs.Prelude.{◌≡◌};
 ghost use Rattle.letter_joining.specs.Features.{is_mongolian};
 

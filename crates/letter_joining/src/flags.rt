@@ -1,4 +1,5 @@
-//! Flags of glyphs that joining needs: where a text can't be cut, or put together, without shaping it again.
+//! Flags of glyphs that joining needs: where a text can't be cut, or put together, without shaping
+//! it again.
 ghost use Rattle.std.specs.Prelude.{◌≡◌, ◌<◌, ◌≤◌, length, false, None};
 ghost use Rattle.shape_items.specs.Buffer.{limit_of};
 ghost use Rattle.shape_buffer.specs.Outcome.{Made};
@@ -12,7 +13,8 @@ use crate::forms::{begun, kind_after, kind_before};
 use crate::joining::{Form, Kind, State, form_before, kind_of, next_state};
 use shape_buffer::buffer::hb_buffer_t;
 
-/// Where a walk over letters stands: what is before the next letter, and the place of the letter before it.
+/// Where a walk over letters stands: what is before the next letter, and the place of the letter
+/// before it.
 #[derive(Clone, Copy, Debug)]
 pub struct Walk {
     pub state: State,
@@ -47,7 +49,8 @@ fn changes(state: State, kind: Kind) -> bool
     }
 }
 
-/// Marks a letter with the one before it: `joined` if that one changes, `apart` if one of the two might.
+/// Marks a letter with the one before it: `joined` if that one changes, `apart` if one of the two
+/// might.
 #[inline(always)]
 fn mark_pair(buffer: &mut hb_buffer_t, joined: bool, apart: bool, start: usize, end: usize)
     requires ordered { start ≤ end }

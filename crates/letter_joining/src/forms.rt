@@ -27,14 +27,16 @@ pub struct FormMasks {
     pub init: hb_mask_t,
 }
 
-/// Where a walk over letters stands: what is before the next letter, and the form of the item before.
+/// Where a walk over letters stands: what is before the next letter, and the form of the item
+/// before.
 #[derive(Clone, Copy, Debug)]
 pub struct Joining {
     pub state: State,
     pub last: Form,
 }
 
-/// What a walk that sets masks is given: the masks, also by the places of forms, and what stands after the text.
+/// What a walk that sets masks is given: the masks, also by the places of forms, and what stands
+/// after the text.
 #[derive(Clone, Copy, Debug)]
 struct Forming {
     masks: FormMasks,
@@ -142,8 +144,8 @@ fn kind_at(infos: &[hb_glyph_info_t], i: usize, after: Option<Kind>) -> Option<K
     }
 }
 
-/// The kind of the first item from a place on that isn't transparent, by that of the item there: only after a transparent
-/// one is it looked for.
+/// The kind of the first item from a place on that isn't transparent, by that of the item there:
+/// only after a transparent one is it looked for.
 fn first_from(
     infos: &[hb_glyph_info_t],
     i: usize,
@@ -161,8 +163,9 @@ fn first_from(
     }
 }
 
-/// Sets the mask of the form at a place, and returns where the walk stands after it, by the kinds of this item and the
-/// next one. A transparent one looks at nothing, so that the time of a walk is in step with its text.
+/// Sets the mask of the form at a place, and returns where the walk stands after it, by the kinds
+/// of this item and the next one. A transparent one looks at nothing, so that the time of a walk is
+/// in step with its text.
 fn form_at(
     forming: &Forming,
     joining: Joining,

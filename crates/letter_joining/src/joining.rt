@@ -141,7 +141,8 @@ fn joined_form(state: State, kind: Kind) -> Form
     JOINED_FORMS[place_of(state, kind)]
 }
 
-/// The form that a letter gets from the next one, by what stands before that; none if it keeps its own.
+/// The form that a letter gets from the next one, by what stands before that; none if it keeps its
+/// own.
 pub fn form_before(state: State, next: Kind) -> Form
     ensures { result ≡ form_before state next }
 {

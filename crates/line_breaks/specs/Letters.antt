@@ -2,7 +2,8 @@
 use Rattle.std.specs.Prelude.{ℕ, ◌==◌, ◌&&◌, ◌||◌, Bool, false, if◌then◌else◌}
 use Rattle.ucd_breaks.specs.LineBreak.{line_break, line_break_number}
 use Rattle.ucd_breaks.specs.declared.LineBreak.{LineBreak}
-use Rattle.ucd_breaks.specs.declared.LineBreak.TheVariants.{Alphabetic, Ambiguous, Surrogate, Unknown, ComplexContext, CombiningMark, ConditionalJapaneseStarter, Nonstarter, MandatoryBreak}
+use Rattle.ucd_breaks.specs.declared.LineBreak.TheVariants.{Alphabetic, Ambiguous, Surrogate, Unknown, ComplexContext, CombiningMark}
+use Rattle.ucd_breaks.specs.declared.LineBreak.TheVariants.{ConditionalJapaneseStarter, Nonstarter, MandatoryBreak}
 use Rattle.ucd_category.specs.GeneralCategory.{general_category, general_category_number}
 use Rattle.ucd_category.specs.declared.GeneralCategory.{GeneralCategory}
 use Rattle.ucd_category.specs.declared.GeneralCategory.TheVariants.{NonspacingMark, SpacingMark, InitialPunctuation, FinalPunctuation, Unassigned}

@@ -1,7 +1,12 @@
 -- The rules LB4 to LB31 of UAX 14, each under its number: whether it speaks of a place. `×` prohibits a break, `÷` allows
 -- one, `!` demands one.
 use Rattle.std.specs.Prelude.{◌&&◌, ◌||◌, not, Bool, if◌then◌else◌}
-use Rattle.ucd_breaks.specs.declared.LineBreak.TheVariants.{Aksara, AksaraPrebase, AksaraStart, Alphabetic, BreakAfter, BreakBefore, BreakBoth, BreakSymbols, CarriageReturn, CloseParenthesis, ClosePunctuation, ContingentBreak, EBase, EModifier, Exclamation, Glue, H2, H3, HebrewLetter, Hyphen, Ideographic, InfixNumeric, Inseparable, Jl, Jt, Jv, LineFeed, MandatoryBreak, NextLine, Nonstarter, Numeric, OpenPunctuation, PostfixNumeric, PrefixNumeric, Quotation, RegionalIndicator, Space, UnambiguousHyphen, Virama, ViramaFinal, WordJoiner, ZWSpace}
+use Rattle.ucd_breaks.specs.declared.LineBreak.TheVariants.{Aksara, AksaraPrebase, AksaraStart, Alphabetic, BreakAfter, BreakBefore, BreakBoth}
+use Rattle.ucd_breaks.specs.declared.LineBreak.TheVariants.{BreakSymbols, CarriageReturn, CloseParenthesis, ClosePunctuation, ContingentBreak, EBase}
+use Rattle.ucd_breaks.specs.declared.LineBreak.TheVariants.{EModifier, Exclamation, Glue, H2, H3, HebrewLetter, Hyphen, Ideographic, InfixNumeric}
+use Rattle.ucd_breaks.specs.declared.LineBreak.TheVariants.{Inseparable, Jl, Jt, Jv, LineFeed, MandatoryBreak, NextLine, Nonstarter, Numeric}
+use Rattle.ucd_breaks.specs.declared.LineBreak.TheVariants.{OpenPunctuation, PostfixNumeric, PrefixNumeric, Quotation, RegionalIndicator, Space}
+use Rattle.ucd_breaks.specs.declared.LineBreak.TheVariants.{UnambiguousHyphen, Virama, ViramaFinal, WordJoiner, ZWSpace}
 use Rattle.line_breaks.specs.Letters.{is}
 use Rattle.line_breaks.specs.declared.rules.Around.{Around}
 use Rattle.line_breaks.specs.declared.rules.Verdict.{Verdict}
@@ -45,7 +50,8 @@ lb12 around = is around.before.one Glue
 
 -- LB12a: [^SP BA HY HH] × GL
 abbrev pub lb12a : Around → Bool
-lb12a around = is around.after Glue && not (is around.before.one Space || (is around.before.one BreakAfter || (is around.before.one Hyphen || is around.before.one UnambiguousHyphen)))
+lb12a around = is around.after Glue && not (is around.before.one Space
+    || (is around.before.one BreakAfter || (is around.before.one Hyphen || is around.before.one UnambiguousHyphen)))
 
 -- LB13: × CL, × CP, × EX, × SY
 abbrev pub lb13 : Around → Bool
@@ -57,11 +63,21 @@ lb14 around = is around.before.base OpenPunctuation
 
 -- LB15a: (sot | BK | CR | LF | NL | OP | QU | GL | SP | ZW) [Pi & QU] SP* ×
 abbrev pub lb15a : Around → Bool
-lb15a around = is around.before.base Quotation && (around.before.base.opens && (is around.before.base_two MandatoryBreak || (is around.before.base_two CarriageReturn || (is around.before.base_two LineFeed || (is around.before.base_two NextLine || (is around.before.base_two OpenPunctuation || (is around.before.base_two Quotation || (is around.before.base_two Glue || (is around.before.base_two Space || is around.before.base_two ZWSpace)))))))))
+lb15a around = is around.before.base Quotation && (around.before.base.opens
+    && (is around.before.base_two MandatoryBreak || (is around.before.base_two CarriageReturn
+    || (is around.before.base_two LineFeed || (is around.before.base_two NextLine
+    || (is around.before.base_two OpenPunctuation || (is around.before.base_two Quotation
+    || (is around.before.base_two Glue || (is around.before.base_two Space || is around.before.base_two ZWSpace)))))))))
 
 -- LB15b: × [Pf & QU] (SP | GL | WJ | CL | QU | CP | EX | IS | SY | BK | CR | LF | NL | ZW | eot)
 abbrev pub lb15b : Around → Bool
-lb15b around = is around.after Quotation && (around.after.closes && (is around.next Space || (is around.next Glue || (is around.next WordJoiner || (is around.next ClosePunctuation || (is around.next Quotation || (is around.next CloseParenthesis || (is around.next Exclamation || (is around.next InfixNumeric || (is around.next BreakSymbols || (is around.next MandatoryBreak || (is around.next CarriageReturn || (is around.next LineFeed || (is around.next NextLine || is around.next ZWSpace))))))))))))))
+lb15b around = is around.after Quotation && (around.after.closes
+    && (is around.next Space || (is around.next Glue || (is around.next WordJoiner
+    || (is around.next ClosePunctuation || (is around.next Quotation
+    || (is around.next CloseParenthesis || (is around.next Exclamation
+    || (is around.next InfixNumeric || (is around.next BreakSymbols
+    || (is around.next MandatoryBreak || (is around.next CarriageReturn
+    || (is around.next LineFeed || (is around.next NextLine || is around.next ZWSpace))))))))))))))
 
 -- LB15c: SP ÷ IS NU
 abbrev pub lb15c : Around → Bool
@@ -89,7 +105,8 @@ lb19 around = (is around.after Quotation && not (around.after.opens)) || (is aro
 
 -- LB19a: [^EastAsian] × QU, × QU ([^EastAsian] | eot), QU × [^EastAsian], (sot | [^EastAsian]) QU ×
 abbrev pub lb19a : Around → Bool
-lb19a around = (is around.after Quotation && (not (around.before.one.wide) || not (around.next.wide))) || (is around.before.one Quotation && (not (around.after.wide) || not (around.before.two.wide)))
+lb19a around = (is around.after Quotation && (not (around.before.one.wide) || not (around.next.wide)))
+    || (is around.before.one Quotation && (not (around.after.wide) || not (around.before.two.wide)))
 
 -- LB20: ÷ CB, CB ÷
 abbrev pub lb20 : Around → Bool
@@ -97,15 +114,22 @@ lb20 around = is around.after ContingentBreak || is around.before.one Contingent
 
 -- LB20a: (sot | BK | CR | LF | NL | SP | ZW | CB | GL) (HY | HH) × (AL | HL)
 abbrev pub lb20a : Around → Bool
-lb20a around = (is around.before.one Hyphen || is around.before.one UnambiguousHyphen) && ((is around.after Alphabetic || is around.after HebrewLetter) && (is around.before.two MandatoryBreak || (is around.before.two CarriageReturn || (is around.before.two LineFeed || (is around.before.two NextLine || (is around.before.two Space || (is around.before.two ZWSpace || (is around.before.two ContingentBreak || is around.before.two Glue))))))))
+lb20a around = (is around.before.one Hyphen || is around.before.one UnambiguousHyphen)
+    && ((is around.after Alphabetic || is around.after HebrewLetter)
+    && (is around.before.two MandatoryBreak || (is around.before.two CarriageReturn
+    || (is around.before.two LineFeed || (is around.before.two NextLine
+    || (is around.before.two Space || (is around.before.two ZWSpace
+    || (is around.before.two ContingentBreak || is around.before.two Glue))))))))
 
 -- LB21: × BA, × HH, × HY, × NS, BB ×
 abbrev pub lb21 : Around → Bool
-lb21 around = is around.after BreakAfter || (is around.after UnambiguousHyphen || (is around.after Hyphen || (is around.after Nonstarter || is around.before.one BreakBefore)))
+lb21 around = is around.after BreakAfter || (is around.after UnambiguousHyphen
+    || (is around.after Hyphen || (is around.after Nonstarter || is around.before.one BreakBefore)))
 
 -- LB21a: HL (HY | HH) × [^HL]
 abbrev pub lb21a : Around → Bool
-lb21a around = is around.before.two HebrewLetter && ((is around.before.one Hyphen || is around.before.one UnambiguousHyphen) && not (is around.after HebrewLetter))
+lb21a around = is around.before.two HebrewLetter && ((is around.before.one Hyphen
+    || is around.before.one UnambiguousHyphen) && not (is around.after HebrewLetter))
 
 -- LB21b: SY × HL
 abbrev pub lb21b : Around → Bool
@@ -117,31 +141,53 @@ lb22 around = is around.after Inseparable
 
 -- LB23: (AL | HL) × NU, NU × (AL | HL)
 abbrev pub lb23 : Around → Bool
-lb23 around = ((is around.before.one Alphabetic || is around.before.one HebrewLetter) && is around.after Numeric) || (is around.before.one Numeric && (is around.after Alphabetic || is around.after HebrewLetter))
+lb23 around = ((is around.before.one Alphabetic || is around.before.one HebrewLetter)
+    && is around.after Numeric) || (is around.before.one Numeric
+    && (is around.after Alphabetic || is around.after HebrewLetter))
 
 -- LB23a: PR × (ID | EB | EM), (ID | EB | EM) × PO
 abbrev pub lb23a : Around → Bool
-lb23a around = (is around.before.one PrefixNumeric && (is around.after Ideographic || (is around.after EBase || is around.after EModifier))) || ((is around.before.one Ideographic || (is around.before.one EBase || is around.before.one EModifier)) && is around.after PostfixNumeric)
+lb23a around = (is around.before.one PrefixNumeric && (is around.after Ideographic
+    || (is around.after EBase || is around.after EModifier)))
+    || ((is around.before.one Ideographic || (is around.before.one EBase || is around.before.one EModifier))
+    && is around.after PostfixNumeric)
 
 -- LB24: (PR | PO) × (AL | HL), (AL | HL) × (PR | PO)
 abbrev pub lb24 : Around → Bool
-lb24 around = ((is around.before.one PrefixNumeric || is around.before.one PostfixNumeric) && (is around.after Alphabetic || is around.after HebrewLetter)) || ((is around.before.one Alphabetic || is around.before.one HebrewLetter) && (is around.after PrefixNumeric || is around.after PostfixNumeric))
+lb24 around = ((is around.before.one PrefixNumeric || is around.before.one PostfixNumeric)
+    && (is around.after Alphabetic || is around.after HebrewLetter))
+    || ((is around.before.one Alphabetic || is around.before.one HebrewLetter)
+    && (is around.after PrefixNumeric || is around.after PostfixNumeric))
 
 -- LB25: NU (SY | IS)* (CL | CP)? × (PO | PR), NU (SY | IS)* × NU
 abbrev pub lb25_after : Around → Bool
-lb25_after around = ((around.before.closed || around.before.number) && (is around.after PostfixNumeric || is around.after PrefixNumeric)) || (around.before.number && is around.after Numeric)
+lb25_after around = ((around.before.closed || around.before.number)
+    && (is around.after PostfixNumeric || is around.after PrefixNumeric))
+    || (around.before.number && is around.after Numeric)
 
 -- LB25: (PO | PR) × OP NU, (PO | PR) × OP IS NU, (PO | PR | HY | IS) × NU
 abbrev pub lb25_before : Around → Bool
-lb25_before around = ((is around.before.one PostfixNumeric || (is around.before.one PrefixNumeric || (is around.before.one Hyphen || is around.before.one InfixNumeric))) && is around.after Numeric) || ((is around.before.one PostfixNumeric || is around.before.one PrefixNumeric) && (is around.after OpenPunctuation && (is around.next Numeric || (is around.next InfixNumeric && is around.third Numeric))))
+lb25_before around = ((is around.before.one PostfixNumeric
+    || (is around.before.one PrefixNumeric || (is around.before.one Hyphen
+    || is around.before.one InfixNumeric))) && is around.after Numeric)
+    || ((is around.before.one PostfixNumeric || is around.before.one PrefixNumeric)
+    && (is around.after OpenPunctuation && (is around.next Numeric
+    || (is around.next InfixNumeric && is around.third Numeric))))
 
 -- LB26: JL × (JL | JV | H2 | H3), (JV | H2) × (JV | JT), (JT | H3) × JT
 abbrev pub lb26 : Around → Bool
-lb26 around = (is around.before.one Jl && (is around.after Jl || (is around.after Jv || (is around.after H2 || is around.after H3)))) || (((is around.before.one Jv || is around.before.one H2) && (is around.after Jv || is around.after Jt)) || ((is around.before.one Jt || is around.before.one H3) && is around.after Jt))
+lb26 around = (is around.before.one Jl && (is around.after Jl
+    || (is around.after Jv || (is around.after H2 || is around.after H3))))
+    || (((is around.before.one Jv || is around.before.one H2) && (is around.after Jv || is around.after Jt))
+    || ((is around.before.one Jt || is around.before.one H3) && is around.after Jt))
 
 -- LB27: (JL | JV | JT | H2 | H3) × PO, PR × (JL | JV | JT | H2 | H3)
 abbrev pub lb27 : Around → Bool
-lb27 around = ((is around.before.one Jl || (is around.before.one Jv || (is around.before.one Jt || (is around.before.one H2 || is around.before.one H3)))) && is around.after PostfixNumeric) || (is around.before.one PrefixNumeric && (is around.after Jl || (is around.after Jv || (is around.after Jt || (is around.after H2 || is around.after H3)))))
+lb27 around = ((is around.before.one Jl || (is around.before.one Jv
+    || (is around.before.one Jt || (is around.before.one H2 || is around.before.one H3))))
+    && is around.after PostfixNumeric) || (is around.before.one PrefixNumeric
+    && (is around.after Jl || (is around.after Jv || (is around.after Jt
+    || (is around.after H2 || is around.after H3)))))
 
 -- LB28: (AL | HL) × (AL | HL)
 abbrev pub lb28 : Around → Bool
@@ -149,11 +195,18 @@ lb28 around = (is around.before.one Alphabetic || is around.before.one HebrewLet
 
 -- LB28a: AP × (AK | ◌ | AS), (AK | ◌ | AS) × (VF | VI)
 abbrev pub lb28a_first : Around → Bool
-lb28a_first around = (is around.before.one AksaraPrebase && (is around.after Aksara || (around.after.circle || is around.after AksaraStart))) || ((is around.before.one Aksara || (around.before.one.circle || is around.before.one AksaraStart)) && (is around.after ViramaFinal || is around.after Virama))
+lb28a_first around = (is around.before.one AksaraPrebase
+    && (is around.after Aksara || (around.after.circle || is around.after AksaraStart)))
+    || ((is around.before.one Aksara || (around.before.one.circle || is around.before.one AksaraStart))
+    && (is around.after ViramaFinal || is around.after Virama))
 
 -- LB28a: (AK | ◌ | AS) VI × (AK | ◌), (AK | ◌ | AS) × (AK | ◌ | AS) VF
 abbrev pub lb28a_second : Around → Bool
-lb28a_second around = ((is around.before.two Aksara || (around.before.two.circle || is around.before.two AksaraStart)) && (is around.before.one Virama && (is around.after Aksara || around.after.circle))) || ((is around.before.one Aksara || (around.before.one.circle || is around.before.one AksaraStart)) && ((is around.after Aksara || (around.after.circle || is around.after AksaraStart)) && is around.next ViramaFinal))
+lb28a_second around = ((is around.before.two Aksara || (around.before.two.circle
+    || is around.before.two AksaraStart)) && (is around.before.one Virama
+    && (is around.after Aksara || around.after.circle)))
+    || ((is around.before.one Aksara || (around.before.one.circle || is around.before.one AksaraStart))
+    && ((is around.after Aksara || (around.after.circle || is around.after AksaraStart)) && is around.next ViramaFinal))
 
 -- LB29: IS × (AL | HL)
 abbrev pub lb29 : Around → Bool
@@ -161,7 +214,10 @@ lb29 around = is around.before.one InfixNumeric && (is around.after Alphabetic |
 
 -- LB30: (AL | HL | NU) × [OP - EastAsian], [CP - EastAsian] × (AL | HL | NU)
 abbrev pub lb30 : Around → Bool
-lb30 around = ((is around.before.one Alphabetic || (is around.before.one HebrewLetter || is around.before.one Numeric)) && (is around.after OpenPunctuation && not (around.after.wide))) || (is around.before.one CloseParenthesis && (not (around.before.one.wide) && (is around.after Alphabetic || (is around.after HebrewLetter || is around.after Numeric))))
+lb30 around = ((is around.before.one Alphabetic || (is around.before.one HebrewLetter
+    || is around.before.one Numeric)) && (is around.after OpenPunctuation && not (around.after.wide)))
+    || (is around.before.one CloseParenthesis && (not (around.before.one.wide)
+    && (is around.after Alphabetic || (is around.after HebrewLetter || is around.after Numeric))))
 
 -- LB30a: sot (RI RI)* RI × RI, [^RI] (RI RI)* RI × RI
 abbrev pub lb30a : Around → Bool

@@ -4,7 +4,12 @@ pub mod Classes
 pub mod Texts
 use Rattle.std.specs.Prelude.{◌≡◌, true, false, List, [], ◌∷◌, map, refl}
 use Rattle.ucd_breaks.specs.declared.LineBreak.{LineBreak}
-use Rattle.ucd_breaks.specs.declared.LineBreak.TheVariants.{Aksara, AksaraPrebase, AksaraStart, Alphabetic, BreakAfter, BreakBefore, BreakBoth, BreakSymbols, CarriageReturn, CloseParenthesis, ClosePunctuation, ContingentBreak, EBase, EModifier, Glue, H2, HebrewLetter, Hyphen, Ideographic, InfixNumeric, Inseparable, Jl, Jt, Jv, LineFeed, MandatoryBreak, NextLine, Nonstarter, Numeric, OpenPunctuation, PostfixNumeric, PrefixNumeric, Quotation, RegionalIndicator, Space, UnambiguousHyphen, Virama, ViramaFinal, WordJoiner, ZWSpace}
+use Rattle.ucd_breaks.specs.declared.LineBreak.TheVariants.{Aksara, AksaraPrebase, AksaraStart, Alphabetic, BreakAfter, BreakBefore, BreakBoth}
+use Rattle.ucd_breaks.specs.declared.LineBreak.TheVariants.{BreakSymbols, CarriageReturn, CloseParenthesis, ClosePunctuation, ContingentBreak, EBase}
+use Rattle.ucd_breaks.specs.declared.LineBreak.TheVariants.{EModifier, Glue, H2, HebrewLetter, Hyphen, Ideographic, InfixNumeric, Inseparable, Jl, Jt}
+use Rattle.ucd_breaks.specs.declared.LineBreak.TheVariants.{Jv, LineFeed, MandatoryBreak, NextLine, Nonstarter, Numeric, OpenPunctuation}
+use Rattle.ucd_breaks.specs.declared.LineBreak.TheVariants.{PostfixNumeric, PrefixNumeric, Quotation, RegionalIndicator, Space, UnambiguousHyphen}
+use Rattle.ucd_breaks.specs.declared.LineBreak.TheVariants.{Virama, ViramaFinal, WordJoiner, ZWSpace}
 use Rattle.line_breaks.specs.Breaks.{verdict_between}
 use Rattle.line_breaks.specs.Letters.{edge}
 use Rattle.line_breaks.specs.Units.{unit}

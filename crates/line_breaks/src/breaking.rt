@@ -22,9 +22,9 @@ pub struct LineBreaks {
     pub spaces: Vec<u32>,
 }
 
-/// Where the lines of a text may end, and where they must, by the rules of UAX 14. Takes time in step
-/// with the text, which is shorter than 2^32 bytes, since offsets are 32 bits. Refuses if memory runs
-/// out.
+/// Where the lines of a text may end, and where they must, by the rules of UAX 14. Takes time in
+/// step with the text, which is shorter than 2^32 bytes, since offsets are 32 bits. Refuses if
+/// memory runs out.
 pub fn line_breaks(alloc: Global, text: &str) -> Result<LineBreaks, AllocError>
     requires { length text.now < 2 ^ 32 }
     ensures breaks { IfOk result (λ breaks. AreLineBreaks text.now breaks) }

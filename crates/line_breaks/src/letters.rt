@@ -24,8 +24,8 @@ pub struct Letter {
     pub circle: bool,
 }
 
-/// What stands before and after a text: the rules treat its start and its end as they treat a mandatory
-/// break.
+/// What stands before and after a text: the rules treat its start and its end as they treat a
+/// mandatory break.
 pub(crate) fn edge() -> Letter
     ensures { result ≡ Letters.edge }
 {

@@ -1,8 +1,8 @@
 //! The rules of UAX 14 from LB4 to LB31, each under its number, in the order in which they apply.
 //!
-//! In the standard's signs `×` prohibits a break, `÷` allows one and `!` demands one. The start and the
-//! end of the text are letters of their own, of the class BK, which no rule from LB8 on tells from
-//! them.
+//! In the standard's signs `×` prohibits a break, `÷` allows one and `!` demands one. The start and
+//! the end of the text are letters of their own, of the class BK, which no rule from LB8 on tells
+//! from them.
 ghost use Rattle.std.specs.Prelude.{◌≡◌};
 ghost use Rattle.line_breaks.specs.Around as around_rules;
 ghost use Rattle.line_breaks.specs.Breaks.{verdict_number};

@@ -46,8 +46,8 @@ fn alone(letter: &Letter) -> Letter
     *letter
 }
 
-/// Puts a character after the units, unless it is a mark that the last one of them takes, and returns
-/// whether the last one takes marks then.
+/// Puts a character after the units, unless it is a mark that the last one of them takes, and
+/// returns whether the last one takes marks then.
 fn put(
     units: &mut Vec<Unit>,
     letter: &Letter,

@@ -1,5 +1,6 @@
 -- A tag that a language's private use names: after -hbot of a language system, after -hbsc of a script.
-use Rattle.std.specs.Prelude.{ℕ, ◌+◌, ◌-◌, ◌*◌, ◌%◌, ◌==◌, ◌&&◌, nat_le, nat_lt, Bool, not, min, Option, Some, None, List, [], ◌∷◌, length, take, drop, fold, if◌then◌else◌, slice_index, codes}
+use Rattle.std.specs.Prelude.{ℕ, ◌+◌, ◌-◌, ◌*◌, ◌%◌, ◌==◌, ◌&&◌, nat_le, nat_lt, Bool, not, min, Option, Some, None, List, [], ◌∷◌, length, take}
+use Rattle.std.specs.Prelude.{drop, fold, if◌then◌else◌, slice_index, codes}
 use Rattle.std.specs.List.{prefix_len}
 use Rattle.std.specs.Option.{option_map, option_and_then}
 use Rattle.std.specs.Int.RustNames.{bit_and, bit_xor}

@@ -1,5 +1,6 @@
 -- A language's name as BCP 47 cuts it up: subtags between hyphens. Places are indexes of bytes.
-use Rattle.std.specs.Prelude.{ℕ, ◌+◌, ◌-◌, ◌==◌, ◌&&◌, ◌||◌, nat_eq, nat_le, Bool, not, Option, Some, None, List, [], length, take, drop, if◌then◌else◌, slice_index, codes}
+use Rattle.std.specs.Prelude.{ℕ, ◌+◌, ◌-◌, ◌==◌, ◌&&◌, ◌||◌, nat_eq, nat_le, Bool, not, Option, Some, None, List, [], length, take, drop}
+use Rattle.std.specs.Prelude.{if◌then◌else◌, slice_index, codes}
 use Rattle.std.specs.List.{prefix_len, starts_with}
 use Rattle.std.specs.Option.{is_some, unwrap_or}
 use Rattle.shape_font.specs.Search.{first_at}

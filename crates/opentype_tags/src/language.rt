@@ -1,8 +1,9 @@
 //! OpenType's tags of a language.
 //!
-//! The first rule that knows the language decides: its private use, a variant that has a tag in whatever language, a
-//! name that is registered as a whole, a script or a place that its writing depends on, the rows of its first subtag.
-//! A language of three letters that none of them knows is looked for by its own letters.
+//! The first rule that knows the language decides: its private use, a variant that has a tag in
+//! whatever language, a name that is registered as a whole, a script or a place that its writing
+//! depends on, the rows of its first subtag. A language of three letters that none of them knows is
+//! looked for by its own letters.
 ghost use Rattle.std.specs.Prelude.{◌≡◌, ◌<◌, ◌≤◌, ◌^◌, length};
 ghost use Rattle.std.specs.Prelude.{string_bytes};
 ghost use Rattle.std.specs.Option.{option_map};
@@ -265,9 +266,10 @@ fn name_tags(name: &[u8]) -> TagList
     }
 }
 
-/// OpenType's tags of the language systems of a language, the preferred one first; none if the language is given none.
-/// The name is in HarfBuzz's spelling, as `language_from_string` makes it: small letters, digits, hyphens. A language
-/// with the private subtag `x-hbot-..` names the only tag, as [`script_tags`](crate::script_tags) has it (HarfBuzz,
+/// OpenType's tags of the language systems of a language, the preferred one first; none if the
+/// language is given none. The name is in HarfBuzz's spelling, as `language_from_string` makes it:
+/// small letters, digits, hyphens. A language with the private subtag `x-hbot-..` names the only
+/// tag, as [`script_tags`](crate::script_tags) has it (HarfBuzz,
 /// `hb_ot_tags_from_script_and_language`; "Language system tags" of the OpenType specification).
 pub fn language_tags(language: Option<&Language>) -> TagList
     ensures { result ≡ language_rules.language_tags (option_map

@@ -1,4 +1,5 @@
-//! A tag that a language's private use names: `x-hbot-..` of a language system, `x-hbsc-..` of a script (HarfBuzz).
+//! A tag that a language's private use names: `x-hbot-..` of a language system, `x-hbsc-..` of a
+//! script (HarfBuzz).
 ghost use Rattle.std.specs.Prelude.{◌≡◌, ◌<◌, ◌≤◌, ◌+◌, length, drop, IfSome};
 ghost use Rattle.std.specs.List.{prefix_len};
 ghost use Rattle.std.specs.Prelude.{string_bytes};

@@ -1,6 +1,6 @@
-//! OpenType's tags of languages by their first subtag (BCP 47), as HarfBuzz 10.2.0 maps the registry of November 2024.
-//! A row is a subtag of two or three letters, filled up with spaces, and a tag; the preferred tag of a language comes
-//! first, and 0 stands for a language that has none.
+//! OpenType's tags of languages by their first subtag (BCP 47), as HarfBuzz 10.2.0 maps the
+//! registry of November 2024. A row is a subtag of two or three letters, filled up with spaces, and
+//! a tag; the preferred tag of a language comes first, and 0 stands for a language that has none.
 ghost use Rattle.std.specs.Prelude.{◌≡◌};
 ghost use Rattle.opentype_tags.specs.Rows.{rows_of};
 

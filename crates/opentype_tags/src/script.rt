@@ -69,10 +69,11 @@ fn tags_of_script(script: Option<Script>) -> TagList
     }
 }
 
-/// OpenType's tags of a script, the preferred one first: those of versions 3 and 2 where shaping was defined anew, then
-/// its own tag. No script has none. A language with the private subtag `x-hbsc-..` names the only tag, by up to four
-/// letters and digits or by eight hexadecimal digits after a further hyphen (HarfBuzz,
-/// `hb_ot_tags_from_script_and_language`; "Script tags" of the OpenType specification).
+/// OpenType's tags of a script, the preferred one first: those of versions 3 and 2 where shaping
+/// was defined anew, then its own tag. No script has none. A language with the private subtag
+/// `x-hbsc-..` names the only tag, by up to four letters and digits or by eight hexadecimal digits
+/// after a further hyphen (HarfBuzz, `hb_ot_tags_from_script_and_language`; "Script tags" of the
+/// OpenType specification).
 pub fn script_tags(script: Option<Script>, language: Option<&Language>) -> TagList
     ensures { result ≡ language_rules.script_tags script (option_map
         (λ l. string_bytes l.now.0) language.entry) }

@@ -1,7 +1,8 @@
 //! A language's name as BCP 47 cuts it up: subtags between hyphens (RFC 5646, 2.1 and 2.2).
 //!
-//! A subtag of one byte begins an extension, and `x` begins private use; what comes before the first of them is the
-//! registered subtags. The name is given in HarfBuzz's spelling: small letters, digits and hyphens.
+//! A subtag of one byte begins an extension, and `x` begins private use; what comes before the
+//! first of them is the registered subtags. The name is given in HarfBuzz's spelling: small
+//! letters, digits and hyphens.
 ghost use Rattle.std.specs.Prelude.{◌≡◌, ◌≤◌, ◌<◌, ◌^◌, length, drop, slice_index, IfSome};
 ghost use Rattle.shape_font.specs.Search.{first_at};
 ghost use Rattle.opentype_tags.specs.Subtags;

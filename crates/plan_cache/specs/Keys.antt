@@ -28,7 +28,8 @@ NoneKept {P} unicode plans count face features text =
     (k : ℕ) (d : KeptPlan P) → k < count → IsFor unicode (slice_index_or plans k d).key face features text → ⊥
 
 -- one plan more: after the old ones stands this plan, under a key for the text
-pub record IsKeptLast {P : Type 0} (unicode : UnicodeMeaning) (old new : List (KeptPlan P)) (place face : ℕ) (features : List Feature) (text : Buffer) (plan : P) : Type 0 where
+pub record IsKeptLast {P : Type 0} (unicode : UnicodeMeaning) (old new : List (KeptPlan P)) (place face : ℕ) (features : List Feature)
+    (text : Buffer) (plan : P) : Type 0 where
   pub key : PlanKey
   pub place_is : place ≡ length old
   pub behind : new ≡ old ++ record { key = key; plan = plan } ∷ []

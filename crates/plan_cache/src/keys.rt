@@ -1,6 +1,7 @@
 //! What a plan is kept for, and the search for it.
 ghost use Rattle.std.specs.Prelude.{◌≡◌, ◌↔◌, length, IsTrue, IfSome, IfNone, IfOk, IfErr, OnErr, string_bytes};
 ghost use Rattle.std.specs.Option.{option_map};
+ghost use Rattle.shape_buffer.specs.Guess.{guessed_direction, guessed_script};
 ghost use Rattle.shape_plan.specs.Plan.{Fits};
 ghost use Rattle.plan_cache.specs.Keys.{IsFor, IsKeptAt, NoneKept, IsKeptLast};
 ghost use Rattle.plan_cache.specs.Worked.Keys.{WorkedKeys};
@@ -10,8 +11,8 @@ use shape_buffer::interfaces::hb_unicode_funcs_t;
 use shape_plan::hb_ot_shape_plan_t;
 use std::alloc::Global;
 
-/// All that a plan depends on. `face` is the caller's number of the face; at other coordinates of a variable font it is
-/// another face, with a number of its own.
+/// All that a plan depends on. `face` is the caller's number of the face; at other coordinates of a
+/// variable font it is another face, with a number of its own.
 #[derive(Drop, Debug)]
 pub struct PlanKey {
     pub face: u32,
@@ -76,8 +77,8 @@ fn copied(alloc: Global, language: Option<&Language>) -> Result<Option<Language>
 }
 
 impl PlanKey {
-    /// What a plan for a text has to be made for: direction and script as guessing would set them, the language of the
-    /// text, these features and this face. Refuses with `Memory` alone.
+    /// What a plan for a text has to be made for: direction and script as guessing would set them,
+    /// the language of the text, these features and this face. Refuses with `Memory` alone.
     pub fn of_text<U: hb_unicode_funcs_t>(
         alloc: Global,
         face: u32,
@@ -101,6 +102,28 @@ impl PlanKey {
         })
     }
 
+    /// Whether a plan that was made for this serves a text, whose direction and script are these as
+    /// guessing would set them.
+    fn is_for_guessed<U: hb_unicode_funcs_t>(
+        &self,
+        face: u32,
+        features: &[Feature],
+        text: &UnicodeBuffer,
+        direction: Direction,
+        script: Option<Script>,
+    ) -> bool
+        requires direction { direction ≡ guessed_direction U.unicode text.now }
+        requires script { script ≡ guessed_script U.unicode text.now }
+        ensures { IsTrue result ↔ IsFor U.unicode self.now face features.now text.now }
+    {
+        let spoken = same_language(self.language.as_ref(), text.language());
+        self.face == face
+            && direction == self.direction
+            && script == self.script
+            && spoken
+            && same_features(self.features.as_slice(), features)
+    }
+
     /// Whether a plan that was made for this serves a text over a face with features.
     pub fn is_for<U: hb_unicode_funcs_t>(
         &self,
@@ -112,18 +135,13 @@ impl PlanKey {
     {
         let buffer = text.as_inner();
         let script = buffer.guessed_script::<U>();
-        let spoken = same_language(self.language.as_ref(), text.language());
-        let asked = same_features(self.features.as_slice(), features);
-        self.face == face
-            && buffer.direction_by::<U>(script) == self.direction
-            && script == self.script
-            && spoken
-            && asked
+        let direction = buffer.direction_by::<U>(script);
+        self.is_for_guessed::<U>(face, features, text, direction, script)
     }
 }
 
-/// The place of the first plan that was made for such a text: for its direction, its script and its language, these
-/// features and this face.
+/// The place of the first plan that was made for such a text: for its direction, its script and its
+/// language, these features and this face. Direction and script are guessed once for all plans.
 pub fn find_plan<U: hb_unicode_funcs_t, P>(
     plans: &[KeptPlan<P>],
     face: u32,
@@ -137,16 +155,20 @@ pub fn find_plan<U: hb_unicode_funcs_t, P>(
     ensures nowhere { IfNone result (NoneKept U.unicode plans.now (length plans.now) face
         features.now text.now) }
 {
+    let buffer = text.as_inner();
+    let script = buffer.guessed_script::<U>();
+    let direction = buffer.direction_by::<U>(script);
     for place in 0..plans.len() {
-        if plans[place].key.is_for::<U>(face, features, text) {
+        let key = &plans[place].key;
+        if key.is_for_guessed::<U>(face, features, text, direction, script) {
             return Some(place);
         }
     }
     None
 }
 
-/// Keeps a plan that was made for such a text, after the others, and returns its place. Refuses with `Memory` alone, and
-/// keeps nothing then.
+/// Keeps a plan that was made for such a text, after the others, and returns its place. Refuses
+/// with `Memory` alone, and keeps nothing then.
 pub fn keep_plan<U: hb_unicode_funcs_t, P: Drop>(
     alloc: Global,
     plans: &mut Vec<KeptPlan<P>>,
@@ -166,8 +188,8 @@ pub fn keep_plan<U: hb_unicode_funcs_t, P: Drop>(
     Ok(place)
 }
 
-/// A plan that is kept under its own direction and script fits every text that it is found for. Does nothing: it tells this
-/// to those who have found it.
+/// A plan that is kept under its own direction and script fits every text that it is found for.
+/// Does nothing: it tells this to those who have found it.
 pub fn found_plan_fits<U: hb_unicode_funcs_t, S, P, D>(
     kept: &KeptPlan<hb_ot_shape_plan_t<'_, S, P, D>>,
     face: u32,

@@ -8,8 +8,8 @@ use Rattle.shape_buffer.specs.declared.interfaces.map_request.TableIndex.{TableI
 use Rattle.shape_buffer.specs.declared.interfaces.map_request.TableIndex.TheVariants.{GSUB, GPOS}
 use Rattle.shape_common.specs.FlagNames.{F_GLOBAL}
 
--- the requests in order, the text's language by the bytes of its name, and the scripts that the engine chose; is_simple begins true, and is false if a collect hook
--- is given or user features are passed
+-- the requests in order, the text's language by the bytes of its name, and the scripts that the engine chose; is_simple
+-- begins true, and is false if a collect hook is given or user features are passed
 pub record Builder : Type 0 where
   pub requests : List MapRequest
   pub is_simple : Bool

@@ -2,8 +2,8 @@
 //!
 //! A text is filled into a [`UnicodeBuffer`], shaped as an [`hb_buffer_t`] and returned as a
 //! [`GlyphBuffer`]: three views of one list of items, which always has as many positions as items.
-//! Contracts see each of them as the record `Buffer` of `shape_items`, so no clause names a field of
-//! theirs.
+//! Contracts see each of them as the record `Buffer` of `shape_items`, so no clause names a field
+//! of theirs.
 
 mod context;
 mod error;

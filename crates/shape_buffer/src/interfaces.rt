@@ -1,7 +1,7 @@
 //! What shaping asks of its callers: the Unicode functions, a face and a layout engine.
 //!
-//! Each is a trait whose meaning is one ghost record of functions; what every implementation must provide is
-//! stated there once, as a law that it proves.
+//! Each is a trait whose meaning is one ghost record of functions; what every implementation must
+//! provide is stated there once, as a law that it proves.
 
 mod layout;
 mod map_builder;

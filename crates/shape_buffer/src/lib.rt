@@ -3,8 +3,8 @@
 //! [`buffer`] has the items, positions and settings of a text; each of its calls is a function on
 //! lists and settings, and its contract says which. [`interfaces`] has the traits that shaping is
 //! generic over: the Unicode functions, the face and the layout engine, with the laws that every
-//! implementation proves. [`laws`] has what follows for canonical form, [`cluster_laws`] for clusters.
-//! Types of `shape_common` and `shape_items`, which stand below, are shown here, too.
+//! implementation proves. [`laws`] has what follows for canonical form, [`cluster_laws`] for
+//! clusters. Types of `shape_common` and `shape_items`, which stand below, are shown here, too.
 #![tactic(auto)]
 #![allow(non_camel_case_types)]
 

@@ -19,9 +19,9 @@ fn is_in_four<P: Fn(&hb_glyph_info_t) -> bool>(infos: &[hb_glyph_info_t], i: usi
     is(&infos[i]) || is(&infos[i + 1]) || is(&infos[i + 2]) || is(&infos[i + 3])
 }
 
-/// How many items at the beginning a walk may pass over, since none of them passes the test: all, if no item does and
-/// there are four or more. Looks at four items at a time, the last four at the end, so that a word of some letters
-/// without marks is done with after two looks.
+/// How many items at the beginning a walk may pass over, since none of them passes the test: all,
+/// if no item does and there are four or more. Looks at four items at a time, the last four at the
+/// end, so that a word of some letters without marks is done with after two looks.
 #[inline(always)]
 pub fn passed_over<P: Fn(&hb_glyph_info_t) -> bool>(infos: &[hb_glyph_info_t], is: P) -> usize
 where

@@ -18,18 +18,20 @@ use std::alloc::{AllocError, Global};
 pub struct Caret {
     /// The offset in the text, in units of the clusters.
     pub offset: u32,
-    /// Its place on the line, from where the glyphs begin, modulo 2^32, in units of the face: x, or y if the direction is
-    /// vertical.
+    /// Its place on the line, from where the glyphs begin, modulo 2^32, in units of the face: x, or
+    /// y if the direction is vertical.
     pub x: i32,
 }
 
-/// The carets of a text that was shaped, in its order: of the whole text, or of a line that was cut from it. The clusters
-/// are those of [`GlyphBuffer::clusters`](shape_buffer::buffer::GlyphBuffer::clusters) that show the text from `text_start` up
-/// to `text_end`. A caret stands at the leading edge of each cluster: the right one, if the text runs to the left. One stands
-/// after the text. `stops` rises, and says where else a caret may stand, as before each grapheme cluster of the text: those
-/// inside a cluster divide its advance into equal parts, rounded towards its leading edge. Other stops say nothing. A
-/// cluster that isn't past the one before, or is past the end of the text, has no caret. So offsets always rise. Refuses
-/// with `Memory` if a growth was refused.
+/// The carets of a text that was shaped, in its order: of the whole text, or of a line that was cut
+/// from it. The clusters are those of
+/// [`GlyphBuffer::clusters`](shape_buffer::buffer::GlyphBuffer::clusters) that show the text from
+/// `text_start` up to `text_end`. A caret stands at the leading edge of each cluster: the right
+/// one, if the text runs to the left. One stands after the text. `stops` rises, and says where else
+/// a caret may stand, as before each grapheme cluster of the text: those inside a cluster divide
+/// its advance into equal parts, rounded towards its leading edge. Other stops say nothing. A
+/// cluster that isn't past the one before, or is past the end of the text, has no caret. So offsets
+/// always rise. Refuses with `Memory` if a growth was refused.
 pub fn carets(
     alloc: Global,
     clusters: &[GlyphCluster],
@@ -98,7 +100,8 @@ fn start_after(cells: &[Cell], place: usize, text_end: u32) -> u32
     }
 }
 
-/// Where the first caret stands: where the glyphs begin or, if the text runs backward, where they end.
+/// Where the first caret stands: where the glyphs begin or, if the text runs backward, where they
+/// end.
 fn origin(cells: &[Cell], backward: bool) -> i32
     ensures { result ≡ origin_of backward cells.now }
 {

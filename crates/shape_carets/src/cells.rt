@@ -42,7 +42,8 @@ pub(super) fn cells(
     Ok(cells)
 }
 
-/// Adds a cluster to the cell so far, or begins another by it: what is to come makes the same cells.
+/// Adds a cluster to the cell so far, or begins another by it: what is to come makes the same
+/// cells.
 fn add(
     cells: &mut Vec<Cell>,
     cell: Cell,

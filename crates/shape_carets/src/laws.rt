@@ -13,15 +13,16 @@ pub fn carets_are_unique()
     ensures { CaretsAreUnique }
 {}
 
-/// From an offset to its place on the line and back: a click where a caret stands leads to its offset, if no later caret
-/// stands there. If carets go one way on, none does where the text after the caret has a width.
+/// From an offset to its place on the line and back: a click where a caret stands leads to its
+/// offset, if no later caret stands there. If carets go one way on, none does where the text after
+/// the caret has a width.
 pub fn offsets_return()
     ensures last { OffsetsReturn }
     ensures one_way { OffsetsReturnFrom }
 {}
 
-/// A selection has each piece that is selected and, if offsets rise, nothing else: each place in it lies in a piece that is
-/// selected.
+/// A selection has each piece that is selected and, if offsets rise, nothing else: each place in it
+/// lies in a piece that is selected.
 pub fn selections_are_exact()
     ensures pieces { SelectionHasPieces }
     ensures no_gap { SelectionHasNoGap }

@@ -6,8 +6,8 @@ ghost use Rattle.shape_carets.specs.Places.{CaretStandsAt, OffsetIsNearest};
 
 use crate::caret::Caret;
 
-/// Where the caret of an offset stands: the last caret whose offset isn't past it, or the first, if all are. 0, if there
-/// are none.
+/// Where the caret of an offset stands: the last caret whose offset isn't past it, or the first, if
+/// all are. 0, if there are none.
 pub fn caret_of_offset(carets: &[Caret], offset: u32) -> i32
     ensures { CaretStandsAt carets.now offset result }
 {
@@ -17,8 +17,8 @@ pub fn caret_of_offset(carets: &[Caret], offset: u32) -> i32
     carets[place_of(carets, offset)].x
 }
 
-/// The offset whose caret is nearest to a place on the line, as that of a click: of two that are as near the later in the
-/// text. 0, if there are none.
+/// The offset whose caret is nearest to a place on the line, as that of a click: of two that are as
+/// near the later in the text. 0, if there are none.
 pub fn offset_of_x(carets: &[Caret], x: i32) -> u32
     ensures { OffsetIsNearest carets.now x result }
 {

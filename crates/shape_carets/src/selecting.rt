@@ -11,9 +11,10 @@ pub struct Span {
     pub end: i32,
 }
 
-/// What the text from an offset up to another covers of the line that these carets stand on. A piece of text between two
-/// carets is covered whole, if some of it is selected. The pieces that are selected stand one after the other, so they make
-/// one span. Nothing is covered, if there is no text in the range.
+/// What the text from an offset up to another covers of the line that these carets stand on. A
+/// piece of text between two carets is covered whole, if some of it is selected. The pieces that
+/// are selected stand one after the other, so they make one span. Nothing is covered, if there is
+/// no text in the range.
 pub fn selection(carets: &[Caret], start: u32, end: u32) -> Option<Span>
     ensures { result ≡ Selections.selection_of carets.now start end }
 {

@@ -3,7 +3,16 @@ use Rattle.std.proofs.Common.{◌≡◌, ℕ, ◌<◌, ◌≤◌, ◌-◌, ◌^�
 use Rattle.std.proofs.lemmas.List.{get_or-append_right}
 use Rattle.shape_common.specs.CategoryNumber.{categories, category_number, category_of}
 use Rattle.shape_common.specs.declared.general_category.hb_unicode_general_category_t.{hb_unicode_general_category_t}
-use Rattle.shape_common.specs.declared.general_category.hb_unicode_general_category_t.TheVariants.{UppercaseLetter, LowercaseLetter, TitlecaseLetter, ModifierLetter, OtherLetter, NonspacingMark, SpacingMark, EnclosingMark, DecimalNumber, LetterNumber, OtherNumber, ConnectorPunctuation, DashPunctuation, OpenPunctuation, ClosePunctuation, InitialPunctuation, FinalPunctuation, OtherPunctuation, MathSymbol, CurrencySymbol, ModifierSymbol, OtherSymbol, SpaceSeparator, LineSeparator, ParagraphSeparator, Control, Format, Surrogate, PrivateUse, Unassigned}
+use Rattle.shape_common.specs.declared.general_category.hb_unicode_general_category_t.TheVariants.{UppercaseLetter, LowercaseLetter, TitlecaseLetter}
+use Rattle.shape_common.specs.declared.general_category.hb_unicode_general_category_t.TheVariants.{ModifierLetter, OtherLetter, NonspacingMark}
+use Rattle.shape_common.specs.declared.general_category.hb_unicode_general_category_t.TheVariants.{SpacingMark, EnclosingMark, DecimalNumber}
+use Rattle.shape_common.specs.declared.general_category.hb_unicode_general_category_t.TheVariants.{LetterNumber, OtherNumber, ConnectorPunctuation}
+use Rattle.shape_common.specs.declared.general_category.hb_unicode_general_category_t.TheVariants.{DashPunctuation, OpenPunctuation, ClosePunctuation}
+use Rattle.shape_common.specs.declared.general_category.hb_unicode_general_category_t.TheVariants.{InitialPunctuation, FinalPunctuation}
+use Rattle.shape_common.specs.declared.general_category.hb_unicode_general_category_t.TheVariants.{OtherPunctuation, MathSymbol, CurrencySymbol}
+use Rattle.shape_common.specs.declared.general_category.hb_unicode_general_category_t.TheVariants.{ModifierSymbol, OtherSymbol, SpaceSeparator}
+use Rattle.shape_common.specs.declared.general_category.hb_unicode_general_category_t.TheVariants.{LineSeparator, ParagraphSeparator, Control, Format}
+use Rattle.shape_common.specs.declared.general_category.hb_unicode_general_category_t.TheVariants.{Surrogate, PrivateUse, Unassigned}
 
 pub category_of-number : (category : hb_unicode_general_category_t) → category_of (category_number category) ≡ category
 category_of-number UppercaseLetter = refl

@@ -1,7 +1,8 @@
 -- General categories (The Unicode Standard, section 4.5).
 use Rattle.std.specs.Prelude.{Bool, true, false}
 use Rattle.shape_common.specs.declared.general_category.hb_unicode_general_category_t.{hb_unicode_general_category_t}
-use Rattle.shape_common.specs.declared.general_category.hb_unicode_general_category_t.TheVariants.{NonspacingMark, SpacingMark, EnclosingMark, SpaceSeparator, DecimalNumber}
+use Rattle.shape_common.specs.declared.general_category.hb_unicode_general_category_t.TheVariants.{NonspacingMark, SpacingMark, EnclosingMark}
+use Rattle.shape_common.specs.declared.general_category.hb_unicode_general_category_t.TheVariants.{SpaceSeparator, DecimalNumber}
 
 -- the categories of marks
 abbrev pub is_mark_category : hb_unicode_general_category_t → Bool

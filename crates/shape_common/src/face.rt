@@ -3,8 +3,8 @@ ghost use Rattle.std.specs.Prelude.{◌≡◌, is_some};
 
 use crate::GlyphId;
 
-/// The box round a glyph's ink, in units of the face: its left side, its upper side, its width to the
-/// right and its height upwards, so that a height is negative as a rule.
+/// The box round a glyph's ink, in units of the face: its left side, its upper side, its width to
+/// the right and its height upwards, so that a height is negative as a rule.
 #[derive(Clone, Copy, PartialEq, Eq, Debug)]
 pub struct hb_glyph_extents_t {
     pub x_bearing: i32,
@@ -23,8 +23,8 @@ pub struct hb_tables_t {
     pub trak: bool,
 }
 
-/// The character map of a face, the metrics of its glyphs, and which tables it has. Metrics are in units
-/// of the face.
+/// The character map of a face, the metrics of its glyphs, and which tables it has. Metrics are in
+/// units of the face.
 pub trait hb_font_t {
     ghost use Rattle.shape_common.specs.Face.{FaceMeaning};
 

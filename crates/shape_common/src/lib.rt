@@ -1,9 +1,10 @@
 //! What all of shaping shares: plain data types, the Unicode functions, and faces.
 //!
-//! Tags, scripts, directions, languages, cluster levels and features are what a caller sets of a text; positions
-//! are what it gets. [`hb_unicode_funcs_t`] and [`hb_font_t`] are the traits that shaping asks its callers for:
-//! each has one ghost record of functions as its meaning, with the laws that every implementation proves.
-//! [`wrapping`] has sums and products of positions. Nothing here speaks of items or buffers.
+//! Tags, scripts, directions, languages, cluster levels and features are what a caller sets of a
+//! text; positions are what it gets. [`hb_unicode_funcs_t`] and [`hb_font_t`] are the traits that
+//! shaping asks its callers for: each has one ghost record of functions as its meaning, with the
+//! laws that every implementation proves. [`wrapping`] has sums and products of positions. Nothing
+//! here speaks of items or buffers.
 #![tactic(auto)]
 #![allow(non_camel_case_types)]
 

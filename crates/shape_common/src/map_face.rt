@@ -16,12 +16,12 @@ pub struct Metrics {
     pub extents: Option<hb_glyph_extents_t>,
 }
 
-/// A face over two maps: the glyphs of characters, and the metrics of glyphs, in units of which its em
-/// square has `units_per_em`.
+/// A face over two maps: the glyphs of characters, and the metrics of glyphs, in units of which its
+/// em square has `units_per_em`.
 ///
-/// It has no tables of lookups and no variation glyphs. A glyph of which nothing was said has advance 0
-/// and no extents. In vertical lines every glyph moves the pen down by the em square, and stands with its
-/// middle on the line and its origin at the top of the square.
+/// It has no tables of lookups and no variation glyphs. A glyph of which nothing was said has
+/// advance 0 and no extents. In vertical lines every glyph moves the pen down by the em square, and
+/// stands with its middle on the line and its origin at the top of the square.
 #[derive(Drop)]
 pub struct MapFace {
     units_per_em: u16,
@@ -43,9 +43,9 @@ impl MapFace {
         }
     }
 
-    /// Gives a character a glyph, and the glyph its metrics. This replaces what was said of either before.
-    /// Refuses if a growth was refused: the character then keeps the glyph that it had, and the glyph has
-    /// either its old metrics or the new ones.
+    /// Gives a character a glyph, and the glyph its metrics. This replaces what was said of either
+    /// before. Refuses if a growth was refused: the character then keeps the glyph that it had, and
+    /// the glyph has either its old metrics or the new ones.
     pub fn set_glyph(&mut self, c: char, glyph: GlyphId, metrics: Metrics) -> Result<(), AllocError>
         ensures units_per_em { self.new.units_per_em ≡ self.old.units_per_em }
         ensures glyphs { OnOk result (self.new.glyphs.entries

@@ -1,8 +1,9 @@
 //! The combining classes that shaping takes in place of Unicode's, by name.
 //!
-//! Each is named by the fixed class of Unicode that it stands for (The Unicode Standard, section 4.3; UAX 44,
-//! section 5.7.4), as HarfBuzz names them (`hb-unicode.hh`). Authors of hooks and of Unicode functions
-//! tell marks by these. The classes of Hebrew follow the SBL Hebrew font's manual.
+//! Each is named by the fixed class of Unicode that it stands for (The Unicode Standard, section
+//! 4.3; UAX 44, section 5.7.4), as HarfBuzz names them (`hb-unicode.hh`). Authors of hooks and of
+//! Unicode functions tell marks by these. The classes of Hebrew follow the SBL Hebrew font's
+//! manual.
 
 /// Sheva.
 pub const CCC10: u8 = 22;

@@ -5,8 +5,8 @@ use crate::space_types::{NOT_SPACE, space_t};
 use crate::{Direction, Script, hb_unicode_funcs_t, hb_unicode_general_category_t};
 
 /// The Unicode functions by which every character is a letter of an unknown script: none is a mark,
-/// ignorable or a selector, and none splits, composes or has another form. Start from it when glyphs and
-/// lookups are tested, or if there is no data yet.
+/// ignorable or a selector, and none splits, composes or has another form. Start from it when
+/// glyphs and lookups are tested, or if there is no data yet.
 pub struct PlainUnicode;
 
 impl hb_unicode_funcs_t for PlainUnicode {

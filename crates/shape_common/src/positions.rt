@@ -1,8 +1,9 @@
 //! Where a glyph stands.
 ghost use Rattle.std.specs.Prelude.{◌≡◌};
 
-/// The position of a glyph, in units of the face, x to the right, y upwards: how far the pen moves on, and
-/// how far the glyph is moved from it. `attach_chain` and `attach_type` belong to the layout engine.
+/// The position of a glyph, in units of the face, x to the right, y upwards: how far the pen moves
+/// on, and how far the glyph is moved from it. `attach_chain` and `attach_type` belong to the
+/// layout engine.
 #[derive(Clone, Copy, Debug)]
 pub struct GlyphPosition {
     pub x_advance: i32,

@@ -1,4 +1,5 @@
-//! The scripts that shapers know, besides those of [`Script`] in `scripts`, by their tags of ISO 15924.
+//! The scripts that shapers know, besides those of [`Script`] in `scripts`, by their tags of ISO
+//! 15924.
 use crate::{Script, hb_tag_t};
 
 impl Script {

@@ -68,9 +68,9 @@ impl Script {
     /// Thai.
     pub const THAI: Script = Script(hb_tag_t(0x5468_6169));
 
-    /// The script of a tag of ISO 15924 in any case: `latn` is Latn. A variant of a script is the script
-    /// (Hans is Hani), as is a name that it had before. None for the tag 0, and Unknown for what doesn't look
-    /// like a name (HarfBuzz, `hb_script_from_iso15924_tag`).
+    /// The script of a tag of ISO 15924 in any case: `latn` is Latn. A variant of a script is the
+    /// script (Hans is Hani), as is a name that it had before. None for the tag 0, and Unknown for
+    /// what doesn't look like a name (HarfBuzz, `hb_script_from_iso15924_tag`).
     pub fn from_iso15924_tag(tag: hb_tag_t) -> Option<Script>
         ensures { result ≡ ScriptTags.script_of_tag tag.0 }
     {

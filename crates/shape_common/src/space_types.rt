@@ -1,7 +1,7 @@
 //! How wide a space is that a face has no glyph for.
 //!
-//! The types of spaces that are a fraction of the em square are the number that the square is divided by,
-//! except for `SPACE_4_EM_18`.
+//! The types of spaces that are a fraction of the em square are the number that the square is
+//! divided by, except for `SPACE_4_EM_18`.
 
 /// A width of a space.
 pub type space_t = u8;

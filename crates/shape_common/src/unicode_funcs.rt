@@ -9,8 +9,8 @@ ghost use Rattle.shape_common.specs.Unicode.{UnicodeMeaning, LawfulUnicode};
 use crate::space_types::space_t;
 use crate::{Direction, Script, hb_unicode_general_category_t};
 
-/// The functions on characters that shaping is generic over. They have no receiver and are called as
-/// `U::decompose(c)`.
+/// The functions on characters that shaping is generic over. They have no receiver and are called
+/// as `U::decompose(c)`.
 pub trait hb_unicode_funcs_t {
     /// What the functions return.
     ghost unicode: { UnicodeMeaning };
@@ -33,8 +33,8 @@ pub trait hb_unicode_funcs_t {
     fn compose(a: char, b: char) -> Option<char>
         ensures { result ≡ unicode.compose a b };
 
-    /// The character whose glyph is the mirror image of this one's (UAX 9, Bidi_Mirroring_Glyph), if
-    /// there is one.
+    /// The character whose glyph is the mirror image of this one's (UAX 9, Bidi_Mirroring_Glyph),
+    /// if there is one.
     fn mirrored(c: char) -> Option<char>
         ensures { result ≡ unicode.mirrored c };
 
@@ -53,7 +53,8 @@ pub trait hb_unicode_funcs_t {
     fn is_default_ignorable(c: char) -> bool
         ensures { result ≡ unicode.ignorable c };
 
-    /// Whether a character continues a sequence of emoji after a ZWJ (UTS 51, Extended_Pictographic).
+    /// Whether a character continues a sequence of emoji after a ZWJ (UTS 51,
+    /// Extended_Pictographic).
     fn is_emoji_extended_pictographic(c: char) -> bool
         ensures { result ≡ unicode.pictographic c };
 

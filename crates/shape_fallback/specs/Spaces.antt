@@ -10,7 +10,8 @@ use Rattle.shape_buffer.specs.PositionWalks.{positions_mapped}
 use Rattle.shape_common.specs.Wrapping.{neg_w}
 use Rattle.shape_common.specs.declared.positions.GlyphPosition.{GlyphPosition}
 use Rattle.shape_common.specs.declared.text_types.GlyphId.{GlyphId}
-use Rattle.shape_common.specs.declared.space_types.TheConstants.{SPACE_EM, SPACE_EM_6, SPACE_EM_16, SPACE_4_EM_18, SPACE_FIGURE, SPACE_PUNCTUATION, SPACE_NARROW}
+use Rattle.shape_common.specs.declared.space_types.TheConstants.{SPACE_EM, SPACE_EM_6, SPACE_EM_16, SPACE_4_EM_18, SPACE_FIGURE, SPACE_PUNCTUATION}
+use Rattle.shape_common.specs.declared.space_types.TheConstants.{SPACE_NARROW}
 
 -- the types that are a part of the em square
 unfoldable pub is_em_fraction : ℕ → Bool

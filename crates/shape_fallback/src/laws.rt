@@ -12,8 +12,8 @@ ghost use Rattle.shape_plan.specs.declared.decisions.Decisions.{Decisions};
 ghost use Rattle.shape_fallback.specs.Exact.{ExactMarks, ExactRound, ExactSpaces};
 ghost use Rattle.shape_fallback.specs.Preservation.{EachFallback};
 
-/// Each fallback step preserves the order of clusters, brings no new one, and sets a defined flag only
-/// together with the scratch flag that says so.
+/// Each fallback step preserves the order of clusters, brings no new one, and sets a defined flag
+/// only together with the scratch flag that says so.
 pub fn fallback_steps_preserve_clusters_and_flags()
     ensures clusters { (unicode : UnicodeMeaning) (face : FaceMeaning) (direction : Direction)
         (script : Option Script) (decisions : Decisions)
@@ -23,8 +23,8 @@ pub fn fallback_steps_preserve_clusters_and_flags()
         → EachFallback IsFlagPreserving unicode face direction script decisions }
 {}
 
-/// The numbers of one mark, and those that the marks of a base hand on, are the exact ones if they fit
-/// an i32, whatever wraps on the way to them.
+/// The numbers of one mark, and those that the marks of a base hand on, are the exact ones if they
+/// fit an i32, whatever wraps on the way to them.
 pub fn marks_are_exact_where_they_fit()
     ensures one { ExactMarks }
     ensures round { ExactRound }

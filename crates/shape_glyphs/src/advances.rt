@@ -1,9 +1,9 @@
 //! Positions before any table: zeros, then the advances and origins that the face returns.
 //!
-//! A glyph is drawn at its offset from the pen, and the pen then moves on by its advance. Faces measure
-//! from the origin of horizontal lines, so along a vertical line each glyph is first moved back by where
-//! its origin of vertical lines lies. Positions start at zeros whatever they were, since a lookup or a
-//! hook may have left others.
+//! A glyph is drawn at its offset from the pen, and the pen then moves on by its advance. Faces
+//! measure from the origin of horizontal lines, so along a vertical line each glyph is first moved
+//! back by where its origin of vertical lines lies. Positions start at zeros whatever they were,
+//! since a lookup or a hook may have left others.
 ghost use Rattle.std.specs.Prelude.{◌≡◌, ◌<◌, true, false, length, slice_index_or, slice_set};
 ghost use Rattle.shape_items.specs.Items.{Item};
 ghost use Rattle.shape_common.specs.declared.positions.GlyphPosition.{GlyphPosition as Position};
@@ -19,8 +19,9 @@ use shape_buffer::wrapping::difference;
 use shape_plan::ot_shaper::hb_ot_shaper_t;
 use shape_plan::shaping_types::{Meaning, PlanOf, ShapingTypes};
 
-/// The position of a glyph in a line that isn't horizontal, in units of the face: its advance along a vertical line, and
-/// offsets that have lost the origin of vertical lines. A difference that doesn't fit wraps.
+/// The position of a glyph in a line that isn't horizontal, in units of the face: its advance along
+/// a vertical line, and offsets that have lost the origin of vertical lines. A difference that
+/// doesn't fit wraps.
 fn vertical_position<F: hb_font_t>(
     face: &F,
     info: &hb_glyph_info_t,
@@ -42,8 +43,8 @@ fn vertical_position<F: hb_font_t>(
     }
 }
 
-/// Gives the glyph at a place its advance along a horizontal line. The face is asked before the position is read:
-/// compiled, only the advance is written then.
+/// Gives the glyph at a place its advance along a horizontal line. The face is asked before the
+/// position is read: compiled, only the advance is written then.
 fn put_h_advance<F: hb_font_t>(face: &F, buffer: &mut hb_buffer_t, place: usize)
     requires { place < length buffer.old.items }
     ensures { (x : Item) (p : Position) → x ≡ slice_index_or buffer.old.items place x
@@ -84,9 +85,9 @@ pub fn clear_positions(buffer: &mut hb_buffer_t)
     buffer.clear_positions();
 }
 
-/// Gives each glyph its advance, and in lines that aren't horizontal its origin, in units of the face. An
-/// offset that doesn't fit wraps; one that fits is the exact difference, by the clauses `exact_x` and
-/// `exact_y` of `vertical_position`. Takes no memory.
+/// Gives each glyph its advance, and in lines that aren't horizontal its origin, in units of the
+/// face. An offset that doesn't fit wraps; one that fits is the exact difference, by the clauses
+/// `exact_x` and `exact_y` of `vertical_position`. Takes no memory.
 #[tactic(auto, unfolding(crate::specs::Advances::advanced))]
 pub fn put_advances<F: hb_font_t>(face: &F, buffer: &mut hb_buffer_t)
     ensures { Made (Advances.advanced (F.face face.now)) buffer.old buffer.new }
@@ -101,9 +102,9 @@ pub fn put_advances<F: hb_font_t>(face: &F, buffer: &mut hb_buffer_t)
     }
 }
 
-/// Makes the positions anew, by the face alone: the first two steps of positioning, neither of which is
-/// ever refused. Offsets are exact if they fit, as `put_advances` has them. Fallback spaces come after.
-/// Takes no memory.
+/// Makes the positions anew, by the face alone: the first two steps of positioning, neither of
+/// which is ever refused. Offsets are exact if they fit, as `put_advances` has them. Fallback
+/// spaces come after. Takes no memory.
 pub fn position_default<T: ShapingTypes>(
     plan: &PlanOf<'_, T>,
     face: &T::Face,

@@ -41,8 +41,8 @@ pub fn place_spaces<T: ShapingTypes>(plan: &PlanOf<'_, T>, face: &T::Face, buffe
     }
 }
 
-/// Places marks, if the plan places marks by their extents. Offsets lose the advances of marks whose
-/// base has no extents if the plan adjusts them, and in forward text alone.
+/// Places marks, if the plan places marks by their extents. Offsets lose the advances of marks
+/// whose base has no extents if the plan adjusts them, and in forward text alone.
 #[tactic(auto, unfolding(shape_fallback::specs::DueSteps::marks_adjusted))]
 pub fn place_marks<T: ShapingTypes>(plan: &PlanOf<'_, T>, face: &T::Face, buffer: &mut hb_buffer_t)
     ensures { Made (marks_step T.Unicode.unicode (T.Face.face face.now) plan.now.direction

@@ -1,8 +1,8 @@
 //! The last step over the list: each cluster gets one set of flags.
 //!
-//! Earlier steps mark single glyphs as unsafe to break or to concat, but a line can only be cut between
-//! clusters. So the flags of a cluster's glyphs are united and each of them gets all: a caller may then ask
-//! any one of them. The masks hold flags alone from here on.
+//! Earlier steps mark single glyphs as unsafe to break or to concat, but a line can only be cut
+//! between clusters. So the flags of a cluster's glyphs are united and each of them gets all: a
+//! caller may then ask any one of them. The masks hold flags alone from here on.
 //!
 //! If the run has seen no flag, masks stay as they are.
 ghost use Rattle.std.specs.Prelude.{◌≡◌, ◌==◌, false, IsTrue};
@@ -49,8 +49,8 @@ fn united_flags(infos: &[hb_glyph_info_t], cluster: u32) -> hb_mask_t
         .fold(0, |united, info| united | info.mask & DEFINED)
 }
 
-/// The united flags of a cluster, if tatweel is asked for: a tatweel may not be put in where it is unsafe
-/// to break, and where it may be put in it is unsafe to break and to concat.
+/// The united flags of a cluster, if tatweel is asked for: a tatweel may not be put in where it is
+/// unsafe to break, and where it may be put in it is unsafe to break and to concat.
 fn with_tatweel(flags: BufferFlags, united: hb_mask_t) -> hb_mask_t
     ensures { result ≡ flag_rules.with_tatweel flags united }
 {
@@ -77,14 +77,16 @@ fn handed_flags(flags: BufferFlags, united: hb_mask_t) -> hb_mask_t
     }
 }
 
-/// What the walk over the items hands on: the mask that an item got, and how many of those after it get it, too.
+/// What the walk over the items hands on: the mask that an item got, and how many of those after it
+/// get it, too.
 #[derive(Clone, Copy, Debug)]
 pub struct HandedOn {
     pub mask: hb_mask_t,
     pub left: usize,
 }
 
-/// What the first items hand on, if they are in the cluster. Kept out of line, since most clusters have one item.
+/// What the first items hand on, if they are in the cluster. Kept out of line, since most clusters
+/// have one item.
 #[inline(never)]
 fn hand_run_on(flags: BufferFlags, infos: &[hb_glyph_info_t], cluster: u32) -> HandedOn
     ensures { result ≡ handed_by_run flags cluster infos.now }
@@ -95,7 +97,8 @@ fn hand_run_on(flags: BufferFlags, infos: &[hb_glyph_info_t], cluster: u32) -> H
     }
 }
 
-/// What the first of these items, which is of the cluster, gets, and how many of those after it get it, too.
+/// What the first of these items, which is of the cluster, gets, and how many of those after it get
+/// it, too.
 fn hand_on(
     flags: BufferFlags,
     before: HandedOn,
@@ -139,9 +142,9 @@ fn share_flags(buffer: &mut hb_buffer_t)
     }
 }
 
-/// Gives each cluster one set of flags, if the run has seen flags: the defined bits of its items united,
-/// as far as the caller asks for them, in place of each mask. If it hasn't seen any and no item has
-/// one, nothing is to be done. Takes no memory.
+/// Gives each cluster one set of flags, if the run has seen flags: the defined bits of its items
+/// united, as far as the caller asks for them, in place of each mask. If it hasn't seen any and no
+/// item has one, nothing is to be done. Takes no memory.
 pub fn propagate_flags(buffer: &mut hb_buffer_t)
     ensures made { Made flag_rules.flags_propagated buffer.old buffer.new }
     ensures one_set { IsHonest buffer.old → flag_rules.HasOneSetOfFlags buffer.new.items }

@@ -1,9 +1,9 @@
 //! Default ignorables: characters that have no look of their own, such as joiners and selectors.
 //!
-//! They guide shaping and are unseen in the end, unless the buffer's flags preserve them. So they lose their
-//! positions once tables have placed the glyphs, and then take the look of a space; if there is no such
-//! glyph, or their removal is asked for, they are deleted. One that a lookup has replaced is meant
-//! to be seen and stays (The Unicode Standard, section 5.21).
+//! They guide shaping and are unseen in the end, unless the buffer's flags preserve them. So they
+//! lose their positions once tables have placed the glyphs, and then take the look of a space; if
+//! there is no such glyph, or their removal is asked for, they are deleted. One that a lookup has
+//! replaced is meant to be seen and stays (The Unicode Standard, section 5.21).
 ghost use Rattle.std.specs.Prelude.{◌≡◌, ◌<◌, length, slice_index_or, slice_set};
 ghost use Rattle.shape_buffer.specs.Outcome.{Made};
 ghost use Rattle.shape_buffer.specs.PositionWalks.{positions_mapped};
@@ -52,8 +52,8 @@ pub(crate) fn without_values(position: GlyphPosition) -> GlyphPosition
     }
 }
 
-/// Sets the four values of the position at a place to 0 if its glyph stands for a default ignorable. No other is
-/// written.
+/// Sets the four values of the position at a place to 0 if its glyph stands for a default
+/// ignorable. No other is written.
 fn zero_ignorable_at(buffer: &mut hb_buffer_t, place: usize)
     requires { place < length buffer.old.items }
     ensures { (x : Item) (p : Position) → x ≡ slice_index_or buffer.old.items place x
@@ -79,8 +79,8 @@ fn zero_ignorables(buffer: &mut hb_buffer_t)
     }
 }
 
-/// Sets the four values of default ignorables to 0, if the run has seen any, unless the flags preserve
-/// or remove them. Takes no memory.
+/// Sets the four values of default ignorables to 0, if the run has seen any, unless the flags
+/// preserve or remove them. Takes no memory.
 #[tactic(auto, unfolding(crate::specs::Ignorables::ignorables_zeroed))]
 pub fn zero_width_default_ignorables(buffer: &mut hb_buffer_t)
     ensures { Made Ignorables.ignorables_zeroed buffer.old buffer.new }
@@ -122,9 +122,9 @@ fn replace_or_delete(buffer: &mut hb_buffer_t, glyph: Option<GlyphId>)
     }
 }
 
-/// Hides the default ignorables, if the run has seen any, unless the flags preserve them: each takes the
-/// buffer's invisible glyph, else the glyph of U+0020. They are deleted if the flags remove them or there
-/// is neither glyph. Takes no memory.
+/// Hides the default ignorables, if the run has seen any, unless the flags preserve them: each
+/// takes the buffer's invisible glyph, else the glyph of U+0020. They are deleted if the flags
+/// remove them or there is neither glyph. Takes no memory.
 #[tactic(auto, unfolding(crate::specs::Ignorables::ignorables_hidden))]
 pub fn hide_default_ignorables<F: hb_font_t>(face: &F, buffer: &mut hb_buffer_t)
     ensures { Made (Ignorables.ignorables_hidden (F.face face.now)) buffer.old buffer.new }

@@ -1,7 +1,8 @@
 //! Variation selectors for which the face has no variation glyph.
 //!
-//! Normalising marks such a selector. A caller that wants to see that a variant is missing sets a glyph for
-//! it in the buffer; else a selector is hidden like any default ignorable (OpenType, `cmap` format 14).
+//! Normalising marks such a selector. A caller that wants to see that a variant is missing sets a
+//! glyph for it in the buffer; else a selector is hidden like any default ignorable (OpenType,
+//! `cmap` format 14).
 ghost use Rattle.std.specs.Prelude.{◌≡◌};
 ghost use Rattle.shape_buffer.specs.Outcome.{Made};
 ghost use Rattle.shape_glyphs.specs.Selectors;
@@ -46,8 +47,8 @@ fn replace_selectors(buffer: &mut hb_buffer_t, glyph: GlyphId)
     }
 }
 
-/// Gives each selector that normalising has marked the buffer's glyph for it, and values 0, if the run
-/// has seen one and that glyph is set; the mark goes. Takes no memory.
+/// Gives each selector that normalising has marked the buffer's glyph for it, and values 0, if the
+/// run has seen one and that glyph is set; the mark goes. Takes no memory.
 #[tactic(auto, unfolding(crate::specs::Selectors::selectors_replaced))]
 pub fn deal_with_variation_selectors(buffer: &mut hb_buffer_t)
     ensures { Made Selectors.selectors_replaced buffer.old buffer.new }

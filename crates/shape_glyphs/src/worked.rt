@@ -22,8 +22,8 @@ pub fn positions_meet_worked_cases()
     ensures glyphs { WorkedGlyphs }
 {}
 
-/// The order of the steps, on glyphs of which each step leaves a trace; and of substitution and of positions as
-/// whole lists, in which ccc, spaces and marks have their places.
+/// The order of the steps, on glyphs of which each step leaves a trace; and of substitution and of
+/// positions as whole lists, in which ccc, spaces and marks have their places.
 pub fn steps_meet_worked_cases()
     ensures steps { WorkedSteps }
     ensures phases { WorkedPhases }

@@ -1,9 +1,10 @@
 //! Marks that lose their advances.
 //!
-//! A mark stands over the glyph before it and must not move the pen. Shapers say when its advance goes:
-//! before the tables place it, after, or never. If no table moves marks, a mark of a forward line is
-//! moved back by the advance that it loses, so that it hangs over the glyph before it; in a backward line
-//! it then hangs over the glyph that comes to stand before it when the line is reversed.
+//! A mark stands over the glyph before it and must not move the pen. Shapers say when its advance
+//! goes: before the tables place it, after, or never. If no table moves marks, a mark of a forward
+//! line is moved back by the advance that it loses, so that it hangs over the glyph before it; in a
+//! backward line it then hangs over the glyph that comes to stand before it when the line is
+//! reversed.
 //!
 //! The constant of the shaper that the plan uses decides when; a plan that uses none never
 //! zeroes.
@@ -81,8 +82,8 @@ fn zero_mark_at(buffer: &mut hb_buffer_t, place: usize, adjust: bool)
     buffer.set_position(place, zeroed);
 }
 
-/// Takes the advances from the marks, which are first moved back if they are to be adjusted. Inlined, since a call
-/// would cost a short word without marks more than looking for them.
+/// Takes the advances from the marks, which are first moved back if they are to be adjusted.
+/// Inlined, since a call would cost a short word without marks more than looking for them.
 #[inline(always)]
 fn zero_marks(adjust: bool, buffer: &mut hb_buffer_t)
     ensures { Made (positions_mapped (Zeroing.zeroed_mark adjust)) buffer.old buffer.new }
@@ -94,8 +95,8 @@ fn zero_marks(adjust: bool, buffer: &mut hb_buffer_t)
 }
 
 /// Takes the advances from the marks; if `adjust_offsets` holds and the buffer is forward, they are
-/// first moved back by them. An offset that doesn't fit then wraps; one that fits is exact, by the clauses
-/// `exact_x` and `exact_y` of `move_back`. Takes no memory.
+/// first moved back by them. An offset that doesn't fit then wraps; one that fits is exact, by the
+/// clauses `exact_x` and `exact_y` of `move_back`. Takes no memory.
 #[inline(always)]
 #[tactic(auto, unfolding(crate::specs::Zeroing::marks_zeroed))]
 pub fn zero_mark_widths_by_gdef(buffer: &mut hb_buffer_t, adjust_offsets: bool)
@@ -134,8 +135,8 @@ fn zero_marks_at<T: ShapingTypes>(
     }
 }
 
-/// Takes the advances from marks before tables place them, if the plan's shaper says so and the plan
-/// zeroes marks. Takes no memory.
+/// Takes the advances from marks before tables place them, if the plan's shaper says so and the
+/// plan zeroes marks. Takes no memory.
 pub fn zero_marks_early<T: ShapingTypes>(
     plan: &PlanOf<'_, T>,
     face: &T::Face,
@@ -148,8 +149,8 @@ pub fn zero_marks_early<T: ShapingTypes>(
     zero_marks_at::<T>(early, plan, face, buffer);
 }
 
-/// Takes the advances from marks after tables have placed them, if the plan's shaper says so and the
-/// plan zeroes marks. Takes no memory.
+/// Takes the advances from marks after tables have placed them, if the plan's shaper says so and
+/// the plan zeroes marks. Takes no memory.
 pub fn zero_marks_late<T: ShapingTypes>(
     plan: &PlanOf<'_, T>,
     face: &T::Face,

@@ -7,7 +7,8 @@ use Rattle.canonical_form.specs.Divided.{divided_between}
 use Rattle.shape_items.specs.Items.{Item, has_cluster}
 use Rattle.shape_items.specs.PreservesFlags.{has_glyph_flags}
 use Rattle.shape_common.specs.declared.flags.BufferFlags.{BufferFlags}
-use Rattle.shape_common.specs.FlagNames.{UNSAFE_TO_BREAK, SAFE_TO_INSERT_TATWEEL, UNSAFE, NOT_FOR_CONCAT, DEFINED, PRODUCE_UNSAFE_TO_CONCAT, PRODUCE_SAFE_TO_INSERT_TATWEEL}
+use Rattle.shape_common.specs.FlagNames.{UNSAFE_TO_BREAK, SAFE_TO_INSERT_TATWEEL, UNSAFE, NOT_FOR_CONCAT, DEFINED, PRODUCE_UNSAFE_TO_CONCAT}
+use Rattle.shape_common.specs.FlagNames.{PRODUCE_SAFE_TO_INSERT_TATWEEL}
 
 -- the defined flags of an item
 abbrev pub flags_of : Item → ℕ

@@ -2,7 +2,8 @@
 use Rattle.std.proofs.Common.{◌≡◌, ℕ, refl, sym, ap, ◌∙◌}
 use Rattle.bit_fields.specs.Fields.{fields, word_of}
 use Rattle.bit_fields.proofs.FieldLemmas.{word_of-fields, number_of-is_set}
-use Rattle.shape_items.specs.Words.{first_widths, lower_widths, upper_widths, first_values, lower_values, upper_values, properties_of, AreWords, first_word, lower_word, upper_word}
+use Rattle.shape_items.specs.Words.{first_widths, lower_widths, upper_widths, first_values, lower_values, upper_values, properties_of, AreWords}
+use Rattle.shape_items.specs.Words.{first_word, lower_word, upper_word}
 use Rattle.shape_items.specs.declared.properties.ItemProperties.TheInside.{Inside}
 
 pub first_values-read : (first lower upper : ℕ) → AreWords first lower upper → first_values (properties_of first lower upper) ≡ fields first_widths first

@@ -1,8 +1,8 @@
 //! Merging of clusters and marking of items, over slices.
 //!
-//! A cluster leads from glyphs back to the text: glyphs of one cluster come from one piece of it. If
-//! items of several clusters are mixed they are merged into the least one, and so are the items beside
-//! them that stood in a cluster which is now partly gone.
+//! A cluster leads from glyphs back to the text: glyphs of one cluster come from one piece of it.
+//! If items of several clusters are mixed they are merged into the least one, and so are the items
+//! beside them that stood in a cluster which is now partly gone.
 //!
 //! Merging depends on clusters alone, and is defined on items: the code counts and writes items,
 //! and a definition on the list of clusters would have to be tied to them. That an item stays
@@ -70,7 +70,8 @@ fn growth_left(infos: &[hb_glyph_info_t], start: usize, least: u32) -> usize
     count_at_end(&infos[..start], first)
 }
 
-/// How many items directly after a span of that least cluster, which ends with `last`, the merge takes in.
+/// How many items directly after a span of that least cluster, which ends with `last`, the merge
+/// takes in.
 pub(super) fn growth_right(infos: &[hb_glyph_info_t], last: usize, least: u32) -> usize
     requires { last < length infos.now }
     ensures value { result ≡ Clusters.growth_right infos.now last least }

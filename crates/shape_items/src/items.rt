@@ -1,7 +1,7 @@
 //! One item of a buffer: a character that becomes a glyph.
 //!
-//! The five fields are open to everybody; the named properties are read by `_hb_glyph_info_get_` and
-//! set by `_hb_glyph_info_set_`, each followed by the property's name.
+//! The five fields are open to everybody; the named properties are read by `_hb_glyph_info_get_`
+//! and set by `_hb_glyph_info_set_`, each followed by the property's name.
 //!
 //! The ccc keeps rustybuzz's name in accessors, `modified_combining_class`; elsewhere "class" is
 //! a glyph's.
@@ -47,8 +47,8 @@ pub const SAFE_TO_INSERT_TATWEEL: hb_mask_t = 4;
 /// The three flags together; the other bits of a mask are features.
 pub const DEFINED: hb_mask_t = 7;
 
-/// An item: its character, the index that the face returns for it, the glyph that lookups make of it,
-/// its mask, and the cluster that leads back to the text.
+/// An item: its character, the index that the face returns for it, the glyph that lookups make of
+/// it, its mask, and the cluster that leads back to the text.
 #[derive(Clone, Copy, Debug)]
 pub struct hb_glyph_info_t {
     pub codepoint: char,
@@ -68,8 +68,8 @@ impl hb_glyph_info_t {
     ghost use Rattle.shape_items.specs.Words.{first_widths, first_values};
     ghost use Rattle.shape_items.specs.Words.{second_widths, second_values};
 
-    /// An item for a character of a text: no glyph, no mask, category UppercaseLetter, no other properties, one
-    /// ligature component.
+    /// An item for a character of a text: no glyph, no mask, category UppercaseLetter, no other
+    /// properties, one ligature component.
     pub fn new(c: char, cluster: u32) -> Self
         ensures { result ≡ new_item c cluster }
     {
@@ -85,11 +85,12 @@ impl hb_glyph_info_t {
 
     /// The named properties in two words, as they are stored.
     ///
-    /// - First word: 0 to 7 category, 8 to 15 ccc, 16 to 23 space type, 24 ignorable, 25 hidden, 26 continuation,
-    ///   27 ZWJ, 28 ZWNJ, 29 selector mark; 30 and 31 are 0.
-    /// - Second word: 0 to 3 glyph class, 4 substituted, 5 ligated, 6 multiplied; 7 is 0; 8 to 15 mark attachment
-    ///   class, 16 to 23 ligature id, 24 to 31 component, 32 to 39 number of components, 40 to 47 syllable, 48 to
-    ///   55 the shaper's category, 56 to 63 its auxiliary byte.
+    /// - First word: 0 to 7 category, 8 to 15 ccc, 16 to 23 space type, 24 ignorable, 25 hidden, 26
+    ///   continuation, 27 ZWJ, 28 ZWNJ, 29 selector mark; 30 and 31 are 0.
+    /// - Second word: 0 to 3 glyph class, 4 substituted, 5 ligated, 6 multiplied; 7 is 0; 8 to 15
+    ///   mark attachment class, 16 to 23 ligature id, 24 to 31 component, 32 to 39 number of
+    ///   components, 40 to 47 syllable, 48 to 55 the shaper's category, 56 to 63 its auxiliary
+    ///   byte.
     ///
     /// A category's number is its place among the variants, from 0.
     pub fn words(&self) -> (u32, u64)
@@ -100,8 +101,8 @@ impl hb_glyph_info_t {
     }
 
     /// Sets the eight properties that depend on the character alone; the others stay. Adds to
-    /// `scratch_flags` what the character shows of its text. Inlined into the walk over a text, so that an item
-    /// needn't be written to memory for the call.
+    /// `scratch_flags` what the character shows of its text. Inlined into the walk over a text, so
+    /// that an item needn't be written to memory for the call.
     #[inline(always)]
     pub fn init_unicode_props<U: hb_unicode_funcs_t>(&mut self, scratch_flags: &mut ScratchFlags)
         ensures item { self.new ≡ with_unicode_props U.unicode self.old }
@@ -174,8 +175,8 @@ impl hb_glyph_info_t {
         self.properties.set_general_category(general_category);
     }
 
-    /// Reads the modified combining class: `init_unicode_props` sets it to the character's for marks of
-    /// U+0080 and more, and to 0 for all others.
+    /// Reads the modified combining class: `init_unicode_props` sets it to the character's for
+    /// marks of U+0080 and more, and to 0 for all others.
     pub fn _hb_glyph_info_get_modified_combining_class(&self) -> u8
         ensures { result ≡ self.now.properties.modified_ccc }
     {
@@ -192,8 +193,8 @@ impl hb_glyph_info_t {
         self.properties.set_modified_ccc(modified_ccc);
     }
 
-    /// Reads the ignorable bit: `init_unicode_props` sets it for default ignorables of U+0080 and more, and
-    /// unsets it for all others.
+    /// Reads the ignorable bit: `init_unicode_props` sets it for default ignorables of U+0080 and
+    /// more, and unsets it for all others.
     pub fn _hb_glyph_info_get_ignorable(&self) -> bool
         ensures { result ≡ self.now.properties.ignorable }
     {
@@ -210,9 +211,9 @@ impl hb_glyph_info_t {
         self.properties.set_ignorable(ignorable);
     }
 
-    /// Reads the hidden bit. A lookup that skips ignorable characters doesn't skip one that is hidden:
-    /// `init_unicode_props` sets it for U+180B to U+180D, U+180F, U+E0020 to U+E007F and U+034F, and
-    /// unsets it for all others.
+    /// Reads the hidden bit. A lookup that skips ignorable characters doesn't skip one that is
+    /// hidden: `init_unicode_props` sets it for U+180B to U+180D, U+180F, U+E0020 to U+E007F and
+    /// U+034F, and unsets it for all others.
     pub fn _hb_glyph_info_get_hidden(&self) -> bool
         ensures { result ≡ self.now.properties.hidden }
     {
@@ -245,8 +246,8 @@ impl hb_glyph_info_t {
         self.properties.set_continuation(continuation);
     }
 
-    /// Reads the bit of zero width joiners: `init_unicode_props` sets it for U+200D, and unsets it for all
-    /// others.
+    /// Reads the bit of zero width joiners: `init_unicode_props` sets it for U+200D, and unsets it
+    /// for all others.
     pub fn _hb_glyph_info_get_zwj(&self) -> bool
         ensures { result ≡ self.now.properties.zwj }
     {
@@ -261,8 +262,8 @@ impl hb_glyph_info_t {
         self.properties.set_zwj(zwj);
     }
 
-    /// Reads the bit of zero width non-joiners: `init_unicode_props` sets it for U+200C, and unsets it for
-    /// all others.
+    /// Reads the bit of zero width non-joiners: `init_unicode_props` sets it for U+200C, and unsets
+    /// it for all others.
     pub fn _hb_glyph_info_get_zwnj(&self) -> bool
         ensures { result ≡ self.now.properties.zwnj }
     {
@@ -277,7 +278,8 @@ impl hb_glyph_info_t {
         self.properties.set_zwnj(zwnj);
     }
 
-    /// Reads the remembered type of a space without a glyph: `init_unicode_props` sets it to 0, for none.
+    /// Reads the remembered type of a space without a glyph: `init_unicode_props` sets it to 0, for
+    /// none.
     pub fn _hb_glyph_info_get_space_type(&self) -> u8
         ensures { result ≡ self.now.properties.space_type }
     {
@@ -294,16 +296,16 @@ impl hb_glyph_info_t {
         self.properties.set_space_type(space_type);
     }
 
-    /// Reads the selector mark, of a variation selector for which the face has no variation glyph with the
-    /// item before it. A new item has none.
+    /// Reads the selector mark, of a variation selector for which the face has no variation glyph
+    /// with the item before it. A new item has none.
     pub fn _hb_glyph_info_get_selector_mark(&self) -> bool
         ensures { result ≡ self.now.properties.selector_mark }
     {
         self.properties.selector_mark()
     }
 
-    /// Sets or unsets the selector mark, of a variation selector for which the face has no variation glyph
-    /// with the item before it, and nothing else.
+    /// Sets or unsets the selector mark, of a variation selector for which the face has no
+    /// variation glyph with the item before it, and nothing else.
     pub fn _hb_glyph_info_set_selector_mark(&mut self, selector_mark: bool)
         ensures { self.new
             ≡ record self.old {
@@ -314,8 +316,8 @@ impl hb_glyph_info_t {
     }
 }
 
-/// Whether a character stands where some are hidden, or joiners: at CGJ, among the Mongolian selectors, at ZWNJ and
-/// ZWJ, or from the tags on.
+/// Whether a character stands where some are hidden, or joiners: at CGJ, among the Mongolian
+/// selectors, at ZWNJ and ZWJ, or from the tags on.
 fn may_be_hidden(c: char) -> bool
     ensures { result ≡ (c == 0x34F || (nat_le 0x180B c && (nat_le c 0x180F
         || (nat_le 0x200C c && (nat_le c 0x200D || nat_le 0xE0020 c))))) }
@@ -326,7 +328,8 @@ fn may_be_hidden(c: char) -> bool
                 || ZERO_WIDTH_NON_JOINER <= c && (c <= ZERO_WIDTH_JOINER || FIRST_TAG <= c))
 }
 
-/// Whether lookups see a character though it is ignorable: Mongolian variation selectors, tags, and CGJ.
+/// Whether lookups see a character though it is ignorable: Mongolian variation selectors, tags, and
+/// CGJ.
 fn is_hidden(c: char) -> bool
     ensures { result ≡ is_hidden_char c }
 {

@@ -1,9 +1,10 @@
-//! The items that shaping works on: characters that become glyphs, with their properties, flags and clusters.
+//! The items that shaping works on: characters that become glyphs, with their properties, flags and
+//! clusters.
 //!
-//! [`hb_glyph_info_t`] is one item. [`clusters`] merges and marks the clusters of a list of items, deletes items
-//! of it, and reads its clusters; the calls of a buffer stand on these. [`cluster_laws`] has what follows for
-//! flags. The record `Buffer` of `specs/Buffer.antt`, by which contracts see a buffer, stands here, too: the rules of
-//! merging and deleting speak of it.
+//! [`hb_glyph_info_t`] is one item. [`clusters`] merges and marks the clusters of a list of items,
+//! deletes items of it, and reads its clusters; the calls of a buffer stand on these.
+//! [`cluster_laws`] has what follows for flags. The record `Buffer` of `specs/Buffer.antt`, by
+//! which contracts see a buffer, stands here, too: the rules of merging and deleting speak of it.
 //!
 //! The calls stand over slices, so that a buffer's calls and those of a list share them; a buffer
 //! is in `shape_buffer`, which shows these types, too.

@@ -1,12 +1,12 @@
 //! The named properties of an item, and how they are stored.
 //!
-//! Contracts see the record `Properties` of `specs/Properties.antt` and never the storage, so the storage may
-//! change without a change of any clause. It is two words, of 32 and of 64 bits, in which each property has a
-//! field of its own (`specs/Words.antt`).
+//! Contracts see the record `Properties` of `specs/Properties.antt` and never the storage, so the
+//! storage may change without a change of any clause. It is two words, of 32 and of 64 bits, in
+//! which each property has a field of its own (`specs/Words.antt`).
 //!
-//! Bits without use are 0 in every item, by the invariant of the words: only so do the properties decide the
-//! words. The second word is kept in two halves: a u64 is aligned by 8 bytes, and an item with it would take
-//! 40 bytes in place of 32. No field crosses the middle.
+//! Bits without use are 0 in every item, by the invariant of the words: only so do the properties
+//! decide the words. The second word is kept in two halves: a u64 is aligned by 8 bytes, and an
+//! item with it would take 40 bytes in place of 32. No field crosses the middle.
 ghost use Rattle.std.specs.Prelude.{◌≡◌, ◌&&◌, false, nat_le};
 ghost use Rattle.std.specs.Int.RustNames.{bit_and};
 ghost use Rattle.bit_fields.specs.Fields.{fields};
@@ -60,12 +60,12 @@ const SHAPER_CATEGORY: u32 = 16;
 const SHAPER_AUXILIARY: u32 = 24;
 
 /// The named properties of an item, by the bits of its words:
-/// - First word: 0 to 7 category, 8 to 15 ccc, 16 to 23 space type, 24 ignorable, 25 hidden, 26 continuation,
-///   27 ZWJ, 28 ZWNJ, 29 selector mark; 30 and 31 are 0.
-/// - Lower half of the second: 0 to 3 glyph class, 4 substituted, 5 ligated, 6 multiplied, 7 is 0, 8 to 15 mark
-///   attachment class, 16 to 23 ligature id, 24 to 31 ligature component.
-/// - Upper half: 0 to 7 number of components, 8 to 15 syllable, 16 to 23 the shaper's category, 24 to 31 its
-///   auxiliary byte.
+/// - First word: 0 to 7 category, 8 to 15 ccc, 16 to 23 space type, 24 ignorable, 25 hidden, 26
+///   continuation, 27 ZWJ, 28 ZWNJ, 29 selector mark; 30 and 31 are 0.
+/// - Lower half of the second: 0 to 3 glyph class, 4 substituted, 5 ligated, 6 multiplied, 7 is 0,
+///   8 to 15 mark attachment class, 16 to 23 ligature id, 24 to 31 ligature component.
+/// - Upper half: 0 to 7 number of components, 8 to 15 syllable, 16 to 23 the shaper's category, 24
+///   to 31 its auxiliary byte.
 #[derive(Clone, Copy, Debug)]
 pub(crate) struct ItemProperties {
     first: u32,
@@ -112,8 +112,8 @@ impl ItemProperties {
         }
     }
 
-    /// Sets the eight properties that depend on a character, for one that is no joiner and isn't hidden. Compiled,
-    /// this is one write of the first word.
+    /// Sets the eight properties that depend on a character, for one that is no joiner and isn't
+    /// hidden. Compiled, this is one write of the first word.
     pub(crate) fn set_for_plain(
         &mut self,
         general_category: hb_unicode_general_category_t,
@@ -156,7 +156,7 @@ impl ItemProperties {
         hb_unicode_general_category_t::of_number(read_byte(self.first, GENERAL_CATEGORY))
     }
 
-    /// Whether the category is one of the three of marks. Its number is enough, so no category is made of it.
+    /// Whether the category is one of the three of marks, by its number.
     pub(crate) fn is_mark(&self) -> bool
         ensures { result ≡ is_mark_category self.now.general_category }
     {

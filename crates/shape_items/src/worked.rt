@@ -1,5 +1,5 @@
-//! The definitions, computed on cases that were worked out by hand. Each function has such cases as its
-//! contract, and nothing to do.
+//! The definitions, computed on cases that were worked out by hand. Each function has such cases as
+//! its contract, and nothing to do.
 ghost use Rattle.shape_items.specs.Worked.Marking.{TatweelWorked};
 ghost use Rattle.shape_items.specs.Worked.Merging.{MergingWorked};
 ghost use Rattle.shape_items.specs.Worked.Words.{WordsWorked};
@@ -9,7 +9,8 @@ pub fn words_meet_worked_cases()
     ensures { WordsWorked }
 {}
 
-/// Marking a span safe to insert tatweel: clusters that rise and fall, spans of one item, and what is asked for.
+/// Marking a span safe to insert tatweel: clusters that rise and fall, spans of one item, and what
+/// is asked for.
 pub fn tatweel_meets_worked_cases()
     ensures { TatweelWorked }
 {}

@@ -58,7 +58,8 @@ AreLinesFrom b text_end anywhere spots width start (line ∷ lines) =
     (end : ℕ) × IsEndAt anywhere spots width start end × (line ≡ line_at b text_end spots start end)
     × AreLinesFrom b text_end anywhere spots width end lines
 
--- Lines at allowed and mandatory places where spaces that stand last aren't measured, of a text that ends at `text_end`, at most this wide as far as they can be
+-- Lines at allowed and mandatory places where spaces that stand last aren't measured, of a text that ends at `text_end`,
+-- at most this wide as far as they can be
 abbrev pub AreLinesAt : Buffer → ℕ → List ℕ → List ℕ → List ℕ → Bool → ℤ → List LineAt → Type 0
 AreLinesAt b text_end allowed mandatory spaces anywhere width lines =
     AreLinesFrom b text_end anywhere (spots_of b allowed mandatory spaces) width 0 lines

@@ -1,7 +1,7 @@
 //! The lines of a shaped text that end at allowed places.
 //!
-//! A line breaker knows where lines may end in its text, as between words, and where one must end. Each line
-//! is the longest piece from its start to such a place that fits.
+//! A line breaker knows where lines may end in its text, as between words, and where one must end.
+//! Each line is the longest piece from its start to such a place that fits.
 ghost use Rattle.std.specs.Prelude.{◌≡◌, ℕ, ◌<◌, ◌≤◌, ◌+◌, ◌⊎◌, ◌≤ℤ◌, ◌<ℤ◌, ◌+ℤ◌, pos, true, false, [], length, get_or, IfOk, IsOk, IsOkUnless};
 ghost use Rattle.std.specs.List.Sorted.{IsNonDecreasing};
 ghost use Rattle.shape_items.specs.Clusters.{clusters};
@@ -16,20 +16,21 @@ use crate::spots::{Breaks, Spot, spots};
 use shape_buffer::buffer::{GlyphBuffer, ShapeError};
 use std::alloc::{AllocError, Global};
 
-/// A line, and whether its end is safe: a place of a cut, or the end of the text. If it isn't, the pieces on both sides
-/// of it are to be shaped again.
+/// A line, and whether its end is safe: a place of a cut, or the end of the text. If it isn't, the
+/// pieces on both sides of it are to be shaped again.
 #[derive(Clone, Copy, PartialEq, Eq, Debug)]
 pub struct LineAt {
     pub line: Line,
     pub ends_safely: bool,
 }
 
-/// The lines of a shaped text that ends at this cluster, in the order of the text. A line ends before the glyphs of an
-/// allowed or a mandatory cluster, never inside a cluster, and no line goes past a mandatory place. It is the longest
-/// piece from its start to such a place that is at most this wide, without the spaces that stand last in it; if none is,
-/// the shortest one. If lines may end anywhere, places of a cut count then, too: the longest that fits, or the
-/// shortest. No glyphs make no line. Refuses with `Memory` if a growth was refused. Asks that `can_cut` is true,
-/// and that the lists rise.
+/// The lines of a shaped text that ends at this cluster, in the order of the text. A line ends
+/// before the glyphs of an allowed or a mandatory cluster, never inside a cluster, and no line goes
+/// past a mandatory place. It is the longest piece from its start to such a place that is at most
+/// this wide, without the spaces that stand last in it; if none is, the shortest one. If lines may
+/// end anywhere, places of a cut count then, too: the longest that fits, or the shortest. No glyphs
+/// make no line. Refuses with `Memory` if a growth was refused. Asks that `can_cut` is true, and
+/// that the lists rise.
 pub fn cut_lines_at(
     alloc: Global,
     glyphs: &GlyphBuffer,

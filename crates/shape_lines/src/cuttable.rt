@@ -9,10 +9,10 @@ ghost use Rattle.shape_lines.specs.CanCut.{CanCut, IsMonotone};
 
 use shape_buffer::buffer::{DEFINED, GlyphBuffer, hb_glyph_info_t};
 
-/// Whether the glyphs of a text that ends at this cluster can be cut into lines: exactly when their clusters
-/// never fall or never rise, neighbours in one cluster have the same flags, and each cluster is below the end
-/// of the text. So every empty buffer can be. `shape` gives the first two at the monotone levels. Takes no
-/// memory.
+/// Whether the glyphs of a text that ends at this cluster can be cut into lines: exactly when their
+/// clusters never fall or never rise, neighbours in one cluster have the same flags, and each
+/// cluster is below the end of the text. So every empty buffer can be. `shape` gives the first two
+/// at the monotone levels. Takes no memory.
 pub fn can_cut(glyphs: &GlyphBuffer, text_end: u32) -> bool
     ensures { (result ≡ true) ↔ CanCut glyphs.now text_end }
 {

@@ -1,9 +1,9 @@
 //! The lines of a shaped text.
 //!
-//! Each line is the longest piece from its start that fits. Widths may be negative, so a longer piece may fit
-//! again after one that does not. Each place where a line may end is therefore asked whether this end or a later
-//! one fits, by the least width from it to an end at it or after it. These are summed once, from the end of
-//! the text, and the walk comes to each place once.
+//! Each line is the longest piece from its start that fits. Widths may be negative, so a longer
+//! piece may fit again after one that does not. Each place where a line may end is therefore asked
+//! whether this end or a later one fits, by the least width from it to an end at it or after it.
+//! These are summed once, from the end of the text, and the walk comes to each place once.
 ghost use Rattle.std.specs.Prelude.{◌≡◌, ◌<◌, ◌≤◌, ◌+◌, ◌+ℤ◌, pos, true, [], length, get_or, IfOk, OnOk, IsOk, IsOkUnless, if◌then◌else◌};
 ghost use Rattle.std.specs.Int.{int_min};
 ghost use Rattle.shape_lines.specs.CanCut.{CanCut};
@@ -15,8 +15,8 @@ use crate::reading::{Piece, cluster_at, piece_at, runs_back};
 use shape_buffer::buffer::{GlyphBuffer, ShapeError};
 use std::alloc::{AllocError, Global};
 
-/// A line of a shaped text: its glyphs stand from `glyph_start` up to `glyph_end` in the list, and show the
-/// text from `text_start` up to `text_end`, in units of the clusters.
+/// A line of a shaped text: its glyphs stand from `glyph_start` up to `glyph_end` in the list, and
+/// show the text from `text_start` up to `text_end`, in units of the clusters.
 #[derive(Clone, Copy, PartialEq, Eq, Debug)]
 pub struct Line {
     /// The place of its first glyph in the list.
@@ -29,8 +29,8 @@ pub struct Line {
     pub text_end: u32,
 }
 
-/// The walk over a text: the lines so far, where the line that it is in begins, up to which end it was taken
-/// (its start if it has met none), and how wide it is from each of the two.
+/// The walk over a text: the lines so far, where the line that it is in begins, up to which end it
+/// was taken (its start if it has met none), and how wide it is from each of the two.
 #[derive(Drop)]
 struct Walk {
     lines: Vec<Line>,
@@ -40,11 +40,12 @@ struct Walk {
     beyond: i128,
 }
 
-/// The lines of a shaped text that ends at this cluster, in the order of the text, so from the end of the list
-/// if clusters fall. A line's width is the exact sum of its glyphs' advances, downwards if the direction
-/// is vertical. Each line is the longest piece from its start to a place of a cut, or to the end of the text,
-/// that is at most this wide; if none is, it is the shortest one. No glyphs make no line, and take no
-/// memory. Refuses with `Memory` if a growth was refused. Asks that `can_cut` is true.
+/// The lines of a shaped text that ends at this cluster, in the order of the text, so from the end
+/// of the list if clusters fall. A line's width is the exact sum of its glyphs' advances, downwards
+/// if the direction is vertical. Each line is the longest piece from its start to a place of a cut,
+/// or to the end of the text, that is at most this wide; if none is, it is the shortest one. No
+/// glyphs make no line, and take no memory. Refuses with `Memory` if a growth was refused. Asks
+/// that `can_cut` is true.
 pub fn cut_lines(
     alloc: Global,
     glyphs: &GlyphBuffer,
@@ -152,8 +153,9 @@ pub(super) fn line_between(glyphs: &GlyphBuffer, text_end: u32, start: usize, en
 }
 
 impl Walk {
-    /// Meets a place where a line may end: the line is taken up to it if it can be, and else ends where it
-    /// was taken to before; `least` is the least width from the place to an end at it or after it.
+    /// Meets a place where a line may end: the line is taken up to it if it can be, and else ends
+    /// where it was taken to before; `least` is the least width from the place to an end at it or
+    /// after it.
     fn meet_end(
         &mut self,
         glyphs: &GlyphBuffer,

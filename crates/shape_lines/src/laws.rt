@@ -9,10 +9,10 @@ ghost use Rattle.shape_lines.specs.TextOrder.{text_order};
 ghost use Rattle.shape_lines.specs.declared.allowed.LineAt.{LineAt};
 ghost use Rattle.shape_lines.specs.declared.cutting.Line.{Line};
 
-/// A line may end between two neighbouring glyphs of different clusters, if no glyph of the greater cluster
-/// has `UNSAFE_TO_BREAK`: a place of a cut. In the order of the text, from the end of the list if clusters
-/// fall, one glyph tells: if the glyphs can be cut, exactly the places of a cut are those before a glyph
-/// that begins another cluster and lacks the flag.
+/// A line may end between two neighbouring glyphs of different clusters, if no glyph of the greater
+/// cluster has `UNSAFE_TO_BREAK`: a place of a cut. In the order of the text, from the end of the
+/// list if clusters fall, one glyph tells: if the glyphs can be cut, exactly the places of a cut
+/// are those before a glyph that begins another cluster and lacks the flag.
 pub fn places_are_decided_by_one_glyph()
     ensures { (glyphs : Buffer) (text_end place : ℕ) → CanCut glyphs text_end
         → 0 < place → place < length glyphs.items
@@ -26,7 +26,8 @@ pub fn right_lines_are_unique()
         → lines ≡ others }
 {}
 
-/// Lines at allowed places are determined: there are no two lists of them for one text, end, width and places.
+/// Lines at allowed places are determined: there are no two lists of them for one text, end, width
+/// and places.
 pub fn lines_at_are_unique()
     ensures { (glyphs : Buffer) (text_end : ℕ) (allowed mandatory spaces : List ℕ)
         (anywhere : Bool) (width : ℤ) (lines others : List LineAt)

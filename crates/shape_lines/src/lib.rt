@@ -1,7 +1,7 @@
 //! Lines of a shaped text.
 //!
-//! A paragraph is shaped once, and then cut where its lines end. [`can_cut`] says whether the clusters and
-//! flags of the glyphs tell where that may be; [`laws`] says where, glyph by glyph.
+//! A paragraph is shaped once, and then cut where its lines end. [`can_cut`] says whether the
+//! clusters and flags of the glyphs tell where that may be; [`laws`] says where, glyph by glyph.
 #![tactic(auto)]
 
 pub mod allowed;

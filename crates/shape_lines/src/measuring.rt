@@ -1,8 +1,9 @@
 //! How far the pen comes in a text, and the least that it reaches at the ends of lines to come.
 //!
-//! Spaces at the end of a line aren't measured, so how far a line reaches is a matter of its end alone: the pen
-//! after the last glyph before it that isn't a space. The least reach at the ends from a place on tells whether one of them
-//! fits. It never falls as the place goes on, so the longest line that fits ends where it passes the limit.
+//! Spaces at the end of a line aren't measured, so how far a line reaches is a matter of its end
+//! alone: the pen after the last glyph before it that isn't a space. The least reach at the ends
+//! from a place on tells whether one of them fits. It never falls as the place goes on, so the
+//! longest line that fits ends where it passes the limit.
 ghost use Rattle.std.specs.Prelude.{◌≡◌, ◌^◌, ◌≤ℤ◌, ◌+ℤ◌, pos, false, length, IfOk, if◌then◌else◌};
 ghost use Rattle.std.specs.Int.{int_min};
 ghost use Rattle.shape_lines.specs.LinesAt;
@@ -11,8 +12,8 @@ ghost use Rattle.shape_lines.specs.Measured.{ArePens, AreSmallPens, AreReaches, 
 use crate::spots::Spot;
 use std::alloc::{AllocError, Global};
 
-/// A text as it is measured: its glyphs, where the pen stands before each and at the end, and the least that it
-/// reaches at an end from there on, at an allowed place and at any.
+/// A text as it is measured: its glyphs, where the pen stands before each and at the end, and the
+/// least that it reaches at an end from there on, at an allowed place and at any.
 #[derive(Drop)]
 pub(super) struct Measures {
     pub(super) spots: Vec<Spot>,
@@ -62,7 +63,8 @@ fn reaches(alloc: Global, spots: &[Spot], pens: &[i128]) -> Result<Vec<i128>, Al
     Ok(reaches)
 }
 
-/// Where the pen stands after the last glyph that isn't a space, given where it stands before and after this one.
+/// Where the pen stands after the last glyph that isn't a space, given where it stands before and
+/// after this one.
 fn reach_on(spot: &Spot, before: i128, after: i128) -> i128
     ensures { result ≡ if spot.now.space then before else after }
 {

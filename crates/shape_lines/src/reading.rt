@@ -1,4 +1,5 @@
-//! The glyphs of a buffer, read in the order of their text: from the end of the list if clusters fall.
+//! The glyphs of a buffer, read in the order of their text: from the end of the list if clusters
+//! fall.
 ghost use Rattle.std.specs.Prelude.{◌≡◌, ◌<◌, ◌-◌, ◌==◌, length, get_or, not};
 ghost use Rattle.shape_items.specs.Clusters.{clusters};
 ghost use Rattle.shape_common.specs.Positions.{zero_position};
@@ -68,7 +69,8 @@ pub(super) fn begins_cluster(glyphs: &GlyphBuffer, place: usize) -> bool
     place > 0 && cluster_at(glyphs, place) != cluster_at(glyphs, place - 1)
 }
 
-/// How far the glyph at a place of the list moves the pen on, downwards if the direction is vertical.
+/// How far the glyph at a place of the list moves the pen on, downwards if the direction is
+/// vertical.
 fn width_at(glyphs: &GlyphBuffer, at: usize) -> i64
     requires { at < length glyphs.now.items }
     ensures value { result

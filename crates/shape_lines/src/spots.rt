@@ -1,4 +1,5 @@
-//! The glyphs of a text as they are cut at allowed places, each with what the lists of places say of it.
+//! The glyphs of a text as they are cut at allowed places, each with what the lists of places say
+//! of it.
 ghost use Rattle.std.specs.Prelude.{◌≡◌, ℕ, ◌<◌, ◌≤◌, ◌==◌, ◌&&◌, nat_lt, length, slice_index, IfOk};
 ghost use Rattle.std.specs.List.Sorted.{IsNonDecreasing};
 ghost use Rattle.shape_items.specs.Clusters.{clusters};
@@ -23,8 +24,8 @@ pub struct Breaks<'a> {
     pub anywhere: bool,
 }
 
-/// A glyph: its width, whether a line may or must end before it by the lists, whether the place is one
-/// of a cut, and whether the glyph is a space's.
+/// A glyph: its width, whether a line may or must end before it by the lists, whether the place is
+/// one of a cut, and whether the glyph is a space's.
 #[derive(Clone, Copy, Debug)]
 pub(super) struct Spot {
     pub(super) width: i64,

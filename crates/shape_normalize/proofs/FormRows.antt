@@ -13,7 +13,9 @@ use Rattle.shape_items.specs.UnicodeProps.{is_hidden_char}
 use Rattle.shape_plan.specs.Rules.{Rules, has_glyph}
 use Rattle.shape_normalize.specs.Normalized.{content, hidden_char}
 use Rattle.shape_normalize.specs.RoundTwo.{run_settled}
-use Rattle.shape_normalize.specs.Worked.Form.{GlyphsBroughtIn, GlyphsOfItems, items_compared, placed, with_hidden, HiddenItems, ShortRuns, MarksOfLists, SelectorsAsked, OrderAsked, SpellingsTested, PremisesAsked, acute, all_glyphs, ListsNormalized, TextsCompared, FormWorked}
+use Rattle.shape_normalize.specs.Worked.Form.{GlyphsBroughtIn, GlyphsOfItems, items_compared, placed, with_hidden, HiddenItems, ShortRuns}
+use Rattle.shape_normalize.specs.Worked.Form.{MarksOfLists, SelectorsAsked, OrderAsked, SpellingsTested, PremisesAsked, acute, all_glyphs}
+use Rattle.shape_normalize.specs.Worked.Form.{ListsNormalized, TextsCompared, FormWorked}
 use Rattle.shape_normalize.specs.CanonicalForm.{HasNoSelector, text_of}
 use Rattle.shape_normalize.specs.Worked.Fixture.{item, rules_in, face_of}
 

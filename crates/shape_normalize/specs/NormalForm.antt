@@ -5,7 +5,8 @@ use Rattle.shape_items.specs.Clusters.{clusters}
 use Rattle.shape_items.specs.ClusterOrder.{PreservesClusters, IsMonotoneLevel}
 use Rattle.shape_plan.specs.Rules.{Rules}
 use Rattle.shape_normalize.specs.CanonicalForm.{text_of, AreEquivalent, CanonicalFormPremises, NormalizesCanonically}
-use Rattle.shape_normalize.specs.Normalized.{normalized, BroughtInHaveGlyphs, HasItemGlyph, HookPreservesClusters, PreservesFeatures, PreservesHidden, OrdersExpanded, Recomposes}
+use Rattle.shape_normalize.specs.Normalized.{normalized, BroughtInHaveGlyphs, HasItemGlyph, HookPreservesClusters, PreservesFeatures, PreservesHidden}
+use Rattle.shape_normalize.specs.Normalized.{OrdersExpanded, Recomposes}
 use Rattle.shape_normalize.specs.Origins.{ComesByPlace}
 use Rattle.shape_normalize.specs.RoundOne.{round_one}
 

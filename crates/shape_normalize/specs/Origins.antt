@@ -1,5 +1,6 @@
 -- Where each item of the normalised list came from, and what it has of the item that stood there, place by place.
-use Rattle.std.specs.Prelude.{◌≡◌, ◌⊎◌, ℕ, suc, ◌-◌, ◌<◌, ◌≤◌, ◌&&◌, Bool, true, false, if◌then◌else◌, List, [], ◌∷◌, map, length, get_or, Option, None, is_some}
+use Rattle.std.specs.Prelude.{◌≡◌, ◌⊎◌, ℕ, suc, ◌-◌, ◌<◌, ◌≤◌, ◌&&◌, Bool, true, false, if◌then◌else◌, List, [], ◌∷◌, map, length, get_or, Option}
+use Rattle.std.specs.Prelude.{None, is_some}
 use Rattle.std.specs.List.{AllZip, flat_map, range_with_len}
 use Rattle.std.specs.List.Sorted.{IsPermutation}
 use Rattle.std.specs.Option.{MatchOption}
@@ -14,7 +15,8 @@ use Rattle.shape_plan.specs.Rules.{Rules, has_glyph}
 use Rattle.shape_normalize.specs.Normalized.{ordered, features_of, hidden_char}
 use Rattle.shape_normalize.specs.Reordered.{unmerged, without_ccc}
 use Rattle.shape_normalize.specs.Recast.{recast_to}
-use Rattle.shape_normalize.specs.RoundOne.{item_glyph, emitted_for, variant_items, is_selector_item, is_with_marks, is_selector_sequence, variation_sequences_merged, round_one}
+use Rattle.shape_normalize.specs.RoundOne.{item_glyph, emitted_for, variant_items, is_selector_item, is_with_marks, is_selector_sequence}
+use Rattle.shape_normalize.specs.RoundOne.{variation_sequences_merged, round_one}
 use Rattle.shape_normalize.specs.RoundTwo.{max_run, has_mark_past_first, unhidden, has_seen_cgj}
 use Rattle.shape_normalize.specs.RoundThree.{Absorbed, Placed, recomposed_items}
 

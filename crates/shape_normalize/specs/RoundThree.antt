@@ -1,5 +1,6 @@
 -- Round three of normalising: marks are composed with their starters again (The Unicode Standard, D115 to D117).
-use Rattle.std.specs.Prelude.{ℕ, ◌≡◌, suc, ◌+◌, ◌==◌, ◌&&◌, not, nat_lt, nat_le, if◌then◌else◌, Bool, false, List, [], ◌∷◌, ◌++◌, map, drop, replicate, length, get_or, slice_get, Option, Some, None}
+use Rattle.std.specs.Prelude.{ℕ, ◌≡◌, suc, ◌+◌, ◌==◌, ◌&&◌, not, nat_lt, nat_le, if◌then◌else◌, Bool, false, List, [], ◌∷◌, ◌++◌, map, drop}
+use Rattle.std.specs.Prelude.{replicate, length, get_or, slice_get, Option, Some, None}
 use Rattle.std.specs.Option.{option_map}
 use Rattle.std.specs.List.{flat_map}
 use Rattle.shape_items.specs.Items.{Item, ccc_of_item, is_mark_item}

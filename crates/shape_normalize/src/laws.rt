@@ -9,8 +9,8 @@ use shape_buffer::interfaces::{hb_font_t, hb_ot_layout_t, hb_unicode_funcs_t};
 use shape_plan::ot_shape_plan::hb_ot_shape_plan_t;
 use shape_plan::ot_shaper::{Runs, hb_ot_shaper_t};
 
-/// What canonical form asks of a shaper's hooks holds of one that gives none: it decomposes and composes
-/// as Unicode does, which is lawful, and reorders nothing.
+/// What canonical form asks of a shaper's hooks holds of one that gives none: it decomposes and
+/// composes as Unicode does, which is lawful, and reorders nothing.
 pub fn hooks_not_given_are_lawful<U, F, M, S>(
     plan: &hb_ot_shape_plan_t<'_, S, M::Map, S::Data>,
     face: &F,
@@ -26,8 +26,8 @@ where
         → (⟦<S as Runs<U, F, M>>⟧.rules plan.now face.now).reorder ≡ None }
 {}
 
-/// What `reorder_marks` of any shaper does to a run that it is handed, given or not: it permutes the run and
-/// touches nothing else but clusters, ccc, which stay nonzero, and flags.
+/// What `reorder_marks` of any shaper does to a run that it is handed, given or not: it permutes
+/// the run and touches nothing else but clusters, ccc, which stay nonzero, and flags.
 pub fn reordering_permutes_the_run<U, F, M, S>(
     shaper: &S,
     plan: &hb_ot_shape_plan_t<'_, S, M::Map, S::Data>,

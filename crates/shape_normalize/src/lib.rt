@@ -1,8 +1,8 @@
 //! Normalising: the characters of a text become those that the face has glyphs for, and equivalent
 //! spellings become one list.
 //!
-//! [`ot_shape_normalize`] runs the rounds over a buffer by a plan, and its names stand here too; [`laws`]
-//! spares callers proofs.
+//! [`ot_shape_normalize`] runs the rounds over a buffer by a plan, and its names stand here too;
+//! [`laws`] spares callers proofs.
 #![tactic(auto)]
 #![allow(non_camel_case_types)]
 

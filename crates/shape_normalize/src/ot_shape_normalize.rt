@@ -1,10 +1,11 @@
 //! Normalising: the characters of a text become those that the face has glyphs for.
 //!
-//! A character may be spelled in several ways, and a face rarely has glyphs for all of them. So each
-//! character is expanded along the chain of its splits, where its first part may split again, and so on;
-//! the characters of some point of the chain are put in its place, if the face has glyphs for all of
-//! them. A shaper may bring splits of its own. The marks after a character are then put in one order,
-//! so that spellings of one text become one list (UAX 15; The Unicode Standard, D68 and D107 to D109).
+//! A character may be spelled in several ways, and a face rarely has glyphs for all of them. So
+//! each character is expanded along the chain of its splits, where its first part may split again,
+//! and so on; the characters of some point of the chain are put in its place, if the face has
+//! glyphs for all of them. A shaper may bring splits of its own. The marks after a character are
+//! then put in one order, so that spellings of one text become one list (UAX 15; The Unicode
+//! Standard, D68 and D107 to D109).
 //!
 //! No promise rests on ccc after a given reorder hook, which may renumber: items with selectors
 //! and items by their place are then compared except for ccc. Rounds one and two are defined over
@@ -55,23 +56,24 @@ use shape_plan::ot_shaper::{Runs, hb_ot_shaper_t};
 use shape_plan::shaping_types::{Meaning, PlanOf, ShapingTypes, TypesOf};
 use std::alloc::Global;
 
-/// Makes the list of a buffer the normalised one, at positions of zeros, by the mode that the plan's shaper
-/// prefers: see [`HB_OT_SHAPE_NORMALIZATION_MODE_NONE`] and the others.
+/// Makes the list of a buffer the normalised one, at positions of zeros, by the mode that the
+/// plan's shaper prefers: see [`HB_OT_SHAPE_NORMALIZATION_MODE_NONE`] and the others.
 ///
 /// Each item becomes the items of an expansion of its character that the face has glyphs for, the
-/// shortest or the longest one, and takes the glyph that the face returns; a space or a non-breaking
-/// hyphen without a glyph takes that of another. A sequence of an item and its marks that holds a
-/// variation selector isn't expanded. If a mark stood past the first item as normalising began, each
-/// run of at most 32 marks is put in the order of their ccc, the clusters of the spans that this
-/// moves are merged, the shaper may reorder the run, and in the modes that compose, marks are composed
-/// with their starters again, whose clusters are merged. Each CGJ that keeps nothing apart is unhidden.
-/// A mark is composed only if its ccc is greater than that of every mark between it and its starter.
-/// So under the first premises of `canonical_form` the list is equivalent to the text, however many marks
-/// stand in a row; canonical form itself asks for runs of at most 32.
+/// shortest or the longest one, and takes the glyph that the face returns; a space or a
+/// non-breaking hyphen without a glyph takes that of another. A sequence of an item and its marks
+/// that holds a variation selector isn't expanded. If a mark stood past the first item as
+/// normalising began, each run of at most 32 marks is put in the order of their ccc, the clusters
+/// of the spans that this moves are merged, the shaper may reorder the run, and in the modes that
+/// compose, marks are composed with their starters again, whose clusters are merged. Each CGJ that
+/// keeps nothing apart is unhidden. A mark is composed only if its ccc is greater than that of
+/// every mark between it and its starter. So under the first premises of `canonical_form` the list
+/// is equivalent to the text, however many marks stand in a row; canonical form itself asks for
+/// runs of at most 32.
 ///
 /// Refuses with `Length` if the expanded list is longer than the buffer's limit, and with `Memory`
-/// if a growth was refused; after a refusal the buffer is cleared. An empty buffer is left as it is,
-/// and no memory is taken.
+/// if a growth was refused; after a refusal the buffer is cleared. An empty buffer is left as it
+/// is, and no memory is taken.
 pub fn _hb_ot_shape_normalize<U, F, M, S>(
     alloc: Global,
     plan: &hb_ot_shape_plan_t<'_, S, M::Map, S::Data>,
@@ -98,8 +100,8 @@ where
     outcome
 }
 
-/// Expands the items and unhides CGJ; if there are marks past the first item, puts them in order, and
-/// composes them in the modes that do. Leaves an empty list as it is.
+/// Expands the items and unhides CGJ; if there are marks past the first item, puts them in order,
+/// and composes them in the modes that do. Leaves an empty list as it is.
 fn run_rounds<T: ShapingTypes>(
     alloc: Global,
     plan: &PlanOf<'_, T>,
@@ -137,7 +139,8 @@ fn has_mark_past_first(infos: &[hb_glyph_info_t]) -> bool
     has_mark(&infos[1..])
 }
 
-/// Whether one of these items is a mark. Looks one by one only at those from the first four on that have one.
+/// Whether one of these items is a mark. Looks one by one only at those from the first four on that
+/// have one.
 fn has_mark(infos: &[hb_glyph_info_t]) -> bool
     ensures { result ≡ list_any is_mark_item infos.now }
 {

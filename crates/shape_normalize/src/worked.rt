@@ -37,8 +37,8 @@ pub fn hooks_meet_worked_cases()
     ensures { HooksWorked }
 {}
 
-/// What is promised of a normalised list: glyphs, hidden items, short runs, order and what composes; and what
-/// canonical form asks, and no more.
+/// What is promised of a normalised list: glyphs, hidden items, short runs, order and what
+/// composes; and what canonical form asks, and no more.
 pub fn form_meets_worked_cases()
     ensures { FormWorked }
 {}

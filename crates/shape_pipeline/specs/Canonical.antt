@@ -5,7 +5,8 @@ use Rattle.shape_items.specs.Buffer.{Buffer}
 use Rattle.shape_buffer.specs.Guess.{guessed}
 use Rattle.shape_items.specs.Items.{is_mark_item}
 use Rattle.shape_common.specs.Unicode.{is_mark}
-use Rattle.shape_normalize.specs.CanonicalForm.{text_of, AreEquivalent, HasCanonicalForm, HasLawfulHooks, HasNoSelector, CanonicalTextPremises, IsRecomposedForm}
+use Rattle.shape_normalize.specs.CanonicalForm.{text_of, AreEquivalent, HasCanonicalForm, HasLawfulHooks, HasNoSelector, CanonicalTextPremises}
+use Rattle.shape_normalize.specs.CanonicalForm.{IsRecomposedForm}
 use Rattle.shape_normalize.specs.RoundOne.{round_one}
 use Rattle.shape_normalize.specs.RoundTwo.{has_mark_past_first}
 use Rattle.shape_plan.specs.Run.{Run}

@@ -1,10 +1,11 @@
 //! Laws that spare callers a proof: each function has laws as its contract, and nothing to do.
 //!
-//! A run has the obligations of its shaper's hooks and its engine's lookups: that they preserve clusters, that they preserve
-//! flags, and for canonical form that hooks preserve equivalence. A caller with
-//! the default shaper and the engine that changes nothing has all of it by [`plain_runs_have_no_obligations`], one
-//! with another shaper without hooks by [`runs_without_hooks_have_no_obligations`]; one with hooks or lookups of its
-//! own proves those alone, and takes the rest from here.
+//! A run has the obligations of its shaper's hooks and its engine's lookups: that they preserve
+//! clusters, that they preserve flags, and for canonical form that hooks preserve equivalence. A
+//! caller with the default shaper and the engine that changes nothing has all of it by
+//! [`plain_runs_have_no_obligations`], one with another shaper without hooks by
+//! [`runs_without_hooks_have_no_obligations`]; one with hooks or lookups of its own proves those
+//! alone, and takes the rest from here.
 ghost use Rattle.std.specs.Prelude.{◌≡◌, ◌≢◌, ◌⊎◌, ◌<◌, ℕ, false, All};
 ghost use Rattle.std.specs.List.Sorted.{IsNonDecreasing};
 ghost use Rattle.shape_items.specs.Buffer.{Buffer};
@@ -41,15 +42,17 @@ pub use shape_prepare::laws::{
     preparing_preserves_flags, preparing_preserves_order,
 };
 
-/// The engine that changes nothing preserves clusters and flags, whatever was compiled and whatever the face.
+/// The engine that changes nothing preserves clusters and flags, whatever was compiled and whatever
+/// the face.
 pub fn no_lookups_preserve()
     ensures clusters { LookupsPreserveClusters no_lookups }
     ensures flags { LookupsPreserveFlags no_lookups }
 {}
 
-/// Hooks that aren't given are never called, and hooks that leave buffers as they are change nothing. So a
-/// run by a shaper without other hooks preserves clusters, or flags, if its engine's lookups do. For clusters
-/// its hook that reorders marks must preserve them too. Of hooks that split and compose nothing is asked.
+/// Hooks that aren't given are never called, and hooks that leave buffers as they are change
+/// nothing. So a run by a shaper without other hooks preserves clusters, or flags, if its engine's
+/// lookups do. For clusters its hook that reorders marks must preserve them too. Of hooks that
+/// split and compose nothing is asked.
 pub fn hooks_not_given_preserve<U, F, M, S>()
 where
     U: hb_unicode_funcs_t,
@@ -66,11 +69,11 @@ where
         → LookupsPreserveFlags run.lookups → RunPreservesFlags run }
 {}
 
-/// Hook by hook: a shaper that gives one hook must provide what that one does, and nothing of the others. A run preserves
-/// clusters, or flags, if each of its hooks that is given does and its engine's lookups do; for clusters
-/// its hook that reorders marks must preserve them too, and nothing is asked of `setup_masks`, which changes
-/// masks alone. It preserves equivalence if none splits, composes or reorders,
-/// and a given `preprocess_text` leaves prepared items prepared.
+/// Hook by hook: a shaper that gives one hook must provide what that one does, and nothing of the
+/// others. A run preserves clusters, or flags, if each of its hooks that is given does and its
+/// engine's lookups do; for clusters its hook that reorders marks must preserve them too, and
+/// nothing is asked of `setup_masks`, which changes masks alone. It preserves equivalence if none
+/// splits, composes or reorders, and a given `preprocess_text` leaves prepared items prepared.
 pub fn given_hooks_preserve<U, F, M, S>()
 where
     U: hb_unicode_funcs_t,
@@ -94,9 +97,10 @@ where
         → RunPreservesEquivalence run }
 {}
 
-/// A shaper whose pauses leave clusters out of order, as they do that move signs before their letters and merge later,
-/// and whose last hook, `postprocess_glyphs`, puts them in order again (`cluster_order::order_clusters` does so). Its
-/// pauses must bring no cluster, its other hooks preserve clusters, and its engine's lookups, too.
+/// A shaper whose pauses leave clusters out of order, as they do that move signs before their
+/// letters and merge later, and whose last hook, `postprocess_glyphs`, puts them in order again
+/// (`cluster_order::order_clusters` does so). Its pauses must bring no cluster, its other hooks
+/// preserve clusters, and its engine's lookups, too.
 pub fn ordering_hooks_preserve<U, F, M, S>()
 where
     U: hb_unicode_funcs_t,
@@ -109,9 +113,9 @@ where
         → LookupsPreserveClusters run.lookups → HookPreservesClusters run.rules → RunOrdersClusters run }
 {}
 
-/// A run has no obligations if its shaper's hooks, whichever of them are given, do what is done without them, none
-/// reorders marks, and its lookups preserve clusters and flags. Then the run preserves both, too, and what canonical
-/// form asks of a shaper holds of every text.
+/// A run has no obligations if its shaper's hooks, whichever of them are given, do what is done
+/// without them, none reorders marks, and its lookups preserve clusters and flags. Then the run
+/// preserves both, too, and what canonical form asks of a shaper holds of every text.
 pub fn runs_without_hooks_have_no_obligations<U, F, M, S>()
 where
     U: hb_unicode_funcs_t,
@@ -125,17 +129,17 @@ where
         → LookupsPreserveClusters run.lookups → LookupsPreserveFlags run.lookups → HasNoObligations run }
 {}
 
-/// A run of the default shaper with the engine that changes nothing has no obligations, whatever the Unicode
-/// functions, the plan and the face: also under the plan that `shape` makes.
+/// A run of the default shaper with the engine that changes nothing has no obligations, whatever
+/// the Unicode functions, the plan and the face: also under the plan that `shape` makes.
 pub fn plain_runs_have_no_obligations<U: hb_unicode_funcs_t, F: hb_font_t>()
     ensures { (plan : Plan DefaultShaper Unit Unit) (face : F)
         → HasNoObligations (⟦<hb_default_shaper_t as Runs<U, F, NoLookups>>⟧.run plan face) }
 {}
 
-/// If preparing leaves the characters of a text (no dotted circle goes in, nothing is reversed, mirrored or
-/// taken in its vertical form, and a given hook leaves characters), they are those of the prepared text. So
-/// two such texts are led to the same normalised characters exactly when they are equivalent, if hooks
-/// preserve equivalence and canonical form can be asked of both.
+/// If preparing leaves the characters of a text (no dotted circle goes in, nothing is reversed,
+/// mirrored or taken in its vertical form, and a given hook leaves characters), they are those of
+/// the prepared text. So two such texts are led to the same normalised characters exactly when they
+/// are equivalent, if hooks preserve equivalence and canonical form can be asked of both.
 pub fn equivalent_spellings_meet<U, F, M, S>()
 where
     U: hb_unicode_funcs_t,
@@ -163,10 +167,11 @@ pub fn glyphs_can_be_cut()
         → All (λ item. item.cluster < text_end) text.items → CanCut glyphs text_end }
 {}
 
-/// What is promised of whole runs, for callers of `shape_internal`, whose `ok` says what a run makes: over any
-/// text in a known direction its clusters come in order and its flags by cluster, under their premises; the
-/// normalised list of any buffer has its form, and that of any text is canonical, under its premise. A run that
-/// ends in order does so by a plan for the text's direction. Does nothing.
+/// What is promised of whole runs, for callers of `shape_internal`, whose `ok` says what a run
+/// makes: over any text in a known direction its clusters come in order and its flags by cluster,
+/// under their premises; the normalised list of any buffer has its form, and that of any text is
+/// canonical, under its premise. A run that ends in order does so by a plan for the text's
+/// direction. Does nothing.
 pub fn whole_runs_keep_promises<U, F, M, S>(
     plan: &hb_ot_shape_plan_t<'_, S, M::Map, S::Data>,
     face: &F,

@@ -1,9 +1,9 @@
 //! Shapes a text: makes the glyphs of a face, with positions and clusters, of a list of characters.
 //!
-//! A plan says how texts of one direction and script are shaped with one face: [`ot_shape_plan`]; it is made by
-//! the planner of [`ot_shape`]. Script shapers hook in by the trait of [`ot_shaper`]. The entries of [`shaping`]
-//! run a plan over a buffer: the list of steps stands in [`ot_shape`], each step in a crate below. [`lines`]
-//! cuts what they return into lines.
+//! A plan says how texts of one direction and script are shaped with one face: [`ot_shape_plan`];
+//! it is made by the planner of [`ot_shape`]. Script shapers hook in by the trait of [`ot_shaper`].
+//! The entries of [`shaping`] run a plan over a buffer: the list of steps stands in [`ot_shape`],
+//! each step in a crate below. [`lines`] cuts what they return into lines.
 #![tactic(auto)]
 #![allow(non_camel_case_types)]
 

@@ -21,14 +21,15 @@ use shape_plan::ot_shaper::{Runs, hb_ot_shaper_t};
 use shape_plan::shaping_types::{Meaning, PlanOf, ShapingTypes, TypesOf};
 use std::alloc::Global;
 
-/// The characters that a run by this plan normalises a text to: a key under which a cache keeps shaped texts, for
-/// one plan and whatever else is set of them. Script and direction are guessed if they aren't set. If the
-/// premises of `canonical` hold, two texts have one key exactly when they are canonically equivalent. Otherwise
-/// equal keys don't say that: clusters, positions and properties are no part of them.
+/// The characters that a run by this plan normalises a text to: a key under which a cache keeps
+/// shaped texts, for one plan and whatever else is set of them. Script and direction are guessed if
+/// they aren't set. If the premises of `canonical` hold, two texts have one key exactly when they
+/// are canonically equivalent. Otherwise equal keys don't say that: clusters, positions and
+/// properties are no part of them.
 ///
-/// Refuses with `Length` if a step of preparing would leave a list past the run's limit, or the expanded list
-/// would be longer, and with `Memory` if a growth was refused; the fault holds the cleared buffer. An empty text
-/// has no characters, and takes no memory.
+/// Refuses with `Length` if a step of preparing would leave a list past the run's limit, or the
+/// expanded list would be longer, and with `Memory` if a growth was refused; the fault holds the
+/// cleared buffer. An empty text has no characters, and takes no memory.
 pub fn normalised_characters<U, F, M, S>(
     alloc: Global,
     face: &F,

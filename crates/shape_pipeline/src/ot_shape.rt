@@ -1,9 +1,9 @@
 //! The run over a buffer, and what is planned for it.
 //!
-//! A run is one list of steps, made in the same order for every text: it prepares the characters, has them
-//! normalised, makes glyphs of them, places these, and hands them out. What a shaper or a layout engine brings
-//! stands for its meaning, so the whole run is a function from buffer to buffer; a refused one leaves
-//! the buffer cleared.
+//! A run is one list of steps, made in the same order for every text: it prepares the characters,
+//! has them normalised, makes glyphs of them, places these, and hands them out. What a shaper or a
+//! layout engine brings stands for its meaning, so the whole run is a function from buffer to
+//! buffer; a refused one leaves the buffer cleared.
 ghost use Rattle.std.specs.Prelude.{◌≡◌, ◌≢◌, [], IsOk, OnOk, OnErr, Err};
 ghost use Rattle.shape_items.specs.Buffer.{cleared};
 ghost use Rattle.shape_buffer.specs.Outcome.{IsWithinLimit, RunOutcome};
@@ -26,9 +26,9 @@ use shape_plan::shaping_types::{Meaning, PlanOf, ShapingTypes, TypesOf};
 use shape_prepare::prepare::prepare;
 use std::alloc::Global;
 
-/// A buffer that is being shaped, with the plan and the face that it is shaped by, and the direction that the
-/// text was handed over in. `S` is the type of the shaper, `P` that of the compiled lookups, `D` that of the
-/// shaper's data.
+/// A buffer that is being shaped, with the plan and the face that it is shaped by, and the
+/// direction that the text was handed over in. `S` is the type of the shaper, `P` that of the
+/// compiled lookups, `D` that of the shaper's data.
 #[derive(Drop)]
 pub struct hb_ot_shape_context_t<'a, F, S, P, D> {
     pub plan: &'a hb_ot_shape_plan_t<'a, S, P, D>,
@@ -37,12 +37,12 @@ pub struct hb_ot_shape_context_t<'a, F, S, P, D> {
     pub target_direction: Direction,
 }
 
-/// Prepares a text for normalising: begins a run, sets properties and finds graphemes, puts in a dotted
-/// circle, forms clusters, puts the text in its native order, calls the shaper's `preprocess_text`, and takes
-/// the forms of characters for the target direction. Does nothing for an empty list, and takes no memory
-/// then. `target_direction` must be the buffer's direction, and not Invalid. Refuses with `Length` if a
-/// step would leave a list past the run's limit, and with `Memory` if a growth was refused; the buffer is
-/// cleared then.
+/// Prepares a text for normalising: begins a run, sets properties and finds graphemes, puts in a
+/// dotted circle, forms clusters, puts the text in its native order, calls the shaper's
+/// `preprocess_text`, and takes the forms of characters for the target direction. Does nothing for
+/// an empty list, and takes no memory then. `target_direction` must be the buffer's direction, and
+/// not Invalid. Refuses with `Length` if a step would leave a list past the run's limit, and with
+/// `Memory` if a growth was refused; the buffer is cleared then.
 pub fn prepare_text<U, F, M, S>(
     alloc: Global,
     ctx: &mut hb_ot_shape_context_t<'_, F, S, M::Map, S::Data>,
@@ -113,10 +113,11 @@ fn enter_and_prepare<T: ShapingTypes>(
     prepare::<T>(alloc, plan, face, buffer, target)
 }
 
-/// Shapes the text of a buffer: every step of a run, from entering to leaving. Does nothing for an empty
-/// list, and takes no memory then. `target_direction` must be the buffer's direction, and not Invalid.
-/// Refuses with `Length` if a step would leave a list past the run's limit (in normalising the expanded
-/// list counts), and with `Memory` if a growth was refused; the buffer is cleared then.
+/// Shapes the text of a buffer: every step of a run, from entering to leaving. Does nothing for an
+/// empty list, and takes no memory then. `target_direction` must be the buffer's direction, and not
+/// Invalid. Refuses with `Length` if a step would leave a list past the run's limit (in normalising
+/// the expanded list counts), and with `Memory` if a growth was refused; the buffer is cleared
+/// then.
 pub fn shape_internal<U, F, M, S>(
     alloc: Global,
     ctx: &mut hb_ot_shape_context_t<'_, F, S, M::Map, S::Data>,

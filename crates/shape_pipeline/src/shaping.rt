@@ -43,12 +43,13 @@ impl<
         (planned_for U.unicode ⟦<S as Plans<U, F, M>>⟧.planning face shaper features text) face };
 }
 
-/// The glyphs of a text by a plan that fits it, with positions in units of the face and clusters that lead
-/// back to the text. Script and direction are guessed if they aren't set. Refuses with `Length` if a
-/// step would leave a list past the run's limit (in normalising the expanded list counts), and with
-/// `Memory` if a growth was refused; the fault holds the cleared buffer. An empty text gives an empty
-/// result and takes no memory. `form` is a law of the list that the run normalises, `canonical` says that it
-/// is equivalent to the text if hooks preserve equivalence, and `made` that the glyphs are made of that list.
+/// The glyphs of a text by a plan that fits it, with positions in units of the face and clusters
+/// that lead back to the text. Script and direction are guessed if they aren't set. Refuses with
+/// `Length` if a step would leave a list past the run's limit (in normalising the expanded list
+/// counts), and with `Memory` if a growth was refused; the fault holds the cleared buffer. An empty
+/// text gives an empty result and takes no memory. `form` is a law of the list that the run
+/// normalises, `canonical` says that it is equivalent to the text if hooks preserve equivalence,
+/// and `made` that the glyphs are made of that list.
 pub fn shape_with_plan<U, F, M, S>(
     alloc: Global,
     face: &F,
@@ -88,9 +89,9 @@ fn refused(cause: ShapeError, text: hb_buffer_t) -> ShapeFault
     }
 }
 
-/// Makes glyphs of a text whose script and direction are set as guessing sets them, so that who has guessed
-/// for a plan doesn't go over the characters again. `text` is what guessing made of `original`. It is shaped where
-/// it stands: a buffer is large, and its callers move it only once.
+/// Makes glyphs of a text whose script and direction are set as guessing sets them, so that who has
+/// guessed for a plan doesn't go over the characters again. `text` is what guessing made of
+/// `original`. It is shaped where it stands: a buffer is large, and its callers move it only once.
 #[inline(never)]
 fn shape_guessed<U, F, M, S>(
     alloc: Global,
@@ -121,13 +122,13 @@ where
     }
 }
 
-/// The glyphs of a text: script and direction are guessed if they aren't set, a plan is made for them with
-/// the features that the user asks for, and the text is shaped by it; see [`shape_with_plan`]. A plan is made
-/// for an empty text too. Refuses with `Length` if a step would leave a list past the run's limit, and
-/// with `Memory` if a growth was refused, planning included; the fault holds the cleared buffer. `form` is
-/// a law of the list that the run normalises, `canonical` says that it is equivalent to the text if hooks
-/// preserve equivalence, `made` that the glyphs are made of that list, and `data` what the shaper's data is
-/// in the plan.
+/// The glyphs of a text: script and direction are guessed if they aren't set, a plan is made for
+/// them with the features that the user asks for, and the text is shaped by it; see
+/// [`shape_with_plan`]. A plan is made for an empty text too. Refuses with `Length` if a step would
+/// leave a list past the run's limit, and with `Memory` if a growth was refused, planning included;
+/// the fault holds the cleared buffer. `form` is a law of the list that the run normalises,
+/// `canonical` says that it is equivalent to the text if hooks preserve equivalence, `made` that
+/// the glyphs are made of that list, and `data` what the shaper's data is in the plan.
 pub fn shape<U, F, M, S>(
     alloc: Global,
     face: &F,

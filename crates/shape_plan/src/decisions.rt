@@ -28,7 +28,8 @@ pub struct Decisions {
     pub adjust_mark_positioning_when_zeroing: bool,
 }
 
-/// What the decisions depend on: masks of features, what the planner knows, and what face and engine return.
+/// What the decisions depend on: masks of features, what the planner knows, and what face and
+/// engine return.
 #[derive(Clone, Copy, Debug)]
 pub struct PlanFacts {
     pub frac_mask: hb_mask_t,

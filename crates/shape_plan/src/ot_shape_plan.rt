@@ -1,8 +1,10 @@
-//! The plan of a run: what is known of its direction, script, shaper and lookups before its text is.
+//! The plan of a run: what is known of its direction, script, shaper and lookups before its text
+//! is.
 //!
-//! A plan is made once, by its planner, and serves every text that it fits. What holds of every plan's
-//! decisions is kept with the type: no mask has a flag bit, and of `kern` and `kerx` one alone kerns.
-ghost use Rattle.std.specs.Prelude.{◌≡◌, ◌≢◌, ◌↔◌, IsTrue, None, IfOk, IfErr};
+//! A plan is made once, by its planner, and serves every text that it fits. What holds of every
+//! plan's decisions is kept with the type: no mask has a flag bit, and of `kern` and `kerx` one
+//! alone kerns.
+ghost use Rattle.std.specs.Prelude.{◌≡◌, ◌≢◌, ◌↔◌, IsTrue, None, IfSome, IfOk, IfErr};
 ghost use Rattle.std.specs.Prelude.{MatchResult, Option, option_copied, string_bytes};
 ghost use Rattle.std.specs.Option.{option_map};
 ghost use Rattle.shape_plan.specs.Decisions.{AreLawful, MasksAreFeatures, PositionsByOneTable};
@@ -27,8 +29,8 @@ pub enum ChosenShaper<'a, S> {
     Dumber,
 }
 
-/// How texts of one direction and script are shaped with one face. `S` is the type of the shaper, `P`
-/// that of the compiled lookups, `D` that of the shaper's data.
+/// How texts of one direction and script are shaped with one face. `S` is the type of the shaper,
+/// `P` that of the compiled lookups, `D` that of the shaper's data.
 #[derive(Drop)]
 pub struct hb_ot_shape_plan_t<'a, S, P, D> {
     direction: Direction,
@@ -77,8 +79,8 @@ fn data_of<T: ShapingTypes>(
     }
 }
 
-/// A plan of these parts, with what the shaper makes for it, last, when all else is decided. Refuses
-/// with `Memory` alone.
+/// A plan of these parts, with what the shaper makes for it, last, when all else is decided.
+/// Refuses with `Memory` alone.
 pub(crate) fn assembled<'a, T: ShapingTypes>(
     alloc: Global,
     direction: Direction,
@@ -114,17 +116,42 @@ pub(crate) fn assembled<'a, T: ShapingTypes>(
     Ok(plan)
 }
 
+/// A plan, with its shaper borrowed for longer: that of a planner lives as long as the planner's
+/// face.
+fn with_shaper<'a, S, P, D>(
+    plan: hb_ot_shape_plan_t<'_, S, P, D>,
+    shaper: &'a S,
+) -> hb_ot_shape_plan_t<'a, S, P, D>
+    requires { IfSome plan.shaper (λ used. used ≡ shaper.now) }
+    ensures { result ≡ plan.entry }
+{
+    let kept = match plan.shaper {
+        ChosenShaper::Given(_) => ChosenShaper::Given(shaper),
+        ChosenShaper::Dumber => ChosenShaper::Dumber,
+    };
+    hb_ot_shape_plan_t {
+        direction: plan.direction,
+        script: plan.script,
+        shaper: kept,
+        ot_map: plan.ot_map,
+        decisions: plan.decisions,
+        user_features: plan.user_features,
+        shaper_data: plan.shaper_data,
+    }
+}
+
 impl<'a, S, P, D> hb_ot_shape_plan_t<'a, S, P, D> {
     ghost use Rattle.shape_plan.specs.Plan.{Plan, Fits};
 
-    /// A plan for texts of a direction and a script, a face and a shaper, with the features that the user
-    /// asks for; `language` helps the engine to choose the scripts of its tables. It serves every text that
-    /// it fits. What its shaper made for it is made from the plan as it is without that data. The direction
-    /// must not be Invalid. Refuses with `Memory` alone.
+    /// A plan for texts of a direction and a script, a face and a shaper, with the features that
+    /// the user asks for; `language` helps the engine to choose the scripts of its tables. It
+    /// serves every text that it fits, over that face, and borrows the shaper alone. What its
+    /// shaper made for it is made from the plan as it is without that data. The direction must not
+    /// be Invalid. Refuses with `Memory` alone.
     #[tactic(auto, unfolding(crate::specs::Planner::planned))]
     pub fn new<U, F, M>(
         alloc: Global,
-        face: &'a F,
+        face: &F,
         shaper: &'a S,
         direction: Direction,
         script: Option<Script>,
@@ -151,11 +178,12 @@ impl<'a, S, P, D> hb_ot_shape_plan_t<'a, S, P, D> {
             alloc, face, shaper, direction, script, language,
         );
         planner.collect_features::<U, M>(alloc, user_features)?;
-        planner.compile::<U, M>(alloc, user_features)
+        let plan = planner.compile::<U, M>(alloc, user_features)?;
+        Ok(with_shaper(plan, shaper))
     }
 
-    /// No mask of the plan has a bit of a glyph's flags. Does nothing: it tells this to those who see
-    /// nothing of the plan but its value.
+    /// No mask of the plan has a bit of a glyph's flags. Does nothing: it tells this to those who
+    /// see nothing of the plan but its value.
     pub fn masks_are_features(&self)
         ensures { MasksAreFeatures self.now.decisions }
     {
@@ -163,9 +191,9 @@ impl<'a, S, P, D> hb_ot_shape_plan_t<'a, S, P, D> {
         let _ = &self.decisions;
     }
 
-    /// Kerning falls back exactly when no table positions, and `kern` and `kerx` are never both applied.
-    /// If `GPOS` and `kerx` both are, the steps of positioning are to run `GPOS` alone; that they do is a
-    /// law of theirs. Does nothing.
+    /// Kerning falls back exactly when no table positions, and `kern` and `kerx` are never both
+    /// applied. If `GPOS` and `kerx` both are, the steps of positioning are to run `GPOS` alone;
+    /// that they do is a law of theirs. Does nothing.
     pub fn positions_by_one_table(&self)
         ensures { PositionsByOneTable self.now.decisions }
     {
@@ -173,8 +201,8 @@ impl<'a, S, P, D> hb_ot_shape_plan_t<'a, S, P, D> {
         let _ = &self.decisions;
     }
 
-    /// Whether the plan serves a text: its direction and script, as guessing would set them, are the
-    /// plan's. No script counts as Unknown.
+    /// Whether the plan serves a text: its direction and script, as guessing would set them, are
+    /// the plan's. No script counts as Unknown.
     pub fn fits<U: hb_unicode_funcs_t>(&self, buffer: &UnicodeBuffer) -> bool
         ensures { IsTrue result ↔ Fits U.unicode self.now buffer.now }
     {

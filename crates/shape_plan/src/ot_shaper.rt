@@ -1,8 +1,9 @@
 //! What a script shaper changes in a run, and the two shapers that change nothing.
 //!
-//! A shaper says by constants which hooks it gives; one that isn't given is never called. What the hooks
-//! mean is one record of functions, and what every shaper must provide is a law of the trait. Its author writes a
-//! [`script_shaper`] and the hooks that it gives, each by the trait of [`hooks`].
+//! A shaper says by constants which hooks it gives; one that isn't given is never called. What the
+//! hooks mean is one record of functions, and what every shaper must provide is a law of the trait.
+//! Its author writes a [`script_shaper`] and the hooks that it gives, each by the trait of
+//! [`hooks`].
 //!
 //! What a run depends on is quoted: `Runs` is a trait that every shaper has and none writes, and
 //! clauses say `⟦<S as Runs<U, F, M>>⟧.run plan face`. A clause can't name a trait's constant, so
@@ -57,8 +58,9 @@ pub const HB_OT_SHAPE_ZERO_WIDTH_MARKS_BY_GDEF_EARLY: hb_ot_shape_zero_width_mar
 /// After lookups have placed them.
 pub const HB_OT_SHAPE_ZERO_WIDTH_MARKS_BY_GDEF_LATE: hb_ot_shape_zero_width_marks_type_t = 2;
 
-/// A script shaper over the Unicode functions `U`, faces of type `F` and the layout engine `M`, as a run
-/// sees it: its constants, which hooks it gives, and what they do. Authors write a [`script_shaper`].
+/// A script shaper over the Unicode functions `U`, faces of type `F` and the layout engine `M`, as
+/// a run sees it: its constants, which hooks it gives, and what they do. Authors write a
+/// [`script_shaper`].
 pub trait hb_ot_shaper_t<U: hb_unicode_funcs_t, F: hb_font_t, M: hb_ot_layout_t<F>> {
     /// What the shaper keeps in a plan.
     type Data: Drop;
@@ -102,8 +104,8 @@ pub trait hb_ot_shaper_t<U: hb_unicode_funcs_t, F: hb_font_t, M: hb_ot_layout_t<
 
     ghost FALLBACK_POSITION: { Bool };
 
-    /// Whether marks are placed by their extents if neither `GPOS` nor `kerx` nor a `kern` across the
-    /// line is applied.
+    /// Whether marks are placed by their extents if neither `GPOS` nor `kerx` nor a `kern` across
+    /// the line is applied.
     const FALLBACK_POSITION: bool;
 
     ghost HAS_COLLECT_FEATURES: { Bool };
@@ -208,8 +210,8 @@ pub trait hb_ot_shaper_t<U: hb_unicode_funcs_t, F: hb_font_t, M: hb_ot_layout_t<
         ensures { MatchResult result (λ «data». «data» ≡ made_data self.now plan.now)
             (λ e. e ≡ ShapeError.Memory) };
 
-    /// Changes the text before it is normalised. Refuses with `Length` if the list would pass the limit,
-    /// with `Memory` if a growth was refused.
+    /// Changes the text before it is normalised. Refuses with `Length` if the list would pass the
+    /// limit, with `Memory` if a growth was refused.
     fn preprocess_text(
         &self,
         alloc: Global,
@@ -221,8 +223,8 @@ pub trait hb_ot_shaper_t<U: hb_unicode_funcs_t, F: hb_font_t, M: hb_ot_layout_t<
         ensures { Outcome (step (hooks self.now plan.now face.now).preprocess)
             buffer.old buffer.new result };
 
-    /// Changes the glyphs after they were positioned. Refuses with `Length` if the list would pass the
-    /// limit, with `Memory` if a growth was refused.
+    /// Changes the glyphs after they were positioned. Refuses with `Length` if the list would pass
+    /// the limit, with `Memory` if a growth was refused.
     fn postprocess_glyphs(
         &self,
         alloc: Global,
@@ -234,8 +236,8 @@ pub trait hb_ot_shaper_t<U: hb_unicode_funcs_t, F: hb_font_t, M: hb_ot_layout_t<
         ensures { Outcome (step (hooks self.now plan.now face.now).postprocess)
             buffer.old buffer.new result };
 
-    /// Runs the pause of number `n` between two stages of substitution. Refuses with `Length` if the list
-    /// would pass the limit, with `Memory` if a growth was refused.
+    /// Runs the pause of number `n` between two stages of substitution. Refuses with `Length` if
+    /// the list would pass the limit, with `Memory` if a growth was refused.
     fn pause(
         &self,
         alloc: Global,
@@ -248,8 +250,8 @@ pub trait hb_ot_shaper_t<U: hb_unicode_funcs_t, F: hb_font_t, M: hb_ot_layout_t<
         ensures { Outcome (step ((hooks self.now plan.now face.now).pause n))
             buffer.old buffer.new result };
 
-    /// The two parts that a character splits into in one step, in place of Unicode's; the second one is
-    /// U+0000 if it has one part alone.
+    /// The two parts that a character splits into in one step, in place of Unicode's; the second
+    /// one is U+0000 if it has one part alone.
     fn decompose(
         &self,
         plan: &hb_ot_shape_plan_t<'_, Self, M::Map, Self::Data>,
@@ -277,8 +279,9 @@ pub trait hb_ot_shaper_t<U: hb_unicode_funcs_t, F: hb_font_t, M: hb_ot_layout_t<
     )
         ensures { Made (hooks self.now plan.now face.now).setup_masks buffer.old buffer.new };
 
-    /// Puts the items from place `start` up to `end`, at most 32 marks in canonical order, in an order of
-    /// the shaper's own. May merge clusters within the run, and give its items other nonzero ccc.
+    /// Puts the items from place `start` up to `end`, at most 32 marks in canonical order, in an
+    /// order of the shaper's own. May merge clusters within the run, and give its items other
+    /// nonzero ccc.
     fn reorder_marks(
         &self,
         plan: &hb_ot_shape_plan_t<'_, Self, M::Map, Self::Data>,
@@ -300,8 +303,8 @@ pub trait hb_ot_shaper_t<U: hb_unicode_funcs_t, F: hb_font_t, M: hb_ot_layout_t<
         → HookObligations (hooks shaper plan face) };
 }
 
-/// What a run depends on under a plan and over a face: the meanings that its four type parameters bring, in plain
-/// functions. Every shaper has it, and none writes it.
+/// What a run depends on under a plan and over a face: the meanings that its four type parameters
+/// bring, in plain functions. Every shaper has it, and none writes it.
 pub trait Runs<U: hb_unicode_funcs_t, F: hb_font_t, M: hb_ot_layout_t<F>>: hb_ot_shaper_t<U, F, M> {
     /// What normalising depends on.
     ghost rules: { Plan Self M.Map Self.Data → F → Rules };

@@ -1,16 +1,17 @@
-//! The planner of a run: what it asks of the layout engine, and the plan that it makes of the results.
+//! The planner of a run: what it asks of the layout engine, and the plan that it makes of the
+//! results.
 //!
-//! A plan is made in three steps. `new` asks what is known of the face and the shaper, and whether the
-//! shaper is used: if `morx` substitutes, the face does a script's work itself. `collect_features` asks
-//! for features in the order in which their lookups are to run: a shaper's stand between those that come
-//! early and late in every text, then come the user's, which win over these, and last what a shaper
-//! overrides, which wins over the user's. `compile` has the engine compile the requests, and then
-//! decides who positions, kerns and places marks. All that depends on no text is decided here, once for
-//! every text that the plan fits.
+//! A plan is made in three steps. `new` asks what is known of the face and the shaper, and whether
+//! the shaper is used: if `morx` substitutes, the face does a script's work itself.
+//! `collect_features` asks for features in the order in which their lookups are to run: a shaper's
+//! stand between those that come early and late in every text, then come the user's, which win over
+//! these, and last what a shaper overrides, which wins over the user's. `compile` has the engine
+//! compile the requests, and then decides who positions, kerns and places marks. All that depends
+//! on no text is decided here, once for every text that the plan fits.
 //!
 //! Planning takes memory, so `collect_features` and `compile` take the allocator, which they pass
-//! on to hooks and the engine. The planner borrows face and shaper for one lifetime, so a plan's
-//! face lives as long as the plan.
+//! on to hooks and the engine. The planner borrows face and shaper for one lifetime; a plan borrows
+//! the shaper alone, so it may be kept beside its face.
 ghost use Rattle.std.specs.Prelude.{◌≡◌, Option, OnOk, IsOkUnless, IfOk, IfErr, string_bytes};
 ghost use Rattle.std.specs.Option.{option_map};
 ghost use Rattle.shape_plan.specs.Planner as planner_rules;
@@ -32,8 +33,8 @@ use shape_buffer::interfaces::{
 use std::alloc::Global;
 use std::marker::Model;
 
-/// What planning depends on: the meanings that its type parameters bring, in plain functions. Every shaper
-/// has it, and none writes it.
+/// What planning depends on: the meanings that its type parameters bring, in plain functions. Every
+/// shaper has it, and none writes it.
 pub trait Plans<U: hb_unicode_funcs_t, F: hb_font_t, M: hb_ot_layout_t<F>>: hb_ot_shaper_t<
     U,
     F,
@@ -60,8 +61,8 @@ impl<U: hb_unicode_funcs_t, F: hb_font_t, M: hb_ot_layout_t<F>, S: hb_ot_shaper_
     } };
 }
 
-/// A plan in the making, for one face, direction and script. `'a` is the time of face and shaper, which the plan
-/// refers to, and `'t` that of the language, which it doesn't.
+/// A plan in the making, for one face, direction and script. `'a` is the time of face and shaper,
+/// which the plan refers to, and `'t` that of the language, which it doesn't.
 #[derive(Drop)]
 pub struct hb_ot_shape_planner_t<'a, 't, F, S> {
     pub face: &'a F,
@@ -96,8 +97,8 @@ impl<'a, 't, F, S> Model for hb_ot_shape_planner_t<'a, 't, F, S> {
     } };
 }
 
-/// Whether the table `morx` substitutes: if the face has it and the text is horizontal or there is no
-/// `GSUB`.
+/// Whether the table `morx` substitutes: if the face has it and the text is horizontal or there is
+/// no `GSUB`.
 fn uses_morx(tables: hb_tables_t, direction: Direction) -> bool
     ensures { result ≡ planner_rules.uses_morx tables direction }
 {
@@ -116,8 +117,8 @@ fn kept<'a, S>(apply_morx: bool, is_default: bool, shaper: &'a S) -> ChosenShape
 }
 
 impl<'a, 't, F, S> hb_ot_shape_planner_t<'a, 't, F, S> {
-    /// A planner without requests. Takes what the given shaper prefers for marks, before the shaper may give
-    /// way to the one that knows no script.
+    /// A planner without requests. Takes what the given shaper prefers for marks, before the shaper
+    /// may give way to the one that knows no script.
     #[tactic(auto, unfolding(crate::specs::Planner::begun_planner))]
     pub fn new<U, M>(
         alloc: Global,
@@ -150,8 +151,8 @@ impl<'a, 't, F, S> hb_ot_shape_planner_t<'a, 't, F, S> {
         }
     }
 
-    /// Makes all requests, the user's among them: see the module's own words for their order. Refuses with
-    /// `Memory` alone; nothing is said of the planner then.
+    /// Makes all requests, the user's among them: see the module's own words for their order.
+    /// Refuses with `Memory` alone; nothing is said of the planner then.
     #[tactic(auto, unfolding(crate::specs::Planner::collected_planner, crate::specs::Requests::requested))]
     pub fn collect_features<U, M>(
         &mut self,
@@ -179,10 +180,11 @@ impl<'a, 't, F, S> hb_ot_shape_planner_t<'a, 't, F, S> {
         )
     }
 
-    /// The plan: has the engine compile the requests, decides all that depends on no text, copies the
-    /// user's features and, last, has a used shaper make its data. Refuses with `Memory` alone, and hands
-    /// nothing back then. What is said of the masks and of who positions holds of every plan; it stands
-    /// here for the reader. That `GPOS` alone runs if `kerx` is applied too is the rule of the steps.
+    /// The plan: has the engine compile the requests, decides all that depends on no text, copies
+    /// the user's features and, last, has a used shaper make its data. Refuses with `Memory` alone,
+    /// and hands nothing back then. What is said of the masks and of who positions holds of every
+    /// plan; it stands here for the reader. That `GPOS` alone runs if `kerx` is applied too is the
+    /// rule of the steps.
     #[tactic(auto, unfolding(crate::specs::Planner::compiled_plan))]
     pub fn compile<U, M>(
         self,

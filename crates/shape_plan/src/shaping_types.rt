@@ -38,8 +38,8 @@ pub type DataOf<T> = <<T as ShapingTypes>::Shaper as hb_ot_shaper_t<
 /// A plan for a run of these types.
 pub type PlanOf<'a, T> = hb_ot_shape_plan_t<'a, <T as ShapingTypes>::Shaper, MapOf<T>, DataOf<T>>;
 
-/// What a run depends on under a plan and over a face: the meanings that its types bring, in plain functions.
-/// All types have it, and none writes it.
+/// What a run depends on under a plan and over a face: the meanings that its types bring, in plain
+/// functions. All types have it, and none writes it.
 pub trait Meaning: ShapingTypes {
     /// What normalising depends on.
     ghost rules: { Plan Self.Shaper Self.Engine.Map Self.Shaper.Data → Self.Face → Rules };

@@ -10,7 +10,8 @@ ghost use Rattle.shape_plan.specs.Worked.Plans.{ScriptsOfShapers};
 ghost use Rattle.shape_plan.specs.Worked.Runs.{RulesOfShapers, RunsOfPlans, ConstantsOfShapers};
 ghost use Rattle.shape_plan.specs.Worked.Texts.{ScriptsOfTexts, TagsOfFacts, ScriptsThatFit};
 
-/// What is asked for in each direction, for the user and by hooks, and what hooks are told of the text.
+/// What is asked for in each direction, for the user and by hooks, and what hooks are told of the
+/// text.
 pub fn requests_meet_worked_cases()
     ensures directions { RequestsOfDirections }
     ensures users { RequestsOfUsers }
@@ -33,7 +34,8 @@ pub fn plans_meet_worked_cases()
     ensures scripts { ScriptsOfShapers }
 {}
 
-/// What engine and map are asked with: script and language of the text, and the tag of each feature.
+/// What engine and map are asked with: script and language of the text, and the tag of each
+/// feature.
 pub fn texts_meet_worked_cases()
     ensures scripts { ScriptsOfTexts }
     ensures tags { TagsOfFacts }

@@ -1,8 +1,8 @@
 //! The clusters of graphemes.
 //!
-//! A caller who asks for graphemes gets one cluster for each. For any other it is marked that a line can't be
-//! broken inside one without shaping anew. Text of ASCII characters alone has graphemes of one item, so
-//! nothing is done for it.
+//! A caller who asks for graphemes gets one cluster for each. For any other it is marked that a
+//! line can't be broken inside one without shaping anew. Text of ASCII characters alone has
+//! graphemes of one item, so nothing is done for it.
 ghost use Rattle.std.specs.Prelude.{◌≡◌, ◌≢◌};
 ghost use Rattle.shape_items.specs.BufferClusters.{merge_clusters, unsafe_to_break};
 ghost use Rattle.shape_buffer.specs.Outcome.{Made};
@@ -13,8 +13,8 @@ use crate::grapheme_walk::{GraphemeChange, each_grapheme};
 use bitflags::Flags;
 use shape_buffer::buffer::{BufferClusterLevel, ScratchFlags, hb_buffer_t};
 
-/// If a character past ASCII was seen, merges each grapheme at level MONOTONE_GRAPHEMES, and marks each
-/// unsafe to break at the other levels. Takes no memory.
+/// If a character past ASCII was seen, merges each grapheme at level MONOTONE_GRAPHEMES, and marks
+/// each unsafe to break at the other levels. Takes no memory.
 pub fn form_clusters(buffer: &mut hb_buffer_t)
     ensures { Made clusters_formed buffer.old buffer.new }
 {

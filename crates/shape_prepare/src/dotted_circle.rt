@@ -1,7 +1,8 @@
 //! The dotted circle: a base for a mark that begins a text.
 //!
-//! A mark with nothing before it would hang on whatever is printed beside it. So it gets a dotted circle to
-//! stand on, as code charts have it, unless the caller forbids it or the text goes on from another one.
+//! A mark with nothing before it would hang on whatever is printed beside it. So it gets a dotted
+//! circle to stand on, as code charts have it, unless the caller forbids it or the text goes on
+//! from another one.
 ghost use Rattle.std.specs.Prelude.{◌≡◌, ◌<◌, length, IsTrue};
 ghost use Rattle.shape_buffer.specs.Outcome.{Outcome, IsWithinLimit, step};
 ghost use Rattle.canonical_form.specs.Expanded;
@@ -16,10 +17,10 @@ use shape_buffer::interfaces::{hb_font_t, hb_unicode_funcs_t};
 /// U+25CC, on which charts show a mark.
 const DOTTED_CIRCLE: char = '\u{25CC}';
 
-/// Puts a dotted circle before a mark that begins the text, with its own properties and the mark's mask and
-/// cluster: if the flags say that the text begins here and don't forbid it, there is no pre-context, and
-/// the face has the character. Refuses with `Length` if the list has reached its limit, and with `Memory`
-/// if a growth was refused.
+/// Puts a dotted circle before a mark that begins the text, with its own properties and the mark's
+/// mask and cluster: if the flags say that the text begins here and don't forbid it, there is no
+/// pre-context, and the face has the character. Refuses with `Length` if the list has reached its
+/// limit, and with `Memory` if a growth was refused.
 pub fn insert_dotted_circle<U: hb_unicode_funcs_t, F: hb_font_t>(
     face: &F,
     buffer: &mut hb_buffer_t,

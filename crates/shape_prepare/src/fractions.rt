@@ -1,9 +1,9 @@
 //! Fractions: digits on both sides of U+2044, the fraction slash.
 //!
-//! The Unicode Standard (section 6.2, "Fraction Slash") has the digits directly before the slash as the
-//! numerator and those directly after it as the denominator. A font has features for the two parts and one
-//! for the whole; here each part gets its features, so that a font needn't look for digits. In a buffer that
-//! isn't forward the denominator comes first.
+//! The Unicode Standard (section 6.2, "Fraction Slash") has the digits directly before the slash as
+//! the numerator and those directly after it as the denominator. A font has features for the two
+//! parts and one for the whole; here each part gets its features, so that a font needn't look for
+//! digits. In a buffer that isn't forward the denominator comes first.
 //!
 //! A digit is an item of category DecimalNumber, a slash with that category too; with Unicode's
 //! own categories there is none.
@@ -20,7 +20,8 @@ use shape_plan::ot_shape_plan::hb_ot_shape_plan_t;
 
 const FRACTION_SLASH: char = '\u{2044}';
 
-/// The features that are added around a slash: to the digits before it, to itself, to those after it.
+/// The features that are added around a slash: to the digits before it, to itself, to those after
+/// it.
 #[derive(Clone, Copy, Debug)]
 pub struct FractionMasks {
     pub before: hb_mask_t,
@@ -125,8 +126,8 @@ fn add_features(buffer: &mut hb_buffer_t, mask: hb_mask_t, start: usize, end: us
     }
 }
 
-/// Masks the whole round a slash, or marks a slash without digits on one side unsafe to concat. Returns
-/// where the walk goes on.
+/// Masks the whole round a slash, or marks a slash without digits on one side unsafe to concat.
+/// Returns where the walk goes on.
 fn mask_slash(buffer: &mut hb_buffer_t, masks: FractionMasks, slash: usize) -> usize
     requires { slash < length buffer.old.items }
     ensures masked { Made (Fractions.slash_masked masks slash) buffer.old buffer.new }
@@ -167,9 +168,9 @@ fn may_have_fractions<S, P, D>(plan: &hb_ot_shape_plan_t<'_, S, P, D>, buffer: &
 }
 
 /// Adds the features of fractions, if the plan has lookups for them and a character past ASCII was
-/// seen: to the digits before a fraction slash, to the slash, and to those after it. The whole is marked
-/// unsafe to break; a slash without digits on one side is marked unsafe to concat and gets no feature.
-/// Takes no memory.
+/// seen: to the digits before a fraction slash, to the slash, and to those after it. The whole is
+/// marked unsafe to break; a slash without digits on one side is marked unsafe to concat and gets
+/// no feature. Takes no memory.
 pub fn setup_masks_fraction<S, P, D>(
     plan: &hb_ot_shape_plan_t<'_, S, P, D>,
     buffer: &mut hb_buffer_t,

@@ -31,8 +31,8 @@ impl GraphemeChange {
     }
 }
 
-/// Marks the items from place `start` up to `end` unsafe to break. One item has no place inside it where a
-/// line could be broken, so it is left out before the call.
+/// Marks the items from place `start` up to `end` unsafe to break. One item has no place inside it
+/// where a line could be broken, so it is left out before the call.
 fn mark_unsafe(buffer: &mut hb_buffer_t, start: usize, end: usize)
     requires ordered { start ≤ end }
     requires within { end ≤ length buffer.old.items }

@@ -1,12 +1,13 @@
 //! Graphemes: properties of the characters, and which items continue a grapheme.
 //!
-//! A grapheme is what a reader takes for one character: a letter with its marks, a flag of two regional
-//! indicators, an emoji with its skin tone, or several emoji joined by ZERO WIDTH JOINER. Reversing a text must
-//! not part one, so each item that belongs to what stands before it is marked as a continuation. The rules
-//! are those of UAX 29 that shaping needs: marks and extenders (GB9), emoji after a ZWJ (GB11), pairs
-//! of regional indicators (GB12, GB13).
+//! A grapheme is what a reader takes for one character: a letter with its marks, a flag of two
+//! regional indicators, an emoji with its skin tone, or several emoji joined by ZERO WIDTH JOINER.
+//! Reversing a text must not part one, so each item that belongs to what stands before it is marked
+//! as a continuation. The rules are those of UAX 29 that shaping needs: marks and extenders (GB9),
+//! emoji after a ZWJ (GB11), pairs of regional indicators (GB12, GB13).
 //!
-//! What the rules ask of the item before fits three cases, so one walk sets properties and continuations.
+//! What the rules ask of the item before fits three cases, so one walk sets properties and
+//! continuations.
 //!
 //! An item that was joined to a ZWJ is itself no open regional indicator and joins nothing.
 ghost use Rattle.std.specs.Prelude.{◌≡◌, ◌&&◌, not};
@@ -32,8 +33,8 @@ pub(crate) enum Before {
     Zwj,
 }
 
-/// Sets the properties of each item that depend on its character, marks the items that continue a grapheme, and
-/// sets the scratch flags that the characters show. Takes no memory.
+/// Sets the properties of each item that depend on its character, marks the items that continue a
+/// grapheme, and sets the scratch flags that the characters show. Takes no memory.
 pub fn set_unicode_props<U: hb_unicode_funcs_t>(buffer: &mut hb_buffer_t)
     ensures { Made (Graphemes.graphemes_marked U.unicode) buffer.old buffer.new }
 {
@@ -47,8 +48,9 @@ pub fn set_unicode_props<U: hb_unicode_funcs_t>(buffer: &mut hb_buffer_t)
     buffer.set_scratch_flags(scratch_flags);
 }
 
-/// Sets an item's properties that depend on its character, marks it as a continuation if it is one, and says what
-/// it is to the next one. No rule is asked about an ASCII character that doesn't follow a ZWJ.
+/// Sets an item's properties that depend on its character, marks it as a continuation if it is one,
+/// and says what it is to the next one. No rule is asked about an ASCII character that doesn't
+/// follow a ZWJ.
 fn mark_item<U: hb_unicode_funcs_t>(
     before: Before,
     info: &mut hb_glyph_info_t,
@@ -68,15 +70,17 @@ fn mark_item<U: hb_unicode_funcs_t>(
     mark_continuation::<U>(before, info)
 }
 
-/// Whether no rule has to be asked about an item: it continues already, as a mark does, and is no ZWJ.
+/// Whether no rule has to be asked about an item: it continues already, as a mark does, and is no
+/// ZWJ.
 fn is_settled(info: &hb_glyph_info_t) -> bool
     ensures { result ≡ Graphemes.is_settled info.now }
 {
     info._hb_glyph_info_get_continuation() && !info._hb_glyph_info_get_zwj()
 }
 
-/// Whether an item stays as it is, since no rule has a say: nothing joins it to the one before, no rule asks about its
-/// category, and it stands before the regional indicators. So most letters past ASCII are decided at once.
+/// Whether an item stays as it is, since no rule has a say: nothing joins it to the one before, no
+/// rule asks about its category, and it stands before the regional indicators. So most letters past
+/// ASCII are decided at once.
 fn is_left_alone(before: Before, info: &hb_glyph_info_t) -> bool
     ensures { result ≡ Graphemes.is_left_alone before info.now }
 {
@@ -85,8 +89,9 @@ fn is_left_alone(before: Before, info: &hb_glyph_info_t) -> bool
         && info.codepoint < FIRST_INDICATOR
 }
 
-/// Whether an item stays as it is, since no rule fits it: nothing joins it to the one before, and it is no ZWJ and no
-/// character that a rule names. So most punctuation, symbols and emoji are decided at once.
+/// Whether an item stays as it is, since no rule fits it: nothing joins it to the one before, and
+/// it is no ZWJ and no character that a rule names. So most punctuation, symbols and emoji are
+/// decided at once.
 fn fits_no_rule(before: Before, info: &hb_glyph_info_t) -> bool
     ensures { result ≡ (not (Graphemes.is_joining before)
         && not info.now.properties.zwj
@@ -143,8 +148,8 @@ fn is_joined<U: hb_unicode_funcs_t>(before: Before, c: char) -> bool
     }
 }
 
-/// Whether an item that is no mark continues the grapheme before it: a skin tone, the second of two regional
-/// indicators, a ZWJ, a voice mark of halfwidth katakana, or a tag.
+/// Whether an item that is no mark continues the grapheme before it: a skin tone, the second of two
+/// regional indicators, a ZWJ, a voice mark of halfwidth katakana, or a tag.
 fn continues_by_rule(before: Before, info: &hb_glyph_info_t) -> bool
     ensures { result ≡ Graphemes.continues_by_rule before info.now }
 {
@@ -210,8 +215,8 @@ pub(crate) fn is_regional_indicator(c: char) -> bool
     matches!(c, FIRST_INDICATOR..='\u{1F1FF}')
 }
 
-/// Whether a character that is no mark extends what stands before it: a voice mark of halfwidth katakana, or
-/// a tag (UAX 29, Grapheme_Extend).
+/// Whether a character that is no mark extends what stands before it: a voice mark of halfwidth
+/// katakana, or a tag (UAX 29, Grapheme_Extend).
 fn is_extender(c: char) -> bool
     ensures { result ≡ Graphemes.is_extender c }
 {

@@ -1,8 +1,8 @@
 //! The native order: a text runs the way its script is written.
 //!
-//! Lookups are made for text in the direction in which its script is written, so a text that was handed
-//! over against it is reversed. Each grapheme stays as it was: its marks must stand after their base. So each
-//! grapheme is reversed in place first, and then the whole list is.
+//! Lookups are made for text in the direction in which its script is written, so a text that was
+//! handed over against it is reversed. Each grapheme stays as it was: its marks must stand after
+//! their base. So each grapheme is reversed in place first, and then the whole list is.
 //!
 //! Positions are reversed with their items; all are zero then. Graphemes are merged in a walk of
 //! their own before a reversal. Whether the list is reversed is decided after clusters were
@@ -23,10 +23,11 @@ use shape_buffer::buffer::{
 };
 use shape_buffer::interfaces::hb_unicode_funcs_t;
 
-/// Reverses a text that runs against its native direction, and its direction with it: horizontal text unlike
-/// the direction of its script, if that is known, and vertical text that runs to the top. Graphemes
-/// stay as they are; at level MONOTONE_CHARACTERS each is merged first. Text from left to right that has
-/// numbers and no letter stays so under a script that is written from right to left. Takes no memory.
+/// Reverses a text that runs against its native direction, and its direction with it: horizontal
+/// text unlike the direction of its script, if that is known, and vertical text that runs to the
+/// top. Graphemes stay as they are; at level MONOTONE_CHARACTERS each is merged first. Text from
+/// left to right that has numbers and no letter stays so under a script that is written from right
+/// to left. Takes no memory.
 pub fn ensure_native_direction<U: hb_unicode_funcs_t>(buffer: &mut hb_buffer_t)
     ensures { Made (NativeOrder.natively_ordered U.unicode) buffer.old buffer.new }
 {

@@ -1,7 +1,7 @@
 //! The steps that prepare a text, one after another.
 //!
-//! Each step is a function of its own whose contract says which function on buffers it is; here they are
-//! made in the order of the lists, and the contract is that the whole list was run.
+//! Each step is a function of its own whose contract says which function on buffers it is; here
+//! they are made in the order of the lists, and the contract is that the whole list was run.
 ghost use Rattle.shape_buffer.specs.Outcome.{RunOutcome, IsWithinLimit};
 ghost use Rattle.shape_prepare.specs.PrepareSteps.{prepare_steps};
 
@@ -18,11 +18,11 @@ use shape_plan::ot_shaper::hb_ot_shaper_t;
 use shape_plan::shaping_types::{Meaning, PlanOf, ShapingTypes};
 use std::alloc::Global;
 
-/// Prepares a text for normalising: masks and positions anew, properties and graphemes, a dotted circle
-/// before a mark that begins the text, clusters, the native order, the shaper's `preprocess_text`, and the
-/// forms for the target direction, which is the one that the text was handed over in. Refuses with
-/// `Length` if a step would make the list longer than the buffer's limit, and with `Memory` if a
-/// growth was refused; nothing is said of the buffer then.
+/// Prepares a text for normalising: masks and positions anew, properties and graphemes, a dotted
+/// circle before a mark that begins the text, clusters, the native order, the shaper's
+/// `preprocess_text`, and the forms for the target direction, which is the one that the text was
+/// handed over in. Refuses with `Length` if a step would make the list longer than the buffer's
+/// limit, and with `Memory` if a growth was refused; nothing is said of the buffer then.
 pub fn prepare<T: ShapingTypes>(
     alloc: Global,
     plan: &PlanOf<'_, T>,

@@ -1,8 +1,8 @@
 //! Features that the user asks for over some clusters of the text.
 //!
-//! A range names clusters and not places, since normalising has changed how many items there are. Features
-//! are set in the order in which they were asked for, so a later one wins. One that is asked for over the
-//! whole text is in the mask that every item begins with.
+//! A range names clusters and not places, since normalising has changed how many items there are.
+//! Features are set in the order in which they were asked for, so a later one wins. One that is
+//! asked for over the whole text is in the mask that every item begins with.
 ghost use Rattle.std.specs.Prelude.{◌≡◌, ◌<◌};
 ghost use Rattle.shape_buffer.specs.Outcome.{Made};
 ghost use Rattle.shape_buffer.specs.Walks.{items_mapped};
@@ -57,8 +57,9 @@ fn set_feature<T: ShapingTypes>(plan: &PlanOf<'_, T>, buffer: &mut hb_buffer_t, 
     }
 }
 
-/// Sets the features that the user asked for over a part of the text, in their order, over the items whose
-/// clusters are in their ranges: the bits of the feature become those of its value. Takes no memory.
+/// Sets the features that the user asked for over a part of the text, in their order, over the
+/// items whose clusters are in their ranges: the bits of the feature become those of its value.
+/// Takes no memory.
 pub fn setup_masks_user<T: ShapingTypes>(plan: &PlanOf<'_, T>, buffer: &mut hb_buffer_t)
     ensures { Made (Ranges.ranges_masked (T.Engine.masks plan.now.ot_map) plan.now.user_features)
         buffer.old buffer.new }

@@ -1,9 +1,9 @@
 //! Mirrored and vertical forms: characters that have another form in the direction of the text.
 //!
-//! A parenthesis that opens a text from right to left is drawn as the mirror image of the one that opens a
-//! text from left to right (UAX 9, rule L4), and a dash that stands in a vertical line is drawn upright.
-//! If Unicode has a character of that look and the face has a glyph for it, the character becomes that
-//! one; else lookups get the chance, by the mask of `rtlm`, or by `vert`.
+//! A parenthesis that opens a text from right to left is drawn as the mirror image of the one that
+//! opens a text from left to right (UAX 9, rule L4), and a dash that stands in a vertical line is
+//! drawn upright. If Unicode has a character of that look and the face has a glyph for it, the
+//! character becomes that one; else lookups get the chance, by the mask of `rtlm`, or by `vert`.
 ghost use Rattle.std.specs.Prelude.{◌≡◌, ◌&&◌, not};
 ghost use Rattle.shape_common.specs.Direction.{is_backward, is_vertical};
 ghost use Rattle.shape_buffer.specs.Outcome.{Made};
@@ -15,10 +15,10 @@ use shape_buffer::walks::update_items;
 use shape_plan::ot_shape_plan::hb_ot_shape_plan_t;
 use shape_plan::shaping_types::{PlanOf, ShapingTypes};
 
-/// With a backward target direction, makes each character the mirrored one, if the face has that, and adds
-/// the mask of the feature `rtlm` to every other item. With a vertical target direction, if no lookup makes
-/// vertical forms, makes each character its vertical form, if the face has that. Properties stay. Takes
-/// no memory.
+/// With a backward target direction, makes each character the mirrored one, if the face has that,
+/// and adds the mask of the feature `rtlm` to every other item. With a vertical target direction,
+/// if no lookup makes vertical forms, makes each character its vertical form, if the face has that.
+/// Properties stay. Takes no memory.
 pub fn rotate_chars<T: ShapingTypes>(
     plan: &PlanOf<'_, T>,
     face: &T::Face,

@@ -1,5 +1,6 @@
 -- a feature as text: sign, tag, range, value
-use Rattle.std.specs.Prelude.{ℕ, List, [], ◌∷◌, Bool, Option, Some, None, ◌+◌, ◌-◌, ◌*◌, ◌%◌, ◌^◌, ◌==◌, ◌&&◌, ◌||◌, nat_lt, length, take, drop, get_or, if◌then◌else◌, is_some}
+use Rattle.std.specs.Prelude.{ℕ, List, [], ◌∷◌, Bool, Option, Some, None, ◌+◌, ◌-◌, ◌*◌, ◌%◌, ◌^◌, ◌==◌, ◌&&◌, ◌||◌, nat_lt, length, take, drop}
+use Rattle.std.specs.Prelude.{get_or, if◌then◌else◌, is_some}
 use Rattle.std.specs.List.{prefix_len}
 use Rattle.std.specs.Option.{option_map, option_or, option_and_then, option_map_or, unwrap_or}
 use Rattle.shape_common.specs.declared.text_types.Feature.{Feature}

@@ -1,5 +1,6 @@
 -- what stands at the front of a text
-use Rattle.std.specs.Prelude.{ℕ, List, [], ◌∷◌, Bool, true, false, not, Option, Some, None, ◌+◌, ◌-◌, ◌*◌, ◌%◌, ◌^◌, ◌==◌, ◌&&◌, ◌||◌, nat_lt, nat_le, min, take, drop, if◌then◌else◌}
+use Rattle.std.specs.Prelude.{ℕ, List, [], ◌∷◌, Bool, true, false, not, Option, Some, None, ◌+◌, ◌-◌, ◌*◌, ◌%◌, ◌^◌, ◌==◌, ◌&&◌, ◌||◌, nat_lt, nat_le}
+use Rattle.std.specs.Prelude.{min, take, drop, if◌then◌else◌}
 use Rattle.std.specs.List.{prefix_len, fold}
 use Rattle.std.specs.Option.{option_map}
 use Rattle.shape_text_forms.specs.declared.scan.Kind.{Kind}

@@ -1,4 +1,5 @@
-//! What a text of glyphs depends on: what is asked for, the boxes of a face, and the names of its glyphs.
+//! What a text of glyphs depends on: what is asked for, the boxes of a face, and the names of its
+//! glyphs.
 //!
 //! A name is asked of a `glyph_names` beside the face: shaping asks no face for names.
 ghost use Rattle.std.specs.Prelude.{◌≡◌};

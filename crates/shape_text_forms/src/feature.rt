@@ -1,7 +1,8 @@
 //! A feature as text, as HarfBuzz and CSS write it: `kern`, `-liga`, `aalt[3:5]=2`, `'smcp' on`.
 //!
-//! A sign, a tag, a range of the text, a value, each where it may stand; spaces may stand between them. A range goes
-//! from one place between characters to another; a number alone names the one character after that place.
+//! A sign, a tag, a range of the text, a value, each where it may stand; spaces may stand between
+//! them. A range goes from one place between characters to another; a number alone names the one
+//! character after that place.
 //!
 //! A word for a value that is neither `on` nor `off` makes the text no feature: a mistyped value
 //! shouldn't switch a feature on. HarfBuzz skips the word.
@@ -201,8 +202,8 @@ fn given_value(text: &[u8]) -> Option<(u32, &[u8])>
     }
 }
 
-/// The value of a feature, and the text after it: the given one, else that of its sign. None if nothing is given
-/// after an equals sign.
+/// The value of a feature, and the text after it: the given one, else that of its sign. None if
+/// nothing is given after an equals sign.
 fn value(by_sign: u32, text: &[u8]) -> Option<(u32, &[u8])>
     ensures { option_map (λ r. (r.0, r.1.now)) result ≡ value_of by_sign text.now }
 {
@@ -215,7 +216,8 @@ fn value(by_sign: u32, text: &[u8]) -> Option<(u32, &[u8])>
     }
 }
 
-/// The feature that a text asks for, as `hb_feature_from_string` reads it. None if the text is no feature.
+/// The feature that a text asks for, as `hb_feature_from_string` reads it. None if the text is no
+/// feature.
 pub fn feature_from_string(text: &str) -> Option<Feature>
     ensures { result ≡ feature_of text.now }
 {

@@ -29,7 +29,8 @@ pub(crate) fn cut(name: &[u8]) -> &[u8]
     }
 }
 
-/// The name of a glyph by `post` or `CFF `; none if it has none, or one whose first 127 bytes are no text.
+/// The name of a glyph by `post` or `CFF `; none if it has none, or one whose first 127 bytes are
+/// no text.
 fn name<'a>(face: &FontFace<'a>, glyph: GlyphId) -> Option<&'a str>
     ensures { option_map (λ s. s.now) result ≡ written_name face.now glyph.0 }
 {

@@ -1,8 +1,10 @@
-//! Glyphs as a list of JSON (RFC 8259), as `hb-shape` writes it: `[{"g":"A","cl":0,"dx":0,"dy":0,"ax":600,"ay":0}]`.
+//! Glyphs as a list of JSON (RFC 8259), as `hb-shape` writes it:
+//! `[{"g":"A","cl":0,"dx":0,"dy":0,"ax":600,"ay":0}]`.
 //!
-//! A glyph is an object: `g` is its name or number, `cl` its cluster, `dx` and `dy` say where it is moved to, `ax` and
-//! `ay` how far the pen moves on; if they are asked for, `fl` has its flags, and `xb`, `yb`, `w` and `h` its box. Names
-//! are written by `serde_json`, which escapes what a string of JSON can't hold.
+//! A glyph is an object: `g` is its name or number, `cl` its cluster, `dx` and `dy` say where it is
+//! moved to, `ax` and `ay` how far the pen moves on; if they are asked for, `fl` has its flags, and
+//! `xb`, `yb`, `w` and `h` its box. Names are written by `serde_json`, which escapes what a string
+//! of JSON can't hold.
 ghost use Rattle.std.specs.Prelude.{◌≡◌, ◌++◌, [], ◌∷◌, codes, string_bytes, IfOk};
 ghost use Rattle.std.specs.Option.{option_map_or};
 ghost use Rattle.std.specs.Fmt.{decimal, signed_decimal};

@@ -29,8 +29,8 @@ fn append_entry<F: hb_font_t, N: glyph_names>(
     }
 }
 
-/// Appends a part of a list: glyphs from this spot on, and no end. Returns the spot of the glyph after them, from which
-/// the next part goes on. Refuses only if a growth of memory was refused.
+/// Appends a part of a list: glyphs from this spot on, and no end. Returns the spot of the glyph
+/// after them, from which the next part goes on. Refuses only if a growth of memory was refused.
 pub fn append_part<F: hb_font_t, N: glyph_names>(
     alloc: Global,
     out: &mut String,
@@ -105,8 +105,8 @@ fn list<F: hb_font_t, N: glyph_names>(
     Ok(out)
 }
 
-/// Glyphs at these positions as text, as `hb-shape` writes them: an empty text for no glyphs, which takes no memory.
-/// Boxes are the face's. Refuses only if a growth of that text was refused.
+/// Glyphs at these positions as text, as `hb-shape` writes them: an empty text for no glyphs, which
+/// takes no memory. Boxes are the face's. Refuses only if a growth of that text was refused.
 pub fn serialize_placed<F: hb_font_t, N: glyph_names>(
     alloc: Global,
     infos: &[hb_glyph_info_t],
@@ -129,8 +129,8 @@ pub fn serialize_placed<F: hb_font_t, N: glyph_names>(
     list(alloc, &content, infos, positions)
 }
 
-/// The glyphs of a run as text, as [`serialize_placed`] writes them where they stand. Refuses only if a growth of that
-/// text was refused.
+/// The glyphs of a run as text, as [`serialize_placed`] writes them where they stand. Refuses only
+/// if a growth of that text was refused.
 pub fn serialize<F: hb_font_t, N: glyph_names>(
     alloc: Global,
     glyphs: &GlyphBuffer,
@@ -147,8 +147,8 @@ pub fn serialize<F: hb_font_t, N: glyph_names>(
     serialize_placed(alloc, infos, glyphs.glyph_positions(), face, names, flags)
 }
 
-/// Glyphs at these positions as a list of JSON: an empty text for no glyphs, which takes no memory. Boxes are the
-/// face's. Refuses only if a growth of memory was refused.
+/// Glyphs at these positions as a list of JSON: an empty text for no glyphs, which takes no memory.
+/// Boxes are the face's. Refuses only if a growth of memory was refused.
 pub fn serialize_placed_json<F: hb_font_t, N: glyph_names>(
     alloc: Global,
     infos: &[hb_glyph_info_t],
@@ -171,8 +171,8 @@ pub fn serialize_placed_json<F: hb_font_t, N: glyph_names>(
     list(alloc, &content, infos, positions)
 }
 
-/// The glyphs of a run as a list of JSON, as [`serialize_placed_json`] writes them where they stand. Refuses only if a
-/// growth of memory was refused.
+/// The glyphs of a run as a list of JSON, as [`serialize_placed_json`] writes them where they
+/// stand. Refuses only if a growth of memory was refused.
 pub fn serialize_json<F: hb_font_t, N: glyph_names>(
     alloc: Global,
     glyphs: &GlyphBuffer,

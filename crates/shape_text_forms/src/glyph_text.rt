@@ -1,7 +1,7 @@
 //! Glyphs as text, as `hb-shape` writes them: `[A=0+600|B=1@-50,0+640]`.
 //!
-//! A glyph is its name or number, `=` and its cluster, `@` and where it is moved to, `+` and how far the pen moves
-//! on; if they are asked for, also `#` and its flags, and its box.
+//! A glyph is its name or number, `=` and its cluster, `@` and where it is moved to, `+` and how
+//! far the pen moves on; if they are asked for, also `#` and its flags, and its box.
 ghost use Rattle.std.specs.Prelude.{◌≡◌, ◌++◌, string_bytes, IfOk};
 ghost use Rattle.shape_text_forms.specs.Serialize.{form_of, cluster_word, offset_word, advance_word};
 ghost use Rattle.shape_text_forms.specs.Serialize.{position_word, flags_word, corner_word, size_word, box_word, extents_word};

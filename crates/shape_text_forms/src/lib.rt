@@ -1,10 +1,11 @@
-//! Features, directions, languages and scripts from text, as HarfBuzz spells them, and glyphs as text, as its program
-//! `hb-shape` writes them.
+//! Features, directions, languages and scripts from text, as HarfBuzz spells them, and glyphs as
+//! text, as its program `hb-shape` writes them.
 //!
-//! Any text is taken: each value is a function of the text's bytes, and what is no feature is none. [`scan`] has what
-//! stands at the front of a text, [`feature`] the grammar of a feature, [`names`] what one word names, [`glyph_list`]
-//! the text of glyphs, of which each is written by [`glyph_text`] or by [`glyph_json`], with names by [`font_names`] or,
-//! where many are written, by [`opened_names`]. [`worked`] has the definitions computed on texts that were read by hand.
+//! Any text is taken: each value is a function of the text's bytes, and what is no feature is none.
+//! [`scan`] has what stands at the front of a text, [`feature`] the grammar of a feature, [`names`]
+//! what one word names, [`glyph_list`] the text of glyphs, of which each is written by
+//! [`glyph_text`] or by [`glyph_json`], with names by [`font_names`] or, where many are written, by
+//! [`opened_names`]. [`worked`] has the definitions computed on texts that were read by hand.
 //!
 //! The calls are functions and not `FromStr`, since neither the trait nor the types are this
 //! crate's.

@@ -20,16 +20,16 @@ pub fn tag_from_string(text: &str) -> hb_tag_t
     tag_value(text.as_bytes())
 }
 
-/// The script of a tag of ISO 15924 in any case, as `Script::from_iso15924_tag` tells it: none for an empty text, and
-/// Unknown for what doesn't look like a name.
+/// The script of a tag of ISO 15924 in any case, as `Script::from_iso15924_tag` tells it: none for
+/// an empty text, and Unknown for what doesn't look like a name.
 pub fn script_from_string(text: &str) -> Option<Script>
     ensures { result ≡ script_of_text text.now }
 {
     Script::from_iso15924_tag(tag_from_string(text))
 }
 
-/// The direction by its first letter in any case, as of `ltr` or `left-to-right`; Invalid if it names none
-/// (HarfBuzz, `hb_direction_from_string`).
+/// The direction by its first letter in any case, as of `ltr` or `left-to-right`; Invalid if it
+/// names none (HarfBuzz, `hb_direction_from_string`).
 pub fn direction_from_string(text: &str) -> Direction
     ensures { result ≡ direction_of_text text.now }
 {
@@ -74,9 +74,10 @@ fn respelled(alloc: Global, bytes: &[u8]) -> Result<String, AllocError>
     Ok(name)
 }
 
-/// The language of a name of BCP 47 or of POSIX, in HarfBuzz's spelling: small letters, `-` for `_`, and nothing from
-/// the first other byte on, so that `fa_IR.UTF-8` is `fa-ir`. None if no name is left (HarfBuzz,
-/// `hb_language_from_string`). Refuses only if a growth of the name was refused, so never if there is none.
+/// The language of a name of BCP 47 or of POSIX, in HarfBuzz's spelling: small letters, `-` for
+/// `_`, and nothing from the first other byte on, so that `fa_IR.UTF-8` is `fa-ir`. None if no name
+/// is left (HarfBuzz, `hb_language_from_string`). Refuses only if a growth of the name was refused,
+/// so never if there is none.
 pub fn language_from_string(alloc: Global, text: &str) -> Result<Option<Language>, AllocError>
     ensures named { IfOk result (λ r. option_map (λ l. string_bytes l.0) r
         ≡ language_of_text text.now) }

@@ -1,7 +1,8 @@
 //! The names of a font's glyphs, opened once: where each string of `post` begins is stored.
 //!
-//! A string of format 2 begins where the one before it ends, so a string is found by a step for each one before it.
-//! Here these steps are taken once. Of the 258 names that a table leaves out each is found by at most 257 steps.
+//! A string of format 2 begins where the one before it ends, so a string is found by a step for
+//! each one before it. Here these steps are taken once. Of the 258 names that a table leaves out
+//! each is found by at most 257 steps.
 ghost use Rattle.std.specs.Prelude.{◌≡◌, ◌<◌, ◌^◌, IfOk};
 ghost use Rattle.std.specs.Option.{option_map};
 ghost use Rattle.shape_font.specs.Face.{name_of_glyph};
@@ -38,10 +39,11 @@ fn string_starts(alloc: Global, post: &[u8]) -> Result<Vec<u32>, AllocError>
     Ok(starts)
 }
 
-/// The names in a font's table `post`, with where its strings begin: it returns what the [`FontFace`] returns, and
-/// contracts see it as that face.
+/// The names in a font's table `post`, with where its strings begin: it returns what the
+/// [`FontFace`] returns, and contracts see it as that face.
 ///
-/// The places take four bytes for each string of format 2 that begins in the table: at most 65,278 of them.
+/// The places take four bytes for each string of format 2 that begins in the table: at most 65,278
+/// of them.
 #[derive(Drop)]
 pub struct OpenedNames<'a> {
     face: FontFace<'a>,
@@ -60,8 +62,8 @@ impl<'a> Model for OpenedNames<'a> {
 }
 
 impl<'a> OpenedNames<'a> {
-    /// Opens the names of a face: stores where the strings of its `post` begin. Refuses only if a growth of memory was
-    /// refused.
+    /// Opens the names of a face: stores where the strings of its `post` begin. Refuses only if a
+    /// growth of memory was refused.
     pub fn new(alloc: Global, face: FontFace<'a>) -> Result<OpenedNames<'a>, AllocError>
         ensures { IfOk result (λ opened. opened ≡ face.entry) }
     {
@@ -108,7 +110,8 @@ impl<'a> OpenedNames<'a> {
         }
     }
 
-    /// The glyph's name by `post`, or else by the charset of `CFF `; none if neither has one for it, or an empty one.
+    /// The glyph's name by `post`, or else by the charset of `CFF `; none if neither has one for
+    /// it, or an empty one.
     pub fn glyph_name(&self, glyph: GlyphId) -> Option<&'a [u8]>
         ensures { option_map (λ s. s.now) result ≡ name_of_glyph self.now glyph.0 }
     {

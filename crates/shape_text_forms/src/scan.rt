@@ -2,7 +2,8 @@
 ghost use Rattle.std.specs.Prelude.{◌≡◌, ◌≤◌, ◌+◌, ◌*◌, ◌-◌, ◌^◌, ◌<◌, min, length};
 ghost use Rattle.std.specs.List.{prefix_len};
 ghost use Rattle.std.specs.Option.{option_map};
-ghost use Rattle.shape_text_forms.specs.Scan.{is_of, without_spaces, after_first, after_byte, with_digit, digits_value, signed_text, is_minus, number_value, number_of};
+ghost use Rattle.shape_text_forms.specs.Scan.{is_of, without_spaces, after_first, after_byte, with_digit, digits_value, signed_text, is_minus};
+ghost use Rattle.shape_text_forms.specs.Scan.{number_value, number_of};
 
 /// The kinds of bytes that stand in a row.
 #[derive(Clone, Copy)]
@@ -90,8 +91,8 @@ fn skip_sign(text: &[u8]) -> (bool, &[u8])
     }
 }
 
-/// The number of 32 bits that a number of 64 bits and a sign stand for, modulo 2^32. None if the number is too
-/// great for 64 bits with a sign.
+/// The number of 32 bits that a number of 64 bits and a sign stand for, modulo 2^32. None if the
+/// number is too great for 64 bits with a sign.
 fn number_value(minus: bool, number: u64) -> Option<u32>
     ensures { result ≡ number_value minus number }
 {
@@ -106,8 +107,8 @@ fn number_value(minus: bool, number: u64) -> Option<u32>
     }
 }
 
-/// The number at the front of a text, after spaces and a sign, modulo 2^32, and the text after it. None if no
-/// digit stands there, or if it is 2^63 or more.
+/// The number at the front of a text, after spaces and a sign, modulo 2^32, and the text after it.
+/// None if no digit stands there, or if it is 2^63 or more.
 pub fn number(text: &[u8]) -> Option<(u32, &[u8])>
     ensures { option_map (λ r. (r.0, r.1.now)) result ≡ number_of text.now }
 {

@@ -10,8 +10,8 @@ pub fn features_meet_worked_cases()
     ensures refusals { WorkedRefusals }
 {}
 
-/// Tags, scripts, directions and languages, glyphs as text and as JSON, and the names of a font's glyphs and where
-/// these are stored.
+/// Tags, scripts, directions and languages, glyphs as text and as JSON, and the names of a font's
+/// glyphs and where these are stored.
 pub fn texts_meet_worked_cases()
     ensures names { WorkedNames }
     ensures texts { WorkedTexts }

@@ -2,7 +2,8 @@
 use Rattle.std.specs.Prelude.{◌≡◌, ℕ, ◌==◌, ◌||◌, Bool, true, false, Some}
 use Rattle.ucd_bidi.specs.Binary.{is_bidi_mirrored}
 use Rattle.shape_common.specs.declared.general_category.hb_unicode_general_category_t.{hb_unicode_general_category_t}
-use Rattle.shape_common.specs.declared.general_category.hb_unicode_general_category_t.TheVariants.{OpenPunctuation, ClosePunctuation, InitialPunctuation, FinalPunctuation}
+use Rattle.shape_common.specs.declared.general_category.hb_unicode_general_category_t.TheVariants.{OpenPunctuation, ClosePunctuation}
+use Rattle.shape_common.specs.declared.general_category.hb_unicode_general_category_t.TheVariants.{InitialPunctuation, FinalPunctuation}
 use Rattle.shape_unicode.specs.Category.{category_of}
 use Rattle.shape_unicode.specs.Mirror.{mirrored_of}
 

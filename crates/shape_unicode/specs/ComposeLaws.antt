@@ -1,5 +1,6 @@
 -- What two characters compose to splits into these two again, so that composing preserves equivalence.
-use Rattle.std.proofs.Common.{◌≡◌, ◌≢◌, ℕ, ◌+◌, ◌-◌, ◌/◌, ◌%◌, ◌⊎◌, true, false, not, ◌==◌, List, [], ◌∷◌, ◌++◌, Some, None, sym, ap, ap₂, subst, ◌∙◌, arith, inl, inr, eq-eqb, ne_eqb}
+use Rattle.std.proofs.Common.{◌≡◌, ◌≢◌, ℕ, ◌+◌, ◌-◌, ◌/◌, ◌%◌, ◌⊎◌, true, false, not, ◌==◌, List, [], ◌∷◌, ◌++◌, Some, None, sym, ap, ap₂, subst, ◌∙◌}
+use Rattle.std.proofs.Common.{arith, inl, inr, eq-eqb, ne_eqb}
 use Rattle.std.proofs.lemmas.Bool.{and_parts, cond-true, cond-false}
 use Rattle.ucd_normal.specs.Composition.{composite}
 use Rattle.ucd_normal.specs.Decomposition.{canonical_mapping}

@@ -1,4 +1,5 @@
-//! General categories (The Unicode Standard, section 4.5): those of the database, under shaping's names.
+//! General categories (The Unicode Standard, section 4.5): those of the database, under shaping's
+//! names.
 ghost use Rattle.std.specs.Prelude.{◌≡◌};
 ghost use Rattle.shape_unicode.specs.Category.{category_from, category_of};
 
@@ -6,8 +7,8 @@ use crate::early_categories::EARLY_CATEGORIES;
 use shape_buffer::interfaces::hb_unicode_general_category_t;
 use ucd_category::GeneralCategory;
 
-/// General_Category of a character: most text is of those that one read decides. ASCII has a branch of its own: where a caller
-/// tests for it too, nothing of this is left but the read.
+/// General_Category of a character: most text is of those that one read decides. ASCII has a branch
+/// of its own: where a caller tests for it too, nothing of this is left but the read.
 pub(crate) fn category_at(c: char) -> hb_unicode_general_category_t
     ensures { result ≡ category_of c }
 {

@@ -1,10 +1,10 @@
-//! The ccc that marks are ordered by: combining classes (The Unicode Standard, section 4.3), some of
-//! them changed.
+//! The ccc that marks are ordered by: combining classes (The Unicode Standard, section 4.3), some
+//! of them changed.
 //!
-//! Combining classes are fixed for ever, and some of them order the marks of a script in another way than its
-//! fonts do. So shaping takes others in their place, as HarfBuzz does (`hb-unicode.hh`, "modified
-//! combining class"). No two ccc become one, and none becomes 0, so that marks of two ccc still
-//! have two: the order of marks changes, and what is equivalent doesn't
+//! Combining classes are fixed for ever, and some of them order the marks of a script in another
+//! way than its fonts do. So shaping takes others in their place, as HarfBuzz does
+//! (`hb-unicode.hh`, "modified combining class"). No two ccc become one, and none becomes 0, so
+//! that marks of two ccc still have two: the order of marks changes, and what is equivalent doesn't
 //! ([`crate::laws::equivalence_is_canonical`]). Three marks have a ccc of their own.
 ghost use Rattle.std.specs.Prelude.{◌≡◌};
 ghost use Rattle.shape_unicode.specs.Ccc.{modified_ccc, ccc_by_character, modified_ccc_from};
@@ -13,10 +13,11 @@ use shape_buffer::interfaces::modified_combining_class as mcc;
 
 /// A combining class, and the ccc that shaping takes in its place; the other ccc stay.
 ///
-/// Hebrew: points in the order of the SBL Hebrew font's manual: the dots of shin and sin, dagesh, rafe,
-/// holam, then the other vowels. Arabic: shadda before the vowels, as its fonts expect. Telugu: the length
-/// marks before the halant, not after it. Thai: the vowel signs below before the phinthu. Tibetan: the
-/// vowel sign u before i and the others of class 130. Classes 3, 4 and 5 are otherwise unused.
+/// Hebrew: points in the order of the SBL Hebrew font's manual: the dots of shin and sin, dagesh,
+/// rafe, holam, then the other vowels. Arabic: shadda before the vowels, as its fonts expect.
+/// Telugu: the length marks before the halant, not after it. Thai: the vowel signs below before the
+/// phinthu. Tibetan: the vowel sign u before i and the others of class 130. Classes 3, 4 and 5 are
+/// otherwise unused.
 pub const MODIFIED_CCC: [(u8, u8); 28] = [
     // Hebrew
     (10, mcc::CCC10),

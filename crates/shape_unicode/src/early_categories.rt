@@ -1,5 +1,5 @@
-//! The categories of the blocks from Basic Latin to Arabic, by their short names: the letters of Europe and their marks,
-//! Hebrew and Arabic. One read decides each of these characters.
+//! The categories of the blocks from Basic Latin to Arabic, by their short names: the letters of
+//! Europe and their marks, Hebrew and Arabic. One read decides each of these characters.
 use shape_buffer::interfaces::hb_unicode_general_category_t;
 
 const LU: hb_unicode_general_category_t = hb_unicode_general_category_t::UppercaseLetter;

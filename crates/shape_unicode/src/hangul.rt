@@ -39,8 +39,8 @@ fn below_surrogates(code: u32) -> char
     char::from_u32(code).unwrap()
 }
 
-/// The parts of a syllable: that without its trailing consonant and this one, else its leading consonant
-/// and its vowel.
+/// The parts of a syllable: that without its trailing consonant and this one, else its leading
+/// consonant and its vowel.
 pub(crate) fn split_syllable(c: char) -> (char, char)
     requires { is_syllable c ≡ true }
     ensures { result ≡ split_syllable c }

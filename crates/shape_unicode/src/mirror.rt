@@ -25,37 +25,40 @@ fn other_of_pair(c: char) -> Option<char>
         .map(|pair| other_one(c, *pair))
 }
 
-/// Whether `c` stands between the brackets of Latin and those of Tibetan: among these, which most letters that
-/// run from right to left are, nothing is mirrored.
+/// Whether `c` stands between the brackets of Latin and those of Tibetan: among these, which most
+/// letters that run from right to left are, nothing is mirrored.
 fn is_between_brackets(c: char) -> bool
     ensures { result ≡ is_between_brackets c }
 {
     '\u{BB}' < c && c < '\u{F3A}'
 }
 
-/// Whether `c` stands in General Punctuation before its angle quotes, where nothing is mirrored either.
+/// Whether `c` stands in General Punctuation before its angle quotes, where nothing is mirrored
+/// either.
 fn is_before_angles(c: char) -> bool
     ensures { result ≡ is_before_angles c }
 {
     '\u{1FFF}' < c && c < '\u{2039}'
 }
 
-/// Whether `c` stands past the last pair, as the letters of Adlam, Sogdian and other scripts beyond U+FFFF do.
+/// Whether `c` stands past the last pair, as the letters of Adlam, Sogdian and other scripts beyond
+/// U+FFFF do.
 fn is_past_pairs(c: char) -> bool
     ensures { result ≡ is_past_pairs c }
 {
     '\u{FF63}' < c
 }
 
-/// Whether `c` stands before the first bracket: nothing there is mirrored: above all the space, which is in most texts.
+/// Whether `c` stands before the first bracket: nothing there is mirrored: above all the space,
+/// which is in most texts.
 fn is_before_brackets(c: char) -> bool
     ensures { result ≡ nat_lt c 0x28 }
 {
     c < '\u{28}'
 }
 
-/// The mirror image of `c`, if one is encoded. Few characters have the property Bidi_Mirrored, and the
-/// pairs are walked through for these alone.
+/// The mirror image of `c`, if one is encoded. Few characters have the property Bidi_Mirrored, and
+/// the pairs are walked through for these alone.
 pub(crate) fn mirrored_of(c: char) -> Option<char>
     ensures { result ≡ mirrored_of c }
 {

@@ -1,7 +1,7 @@
 //! The pairs of characters that are mirror images of one another.
 
-/// Each pair once (BidiMirroring.txt of Unicode 15, which later versions keep). What is mirrored only since
-/// then has no image here, as U+2E62.
+/// Each pair once (BidiMirroring.txt of Unicode 15, which later versions keep). What is mirrored
+/// only since then has no image here, as U+2E62.
 pub const MIRROR_PAIRS: [(char, char); 214] = [
     ('\u{28}', '\u{29}'),
     ('\u{3C}', '\u{3E}'),

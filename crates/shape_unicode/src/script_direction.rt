@@ -15,8 +15,8 @@ pub const RIGHT_TO_LEFT: [[u8; 4]; 36] = [
     *b"Rohg", *b"Sogo", *b"Sogd", *b"Elym", *b"Chrs", *b"Yezi", *b"Ougr", *b"Gara", *b"Sidt",
 ];
 
-/// The scripts that have been written both ways, so that a text needs its direction said: Old Hungarian,
-/// Old Italic, Runic and Tifinagh (HarfBuzz, the same function).
+/// The scripts that have been written both ways, so that a text needs its direction said: Old
+/// Hungarian, Old Italic, Runic and Tifinagh (HarfBuzz, the same function).
 pub const EITHER_WAY: [[u8; 4]; 4] = [*b"Hung", *b"Ital", *b"Runr", *b"Tfng"];
 
 fn is_right_to_left(tag: hb_tag_t) -> bool

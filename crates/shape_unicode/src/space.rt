@@ -7,8 +7,8 @@ use shape_buffer::interfaces::space_types::{
     SPACE_EM_6, SPACE_EM_16, SPACE_FIGURE, SPACE_NARROW, SPACE_PUNCTUATION, space_t,
 };
 
-/// The space separators and their widths (The Unicode Standard, table 6-2; HarfBuzz, `hb-unicode.hh`).
-/// U+1680 is none of them: it is drawn.
+/// The space separators and their widths (The Unicode Standard, table 6-2; HarfBuzz,
+/// `hb-unicode.hh`). U+1680 is none of them: it is drawn.
 pub const SPACES: [(char, space_t); 16] = [
     ('\u{20}', SPACE),
     ('\u{A0}', SPACE),

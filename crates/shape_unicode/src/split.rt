@@ -1,11 +1,11 @@
 //! One step of canonical decomposition (UAX 44, Decomposition_Mapping without a tag).
 //!
-//! The kit's compiled tables have full decompositions and primary composites, and no single steps. The
-//! last step of a character is found from these: its parts are all of its full decomposition except the last
-//! character, composed again, and that character. If the two compose to another character, this one is a singleton
-//! of it. Few characters begin with a pair that is excluded from composition; a table has their heads.
-//! That the mapping of the database comes out, of every character, is computed over its rows
-//! (`proofs/LastStepLemmas.antt`).
+//! The kit's compiled tables have full decompositions and primary composites, and no single steps.
+//! The last step of a character is found from these: its parts are all of its full decomposition
+//! except the last character, composed again, and that character. If the two compose to another
+//! character, this one is a singleton of it. Few characters begin with a pair that is excluded from
+//! composition; a table has their heads. That the mapping of the database comes out, of every
+//! character, is computed over its rows (`proofs/LastStepLemmas.antt`).
 ghost use Rattle.std.specs.Prelude.{◌≡◌};
 ghost use Rattle.ucd_normal.specs.Composition.{composite};
 ghost use Rattle.shape_unicode.specs.Split.{split_of, is_whole_early};
@@ -14,9 +14,9 @@ ghost use Rattle.shape_unicode.specs.LastStep.{last_step, excluded_head, head_of
 use crate::hangul::{is_syllable, split_syllable};
 use ucd_normal::{canonical_decomposition, composite};
 
-/// Two characters that don't compose, and the one that splits into them, if this one is a first part
-/// itself (the pairs of DerivedNormalizationProps.txt, Full_Composition_Exclusion, that UnicodeData.txt
-/// names in a mapping).
+/// Two characters that don't compose, and the one that splits into them, if this one is a first
+/// part itself (the pairs of DerivedNormalizationProps.txt, Full_Composition_Exclusion, that
+/// UnicodeData.txt names in a mapping).
 pub const EXCLUDED_HEADS: [(char, char, char); 4] = [
     ('\u{5E9}', '\u{5BC}', '\u{FB49}'),
     ('\u{1D158}', '\u{1D165}', '\u{1D15F}'),
@@ -54,7 +54,8 @@ fn head_of(a: char, b: char) -> Option<char>
     }
 }
 
-/// The last step of the decomposition of `c`, whose full decomposition is `full`, empty if it is `c`.
+/// The last step of the decomposition of `c`, whose full decomposition is `full`, empty if it is
+/// `c`.
 fn split_by(c: char, full: &[char]) -> Option<(char, char)>
     ensures { result ≡ split_by composite c full.now }
 {
@@ -72,8 +73,9 @@ fn split_by(c: char, full: &[char]) -> Option<(char, char)>
     }
 }
 
-/// Whether `c` stands where no character splits: up to the signs of Latin-1, among the first marks, in Hebrew and
-/// the first letters of Arabic, or in General Punctuation. So most marks and joiners are decided without the table.
+/// Whether `c` stands where no character splits: up to the signs of Latin-1, among the first marks,
+/// in Hebrew and the first letters of Arabic, or in General Punctuation. So most marks and joiners
+/// are decided without the table.
 fn is_whole_early(c: char) -> bool
     ensures { result ≡ is_whole_early c }
 {

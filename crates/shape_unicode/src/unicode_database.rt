@@ -82,7 +82,8 @@ impl hb_unicode_funcs_t for UnicodeDatabase {
         script_from(ucd_script::Script::for_char(c))
     }
 
-    /// Right to left for the scripts written so, none for those written both ways, else left to right.
+    /// Right to left for the scripts written so, none for those written both ways, else left to
+    /// right.
     fn script_direction(s: Script) -> Option<Direction> {
         direction_of(s)
     }

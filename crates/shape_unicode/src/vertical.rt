@@ -2,10 +2,10 @@
 ghost use Rattle.std.specs.Prelude.{◌≡◌};
 ghost use Rattle.shape_unicode.specs.Vertical.{vertical_of};
 
-/// A character and the one that stands for it in vertical text (UnicodeData.txt, Decomposition_Mapping
-/// with the tag `<vertical>`, inverted). If that mapping names an ASCII character, the wide form of
-/// this one is meant, and U+FE4F for the wavy low line, as in HarfBuzz (`hb-ot-shape.cc`): a vertical text
-/// has narrow ASCII characters lying on their side.
+/// A character and the one that stands for it in vertical text (UnicodeData.txt,
+/// Decomposition_Mapping with the tag `<vertical>`, inverted). If that mapping names an ASCII
+/// character, the wide form of this one is meant, and U+FE4F for the wavy low line, as in HarfBuzz
+/// (`hb-ot-shape.cc`): a vertical text has narrow ASCII characters lying on their side.
 pub const VERTICAL_FORMS: [(char, char); 33] = [
     ('\u{2013}', '\u{FE32}'),
     ('\u{2014}', '\u{FE31}'),

@@ -17,7 +17,9 @@ use Rattle.shape_plan.specs.Rules.{has_glyph}
 use Rattle.shape_plan.specs.Run.{Run}
 use Rattle.shape_users.specs.PlainGlyphs.{AreOfText, HaveGlyphs, OneStep, SomeStepPasses}
 use Rattle.shape_pipeline.specs.Strings.{IsPlaceIn, IsTextOf, string_text}
-use Rattle.shape_users.specs.Worked.Plain.{ClustersOfTexts, HasOneOfTwo, CharactersWithGlyphs, begun_text, HasSteps, FirstPasses, SecondPasses, FirstKeeps, SecondKeeps, StepsOfRuns, WhatIsLeft, euro_string, euro_text, PlacesOfStrings, TextsOfStrings, RunsOfStrings, GlyphsOfStrings, WorkedPlain}
+use Rattle.shape_users.specs.Worked.Plain.{ClustersOfTexts, HasOneOfTwo, CharactersWithGlyphs, begun_text, HasSteps, FirstPasses, SecondPasses}
+use Rattle.shape_users.specs.Worked.Plain.{FirstKeeps, SecondKeeps, StepsOfRuns, WhatIsLeft, euro_string, euro_text, PlacesOfStrings, TextsOfStrings}
+use Rattle.shape_users.specs.Worked.Plain.{RunsOfStrings, GlyphsOfStrings, WorkedPlain}
 
 -- ---- clusters and characters
 

@@ -1,10 +1,10 @@
 //! From a string to its lines: a paragraph is shaped once, and its glyphs are cut where lines end.
 //!
 //! A line is laid out by the glyphs of the whole text; or its piece of the text is shaped again,
-//! with what stands before and after it as context, with the flag that it begins the text if it is the first
-//! and to end it if it is the last. That a piece shaped alone looks as it does in the whole is
-//! tested, not promised: no law speaks of two runs. The tests compare the two over marks, ligatures
-//! and two script shapers, in both directions.
+//! with what stands before and after it as context, with the flag that it begins the text if it is
+//! the first and to end it if it is the last. That a piece shaped alone looks as it does in the
+//! whole is tested, not promised: no law speaks of two runs. The tests compare the two over marks,
+//! ligatures and two script shapers, in both directions.
 ghost use Rattle.std.specs.Prelude.{◌≡◌, ◌<◌, ◌^◌, pos, [], length, Err, IfOk};
 ghost use Rattle.shape_lines.specs.RightLines.{AreRightLines};
 ghost use Rattle.shape_pipeline.specs.GlyphsOf.{AreGlyphsOf, TextPasses};
@@ -26,11 +26,11 @@ pub struct ShapedLines {
     pub lines: Vec<Line>,
 }
 
-/// The lines of a text by the default shaper, without lookups: the glyphs are those that `shape` makes of
-/// the text, and the lines right ones of them, of a width in units of the face. They are in the order of
-/// the text, and the last one ends with its last byte. The text has fewer than 2^32 bytes, since clusters
-/// are 32 bits. Refuses with `Length` if a step would leave a list past the run's limit, and with
-/// `Memory` if a growth was refused.
+/// The lines of a text by the default shaper, without lookups: the glyphs are those that `shape`
+/// makes of the text, and the lines right ones of them, of a width in units of the face. They are
+/// in the order of the text, and the last one ends with its last byte. The text has fewer than 2^32
+/// bytes, since clusters are 32 bits. Refuses with `Length` if a step would leave a list past the
+/// run's limit, and with `Memory` if a growth was refused.
 pub fn lines_of_text<U, F>(
     alloc: Global,
     face: &F,

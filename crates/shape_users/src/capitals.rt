@@ -1,9 +1,10 @@
-//! A script shaper that asks for a feature and switches it on where it is due: `c2sc`, small letters in place of capitals,
-//! for the capitals of ASCII.
+//! A script shaper that asks for a feature and switches it on where it is due: `c2sc`, small
+//! letters in place of capitals, for the capitals of ASCII.
 //!
-//! It gives two of the ten hooks, those that a shaper gives which joins letters or finds syllables. `collect_features`
-//! requests the feature, which is off then; `setup_masks` asks the plan's map for the bits that switch it on, and
-//! sets them. That masks alone change is the law of its trait, and clusters are kept by it: [`capitals_preserve_clusters`].
+//! It gives two of the ten hooks, those that a shaper gives which joins letters or finds syllables.
+//! `collect_features` requests the feature, which is off then; `setup_masks` asks the plan's map
+//! for the bits that switch it on, and sets them. That masks alone change is the law of its trait,
+//! and clusters are kept by it: [`capitals_preserve_clusters`].
 ghost use Rattle.std.specs.Prelude.{◌≡◌, ◌∷◌, [], true, false, None, pos, refl};
 ghost use Rattle.shape_buffer.specs.Preservation.{LookupsPreserveClusters};
 ghost use Rattle.shape_buffer.specs.MapBuilder.{feature};
@@ -143,8 +144,8 @@ impl<U: hb_unicode_funcs_t, F, M: hb_ot_layout_t<F>> setup_masks_hook<CapitalsSh
     ghost masks_alone = { λ _ plan _. capitals_marked-alone ((M.masks plan.ot_map).one_mask C2SC) };
 }
 
-/// A run by this shaper preserves clusters if its engine's lookups do, whatever the Unicode functions, the plan and the
-/// face.
+/// A run by this shaper preserves clusters if its engine's lookups do, whatever the Unicode
+/// functions, the plan and the face.
 pub fn capitals_preserve_clusters<U: hb_unicode_funcs_t, F: hb_font_t, M: hb_ot_layout_t<F>>()
     ensures { (plan : Plan AnyShaper M.Map Unit) (face : F)
         → let run = ⟦<CapitalsShaper as Runs<U, F, M>>⟧.run plan face in

@@ -1,8 +1,9 @@
-//! A small layout engine: one stage of substitution, which puts a glyph in place of another one and a
-//! ligature in place of two, whatever the face.
+//! A small layout engine: one stage of substitution, which puts a glyph in place of another one and
+//! a ligature in place of two, whatever the face.
 //!
-//! What it must provide for a run is that its one stage preserves clusters and flags, which [`ligatures_preserve`] says of all its
-//! calls; a run by it then has no obligations, if the shaper gives no hook: [`ligature_runs_have_no_obligations`].
+//! What it must provide for a run is that its one stage preserves clusters and flags, which
+//! [`ligatures_preserve`] says of all its calls; a run by it then has no obligations, if the shaper
+//! gives no hook: [`ligature_runs_have_no_obligations`].
 ghost use Rattle.std.specs.Prelude.{None};
 ghost use Rattle.shape_buffer.specs.Preservation.{LookupsPreserveClusters, LookupsPreserveFlags};
 ghost use Rattle.shape_plan.specs.Plan.{Plan};

@@ -1,11 +1,12 @@
 //! Where a line may end: the question that a line breaker asks of a shaped text.
 //!
 //! A line breaker shapes a paragraph once and cuts it where lines end. If a glyph lacks
-//! `UNSAFE_TO_BREAK`, the part before it and the part from it on are meant to look alone as they do together;
-//! otherwise they are to be shaped again. That they do is not proved; the tests of `cuts` try it at the two levels
-//! that keep clusters in order, on every short text of a few alphabets. At level CHARACTERS it is not always
-//! so: U+05B4 U+05E9 U+200D, in Hebrew and left to right, look different cut after the first character. The
-//! caller speaks of the text by clusters, which lead back to it.
+//! `UNSAFE_TO_BREAK`, the part before it and the part from it on are meant to look alone as they do
+//! together; otherwise they are to be shaped again. That they do is not proved; the tests of `cuts`
+//! try it at the two levels that keep clusters in order, on every short text of a few alphabets. At
+//! level CHARACTERS it is not always so: U+05B4 U+05E9 U+200D, in Hebrew and left to right, look
+//! different cut after the first character. The caller speaks of the text by clusters, which lead
+//! back to it.
 ghost use Rattle.std.specs.Prelude.{◌≡◌, All};
 ghost use Rattle.std.specs.List.{find};
 ghost use Rattle.std.specs.Option.{option_map};
@@ -19,10 +20,10 @@ ghost use Rattle.shape_users.specs.Worked.Shown.{WorkedCuts};
 
 use shape_buffer::{GlyphBuffer, UNSAFE_TO_BREAK, hb_glyph_info_t};
 
-/// Whether a line may end before the character of a cluster: glyphs of that cluster are there, and the
-/// first of them in the list lacks `UNSAFE_TO_BREAK`. If the clusters stand in the order of the text's
-/// direction, and each has one set of flags, as `shape` promises, each glyph of the cluster says the
-/// same. A number inside a character is the cluster of no glyph: no line may end there.
+/// Whether a line may end before the character of a cluster: glyphs of that cluster are there, and
+/// the first of them in the list lacks `UNSAFE_TO_BREAK`. If the clusters stand in the order of the
+/// text's direction, and each has one set of flags, as `shape` promises, each glyph of the cluster
+/// says the same. A number inside a character is the cluster of no glyph: no line may end there.
 pub fn may_cut(glyphs: &GlyphBuffer, cluster: u32) -> bool
     ensures answer { result ≡ cut_at cluster glyphs.now.items }
     ensures each { IsOrderedFor (is_backward glyphs.now.direction) (clusters glyphs.now.items)

@@ -1,8 +1,8 @@
 //! From glyphs to the text that they show, and back.
 //!
-//! A paragraph layout draws a range of glyphs, and is asked which text that was: for a selection, a search,
-//! a screen reader. The other way round it is asked which glyphs to mark. Both stand on the clusters of the
-//! glyphs, in the order of the text's direction, and on nothing else.
+//! A paragraph layout draws a range of glyphs, and is asked which text that was: for a selection, a
+//! search, a screen reader. The other way round it is asked which glyphs to mark. Both stand on the
+//! clusters of the glyphs, in the order of the text's direction, and on nothing else.
 ghost use Rattle.std.specs.Prelude.{◌≡◌, ℕ, ◌-◌, ◌<◌, ◌≤◌, ◌⊎◌, ◌↔◌, length};
 ghost use Rattle.shape_items.specs.Clusters.{clusters};
 ghost use Rattle.shape_common.specs.Direction.{is_backward};
@@ -26,10 +26,10 @@ pub struct GlyphSpan {
     pub end: usize,
 }
 
-/// The text that the glyphs from place `start` up to `end` show: from the least of their clusters up to the
-/// next cluster after the greatest, or to `text_len` if there is none. If the clusters stand in the
-/// order of the text's direction, and each is below `text_len`, the clusters in it are those of the range.
-/// The range must hold a glyph.
+/// The text that the glyphs from place `start` up to `end` show: from the least of their clusters
+/// up to the next cluster after the greatest, or to `text_len` if there is none. If the clusters
+/// stand in the order of the text's direction, and each is below `text_len`, the clusters in it are
+/// those of the range. The range must hold a glyph.
 pub fn text_of_glyphs(glyphs: &GlyphBuffer, start: usize, end: usize, text_len: u32) -> TextSpan
     requires some { start < end }
     requires within { end ≤ length glyphs.now.items }
@@ -65,8 +65,8 @@ fn next_cluster(glyphs: &[hb_glyph_info_t], cluster: u32, text_len: u32) -> u32
     next
 }
 
-/// The glyphs that show the text of a span: if the clusters stand in the order of the text's direction,
-/// those whose cluster lies in it.
+/// The glyphs that show the text of a span: if the clusters stand in the order of the text's
+/// direction, those whose cluster lies in it.
 pub fn glyphs_of_text(glyphs: &GlyphBuffer, text: TextSpan) -> GlyphSpan
     ensures ordered { result.start ≤ result.end }
     ensures within { result.end ≤ length glyphs.now.items }
@@ -98,7 +98,8 @@ fn first_to_last(glyphs: &[hb_glyph_info_t], text: TextSpan) -> GlyphSpan
     GlyphSpan { start, end }
 }
 
-/// Where spans of text end, which text glyphs show and which glyphs show a text, on lists worked out by hand.
+/// Where spans of text end, which text glyphs show and which glyphs show a text, on lists worked
+/// out by hand.
 pub fn shown_text_meets_worked_cases()
     ensures { WorkedShown }
 {}

@@ -1,9 +1,11 @@
-//! What a caller with the default shaper and no lookups knows of glyphs: the clauses of `shape_with_plan` in
-//! plain words, with nothing left to ask of hooks and lookups. One function has a hook and lookups, which
-//! preserve clusters and flags; one takes a string, with no premise left.
+//! What a caller with the default shaper and no lookups knows of glyphs: the clauses of
+//! `shape_with_plan` in plain words, with nothing left to ask of hooks and lookups. One function
+//! has a hook and lookups, which preserve clusters and flags; one takes a string, with no premise
+//! left.
 //!
-//! Each function shapes a text and does nothing else. Its contract is what a user of that clause wants to hear:
-//! so a clause that comes to say less, of one direction or of one level alone, is refused here.
+//! Each function shapes a text and does nothing else. Its contract is what a user of that clause
+//! wants to hear: so a clause that comes to say less, of one direction or of one level alone, is
+//! refused here.
 ghost use Rattle.std.specs.Prelude.{◌≡◌, ◌≢◌, ◌≤◌, ◌^◌, ◌⊎◌, [], length, IfOk, IfErr, MatchResult};
 ghost use Rattle.std.specs.List.Sorted.{IsNonDecreasing};
 ghost use Rattle.shape_items.specs.Buffer.{new_buffer};
@@ -35,10 +37,11 @@ use std::alloc::Global;
 /// A plan of the default shaper, without lookups.
 pub type PlainPlan<'a> = hb_ot_shape_plan_t<'a, hb_default_shaper_t, (), ()>;
 
-/// The glyphs of a text. In every direction and at every level: they run where the text was told to run,
-/// neighbours in one cluster have the same flags, and none is marked unsafe to concat unless the text asks
-/// for it. A text of at most 256 characters has at most 16384 glyphs, a longer one at most 64 for each. A
-/// refusal hands an empty buffer back, with the settings of the text that outlive it.
+/// The glyphs of a text. In every direction and at every level: they run where the text was told to
+/// run, neighbours in one cluster have the same flags, and none is marked unsafe to concat unless
+/// the text asks for it. A text of at most 256 characters has at most 16384 glyphs, a longer one at
+/// most 64 for each. A refusal hands an empty buffer back, with the settings of the text that
+/// outlive it.
 pub fn plain_glyphs<U, F>(
     alloc: Global,
     face: &F,
@@ -56,9 +59,9 @@ where
     shape_with_plan::<U, F, NoLookups, hb_default_shaper_t>(alloc, face, plan, text)
 }
 
-/// The glyphs of a text whose clusters never fall, at a monotone level. In every direction: their clusters
-/// are the text's, at MONOTONE_GRAPHEMES those of its graphemes' first characters, and stand in the order in
-/// which the glyphs run.
+/// The glyphs of a text whose clusters never fall, at a monotone level. In every direction: their
+/// clusters are the text's, at MONOTONE_GRAPHEMES those of its graphemes' first characters, and
+/// stand in the order in which the glyphs run.
 pub fn plain_glyphs_in_order<U, F>(
     alloc: Global,
     face: &F,
@@ -78,8 +81,8 @@ where
     shape_with_plan::<U, F, NoLookups, hb_default_shaper_t>(alloc, face, plan, text)
 }
 
-/// The glyphs of a text, with what was counted on the way: no step of the run made a list past the limit that
-/// it found, and a text is refused for its length only if one would have.
+/// The glyphs of a text, with what was counted on the way: no step of the run made a list past the
+/// limit that it found, and a text is refused for its length only if one would have.
 pub fn plain_glyphs_counted<U, F>(
     alloc: Global,
     face: &F,
@@ -100,11 +103,12 @@ where
     shape_with_plan::<U, F, NoLookups, hb_default_shaper_t>(alloc, face, plan, text)
 }
 
-/// The glyphs of a text, with what is known of the normalised list that they are made of: each character that
-/// the text lacks has a glyph, each item has the glyph of its character or of what replaces it, feature
-/// bits and places are those of the text's items, and marks were composed by the standard's rule. Without a
-/// variation selector the list is equivalent to the text; if canonical form is asked of both, the lists
-/// of two texts have the same characters exactly when the texts are equivalent.
+/// The glyphs of a text, with what is known of the normalised list that they are made of: each
+/// character that the text lacks has a glyph, each item has the glyph of its character or of what
+/// replaces it, feature bits and places are those of the text's items, and marks were composed by
+/// the standard's rule. Without a variation selector the list is equivalent to the text; if
+/// canonical form is asked of both, the lists of two texts have the same characters exactly when
+/// the texts are equivalent.
 pub fn plain_glyphs_formed<U, F>(
     alloc: Global,
     face: &F,
@@ -122,10 +126,10 @@ where
     shape_with_plan::<U, F, NoLookups, hb_default_shaper_t>(alloc, face, plan, text)
 }
 
-/// The glyphs of a text by a shaper that reorders marks and an engine with ligatures. Both preserve clusters and
-/// flags, so for a text whose clusters never fall, at a monotone level, the same holds as without them:
-/// clusters are the text's and stand in the order in which the glyphs run, and neighbours in one cluster have
-/// the same flags.
+/// The glyphs of a text by a shaper that reorders marks and an engine with ligatures. Both preserve
+/// clusters and flags, so for a text whose clusters never fall, at a monotone level, the same holds
+/// as without them: clusters are the text's and stand in the order in which the glyphs run, and
+/// neighbours in one cluster have the same flags.
 pub fn ligated_glyphs_in_order<U, F>(
     alloc: Global,
     face: &F,

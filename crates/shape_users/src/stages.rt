@@ -1,5 +1,6 @@
-//! An engine of stages alone. Its author writes how many stages there are, what each makes of a buffer, and which features
-//! have a bit in masks: [`engine_stages`]. [`Staged`] is the engine: all else that a run asks of one does nothing.
+//! An engine of stages alone. Its author writes how many stages there are, what each makes of a
+//! buffer, and which features have a bit in masks: [`engine_stages`]. [`Staged`] is the engine: all
+//! else that a run asks of one does nothing.
 ghost use Rattle.std.specs.Prelude.{◌≡◌, ℕ, Option};
 ghost use Rattle.shape_items.specs.Buffer.{Buffer};
 ghost use Rattle.shape_buffer.specs.NoLookups.{no_layout};
@@ -18,7 +19,8 @@ use shape_buffer::interfaces::{TableIndex, hb_ot_layout_t, hb_ot_map_builder_t};
 use std::alloc::Global;
 use std::marker::PhantomData;
 
-/// Stages of substitution over faces of type `F`, as their author writes them. [`Staged`] makes an engine of them.
+/// Stages of substitution over faces of type `F`, as their author writes them. [`Staged`] makes an
+/// engine of them.
 pub trait engine_stages<F> {
     ghost STAGES: { ℕ };
 
@@ -31,13 +33,14 @@ pub trait engine_stages<F> {
     /// What each stage makes of a buffer.
     ghost made: { F → ℕ → Buffer → Buffer };
 
-    /// The number of a feature, from 0 on; `None` for a feature that the stages don't know. The first 28 have a bit in
-    /// masks, which a shaper sets for the items that the feature is to be on for.
+    /// The number of a feature, from 0 on; `None` for a feature that the stages don't know. The
+    /// first 28 have a bit in masks, which a shaper sets for the items that the feature is to be on
+    /// for.
     fn number(tag: hb_tag_t) -> Option<u32>
         ensures { result ≡ number tag };
 
-    /// Runs the stage `i`, from 0 on. Refuses with `Length` if the list would pass the limit, with `Memory` if a growth
-    /// was refused.
+    /// Runs the stage `i`, from 0 on. Refuses with `Length` if the list would pass the limit, with
+    /// `Memory` if a growth was refused.
     fn run_stage(
         alloc: Global,
         i: usize,
@@ -48,7 +51,8 @@ pub trait engine_stages<F> {
         ensures { Outcome (step (made face.now i)) buffer.old buffer.new result };
 }
 
-/// The engine of the stages `E`: it chooses no script, has no kerning and no classes, and pauses after no stage.
+/// The engine of the stages `E`: it chooses no script, has no kerning and no classes, and pauses
+/// after no stage.
 pub struct Staged<E> {
     stages: PhantomData<E>,
 }

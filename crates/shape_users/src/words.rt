@@ -1,9 +1,11 @@
-//! A cache of shaped words, which finds a word under each spelling with the same normalised characters.
+//! A cache of shaped words, which finds a word under each spelling with the same normalised
+//! characters.
 //!
-//! A plan serves every text that it fits, so plans are kept and found by `fits`. A word is found by its
-//! normalised characters; if `equivalent_spellings` can tell, these are the equivalent spellings, so that
-//! U+00E9 and U+0065 U+0301 are kept once. A cache that must never show one word for another needs no more
-//! than that, and may use any mode; the one that decomposes fully finds most spellings.
+//! A plan serves every text that it fits, so plans are kept and found by `fits`. A word is found by
+//! its normalised characters; if `equivalent_spellings` can tell, these are the equivalent
+//! spellings, so that U+00E9 and U+0065 U+0301 are kept once. A cache that must never show one word
+//! for another needs no more than that, and may use any mode; the one that decomposes fully finds
+//! most spellings.
 ghost use Rattle.std.specs.Prelude.{◌≡◌, [], length, Err, IsOk, IsErr, IfOk, OnErr, IfSome, IfNone};
 ghost use Rattle.shape_plan.specs.Plan.{Fits};
 ghost use Rattle.shape_users.specs.Words;
@@ -44,9 +46,10 @@ pub fn find_plan<U: hb_unicode_funcs_t, S, P, D>(
     None
 }
 
-/// The place of a word that was shaped under a spelling with the same normalised characters: the first such.
-/// Refuses as `same_word` does for the spelling and a word up to that place: with `Length`
-/// if one of the two is too long, and always then. Compares nothing if there is no word, and refuses nothing then.
+/// The place of a word that was shaped under a spelling with the same normalised characters: the
+/// first such. Refuses as `same_word` does for the spelling and a word up to that place: with
+/// `Length` if one of the two is too long, and always then. Compares nothing if there is no word,
+/// and refuses nothing then.
 pub fn find_word<U, F, M, S>(
     alloc: Global,
     face: &F,
@@ -79,11 +82,11 @@ where
     Ok(None)
 }
 
-/// The place of a word under a spelling with the same normalised characters; it is shaped, and kept after
-/// the others, if there is none yet. The words that were there stay as they were, at their places. `words`
-/// must hold words of this plan and face alone. The plan must fit the spelling's text. Refuses as `find_word`
-/// does and, if there is none yet, as `spelled` and `shape_with_plan` do, or with `Memory` if a growth
-/// was refused; then keeps nothing.
+/// The place of a word under a spelling with the same normalised characters; it is shaped, and kept
+/// after the others, if there is none yet. The words that were there stay as they were, at their
+/// places. `words` must hold words of this plan and face alone. The plan must fit the spelling's
+/// text. Refuses as `find_word` does and, if there is none yet, as `spelled` and `shape_with_plan`
+/// do, or with `Memory` if a growth was refused; then keeps nothing.
 pub fn keep_word<U, F, M, S>(
     alloc: Global,
     face: &F,
@@ -127,7 +130,8 @@ pub fn words_meet_worked_cases()
     ensures { WorkedWords }
 {}
 
-/// Which word and which plan are found, and when a spelling is too long for that, on lists worked out by hand.
+/// Which word and which plan are found, and when a spelling is too long for that, on lists worked
+/// out by hand.
 pub fn found_words_meet_worked_cases()
     ensures { WorkedFound }
 {}

@@ -23,11 +23,11 @@ pub struct Item {
 /// What the caller knows of a text. By default no list says anything.
 #[derive(Clone, Copy, Debug)]
 pub struct ItemOptions<'a> {
-    /// The embedding level of each character, as `bidi::text_levels` gives them; those past the end of
-    /// the list have the level 0.
+    /// The embedding level of each character, as `bidi::text_levels` gives them; those past the end
+    /// of the list have the level 0.
     pub levels: &'a [u8],
-    /// The languages of parts of the text, by numbers of the caller's own choice; what no range has in it
-    /// has the number 0. The ranges don't overlap, and each begins after those before it.
+    /// The languages of parts of the text, by numbers of the caller's own choice; what no range has
+    /// in it has the number 0. The ranges don't overlap, and each begins after those before it.
     pub languages: &'a [NumberedRange],
     /// The features of parts of the text, in the same way.
     pub features: &'a [NumberedRange],
@@ -101,10 +101,10 @@ fn joined(alloc: Global, clusters: &[Cluster]) -> Result<Vec<Item>, AllocError>
     Ok(items)
 }
 
-/// The runs of a text, in its order: the longest pieces of whole grapheme clusters that agree in all of
-/// their [`Properties`]. A Common or Inherited cluster has the script of the text before it; brackets and
-/// quotation marks that pair have one script; an emoji sequence is never cut. Takes time in step with
-/// the text, and refuses if memory runs out.
+/// The runs of a text, in its order: the longest pieces of whole grapheme clusters that agree in
+/// all of their [`Properties`]. A Common or Inherited cluster has the script of the text before it;
+/// brackets and quotation marks that pair have one script; an emoji sequence is never cut. Takes
+/// time in step with the text, and refuses if memory runs out.
 pub fn text_items(alloc: Global, text: &str, options: &ItemOptions) -> Result<Vec<Item>, AllocError>
     ensures items { IfOk result (λ items. items.items ≡ Items.items_of options.now.levels.now
         options.now.languages.now options.now.features.now text.now) }

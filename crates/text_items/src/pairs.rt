@@ -8,7 +8,8 @@ use ucd_script::Script;
 /// How many brackets may be open: as many as UAX 9 allows (BD16).
 pub(crate) const MAX_OPEN: usize = 63;
 
-/// Pairs that aren't brackets to the bidirectional algorithm: quotation marks, and the signs < and >.
+/// Pairs that aren't brackets to the bidirectional algorithm: quotation marks, and the signs < and
+/// >.
 pub const MARK_PAIRS: [(char, char); 5] = [
     ('<', '>'),
     ('\u{AB}', '\u{BB}'),

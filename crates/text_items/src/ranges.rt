@@ -13,7 +13,8 @@ pub struct NumberedRange {
     pub number: u32,
 }
 
-/// The place after the ranges that end at an offset or before it. They give no number to what follows.
+/// The place after the ranges that end at an offset or before it. They give no number to what
+/// follows.
 pub(crate) fn past_ended(ranges: &[NumberedRange], place: usize, offset: usize) -> usize
     ensures { (at : ℕ) → offset ≤ at
         → number_at (drop result ranges.now) at ≡ number_at (drop place ranges.now) at }

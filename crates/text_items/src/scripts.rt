@@ -19,8 +19,9 @@ pub fn is_explicit(script: Script) -> bool
     script.number() != Script::Common.number() && script.number() != Script::Inherited.number()
 }
 
-/// UAX 24, 5.2: the script of a cluster, given its characters: that of the first one that has a script by
-/// itself, so that a mark takes its base's and a generic base that of its mark; Common if none has.
+/// UAX 24, 5.2: the script of a cluster, given its characters: that of the first one that has a
+/// script by itself, so that a mark takes its base's and a generic base that of its mark; Common if
+/// none has.
 pub fn own_script(letters: &[char]) -> Script
     ensures { result ≡ Scripts.own_script letters.now }
 {
@@ -33,7 +34,8 @@ pub fn own_script(letters: &[char]) -> Script
     Script::Common
 }
 
-/// The script of a text up to its first cluster that has a script by itself: the one of that cluster.
+/// The script of a text up to its first cluster that has a script by itself: the one of that
+/// cluster.
 pub(crate) fn first_script(clusters: &[Cluster]) -> Script
     ensures { result ≡ Scripts.first_script clusters.now }
 {
@@ -52,8 +54,9 @@ fn is_same_script(script: Script, other: Script) -> bool
     script.number() == other.number()
 }
 
-/// The script of a cluster, given that of the text before it: one that is used with that script has it, too;
-/// else it has its own, if it has one; else that of the text after it, if it is used with that one.
+/// The script of a cluster, given that of the text before it: one that is used with that script has
+/// it, too; else it has its own, if it has one; else that of the text after it, if it is used with
+/// that one.
 fn settled(cluster: &Cluster, current: Script) -> Script
     ensures { result ≡ Scripts.settled cluster.now current }
 {
@@ -138,7 +141,8 @@ impl Context {
         Ok(())
     }
 
-    /// A bracket closes: it has the script of the last one that it closes, as has the text after it.
+    /// A bracket closes: it has the script of the last one that it closes, as has the text after
+    /// it.
     fn close_pair(&mut self, closing: char)
         ensures { self.new ≡ Scripts.closed closing self.old }
     {

@@ -14,8 +14,8 @@ pub(super) fn bytes_of(key: &WordKey, word: &Word) -> u128
     4 * (key.len() as u128) + word.spelling.len() as u128 + 40 * (word.glyphs.len() as u128)
 }
 
-/// Takes out what was not used for longest, while the words, so many, take more bytes than they may and there is another.
-/// Returns the bytes of those that are left.
+/// Takes out what was not used for longest, while the words, so many, take more bytes than they may
+/// and there is another. Returns the bytes of those that are left.
 pub(super) fn evicted(
     words: &mut LruCache<WordKey, Word>,
     count: usize,

@@ -15,10 +15,10 @@ use std::alloc::{AllocError, Global};
 /// A word's key: the number of its plan, and then its normalised characters.
 pub type WordKey = Vec<u32>;
 
-/// The key of a text under a plan of this number: one normalising. Under the premises of canonical form, in a mode that
-/// decomposes fully, two texts have one key exactly if they are canonically equivalent. Refuses with `Length` if a step of
-/// preparing would leave a list past the run's limit, or the expanded list would be longer, and with `Memory` if a
-/// growth was refused.
+/// The key of a text under a plan of this number: one normalising. Under the premises of canonical
+/// form, in a mode that decomposes fully, two texts have one key exactly if they are canonically
+/// equivalent. Refuses with `Length` if a step of preparing would leave a list past the run's
+/// limit, or the expanded list would be longer, and with `Memory` if a growth was refused.
 pub fn word_key<U, F, M, S>(
     alloc: Global,
     face: &F,

@@ -2,8 +2,8 @@
 ghost use Rattle.word_cache.specs.Laws.{FoundStayShaped, FreshAreShaped, FoundIsFirst, FreshIsFirst};
 ghost use Rattle.word_cache.specs.Spellings.{SpellingsDecide};
 
-/// What a cache holds stays what shaping gives, if the plan of each number stays one: when a word is found, and when one is
-/// shaped and kept.
+/// What a cache holds stays what shaping gives, if the plan of each number stays one: when a word
+/// is found, and when one is shaped and kept.
 pub fn words_stay_shaped()
     ensures found { FoundStayShaped }
     ensures fresh { FreshAreShaped }

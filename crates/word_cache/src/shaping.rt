@@ -15,12 +15,14 @@ use shape_pipeline::shape_with_plan;
 use shape_plan::shaping_types::{Meaning, PlanOf, ShapingTypes, TypesOf};
 use std::alloc::{AllocError, Global};
 
-/// Finds the word of a spelling, by a plan of this number, or shapes it and keeps it: then it is the first word of the
-/// cache ([`WordCache::first`]). Whether it was found: exactly if one was kept under the same key, so for each spelling
-/// with the same normalised characters. Its glyphs are those of the spelling that it was kept with: for another spelling of it
-/// its clusters are not. The plan must fit the text of the spelling. Refuses as [`word_key`] does and, if there is no such
-/// word, as `shape_with_plan`, with `Length` if the spelling has 4 GiB or more, and with `Memory` if a growth was refused;
-/// then nothing changes. If one of these is too long the call is always refused.
+/// Finds the word of a spelling, by a plan of this number, or shapes it and keeps it: then it is
+/// the first word of the cache ([`WordCache::first`]). Whether it was found: exactly if one was
+/// kept under the same key, so for each spelling with the same normalised characters. Its glyphs
+/// are those of the spelling that it was kept with: for another spelling of it its clusters are
+/// not. The plan must fit the text of the spelling. Refuses as [`word_key`] does and, if there is
+/// no such word, as `shape_with_plan`, with `Length` if the spelling has 4 GiB or more, and with
+/// `Memory` if a growth was refused; then nothing changes. If one of these is too long the call is
+/// always refused.
 pub fn shape_word<U, F, M, S>(
     alloc: Global,
     cache: &mut WordCache,
@@ -97,8 +99,8 @@ pub(crate) fn word_of(
     Ok(Word { spelling, glyphs })
 }
 
-/// The text of a spelling, with nothing else set. Refuses with `Memory` if a growth was refused, and with `Length` if
-/// the spelling has 4 GiB or more.
+/// The text of a spelling, with nothing else set. Refuses with `Memory` if a growth was refused,
+/// and with `Length` if the spelling has 4 GiB or more.
 pub(crate) fn spelled(alloc: Global, spelling: &str) -> Result<UnicodeBuffer, ShapeError>
     ensures ok { IfOk result (λ text. text ≡ Keys.spelled spelling.now) }
     ensures length { (result ≡ Err ShapeError.Length) ↔ (2 ^ 32 ≤ length spelling.now) }

@@ -16,7 +16,8 @@ pub struct Word {
     pub glyphs: GlyphBuffer,
 }
 
-/// Shaped words under their keys. They take at most so many bytes, unless the last one takes more alone.
+/// Shaped words under their keys. They take at most so many bytes, unless the last one takes more
+/// alone.
 #[derive(Drop)]
 pub struct WordCache {
     words: LruCache<WordKey, Word>,
@@ -37,8 +38,8 @@ impl Model for WordCache {
 }
 
 impl WordCache {
-    /// A cache without words, which may take so many bytes. A word takes 4 bytes for each number of its key, those of its
-    /// spelling, and 40 for each glyph.
+    /// A cache without words, which may take so many bytes. A word takes 4 bytes for each number of
+    /// its key, those of its spelling, and 40 for each glyph.
     pub fn new(alloc: Global, limit: u64) -> Result<WordCache, AllocError>
         ensures { IfOk result (λ cache. cache ≡ made [] limit) }
     {
@@ -49,7 +50,8 @@ impl WordCache {
         })
     }
 
-    /// Whether there is a word with a key, which then is the most recently used. If there is none, nothing changes.
+    /// Whether there is a word with a key, which then is the most recently used. If there is none,
+    /// nothing changes.
     pub fn find(&mut self, key: &WordKey) -> bool
         ensures found { IsTrue result ↔ HasKey key.now.items self.old.entries }
         ensures first { self.new ≡ made (brought_first key.now.items self.old.entries) self.old.limit }
@@ -58,9 +60,9 @@ impl WordCache {
         self.words.promote(key)
     }
 
-    /// Keeps a word under a key, as the most recently used, unless there is one already. What was not used for longest
-    /// goes, while the words take more bytes than they may and there is another. Refuses with `Memory` alone, and
-    /// keeps nothing then.
+    /// Keeps a word under a key, as the most recently used, unless there is one already. What was
+    /// not used for longest goes, while the words take more bytes than they may and there is
+    /// another. Refuses with `Memory` alone, and keeps nothing then.
     pub fn keep(&mut self, key: WordKey, word: Word) -> Result<(), ShapeError>
         ensures known { HasKey key.items self.old.entries → self.new ≡ self.old }
         ensures kept { OnOk result ((HasKey key.items self.old.entries → ⊥)

@@ -1,7 +1,8 @@
 -- Which glyphs are tiles, and how far the word after them goes.
 use Rattle.std.specs.Prelude.{◌≡◌, ℕ, true, false, List, [], ◌∷◌, map, refl}
 use Rattle.shape_common.specs.declared.general_category.hb_unicode_general_category_t.{hb_unicode_general_category_t}
-use Rattle.shape_common.specs.declared.general_category.hb_unicode_general_category_t.TheVariants.{OtherLetter, UppercaseLetter, SpaceSeparator, NonspacingMark, ConnectorPunctuation, Unassigned}
+use Rattle.shape_common.specs.declared.general_category.hb_unicode_general_category_t.TheVariants.{OtherLetter, UppercaseLetter, SpaceSeparator}
+use Rattle.shape_common.specs.declared.general_category.hb_unicode_general_category_t.TheVariants.{NonspacingMark, ConnectorPunctuation, Unassigned}
 use Rattle.shape_items.specs.Buffer.{Buffer, new_buffer}
 use Rattle.shape_items.specs.Items.{Item, new_item, new_properties}
 use Rattle.arabic_stretching.specs.Tiles.{recorded, is_tile, repeats, is_word, span_len, begins_at, spans_marked}

@@ -1,7 +1,10 @@
 -- The rules X9, X10, N0 and P1, computed on small cases whose results were worked out by hand, the sequences from the examples of BD13.
 use Rattle.std.specs.Prelude.{◌≡◌, ℕ, zero, suc, true, false, None, Some, List, [], ◌∷◌, map, refl}
 use Rattle.ucd_bidi.specs.declared.BidiClass.{BidiClass}
-use Rattle.ucd_bidi.specs.declared.BidiClass.TheVariants.{ArabicLetter, ArabicNumber, BoundaryNeutral, EuropeanNumber, FirstStrongIsolate, LeftToRight, LeftToRightEmbedding, LeftToRightIsolate, LeftToRightOverride, NonspacingMark, OtherNeutral, PopDirectionalFormat, PopDirectionalIsolate, RightToLeft, RightToLeftEmbedding, RightToLeftIsolate, RightToLeftOverride, WhiteSpace}
+use Rattle.ucd_bidi.specs.declared.BidiClass.TheVariants.{ArabicLetter, ArabicNumber, BoundaryNeutral, EuropeanNumber, FirstStrongIsolate}
+use Rattle.ucd_bidi.specs.declared.BidiClass.TheVariants.{LeftToRight, LeftToRightEmbedding, LeftToRightIsolate, LeftToRightOverride, NonspacingMark}
+use Rattle.ucd_bidi.specs.declared.BidiClass.TheVariants.{OtherNeutral, PopDirectionalFormat, PopDirectionalIsolate, RightToLeft}
+use Rattle.ucd_bidi.specs.declared.BidiClass.TheVariants.{RightToLeftEmbedding, RightToLeftIsolate, RightToLeftOverride, WhiteSpace}
 use Rattle.bidi.specs.Brackets.{Pairs, canonical, closed, closed_by, directed_then, n0_from, no_pairs, opened, opened_by, pair_direction, pairs_step, with_pair}
 use Rattle.bidi.specs.Explicit.{explicit}
 use Rattle.bidi.specs.Members.{members}
@@ -41,7 +44,8 @@ between class before level after = record { place = 0; character = 0; original =
 
 -- text1 RLE text2 PDF RLE text3 PDF text4, a character for each text
 abbrev embeddings : List BidiClass
-embeddings = LeftToRight ∷ RightToLeftEmbedding ∷ LeftToRight ∷ PopDirectionalFormat ∷ RightToLeftEmbedding ∷ LeftToRight ∷ PopDirectionalFormat ∷ LeftToRight ∷ []
+embeddings = LeftToRight ∷ RightToLeftEmbedding ∷ LeftToRight ∷ PopDirectionalFormat ∷ RightToLeftEmbedding
+    ∷ LeftToRight ∷ PopDirectionalFormat ∷ LeftToRight ∷ []
 
 -- text1 RLI text2 PDI RLI text3 PDI text4
 abbrev isolates : List BidiClass
@@ -49,7 +53,9 @@ isolates = LeftToRight ∷ RightToLeftIsolate ∷ LeftToRight ∷ PopDirectional
 
 -- text1 RLI text2 LRI text3 RLE text4 PDF text5 PDI text6 PDI text7
 abbrev nested : List BidiClass
-nested = LeftToRight ∷ RightToLeftIsolate ∷ LeftToRight ∷ LeftToRightIsolate ∷ LeftToRight ∷ RightToLeftEmbedding ∷ LeftToRight ∷ PopDirectionalFormat ∷ LeftToRight ∷ PopDirectionalIsolate ∷ LeftToRight ∷ PopDirectionalIsolate ∷ LeftToRight ∷ []
+nested = LeftToRight ∷ RightToLeftIsolate ∷ LeftToRight ∷ LeftToRightIsolate ∷ LeftToRight
+    ∷ RightToLeftEmbedding ∷ LeftToRight ∷ PopDirectionalFormat ∷ LeftToRight ∷ PopDirectionalIsolate
+    ∷ LeftToRight ∷ PopDirectionalIsolate ∷ LeftToRight ∷ []
 
 pub record WorkedSequences : Type 0 where
   pub x9_leaves : map place_of (members_of 0 embeddings) ≡ (0 ∷ 2 ∷ 5 ∷ 7 ∷ [])
@@ -65,19 +71,25 @@ pub record WorkedSequences : Type 0 where
   pub bd13_empty_isolate : places 0 (LeftToRight ∷ LeftToRightIsolate ∷ PopDirectionalIsolate ∷ LeftToRight ∷ []) ≡ ((0 ∷ 1 ∷ 2 ∷ 3 ∷ []) ∷ [])
   pub bd13_isolate_with_no_end : places 0 (LeftToRight ∷ RightToLeftIsolate ∷ RightToLeft ∷ []) ≡ ((2 ∷ []) ∷ (0 ∷ 1 ∷ []) ∷ [])
   pub bd13_lone_pdi : places 0 (LeftToRight ∷ PopDirectionalIsolate ∷ LeftToRight ∷ []) ≡ ((0 ∷ 1 ∷ 2 ∷ []) ∷ [])
-  pub bd13_pdi_after_an_embedding : places 0 (RightToLeftEmbedding ∷ LeftToRight ∷ PopDirectionalFormat ∷ PopDirectionalIsolate ∷ []) ≡ ((1 ∷ []) ∷ (3 ∷ []) ∷ [])
-  pub bd13_with_an_embedding_open : places 0 (RightToLeftIsolate ∷ LeftToRightEmbedding ∷ LeftToRight ∷ PopDirectionalIsolate ∷ LeftToRight ∷ []) ≡ ((2 ∷ []) ∷ (0 ∷ 3 ∷ 4 ∷ []) ∷ [])
+  pub bd13_pdi_after_an_embedding : places 0 (RightToLeftEmbedding ∷ LeftToRight ∷ PopDirectionalFormat
+      ∷ PopDirectionalIsolate ∷ []) ≡ ((1 ∷ []) ∷ (3 ∷ []) ∷ [])
+  pub bd13_with_an_embedding_open : places 0 (RightToLeftIsolate ∷ LeftToRightEmbedding ∷ LeftToRight
+      ∷ PopDirectionalIsolate ∷ LeftToRight ∷ []) ≡ ((2 ∷ []) ∷ (0 ∷ 3 ∷ 4 ∷ []) ∷ [])
   pub sos_higher_before : sos_of (between LeftToRight 1 0 0) ≡ RightToLeft
   pub sos_higher_itself : sos_of (between LeftToRight 1 2 1) ≡ LeftToRight
   pub eos_higher_after : eos_of 0 (between LeftToRight 0 0 1) ≡ RightToLeft
   pub eos_higher_itself : eos_of 1 (between LeftToRight 0 2 1) ≡ LeftToRight
   pub eos_of_an_initiator : eos_of 0 (between RightToLeftIsolate 0 0 1) ≡ LeftToRight
   pub eos_of_an_initiator_at_its_paragraph : eos_of 1 (between FirstStrongIsolate 0 0 0) ≡ RightToLeft
-  pub written_to_places : with_levels (record (of_class LeftToRight) { place = 2 } ∷ of_class RightToLeft ∷ []) (EuropeanNumber ∷ RightToLeft ∷ []) (0 ∷ 0 ∷ 0 ∷ []) ≡ (1 ∷ 0 ∷ 2 ∷ [])
-  pub removed_as_before : filled 1 (BoundaryNeutral ∷ LeftToRight ∷ PopDirectionalFormat ∷ BoundaryNeutral ∷ RightToLeft ∷ LeftToRightEmbedding ∷ RightToLeftEmbedding ∷ RightToLeftOverride ∷ LeftToRightOverride ∷ []) (7 ∷ 2 ∷ 7 ∷ 7 ∷ 3 ∷ 7 ∷ 7 ∷ 7 ∷ 7 ∷ []) ≡ (1 ∷ 2 ∷ 2 ∷ 2 ∷ 3 ∷ 3 ∷ 3 ∷ 3 ∷ 3 ∷ [])
+  pub written_to_places : with_levels (record (of_class LeftToRight) { place = 2 } ∷ of_class RightToLeft
+      ∷ []) (EuropeanNumber ∷ RightToLeft ∷ []) (0 ∷ 0 ∷ 0 ∷ []) ≡ (1 ∷ 0 ∷ 2 ∷ [])
+  pub removed_as_before : filled 1 (BoundaryNeutral ∷ LeftToRight ∷ PopDirectionalFormat ∷ BoundaryNeutral
+      ∷ RightToLeft ∷ LeftToRightEmbedding ∷ RightToLeftEmbedding ∷ RightToLeftOverride ∷ LeftToRightOverride
+      ∷ []) (7 ∷ 2 ∷ 7 ∷ 7 ∷ 3 ∷ 7 ∷ 7 ∷ 7 ∷ 7 ∷ []) ≡ (1 ∷ 2 ∷ 2 ∷ 2 ∷ 3 ∷ 3 ∷ 3 ∷ 3 ∷ 3 ∷ [])
   pub last_member : place_of (last_of (of_class LeftToRight) (of_class RightToLeft ∷ record (of_class LeftToRight) { place = 7 } ∷ [])) ≡ 7
   pub numbers_in_a_paragraph : levels_in 0 (0 ∷ 0 ∷ 0 ∷ []) (RightToLeft ∷ EuropeanNumber ∷ LeftToRight ∷ []) ≡ (1 ∷ 2 ∷ 0 ∷ [])
-  pub spaces_in_a_paragraph : levels_in 0 (0 ∷ 0 ∷ 0 ∷ 0 ∷ 0 ∷ []) (LeftToRight ∷ WhiteSpace ∷ ArabicLetter ∷ WhiteSpace ∷ EuropeanNumber ∷ []) ≡ (0 ∷ 0 ∷ 1 ∷ 1 ∷ 2 ∷ [])
+  pub spaces_in_a_paragraph : levels_in 0 (0 ∷ 0 ∷ 0 ∷ 0 ∷ 0 ∷ []) (LeftToRight ∷ WhiteSpace ∷ ArabicLetter
+      ∷ WhiteSpace ∷ EuropeanNumber ∷ []) ≡ (0 ∷ 0 ∷ 1 ∷ 1 ∷ 2 ∷ [])
   pub spaces_in_a_right_paragraph : levels_in 1 (0 ∷ 0 ∷ 0 ∷ []) (LeftToRight ∷ WhiteSpace ∷ RightToLeft ∷ []) ≡ (2 ∷ 1 ∷ 1 ∷ [])
   pub isolates_in_a_paragraph : levels_in 0 (no_text isolates) isolates ≡ (0 ∷ 0 ∷ 2 ∷ 0 ∷ 0 ∷ 2 ∷ 0 ∷ 0 ∷ [])
   pub crlf : (begins_with 0xA (0xA ∷ 0x61 ∷ []) ∷ begins_with 0xA (0x61 ∷ 0xA ∷ []) ∷ begins_with 0xA [] ∷ []) ≡ (true ∷ false ∷ false ∷ [])
@@ -157,18 +169,35 @@ pub record WorkedBrackets : Type 0 where
   pub n0_c1 : pair_direction LeftToRight RightToLeft (OtherNeutral ∷ RightToLeft ∷ []) ≡ Some RightToLeft
   pub n0_c2 : pair_direction LeftToRight LeftToRight (OtherNeutral ∷ EuropeanNumber ∷ []) ≡ Some LeftToRight
   pub n0_d : pair_direction LeftToRight RightToLeft (OtherNeutral ∷ WhiteSpace ∷ NonspacingMark ∷ []) ≡ None
-  pub n0_sets_both : with_pair LeftToRight RightToLeft (sequence (RightToLeft ∷ OtherNeutral ∷ RightToLeft ∷ OtherNeutral ∷ [])) 1 3 (RightToLeft ∷ OtherNeutral ∷ RightToLeft ∷ OtherNeutral ∷ []) ≡ (RightToLeft ∷ RightToLeft ∷ RightToLeft ∷ RightToLeft ∷ [])
-  pub n0_no_pair : with_pair LeftToRight RightToLeft (sequence (OtherNeutral ∷ RightToLeft ∷ [])) 0 0 (OtherNeutral ∷ RightToLeft ∷ []) ≡ (OtherNeutral ∷ RightToLeft ∷ [])
-  pub n0_marks : with_pair RightToLeft RightToLeft (sequence (OtherNeutral ∷ NonspacingMark ∷ RightToLeft ∷ OtherNeutral ∷ NonspacingMark ∷ NonspacingMark ∷ OtherNeutral ∷ NonspacingMark ∷ [])) 0 3 (OtherNeutral ∷ OtherNeutral ∷ RightToLeft ∷ OtherNeutral ∷ OtherNeutral ∷ OtherNeutral ∷ OtherNeutral ∷ OtherNeutral ∷ []) ≡ (RightToLeft ∷ RightToLeft ∷ RightToLeft ∷ RightToLeft ∷ RightToLeft ∷ RightToLeft ∷ OtherNeutral ∷ OtherNeutral ∷ [])
-  pub n0_before : map (directed_then LeftToRight) (RightToLeft ∷ LeftToRight ∷ EuropeanNumber ∷ ArabicNumber ∷ OtherNeutral ∷ []) ≡ (RightToLeft ∷ LeftToRight ∷ RightToLeft ∷ RightToLeft ∷ LeftToRight ∷ [])
+  pub n0_sets_both : with_pair LeftToRight RightToLeft (sequence (RightToLeft ∷ OtherNeutral ∷ RightToLeft
+      ∷ OtherNeutral ∷ [])) 1 3 (RightToLeft ∷ OtherNeutral ∷ RightToLeft ∷ OtherNeutral ∷ [])
+      ≡ (RightToLeft ∷ RightToLeft ∷ RightToLeft ∷ RightToLeft ∷ [])
+  pub n0_no_pair : with_pair LeftToRight RightToLeft (sequence (OtherNeutral ∷ RightToLeft
+      ∷ [])) 0 0 (OtherNeutral ∷ RightToLeft ∷ []) ≡ (OtherNeutral ∷ RightToLeft ∷ [])
+  pub n0_marks : with_pair RightToLeft RightToLeft (sequence (OtherNeutral ∷ NonspacingMark ∷ RightToLeft
+      ∷ OtherNeutral ∷ NonspacingMark ∷ NonspacingMark ∷ OtherNeutral ∷ NonspacingMark
+      ∷ [])) 0 3 (OtherNeutral ∷ OtherNeutral ∷ RightToLeft ∷ OtherNeutral ∷ OtherNeutral ∷ OtherNeutral
+      ∷ OtherNeutral ∷ OtherNeutral ∷ []) ≡ (RightToLeft ∷ RightToLeft ∷ RightToLeft ∷ RightToLeft
+      ∷ RightToLeft ∷ RightToLeft ∷ OtherNeutral ∷ OtherNeutral ∷ [])
+  pub n0_before : map (directed_then LeftToRight) (RightToLeft ∷ LeftToRight ∷ EuropeanNumber ∷ ArabicNumber
+      ∷ OtherNeutral ∷ []) ≡ (RightToLeft ∷ LeftToRight ∷ RightToLeft ∷ RightToLeft ∷ LeftToRight ∷ [])
   -- R ( L R ) ( R ): the first pair takes the direction of the embedding, and its closing bracket is what is before the second
-  pub n0_in_order : n0_from LeftToRight (sequence (RightToLeft ∷ OtherNeutral ∷ LeftToRight ∷ RightToLeft ∷ OtherNeutral ∷ OtherNeutral ∷ RightToLeft ∷ OtherNeutral ∷ [])) 0 RightToLeft (0 ∷ 4 ∷ 0 ∷ 0 ∷ 0 ∷ 7 ∷ 0 ∷ 0 ∷ []) (RightToLeft ∷ OtherNeutral ∷ LeftToRight ∷ RightToLeft ∷ OtherNeutral ∷ OtherNeutral ∷ RightToLeft ∷ OtherNeutral ∷ []) ≡ (RightToLeft ∷ LeftToRight ∷ LeftToRight ∷ RightToLeft ∷ LeftToRight ∷ LeftToRight ∷ RightToLeft ∷ LeftToRight ∷ [])
-  pub n0_sos : n0_from RightToLeft (sequence (OtherNeutral ∷ LeftToRight ∷ OtherNeutral ∷ [])) 0 LeftToRight (2 ∷ 0 ∷ 0 ∷ []) (OtherNeutral ∷ LeftToRight ∷ OtherNeutral ∷ []) ≡ (LeftToRight ∷ LeftToRight ∷ LeftToRight ∷ [])
+  pub n0_in_order : n0_from LeftToRight (sequence (RightToLeft ∷ OtherNeutral ∷ LeftToRight ∷ RightToLeft
+      ∷ OtherNeutral ∷ OtherNeutral ∷ RightToLeft ∷ OtherNeutral ∷ [])) 0 RightToLeft (0 ∷ 4 ∷ 0 ∷ 0 ∷ 0 ∷ 7
+      ∷ 0 ∷ 0 ∷ []) (RightToLeft ∷ OtherNeutral ∷ LeftToRight ∷ RightToLeft ∷ OtherNeutral ∷ OtherNeutral
+      ∷ RightToLeft ∷ OtherNeutral ∷ []) ≡ (RightToLeft ∷ LeftToRight ∷ LeftToRight ∷ RightToLeft
+      ∷ LeftToRight ∷ LeftToRight ∷ RightToLeft ∷ LeftToRight ∷ [])
+  pub n0_sos : n0_from RightToLeft (sequence (OtherNeutral ∷ LeftToRight ∷ OtherNeutral
+      ∷ [])) 0 LeftToRight (2 ∷ 0 ∷ 0 ∷ []) (OtherNeutral ∷ LeftToRight ∷ OtherNeutral ∷ [])
+      ≡ (LeftToRight ∷ LeftToRight ∷ LeftToRight ∷ [])
   pub bd14_opening : map opened_by (0x28 ∷ 0x2329 ∷ 0x3008 ∷ 0x29 ∷ 0x61 ∷ []) ≡ (Some 0x29 ∷ Some 0x3009 ∷ Some 0x3009 ∷ None ∷ None ∷ [])
   pub bd15_closing : map closed_by (0x29 ∷ 0x232A ∷ 0x3009 ∷ 0x28 ∷ 0x61 ∷ []) ≡ (Some 0x29 ∷ Some 0x3009 ∷ Some 0x3009 ∷ None ∷ None ∷ [])
   pub bd16_ends : pairs_step 0 OtherNeutral 0x28 (full_stack 64 (no_pairs 0)) ≡ full_stack 64 (no_pairs 0)
-  pub n0_nothing_inside : with_pair LeftToRight RightToLeft (sequence (RightToLeft ∷ OtherNeutral ∷ WhiteSpace ∷ OtherNeutral ∷ RightToLeft ∷ [])) 1 3 (RightToLeft ∷ OtherNeutral ∷ WhiteSpace ∷ OtherNeutral ∷ RightToLeft ∷ []) ≡ (RightToLeft ∷ OtherNeutral ∷ WhiteSpace ∷ OtherNeutral ∷ RightToLeft ∷ [])
-  pub n0_closed_nowhere : with_pair LeftToRight RightToLeft (sequence (OtherNeutral ∷ RightToLeft ∷ [])) 0 5 (OtherNeutral ∷ RightToLeft ∷ []) ≡ (OtherNeutral ∷ RightToLeft ∷ [])
+  pub n0_nothing_inside : with_pair LeftToRight RightToLeft (sequence (RightToLeft ∷ OtherNeutral ∷ WhiteSpace
+      ∷ OtherNeutral ∷ RightToLeft ∷ [])) 1 3 (RightToLeft ∷ OtherNeutral ∷ WhiteSpace ∷ OtherNeutral
+      ∷ RightToLeft ∷ []) ≡ (RightToLeft ∷ OtherNeutral ∷ WhiteSpace ∷ OtherNeutral ∷ RightToLeft ∷ [])
+  pub n0_closed_nowhere : with_pair LeftToRight RightToLeft (sequence (OtherNeutral ∷ RightToLeft
+      ∷ [])) 0 5 (OtherNeutral ∷ RightToLeft ∷ []) ≡ (OtherNeutral ∷ RightToLeft ∷ [])
 
 pub worked_brackets : WorkedBrackets
 worked_brackets = record {

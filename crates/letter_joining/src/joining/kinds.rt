@@ -1,4 +1,5 @@
-//! The kinds of characters of the blocks Arabic, Syriac and Arabic Supplement, which most letters that join are of.
+//! The kinds of characters of the blocks Arabic, Syriac and Arabic Supplement, which most letters
+//! that join are of.
 use crate::joining::Kind;
 
 const U: Option<Kind> = Some(Kind::Apart);

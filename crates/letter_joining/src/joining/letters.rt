@@ -1,6 +1,8 @@
-//! What becomes of letters, read off tables: what stands before the next one, and the forms of this one.
+//! What becomes of letters, read off tables: what stands before the next one, and the forms of this
+//! one.
 //!
-//! A table has a row of eight for each kind, and in it an entry for each state; the eighth is of none.
+//! A table has a row of eight for each kind, and in it an entry for each state; the eighth is of
+//! none.
 use crate::joining::{Form, State};
 
 const FREE: State = State::Free;

@@ -3,7 +3,12 @@
 use Rattle.std.specs.Prelude.{◌≡◌, ◌==◌, Bool, true, List, [], ◌∷◌, refl}
 use Rattle.std.specs.List.{list_all}
 use Rattle.ucd_breaks.specs.declared.LineBreak.{LineBreak}
-use Rattle.ucd_breaks.specs.declared.LineBreak.TheVariants.{Aksara, AksaraPrebase, AksaraStart, Alphabetic, BreakAfter, BreakBefore, BreakBoth, BreakSymbols, CarriageReturn, CloseParenthesis, ClosePunctuation, ContingentBreak, EBase, EModifier, Exclamation, Glue, H2, H3, HebrewLetter, Hyphen, Ideographic, InfixNumeric, Jl, Jt, Jv, LineFeed, MandatoryBreak, NextLine, Nonstarter, Numeric, OpenPunctuation, PostfixNumeric, PrefixNumeric, Quotation, RegionalIndicator, Space, UnambiguousHyphen, Virama, ViramaFinal, WordJoiner, ZWSpace}
+use Rattle.ucd_breaks.specs.declared.LineBreak.TheVariants.{Aksara, AksaraPrebase, AksaraStart, Alphabetic, BreakAfter, BreakBefore, BreakBoth}
+use Rattle.ucd_breaks.specs.declared.LineBreak.TheVariants.{BreakSymbols, CarriageReturn, CloseParenthesis, ClosePunctuation, ContingentBreak, EBase}
+use Rattle.ucd_breaks.specs.declared.LineBreak.TheVariants.{EModifier, Exclamation, Glue, H2, H3, HebrewLetter, Hyphen, Ideographic, InfixNumeric, Jl}
+use Rattle.ucd_breaks.specs.declared.LineBreak.TheVariants.{Jt, Jv, LineFeed, MandatoryBreak, NextLine, Nonstarter, Numeric, OpenPunctuation}
+use Rattle.ucd_breaks.specs.declared.LineBreak.TheVariants.{PostfixNumeric, PrefixNumeric, Quotation, RegionalIndicator, Space, UnambiguousHyphen}
+use Rattle.ucd_breaks.specs.declared.LineBreak.TheVariants.{Virama, ViramaFinal, WordJoiner, ZWSpace}
 use Rattle.line_breaks.specs.Breaks.{verdict_between, verdict_number}
 use Rattle.line_breaks.specs.Letters.{edge}
 use Rattle.line_breaks.specs.Units.{unit}
@@ -75,7 +80,8 @@ pub record WorkedLate : Type 0 where
   pub lb25_closed : each (ClosePunctuation ∷ CloseParenthesis ∷ []) Prohibited (λ l. place (l ∷ letter Numeric ∷ []) (letter PrefixNumeric) []) ≡ true
   pub lb25_closed_once : place (letter ClosePunctuation ∷ letter ClosePunctuation ∷ letter Numeric ∷ []) (letter PrefixNumeric) [] ≡ Allowed
   pub lb25_closed_no_number : place (letter ClosePunctuation ∷ letter Numeric ∷ []) (letter Numeric) [] ≡ Allowed
-  pub lb25_number : each (PrefixNumeric ∷ PostfixNumeric ∷ []) Prohibited (λ l. place (letter InfixNumeric ∷ letter BreakSymbols ∷ letter Numeric ∷ []) l []) ≡ true
+  pub lb25_number : each (PrefixNumeric ∷ PostfixNumeric
+      ∷ []) Prohibited (λ l. place (letter InfixNumeric ∷ letter BreakSymbols ∷ letter Numeric ∷ []) l []) ≡ true
   pub lb25_before : each (PrefixNumeric ∷ PostfixNumeric ∷ Hyphen ∷ InfixNumeric ∷ []) Prohibited (λ l. place (l ∷ []) (letter Numeric) []) ≡ true
   pub lb25_open : each (PrefixNumeric ∷ PostfixNumeric ∷ []) Prohibited (λ l. place (l ∷ []) (wide OpenPunctuation) (letter Numeric ∷ [])) ≡ true
   pub lb25_open_not_after_a_hyphen : place (letter Hyphen ∷ []) (letter OpenPunctuation) (letter Numeric ∷ []) ≡ Allowed

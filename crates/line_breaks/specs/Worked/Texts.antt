@@ -6,7 +6,10 @@ use Rattle.std.specs.Str.{chars}
 use Rattle.ucd_table.specs.Rows.{value_in, in_ranges}
 use Rattle.ucd_breaks.specs.LineBreak.{line_break}
 use Rattle.ucd_breaks.specs.LineBreakRows.{line_break_rows}
-use Rattle.ucd_breaks.specs.declared.LineBreak.TheVariants.{Alphabetic, Ambiguous, BreakSymbols, CarriageReturn, ClosePunctuation, CombiningMark, ComplexContext, ConditionalJapaneseStarter, Exclamation, Ideographic, InfixNumeric, LineFeed, MandatoryBreak, NextLine, Nonstarter, Numeric, OpenPunctuation, Quotation, RegionalIndicator, Space, Surrogate, Unknown, Zwj, ZWSpace}
+use Rattle.ucd_breaks.specs.declared.LineBreak.TheVariants.{Alphabetic, Ambiguous, BreakSymbols, CarriageReturn, ClosePunctuation, CombiningMark}
+use Rattle.ucd_breaks.specs.declared.LineBreak.TheVariants.{ComplexContext, ConditionalJapaneseStarter, Exclamation, Ideographic, InfixNumeric}
+use Rattle.ucd_breaks.specs.declared.LineBreak.TheVariants.{LineFeed, MandatoryBreak, NextLine, Nonstarter, Numeric, OpenPunctuation, Quotation}
+use Rattle.ucd_breaks.specs.declared.LineBreak.TheVariants.{RegionalIndicator, Space, Surrogate, Unknown, Zwj, ZWSpace}
 use Rattle.ucd_category.specs.GeneralCategory.{general_category}
 use Rattle.ucd_category.specs.GeneralCategoryRows.{general_category_rows}
 use Rattle.ucd_category.specs.declared.GeneralCategory.TheVariants.{NonspacingMark, SpacingMark, EnclosingMark, OtherLetter}
@@ -39,7 +42,8 @@ pub record WorkedLetters : Type 0 where
   pub small_kana : letter_of 0x3041 ≡ wide Nonstarter
 
 pub worked_letters : WorkedLetters
-unfolding line_break general_category east_asian_width is_extended_pictographic value_in line_break_rows general_category_rows east_asian_width_rows in_ranges extended_pictographic_ranges
+unfolding line_break general_category east_asian_width is_extended_pictographic value_in line_break_rows
+    general_category_rows east_asian_width_rows in_ranges extended_pictographic_ranges
 worked_letters = record {
   plain = refl;
   circle = refl;
@@ -115,7 +119,8 @@ pub record WorkedText : Type 0 where
       ∷ unit 7 (wide Ideographic) true ∷ []
 
 pub worked_text : WorkedText
-unfolding chars line_break general_category east_asian_width is_extended_pictographic value_in line_break_rows general_category_rows east_asian_width_rows in_ranges extended_pictographic_ranges
+unfolding chars line_break general_category east_asian_width is_extended_pictographic value_in line_break_rows
+    general_category_rows east_asian_width_rows in_ranges extended_pictographic_ranges
 worked_text = record { units = refl }
 
 abbrev at : ℕ → Unit

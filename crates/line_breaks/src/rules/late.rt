@@ -13,7 +13,8 @@ pub(super) fn lb19(around: &Around) -> bool
         || around.before.one.is(LineBreak::Quotation) && !around.before.one.closes
 }
 
-/// LB19a: [^EastAsian] × QU, × QU ([^EastAsian] | eot), QU × [^EastAsian], (sot | [^EastAsian]) QU ×.
+/// LB19a: [^EastAsian] × QU, × QU ([^EastAsian] | eot), QU × [^EastAsian], (sot | [^EastAsian]) QU
+/// ×.
 pub(super) fn lb19a(around: &Around) -> bool
     ensures { result ≡ Rules.lb19a around.now }
 {

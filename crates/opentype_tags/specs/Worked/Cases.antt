@@ -3,11 +3,15 @@ use Rattle.std.specs.Prelude.{◌≡◌, ℕ, Option, Some, None, List, [], ◌�
 use Rattle.shape_common.specs.declared.text_types.hb_tag_t.{hb_tag_t}
 use Rattle.shape_common.specs.declared.text_types.Script.{Script}
 use Rattle.opentype_tags.specs.Script.{tag, tags_of_script}
-use Rattle.opentype_tags.specs.Language.{name_tags}
+use Rattle.opentype_tags.specs.Language.{name_tags, script_tags}
 
 -- the tags of the script with a tag of ISO 15924
 abbrev pub of_script : ℕ → List hb_tag_t
 of_script n = let script : Script = record { 0 = record { 0 = n } } in tags_of_script (Some script)
+
+-- those of Latin in a text whose language has a name
+abbrev pub latin_named : List ℕ → List hb_tag_t
+latin_named name = let script : Script = record { 0 = record { 0 = 0x4C61746E } } in script_tags (Some script) (Some name)
 
 pub record WorkedScripts : Type 0 where
   pub no_script : tags_of_script None ≡ []
@@ -30,6 +34,14 @@ pub record WorkedScripts : Type 0 where
   pub nko : of_script 0x4E6B6F6F ≡ tag 0x6E6B6F20 ∷ []  -- Nkoo: nko
   pub vai : of_script 0x56616969 ≡ tag 0x76616920 ∷ []  -- Vaii: vai
   pub mathematics : of_script 0x5A6D7468 ≡ tag 0x6D617468 ∷ []  -- Zmth: math
+  -- tags of scripts are in small letters, but for the default's
+  pub named : latin_named (codes "en-x-hbscabcd") ≡ tag 0x61626364 ∷ []  -- abcd
+  pub named_in_capitals : latin_named (codes "en-x-hbscABCD") ≡ tag 0x61626364 ∷ []  -- abcd
+  pub named_short : latin_named (codes "en-x-hbscAB") ≡ tag 0x61622020 ∷ []  -- ab
+  pub named_default : latin_named (codes "x-hbscdflt") ≡ tag 0x44464C54 ∷ []  -- DFLT
+  pub named_by_digits : latin_named (codes "x-hbsc-41424344") ≡ tag 0x41424344 ∷ []  -- ABCD
+  pub language_named : latin_named (codes "en-x-hbotabcd") ≡ tag 0x6C61746E ∷ []  -- latn
+  pub not_named : latin_named (codes "en") ≡ tag 0x6C61746E ∷ []  -- latn
 
 pub record WorkedLanguages : Type 0 where
   pub nothing : name_tags [] ≡ []

@@ -1,4 +1,5 @@
-//! Languages whose subtag begins with a to b: the subtag, and OpenType's tag of the language (0: it has none).
+//! Languages whose subtag begins with a to b: the subtag, and OpenType's tag of the language (0: it
+//! has none).
 
 pub const A: [(u32, u32); 88] = [
     (0x61612020, 0x41465220), // aa AFR

@@ -1,4 +1,5 @@
-//! Languages whose subtag begins with c to h: the subtag, and OpenType's tag of the language (0: it has none).
+//! Languages whose subtag begins with c to h: the subtag, and OpenType's tag of the language (0: it
+//! has none).
 
 pub const C: [(u32, u32); 122] = [
     (0x63612020, 0x43415420), // ca CAT

@@ -1,4 +1,5 @@
-//! Languages whose subtag begins with i to l: the subtag, and OpenType's tag of the language (0: it has none).
+//! Languages whose subtag begins with i to l: the subtag, and OpenType's tag of the language (0: it
+//! has none).
 
 pub const I: [(u32, u32); 34] = [
     (0x69612020, 0x494E4120), // ia INA

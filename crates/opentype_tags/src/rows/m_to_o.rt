@@ -1,4 +1,5 @@
-//! Languages whose subtag begins with m to o: the subtag, and OpenType's tag of the language (0: it has none).
+//! Languages whose subtag begins with m to o: the subtag, and OpenType's tag of the language (0: it
+//! has none).
 
 pub const M: [(u32, u32); 100] = [
     (0x6D672020, 0x4D4C4720), // mg MLG

@@ -1,4 +1,5 @@
-//! Languages whose subtag begins with p to s: the subtag, and OpenType's tag of the language (0: it has none).
+//! Languages whose subtag begins with p to s: the subtag, and OpenType's tag of the language (0: it
+//! has none).
 
 pub const P: [(u32, u32); 52] = [
     (0x70612020, 0x50414E20), // pa PAN

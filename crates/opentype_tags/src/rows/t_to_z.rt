@@ -1,4 +1,5 @@
-//! Languages whose subtag begins with t to z: the subtag, and OpenType's tag of the language (0: it has none).
+//! Languages whose subtag begins with t to z: the subtag, and OpenType's tag of the language (0: it
+//! has none).
 
 pub const T: [(u32, u32); 94] = [
     (0x74612020, 0x54414D20), // ta TAM

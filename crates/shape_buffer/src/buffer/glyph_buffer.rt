@@ -81,9 +81,9 @@ impl GlyphBuffer {
         self.glyph_infos().iter().zip(self.glyph_positions())
     }
 
-    /// The clusters in the order of the text, each with its glyphs, how far they move the pen, and whether a
-    /// line may be cut before its text. Neighbours in one cluster stand as one. Refuses with `Memory` if a
-    /// growth was refused.
+    /// The clusters in the order of the text, each with its glyphs, how far they move the pen, and
+    /// whether a line may be cut before its text. Neighbours in one cluster stand as one. Refuses
+    /// with `Memory` if a growth was refused.
     pub fn clusters(&self, alloc: Global) -> Result<Vec<GlyphCluster>, ShapeError>
         ensures clusters { IfOk result (λ clusters. clusters.items
             ≡ clusters_in_text_order self.now) }
@@ -119,8 +119,8 @@ impl GlyphBuffer {
         self.buffer.language()
     }
 
-    /// Gives the buffer back cleared, for new text: flags, level and the two glyph settings stay. Takes no
-    /// memory.
+    /// Gives the buffer back cleared, for new text: flags, level and the two glyph settings stay.
+    /// Takes no memory.
     pub fn clear(self) -> UnicodeBuffer
         ensures { result ≡ cleared self }
     {

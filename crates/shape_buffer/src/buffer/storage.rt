@@ -32,16 +32,18 @@ const MAX_OPS_FACTOR: usize = 40960;
 /// The lookups of a run may ask for so much, however few items it began with.
 const MAX_OPS_MIN: usize = 2_621_440;
 
-/// The items of a text with their positions, and its settings. There are always as many positions as
-/// items; an index counts either of them, from 0. A span goes from its start up to its end, which it
-/// doesn't hold.
+/// The items of a text with their positions, and its settings. There are always as many positions
+/// as items; an index counts either of them, from 0. A span goes from its start up to its end,
+/// which it doesn't hold.
 #[derive(Drop, Debug)]
 pub struct hb_buffer_t {
     infos: Vec<hb_glyph_info_t>,
     positions: Vec<GlyphPosition>,
-    /// Whether some position may be other than zeros. If none is, nothing is written to make them zeros.
+    /// Whether some position may be other than zeros. If none is, nothing is written to make them
+    /// zeros.
     has_positions: bool,
-    /// Room for deletion and for merging many spans, which take no memory: a number for each item, at least.
+    /// Room for deletion and for merging many spans, which take no memory: a number for each item,
+    /// at least.
     run_starts: Vec<usize>,
     direction: Direction,
     script: Option<Script>,
@@ -97,8 +99,8 @@ impl Model for hb_buffer_t {
 impl hb_buffer_t {
     ghost use Rattle.shape_items.specs.Buffer.{new_buffer, cleared, limit_of, most_countable, run_limit, run_ops};
 
-    /// A buffer without text, at level MONOTONE_GRAPHEMES and without flags. It keeps the allocator;
-    /// no other call takes one.
+    /// A buffer without text, at level MONOTONE_GRAPHEMES and without flags. It keeps the
+    /// allocator; no other call takes one.
     pub fn new(alloc: Global) -> Self
         ensures { result ≡ new_buffer }
     {
@@ -160,8 +162,8 @@ impl hb_buffer_t {
         self.length_limit.unwrap_or(usize::MAX)
     }
 
-    /// Begins a run: no scratch flag, no ligature id given yet, a limit of 64 times as many items as
-    /// there are, or of 16384 if that is more, and work for lookups by their number.
+    /// Begins a run: no scratch flag, no ligature id given yet, a limit of 64 times as many items
+    /// as there are, or of 16384 if that is more, and work for lookups by their number.
     pub fn enter(&mut self)
         ensures { self.new ≡ record self.old {
           scratch_flags = record { 0 = 0 };
@@ -204,8 +206,8 @@ impl hb_buffer_t {
         self.has_positions = true;
     }
 
-    /// Leaves the buffer cleared: no item, direction, script, language, context, scratch flag, limits or
-    /// ligature id. Flags, level and the two glyph settings stay.
+    /// Leaves the buffer cleared: no item, direction, script, language, context, scratch flag,
+    /// limits or ligature id. Flags, level and the two glyph settings stay.
     pub fn reset(&mut self)
         ensures { self.new ≡ cleared self.old }
     {

@@ -22,8 +22,8 @@ pub struct UnicodeBuffer {
 impl hb_buffer_t {
     ghost use Rattle.shape_items.specs.Buffer.{cleared};
 
-    /// Gives the buffer cleared, for new text: flags, level and the two glyph settings stay. Takes no
-    /// memory.
+    /// Gives the buffer cleared, for new text: flags, level and the two glyph settings stay. Takes
+    /// no memory.
     pub fn clear(mut self) -> UnicodeBuffer
         ensures { result ≡ cleared self }
     {
@@ -49,7 +49,8 @@ impl UnicodeBuffer {
     ghost use Rattle.shape_buffer.specs.Text.{numbered_from, IsFirstByte};
     ghost use Rattle.shape_common.specs.Positions.{zero_position};
 
-    /// A buffer without text, at level MONOTONE_GRAPHEMES and without flags. It keeps the allocator.
+    /// A buffer without text, at level MONOTONE_GRAPHEMES and without flags. It keeps the
+    /// allocator.
     pub fn new(alloc: Global) -> Self
         ensures { result ≡ new_buffer }
     {
@@ -78,8 +79,8 @@ impl UnicodeBuffer {
         self.buffer.is_empty()
     }
 
-    /// Appends a character, whose cluster leads back to the caller's text. Refuses with `Memory` if a
-    /// growth was refused; a refused call changes nothing.
+    /// Appends a character, whose cluster leads back to the caller's text. Refuses with `Memory` if
+    /// a growth was refused; a refused call changes nothing.
     pub fn add(&mut self, c: char, cluster: u32) -> Result<(), ShapeError>
         ensures ok { OnOk result (self.new ≡ record self.old {
           items = self.old.items ++ new_item c cluster ∷ [];
@@ -91,10 +92,10 @@ impl UnicodeBuffer {
         self.buffer.push(c, cluster)
     }
 
-    /// Appends the characters of a text, whose clusters are the offsets of their first bytes in it: there the
-    /// text may be cut, they never fall, and each is below the text's length. The text has fewer than 2^32
-    /// bytes, since clusters are 32 bits. Refuses with `Memory` if a growth was refused; a refused call
-    /// changes nothing.
+    /// Appends the characters of a text, whose clusters are the offsets of their first bytes in it:
+    /// there the text may be cut, they never fall, and each is below the text's length. The text
+    /// has fewer than 2^32 bytes, since clusters are 32 bits. Refuses with `Memory` if a growth was
+    /// refused; a refused call changes nothing.
     pub fn push_str(&mut self, text: &str) -> Result<(), ShapeError>
         requires { length text.now < 2 ^ 32 }
         ensures ok { OnOk result (self.new ≡ record self.old {
@@ -110,8 +111,8 @@ impl UnicodeBuffer {
         self.buffer.push_str(text)
     }
 
-    /// Makes room for so many more characters, so that appending them isn't refused. Changes nothing that is
-    /// seen. Refuses with `Memory` if a growth was refused.
+    /// Makes room for so many more characters, so that appending them isn't refused. Changes
+    /// nothing that is seen. Refuses with `Memory` if a growth was refused.
     pub fn reserve(&mut self, additional: usize) -> Result<(), ShapeError>
         ensures same { self.new ≡ self.old }
         ensures memory { IsOkUnless result ShapeError.Memory }
@@ -119,8 +120,8 @@ impl UnicodeBuffer {
         self.buffer.reserve(additional)
     }
 
-    /// Puts the characters in clusters 0, 1, 2 and so on, in their order, whatever clusters they had. From
-    /// 2^32 - 1 on, all are in that cluster. Takes no memory.
+    /// Puts the characters in clusters 0, 1, 2 and so on, in their order, whatever clusters they
+    /// had. From 2^32 - 1 on, all are in that cluster. Takes no memory.
     pub fn reset_clusters(&mut self)
         ensures numbered { self.new
             ≡ record self.old { items = numbered_from 0 self.old.items } }
@@ -268,9 +269,9 @@ impl UnicodeBuffer {
         self.buffer.set_post_context(text);
     }
 
-    /// Sets script and direction by guessing, if they aren't set: the script becomes the first of the
-    /// characters' scripts that is neither Common nor Inherited nor Unknown, the direction that of the
-    /// script, else left to right.
+    /// Sets script and direction by guessing, if they aren't set: the script becomes the first of
+    /// the characters' scripts that is neither Common nor Inherited nor Unknown, the direction that
+    /// of the script, else left to right.
     pub fn guess_segment_properties<U: hb_unicode_funcs_t>(&mut self)
         ensures { self.new ≡ guessed U.unicode self.old }
     {

@@ -12,10 +12,11 @@ use std::alloc::Global;
 
 /// The lookups of faces of type `F`. Its functions have no receiver.
 ///
-/// A call that changes a buffer stands for its meaning, a function from buffer to buffer; what it may be
-/// depends on the map and the face. A call that returns a `Result` refuses with `Length` if the list
-/// that it would leave passes the buffer's limit, and with `Memory` if a growth was refused; nothing is
-/// said of the buffer then. No other call is refused, and none of these makes the list longer.
+/// A call that changes a buffer stands for its meaning, a function from buffer to buffer; what it
+/// may be depends on the map and the face. A call that returns a `Result` refuses with `Length` if
+/// the list that it would leave passes the buffer's limit, and with `Memory` if a growth was
+/// refused; nothing is said of the buffer then. No other call is refused, and none of these makes
+/// the list longer.
 pub trait hb_ot_layout_t<F> {
     /// What the requests of a plan are compiled to.
     type Map: Drop;
@@ -29,7 +30,8 @@ pub trait hb_ot_layout_t<F> {
     /// What its lookups make of a buffer.
     ghost lookups: { Self.Map → F → LookupMeaning };
 
-    /// The script of a table of lookups that the engine takes for a text of this script and language.
+    /// The script of a table of lookups that the engine takes for a text of this script and
+    /// language.
     fn chosen_script(
         face: &F,
         script: Option<Script>,
@@ -80,8 +82,9 @@ pub trait hb_ot_layout_t<F> {
     fn get_feature_index(map: &Self::Map, table: TableIndex, tag: hb_tag_t) -> Option<u16>
         ensures { result ≡ (masks map.now).feature_index table tag };
 
-    /// Whether a lookup of the stage of a feature of `GSUB` would substitute exactly these glyphs, if they stood
-    /// alone; with `zero_context` lookups that look at what stands around don't count.
+    /// Whether a lookup of the stage of a feature of `GSUB` would substitute exactly these glyphs,
+    /// if they stood alone; with `zero_context` lookups that look at what stands around don't
+    /// count.
     fn would_substitute(
         map: &Self::Map,
         face: &F,

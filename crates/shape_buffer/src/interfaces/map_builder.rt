@@ -8,8 +8,8 @@ use crate::interfaces::map_request::{F_GLOBAL, MapRequest, TableIndex, hb_ot_map
 use std::alloc::Global;
 use std::marker::Model;
 
-/// The requests of a plan in order, the language of its texts, and the scripts that the layout engine chose
-/// for it.
+/// The requests of a plan in order, the language of its texts, and the scripts that the layout
+/// engine chose for it.
 #[derive(Drop)]
 pub struct hb_ot_map_builder_t<'a> {
     requests: Vec<MapRequest>,
@@ -38,8 +38,8 @@ impl<'a> Model for hb_ot_map_builder_t<'a> {
 impl<'a> hb_ot_map_builder_t<'a> {
     ghost use Rattle.shape_buffer.specs.MapBuilder;
 
-    /// A builder without requests, for texts of this script and language. Asks the engine which scripts it
-    /// takes.
+    /// A builder without requests, for texts of this script and language. Asks the engine which
+    /// scripts it takes.
     pub fn new<F, M: hb_ot_layout_t<F>>(
         alloc: Global,
         face: &F,
@@ -65,8 +65,8 @@ impl<'a> hb_ot_map_builder_t<'a> {
         self.requests.as_slice()
     }
 
-    /// Whether nobody but the planner asks for features: begins true, and is false if a shaper's hook
-    /// collects features or the user asks for some.
+    /// Whether nobody but the planner asks for features: begins true, and is false if a shaper's
+    /// hook collects features or the user asks for some.
     pub fn is_simple(&self) -> bool
         ensures { result ≡ self.now.is_simple }
     {
@@ -87,8 +87,8 @@ impl<'a> hb_ot_map_builder_t<'a> {
         self.language
     }
 
-    /// Makes room for so many more requests, so that making them isn't refused. Changes nothing that is seen.
-    /// Refuses with `Memory` if a growth was refused.
+    /// Makes room for so many more requests, so that making them isn't refused. Changes nothing
+    /// that is seen. Refuses with `Memory` if a growth was refused.
     pub fn reserve(&mut self, additional: usize) -> Result<(), ShapeError>
         ensures same { self.new ≡ self.old }
         ensures memory { IsOkUnless result ShapeError.Memory }
@@ -97,9 +97,9 @@ impl<'a> hb_ot_map_builder_t<'a> {
         Ok(())
     }
 
-    /// Asks for a feature. `value` is what it is set to: 0 switches a feature off, 1 switches it on; a greater
-    /// value picks an alternate. Refuses with `Memory` if a growth was refused; a refused call changes
-    /// nothing.
+    /// Asks for a feature. `value` is what it is set to: 0 switches a feature off, 1 switches it
+    /// on; a greater value picks an alternate. Refuses with `Memory` if a growth was refused; a
+    /// refused call changes nothing.
     pub fn add_feature(
         &mut self,
         tag: hb_tag_t,
@@ -116,8 +116,8 @@ impl<'a> hb_ot_map_builder_t<'a> {
         Ok(())
     }
 
-    /// Asks for a feature over the whole text: `add_feature` with `F_GLOBAL` among the flags. Refuses as
-    /// `add_feature` does.
+    /// Asks for a feature over the whole text: `add_feature` with `F_GLOBAL` among the flags.
+    /// Refuses as `add_feature` does.
     pub fn enable_feature(
         &mut self,
         tag: hb_tag_t,
@@ -132,8 +132,8 @@ impl<'a> hb_ot_map_builder_t<'a> {
         self.add_feature(tag, F_GLOBAL | flags, value)
     }
 
-    /// Switches a feature off over the whole text: `add_feature` with value 0 and `F_GLOBAL`. Refuses as
-    /// `add_feature` does.
+    /// Switches a feature off over the whole text: `add_feature` with value 0 and `F_GLOBAL`.
+    /// Refuses as `add_feature` does.
     pub fn disable_feature(&mut self, tag: hb_tag_t) -> Result<(), ShapeError>
         ensures ok { OnOk result (self.new
             ≡ MapBuilder.with_request self.old (MapBuilder.feature_off tag)) }
@@ -144,8 +144,8 @@ impl<'a> hb_ot_map_builder_t<'a> {
     }
 
     /// Asks for a pause of substitution between the features before and those after. If it has a
-    /// number, the shaper's hook `pause` is called with it there. Refuses with `Memory` if a growth was
-    /// refused; a refused call changes nothing.
+    /// number, the shaper's hook `pause` is called with it there. Refuses with `Memory` if a growth
+    /// was refused; a refused call changes nothing.
     pub fn add_gsub_pause(&mut self, number: Option<u32>) -> Result<(), ShapeError>
         ensures ok { OnOk result (self.new
             ≡ MapBuilder.with_request self.old (MapBuilder.pause number)) }
@@ -156,9 +156,9 @@ impl<'a> hb_ot_map_builder_t<'a> {
         Ok(())
     }
 
-    /// Asks for a pause without a number, between the features before and those after, if the font lacks a
-    /// feature: where the language systems that the engine chose list it, there is no pause. Refuses with
-    /// `Memory` if a growth was refused; a refused call changes nothing.
+    /// Asks for a pause without a number, between the features before and those after, if the font
+    /// lacks a feature: where the language systems that the engine chose list it, there is no
+    /// pause. Refuses with `Memory` if a growth was refused; a refused call changes nothing.
     pub fn add_gsub_pause_unless(&mut self, tag: hb_tag_t) -> Result<(), ShapeError>
         ensures ok { OnOk result (self.new
             ≡ MapBuilder.with_request self.old (MapBuilder.pause_unless tag)) }

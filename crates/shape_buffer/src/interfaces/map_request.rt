@@ -48,8 +48,9 @@ pub enum TableIndex {
     GPOS,
 }
 
-/// One request: a feature with its flags and value, a pause of substitution that may have a number, or a pause that stands only
-/// if the language systems that are chosen in the font's tables lack a feature.
+/// One request: a feature with its flags and value, a pause of substitution that may have a number,
+/// or a pause that stands only if the language systems that are chosen in the font's tables lack a
+/// feature.
 #[derive(Clone, Copy, PartialEq, Eq, Debug)]
 pub enum MapRequest {
     Feature {

@@ -8,8 +8,8 @@ use crate::interfaces::map_builder::hb_ot_map_builder_t;
 use crate::interfaces::map_request::TableIndex;
 use std::alloc::Global;
 
-/// The engine that chooses no script, has no mask, no stage and no kerning, and changes nothing, whatever
-/// the face. Start from it if a face has no lookups, or if there is no engine yet.
+/// The engine that chooses no script, has no mask, no stage and no kerning, and changes nothing,
+/// whatever the face. Start from it if a face has no lookups, or if there is no engine yet.
 pub struct NoLookups;
 
 impl<F> hb_ot_layout_t<F> for NoLookups {

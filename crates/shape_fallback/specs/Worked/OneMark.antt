@@ -5,7 +5,8 @@ use Rattle.shape_common.specs.Positions.{zero_position}
 use Rattle.shape_common.specs.Wrapping.{◌+ʷ◌, ◌-ʷ◌, neg_w}
 use Rattle.shape_common.specs.declared.positions.GlyphPosition.{GlyphPosition}
 use Rattle.shape_fallback.specs.Extents.{Extents}
-use Rattle.shape_fallback.specs.OneMark.{mark_x_offset, is_double, is_left, is_right, is_below, is_above, is_attached, agree, lowered, raised, stacked, mark_placed}
+use Rattle.shape_fallback.specs.OneMark.{mark_x_offset, is_double, is_left, is_right, is_below, is_above, is_attached, agree, lowered, raised}
+use Rattle.shape_fallback.specs.OneMark.{stacked, mark_placed}
 use Rattle.shape_fallback.specs.declared.ot_shape_fallback.one_mark.Stacked.{Stacked}
 
 -- x_bearing, y_bearing, width, height

@@ -13,7 +13,8 @@ use Rattle.shape_common.specs.declared.positions.GlyphPosition.{GlyphPosition}
 use Rattle.shape_common.specs.declared.text_types.Direction.{Direction}
 use Rattle.shape_common.specs.declared.text_types.Direction.TheVariants.{Invalid, LeftToRight, RightToLeft, TopToBottom}
 use Rattle.shape_plan.specs.Worked.Faces.{bare_face}
-use Rattle.shape_fallback.specs.Spaces.{is_em_fraction, em_fraction, em_advance, first_glyph, figures, stops, as_wide_as, space_advance, space_positioned, is_lone_space, item_spaced, spaces_placed}
+use Rattle.shape_fallback.specs.Spaces.{is_em_fraction, em_fraction, em_advance, first_glyph, figures, stops, as_wide_as, space_advance}
+use Rattle.shape_fallback.specs.Spaces.{space_positioned, is_lone_space, item_spaced, spaces_placed}
 use Rattle.shape_fallback.specs.DueSteps.{spaces_step}
 
 -- parts of an em square of 1000 units: EM to EM_6, EM_16, 4_EM_18, and the greatest and least squares

@@ -1,8 +1,8 @@
 //! All bases of a buffer, each with its marks.
 //!
-//! One walk finds the marks, and looks at the item before each first one: if that is no mark it is a base, and
-//! its marks are counted. The span is marked unsafe to break, since it can't be shaped in parts, and its marks
-//! are placed.
+//! One walk finds the marks, and looks at the item before each first one: if that is no mark it is
+//! a base, and its marks are counted. The span is marked unsafe to break, since it can't be shaped
+//! in parts, and its marks are placed.
 ghost use Rattle.std.specs.Prelude.{◌≡◌, ◌+◌, ◌-◌, ◌<◌, ◌≤◌, length, drop};
 ghost use Rattle.std.specs.List.{prefix_len};
 ghost use Rattle.shape_items.specs.Items.{is_mark_item};
@@ -61,9 +61,9 @@ fn is_mark_at(infos: &[hb_glyph_info_t], i: usize) -> bool
     infos[i]._hb_glyph_info_is_unicode_mark()
 }
 
-/// Places the marks of the base at a place, if there is one with marks, and returns up to which place all is done:
-/// up to the end of these marks, else of the item. A call of its own: inlined, it leaves no register to the walk over
-/// letters without marks.
+/// Places the marks of the base at a place, if there is one with marks, and returns up to which
+/// place all is done: up to the end of these marks, else of the item. A call of its own: inlined,
+/// it leaves no register to the walk over letters without marks.
 #[inline(never)]
 fn position_at<F: hb_font_t>(
     face: &F,
@@ -87,8 +87,8 @@ fn position_at<F: hb_font_t>(
     end
 }
 
-/// Places the marks of the base before a place, if a mark stands there that isn't placed yet; those before place `done`
-/// are. Returns up to which place all is done then.
+/// Places the marks of the base before a place, if a mark stands there that isn't placed yet; those
+/// before place `done` are. Returns up to which place all is done then.
 fn position_before<F: hb_font_t>(
     face: &F,
     frame: MarkFrame,
@@ -111,8 +111,9 @@ fn position_before<F: hb_font_t>(
     position_at(face, frame, buffer, i - 1)
 }
 
-/// Places the marks of all bases. A base is looked for only before a mark, and marks that were placed are
-/// skipped. Inlined, since a call would cost a short word without marks more than looking for them.
+/// Places the marks of all bases. A base is looked for only before a mark, and marks that were
+/// placed are skipped. Inlined, since a call would cost a short word without marks more than
+/// looking for them.
 #[inline(always)]
 pub(crate) fn position_bases<F: hb_font_t>(face: &F, frame: MarkFrame, buffer: &mut hb_buffer_t)
     ensures { Made (Bases.bases_positioned (F.face face.now) frame) buffer.old buffer.new }

@@ -1,9 +1,9 @@
 //! The ccc that marks are placed by.
 //!
-//! The ccc of 200 and more name a side of the base (UAX 44, section 5.7.4). Those below
-//! only keep marks of one script apart when they are put in order, so they say nothing of a place; each
-//! gets the side that marks of the ccc stand at. Marks of Thai and Lao often have ccc 0, and get
-//! theirs by their character.
+//! The ccc of 200 and more name a side of the base (UAX 44, section 5.7.4). Those below only keep
+//! marks of one script apart when they are put in order, so they say nothing of a place; each gets
+//! the side that marks of the ccc stand at. Marks of Thai and Lao often have ccc 0, and get theirs
+//! by their character.
 ghost use Rattle.std.specs.Prelude.{◌≡◌};
 ghost use Rattle.shape_fallback.specs.Ccc;
 
@@ -40,8 +40,8 @@ fn ccc_in_thai_or_lao(c: char, ccc: u8) -> u8
     }
 }
 
-/// The ccc that stands for a modified one: marks of Hebrew, Arabic and Syriac, Thai, Lao and Tibetan, in this
-/// order.
+/// The ccc that stands for a modified one: marks of Hebrew, Arabic and Syriac, Thai, Lao and
+/// Tibetan, in this order.
 fn recategorized_ccc(ccc: u8) -> u8
     ensures { result ≡ Ccc.recategorized_ccc ccc }
 {

@@ -1,9 +1,9 @@
 //! Placing the marks of a base, one after the other.
 //!
-//! A mark stands beyond the marks of its ccc before it, so each passes on the base's extents, grown by it.
-//! A mark of another ccc begins at the base's own extents again, and one of another component of a ligature
-//! at that component's. The pen has passed the base when it comes to the marks, so in forward text each is
-//! moved back by the advances since.
+//! A mark stands beyond the marks of its ccc before it, so each passes on the base's extents, grown
+//! by it. A mark of another ccc begins at the base's own extents again, and one of another
+//! component of a ligature at that component's. The pen has passed the base when it comes to the
+//! marks, so in forward text each is moved back by the advances since.
 //!
 //! Components run to the right by the plan's direction if that is horizontal, else by its
 //! script's. None and Invalid count as left to right, a vertical script's direction doesn't.
@@ -121,7 +121,8 @@ fn with_component(base: &Base, info: &hb_glyph_info_t, state: &mut MarkState)
     }
 }
 
-/// The state at a mark of this ccc: another ccc than the last begins at the component's extents again.
+/// The state at a mark of this ccc: another ccc than the last begins at the component's extents
+/// again.
 #[tactic(auto, using(shape_common::proofs::WrappingLemmas::kept_bits), unfolding(crate::specs::MarkState::at_ccc))]
 fn at_ccc(ccc: u8, state: &mut MarkState)
     ensures { state.new ≡ mark_state_rules.at_ccc ccc state.old }
@@ -180,7 +181,8 @@ fn place_in<F: hb_font_t>(face: &F, base: &Base, info: &hb_glyph_info_t, step: &
     step.state.extents = placed.base;
 }
 
-/// Places a mark of a base, or moves past it. The step comes with the mark's position and the state before it.
+/// Places a mark of a base, or moves past it. The step comes with the mark's position and the state
+/// before it.
 #[tactic(auto, using(shape_common::proofs::WrappingLemmas::kept_bits), unfolding(crate::specs::MarkState::place_mark))]
 pub fn place_mark<F: hb_font_t>(face: &F, base: &Base, info: &hb_glyph_info_t, step: &mut MarkStep)
     ensures { step.new

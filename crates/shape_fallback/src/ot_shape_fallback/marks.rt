@@ -1,7 +1,7 @@
 //! The marks of one base, one after the other.
 //!
-//! A base with extents hands each mark the state that the marks before it have left; one without only
-//! takes the advances of its nonspacing marks.
+//! A base with extents hands each mark the state that the marks before it have left; one without
+//! only takes the advances of its nonspacing marks.
 ghost use Rattle.std.specs.Prelude.{◌≡◌, ◌≤◌, length};
 ghost use Rattle.shape_buffer.specs.PositionWalks.{positions_over};
 ghost use Rattle.shape_fallback.specs.Marks;

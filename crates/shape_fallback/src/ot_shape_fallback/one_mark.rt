@@ -1,10 +1,10 @@
 //! Placing one mark.
 //!
-//! The ccc says at which side of the base the mark stands. Across, its extents are put against the left
-//! or the right of the base's, or to the middle. Up and down, it comes a gap below or above the base, or
-//! touches it; a mark drawn for a lower base is never moved up to this one, and a mark drawn for a higher
-//! base only half of the way down. The base's extents then grow by the mark, so that the next one of the
-//! ccc stands beyond.
+//! The ccc says at which side of the base the mark stands. Across, its extents are put against the
+//! left or the right of the base's, or to the middle. Up and down, it comes a gap below or above
+//! the base, or touches it; a mark drawn for a lower base is never moved up to this one, and a mark
+//! drawn for a higher base only half of the way down. The base's extents then grow by the mark, so
+//! that the next one of the ccc stands beyond.
 ghost use Rattle.std.specs.Prelude.{◌≡◌, if◌then◌else◌, neg_ℤ, pos};
 ghost use Rattle.shape_fallback.specs.Exact.{Fits32, StackedFits, XOffsetFits, exact_hung};
 ghost use Rattle.shape_fallback.specs.Exact.{exact_piled, exact_x_offset, hung_at, piled_at};

@@ -19,7 +19,8 @@ pub(crate) fn is_nonspacing(info: &hb_glyph_info_t) -> bool
     )
 }
 
-/// Gives the item at a place the ccc that it is placed by, if it is a nonspacing mark; no other is written.
+/// Gives the item at a place the ccc that it is placed by, if it is a nonspacing mark; no other is
+/// written.
 #[tactic(auto, unfolding(crate::specs::Recategorized::recategorized_item))]
 fn recategorize_at(buffer: &mut hb_buffer_t, i: usize)
     requires { i < length buffer.old.items }
@@ -41,8 +42,8 @@ fn recategorize_at(buffer: &mut hb_buffer_t, i: usize)
     buffer.set_info(i, info);
 }
 
-/// Gives every nonspacing mark the ccc that it is placed by. Inlined, since a call would cost a short word without marks
-/// more than looking for them.
+/// Gives every nonspacing mark the ccc that it is placed by. Inlined, since a call would cost a
+/// short word without marks more than looking for them.
 #[inline(always)]
 pub(crate) fn recategorize_items(buffer: &mut hb_buffer_t)
     ensures { Made Recategorized.recategorized buffer.old buffer.new }

@@ -1,8 +1,8 @@
-//! Fallback spaces: a space that the face has no glyph for takes its width from the em square or from
-//! another glyph.
+//! Fallback spaces: a space that the face has no glyph for takes its width from the em square or
+//! from another glyph.
 //!
-//! Normalising has put another glyph in the place of such a space and remembered how wide the space is
-//! meant to be; here the glyph gets that advance, along the line alone.
+//! Normalising has put another glyph in the place of such a space and remembered how wide the space
+//! is meant to be; here the glyph gets that advance, along the line alone.
 ghost use Rattle.std.specs.Prelude.{◌≡◌, ◌<◌, false, neg_ℤ, pos};
 ghost use Rattle.shape_buffer.specs.Outcome.{Made};
 ghost use Rattle.shape_fallback.specs.Spaces;

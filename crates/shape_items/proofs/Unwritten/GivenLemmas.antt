@@ -10,7 +10,9 @@ use Rattle.shape_items.specs.Items.{Item, has_cluster}
 use Rattle.shape_items.specs.Clusters.{clusters, map_range}
 use Rattle.shape_items.specs.Delete.{hand_over, give_to_kept}
 use Rattle.shape_items.specs.Unwritten.{AreAbove, UnwrittenRun, written, items_of, stored_runs, written_runs, starts, IsApart, AreRuns, StandsFor}
-use Rattle.shape_items.proofs.Unwritten.WrittenLemmas.{length-written, some_last, written-append, AreIn, written-in, written-hand_over, above-less, above-append, follow_run, at_end, stored-ends, written_runs-ends, length-written_runs, last_stored, last_written, apart_as}
+use Rattle.shape_items.proofs.Unwritten.WrittenLemmas.{length-written, some_last, written-append, AreIn, written-in, written-hand_over, above-less}
+use Rattle.shape_items.proofs.Unwritten.WrittenLemmas.{above-append, follow_run, at_end, stored-ends, written_runs-ends, length-written_runs}
+use Rattle.shape_items.proofs.Unwritten.WrittenLemmas.{last_stored, last_written, apart_as}
 
 in-at : (c : ℕ) (xs : List Item) (k : ℕ) (d : Item) → AreIn c xs → k < length xs → (get_or xs k d).cluster ≡ c
 unfolding AreIn

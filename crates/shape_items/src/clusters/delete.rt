@@ -1,10 +1,10 @@
 //! Deletion of glyphs, in place and without memory.
 //!
-//! The kept glyphs are moved to the front, one by one. Before a picked glyph goes, its cluster is handed
-//! on, so that no piece of the text is without a glyph that leads to it.
+//! The kept glyphs are moved to the front, one by one. Before a picked glyph goes, its cluster is
+//! handed on, so that no piece of the text is without a glyph that leads to it.
 //!
-//! A kept run of one cluster may take smaller clusters again and again. So the kept items stand as runs
-//! whose writing is put off, and each item is written once.
+//! A kept run of one cluster may take smaller clusters again and again. So the kept items stand as
+//! runs whose writing is put off, and each item is written once.
 //!
 //! The test sees each item once, as it stands when it is reached, after what earlier picks
 //! changed in its cluster and flags. A cluster is handed on together with defined bits but
@@ -51,8 +51,8 @@ struct Spot {
     at: usize,
 }
 
-/// Hands the cluster of the picked glyph at a spot on, if the items that were kept stand as runs that
-/// begin at `starts`; gives how many runs there are.
+/// Hands the cluster of the picked glyph at a spot on, if the items that were kept stand as runs
+/// that begin at `starts`; gives how many runs there are.
 fn hand_on(
     infos: &mut [hb_glyph_info_t],
     starts: &[usize],
@@ -98,8 +98,8 @@ fn begins_in(infos: &[hb_glyph_info_t], cluster: u32) -> bool
     }
 }
 
-/// Deletes the glyphs that the test picks, from a buffer of that level. `starts` has room for a number for
-/// each item.
+/// Deletes the glyphs that the test picks, from a buffer of that level. `starts` has room for a
+/// number for each item.
 pub fn delete_items<F: Fn(&hb_glyph_info_t) -> bool>(
     infos: &mut Vec<hb_glyph_info_t>,
     positions: &mut Vec<GlyphPosition>,

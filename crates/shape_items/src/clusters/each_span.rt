@@ -1,8 +1,8 @@
 //! Merging of many spans, one after the other, without memory.
 //!
-//! Each merge may take in the items before its span, and with them all that was merged before. So the
-//! items before the span at hand stand as runs whose writing is put off: the last run alone takes a
-//! smaller cluster. The items from the span on are as they are.
+//! Each merge may take in the items before its span, and with them all that was merged before. So
+//! the items before the span at hand stand as runs whose writing is put off: the last run alone
+//! takes a smaller cluster. The items from the span on are as they are.
 ghost use Rattle.std.specs.Prelude.{◌≡◌, ◌≤◌, List, ◌++◌, length, take, drop, map, slice_range};
 ghost use Rattle.shape_items.specs.Items.{Item};
 ghost use Rattle.shape_items.specs.Clusters.{merge};
@@ -14,8 +14,8 @@ use crate::clusters::unwritten::{give_to_last, open_run, write_runs};
 use crate::clusters::{growth_right, least_cluster, put_all_in};
 use crate::items::hb_glyph_info_t;
 
-/// Notes the runs of the items from `kept` up to `start`, if those before them are so many runs; gives
-/// how many runs there are.
+/// Notes the runs of the items from `kept` up to `start`, if those before them are so many runs;
+/// gives how many runs there are.
 fn open_runs(
     infos: &[hb_glyph_info_t],
     starts: &mut [usize],
@@ -41,8 +41,8 @@ fn open_runs(
     count
 }
 
-/// Puts the last run into the least cluster of a span that comes next, if the run ends in the cluster
-/// of the span's first item and the least is below that; gives how many runs there are.
+/// Puts the last run into the least cluster of a span that comes next, if the run ends in the
+/// cluster of the span's first item and the least is below that; gives how many runs there are.
 fn grow_left(kept: &mut [hb_glyph_info_t], starts: &[usize], first: u32, least: u32) -> usize
     requires { (given : List Item) × StandsFor kept.old starts.now given }
     ensures stands { (given : List Item) → StandsFor kept.old starts.now given
@@ -67,8 +67,9 @@ fn grow_left(kept: &mut [hb_glyph_info_t], starts: &[usize], first: u32, least: 
     give_to_last(kept, starts, &taken)
 }
 
-/// Merges a span, if the items before it stand as these runs; gives how many runs there are. Kept out of line, since most
-/// graphemes are one item: inlined, it leaves no register to the walk over those.
+/// Merges a span, if the items before it stand as these runs; gives how many runs there are. Kept
+/// out of line, since most graphemes are one item: inlined, it leaves no register to the walk over
+/// those.
 #[inline(never)]
 fn merge_after(infos: &mut [hb_glyph_info_t], starts: &[usize], start: usize, end: usize) -> usize
     requires ordered { start ≤ end }
@@ -116,7 +117,8 @@ fn ends_grapheme(infos: &[hb_glyph_info_t], end: usize) -> bool
     end == infos.len() || !infos[end]._hb_glyph_info_get_continuation()
 }
 
-/// Merges each grapheme, in order; one of a single item is passed over. `starts` has room for a number for each item.
+/// Merges each grapheme, in order; one of a single item is passed over. `starts` has room for a
+/// number for each item.
 pub fn merge_graphemes(infos: &mut [hb_glyph_info_t], starts: &mut [usize])
     requires { length infos.old ≤ length starts.old }
     ensures merged { infos.new ≡ Spans.merge_each (grapheme_spans infos.old) infos.old }

@@ -1,8 +1,9 @@
 //! Runs of items whose writing is put off.
 //!
-//! A run of one cluster may take smaller clusters again and again. So that each item is written once,
-//! only the last item of the run is, and where each run begins is noted. An item of a run whose last item
-//! ends in a smaller cluster than its own has taken that one's: it is written at the end.
+//! A run of one cluster may take smaller clusters again and again. So that each item is written
+//! once, only the last item of the run is, and where each run begins is noted. An item of a run
+//! whose last item ends in a smaller cluster than its own has taken that one's: it is written at
+//! the end.
 ghost use Rattle.std.specs.Prelude.{◌≡◌, ◌+◌, ◌<◌, ◌≤◌, List, [], ◌∷◌, ◌++◌, length, take};
 ghost use Rattle.shape_items.specs.Items.{Item};
 ghost use Rattle.shape_items.specs.Delete;
@@ -55,7 +56,8 @@ pub(super) fn write_runs(infos: &mut [hb_glyph_info_t], starts: &[usize])
     }
 }
 
-/// Notes where an item of that cluster, kept after these, begins a run; gives how many runs there are.
+/// Notes where an item of that cluster, kept after these, begins a run; gives how many runs there
+/// are.
 pub(super) fn open_run(
     kept: &[hb_glyph_info_t],
     starts: &mut [usize],
@@ -81,8 +83,8 @@ pub(super) fn open_run(
     count + 1
 }
 
-/// Gives the picked item's cluster and flags to the last run, if that cluster is below the run's; gives how many
-/// runs there are, one fewer if the last one joins the one before it.
+/// Gives the picked item's cluster and flags to the last run, if that cluster is below the run's;
+/// gives how many runs there are, one fewer if the last one joins the one before it.
 pub(super) fn give_to_last(
     infos: &mut [hb_glyph_info_t],
     starts: &[usize],

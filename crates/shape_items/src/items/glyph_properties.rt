@@ -17,8 +17,8 @@ impl hb_glyph_info_t {
         self.properties.glyph_class()
     }
 
-    /// Sets the flags of the glyph's class, and nothing else. Bits that [`GlyphPropsFlags`] doesn't define
-    /// are dropped.
+    /// Sets the flags of the glyph's class, and nothing else. Bits that [`GlyphPropsFlags`] doesn't
+    /// define are dropped.
     pub fn _hb_glyph_info_set_glyph_class(&mut self, glyph_class: GlyphPropsFlags)
         ensures { self.new
             ≡ record self.old {
@@ -48,7 +48,8 @@ impl hb_glyph_info_t {
         self.properties.set_substituted(substituted);
     }
 
-    /// Whether a glyph stands for a default ignorable: its bit is set, and no lookup has put the glyph in.
+    /// Whether a glyph stands for a default ignorable: its bit is set, and no lookup has put the
+    /// glyph in.
     pub fn _hb_glyph_info_is_default_ignorable(&self) -> bool
         ensures { result ≡ is_ignorable_item self.now }
     {
@@ -70,7 +71,8 @@ impl hb_glyph_info_t {
         self.properties.set_ligated(ligated);
     }
 
-    /// Reads the multiplied bit, of the glyphs that a lookup put in for one glyph. That of a new item is unset.
+    /// Reads the multiplied bit, of the glyphs that a lookup put in for one glyph. That of a new
+    /// item is unset.
     pub fn _hb_glyph_info_get_multiplied(&self) -> bool
         ensures { result ≡ self.now.properties.multiplied }
     {
@@ -87,8 +89,8 @@ impl hb_glyph_info_t {
         self.properties.set_multiplied(multiplied);
     }
 
-    /// Reads the mark attachment class of the glyph (OpenType, `GDEF`, MarkAttachClassDef), by which lookups
-    /// choose among marks. That of a new item is 0, for none.
+    /// Reads the mark attachment class of the glyph (OpenType, `GDEF`, MarkAttachClassDef), by
+    /// which lookups choose among marks. That of a new item is 0, for none.
     pub fn _hb_glyph_info_get_mark_attachment_class(&self) -> u8
         ensures { result ≡ self.now.properties.mark_attachment_class }
     {
@@ -107,7 +109,8 @@ impl hb_glyph_info_t {
             .set_mark_attachment_class(mark_attachment_class);
     }
 
-    /// Reads the number of the ligature that the glyph is or belongs to. That of a new item is 0, for none.
+    /// Reads the number of the ligature that the glyph is or belongs to. That of a new item is 0,
+    /// for none.
     pub fn _hb_glyph_info_get_ligature_id(&self) -> u8
         ensures { result ≡ self.now.properties.ligature_id }
     {
@@ -124,7 +127,8 @@ impl hb_glyph_info_t {
         self.properties.set_ligature_id(ligature_id);
     }
 
-    /// Reads the component of the ligature that a mark belongs to. That of a new item is 0, for none.
+    /// Reads the component of the ligature that a mark belongs to. That of a new item is 0, for
+    /// none.
     pub fn _hb_glyph_info_get_ligature_component(&self) -> u8
         ensures { result ≡ self.now.properties.ligature_component }
     {

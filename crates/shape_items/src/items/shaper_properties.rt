@@ -1,4 +1,5 @@
-//! What a script shaper notes of an item, for its own hooks. Of these notes lookups may read the syllable alone.
+//! What a script shaper notes of an item, for its own hooks. Of these notes lookups may read the
+//! syllable alone.
 ghost use Rattle.std.specs.Prelude.{◌≡◌};
 
 use crate::items::hb_glyph_info_t;

@@ -22,7 +22,9 @@ use Rattle.shape_normalize.specs.RoundTwo.{max_run, has_mark_past_first}
 use Rattle.shape_plan.specs.Rules.{Rules, decompositions, has_glyph}
 use Rattle.shape_normalize.proofs.Form.CutFormLemmas.{normalized_cuts}
 use Rattle.shape_normalize.proofs.Form.OrderedFormLemmas.{settled_where_in_order}
-use Rattle.shape_normalize.proofs.Form.NormalFormLemmas.{IsPlain, IsPlain-from, choices, mark_past_first_char, normalized_is_ordered, ordered_is_choices, normalized_is_choices, normalized_by_characters, IsPlain-premises, ordered_settles, normalized_is_recomposed}
+use Rattle.shape_normalize.proofs.Form.NormalFormLemmas.{IsPlain, IsPlain-from, choices, mark_past_first_char, normalized_is_ordered}
+use Rattle.shape_normalize.proofs.Form.NormalFormLemmas.{ordered_is_choices, normalized_is_choices, normalized_by_characters, IsPlain-premises}
+use Rattle.shape_normalize.proofs.Form.NormalFormLemmas.{ordered_settles, normalized_is_recomposed}
 
 module _ (rules : Rules) where
   -- if the mode goes short nowhere, each character is asked for its longest expansion

@@ -6,7 +6,9 @@ use Rattle.shape_items.specs.Items.{Item}
 use Rattle.shape_common.specs.Unicode.{UnicodeMeaning, LawfulUnicode}
 use Rattle.shape_common.specs.declared.text_types.GlyphId.{GlyphId}
 use Rattle.shape_items.specs.Prepared.{IsPreparedItem}
-pub use Rattle.shape_items.proofs.PreparedLemmas.{ArePrepared, unmarked_ccc, ccc_with_props, prepared-with_props, PreparedKey, prepared_key, IsKey-prepared_key, IsPreparedKey, chars_of_keys, prepared_keys, prepared_from_keys, prepared_by_keys}
+pub use Rattle.shape_items.proofs.PreparedLemmas.{ArePrepared, unmarked_ccc, ccc_with_props, prepared-with_props, PreparedKey, prepared_key}
+pub use Rattle.shape_items.proofs.PreparedLemmas.{IsKey-prepared_key, IsPreparedKey, chars_of_keys, prepared_keys, prepared_from_keys}
+pub use Rattle.shape_items.proofs.PreparedLemmas.{prepared_by_keys}
 use Rattle.shape_plan.specs.Rules.{Rules}
 use Rattle.shape_normalize.specs.Recast.{recast_to}
 use Rattle.shape_normalize.specs.RoundOne.{whole_item, expansion_of, variation_sequences_merged, round_one}

@@ -16,7 +16,9 @@ use Rattle.shape_items.proofs.MergingInOrder.EachSpanLemmas.{all_merged_preserve
 use Rattle.shape_plan.specs.Rules.{Rules}
 use Rattle.shape_normalize.proofs.RoundOne.SelectorLemmas.{variation_sequences_in_order}
 use Rattle.shape_normalize.specs.Recast.{recast_to}
-use Rattle.shape_normalize.specs.RoundOne.{whole_item, expansion_of, emitted_for, skipped_item, marked_selector, variant_items, variants, is_selector_item, is_selector_sequence, is_with_marks, variation_sequences_from, variation_sequences_merged, sequences, sequence_items, expanded, round_one}
+use Rattle.shape_normalize.specs.RoundOne.{whole_item, expansion_of, emitted_for, skipped_item, marked_selector, variant_items, variants}
+use Rattle.shape_normalize.specs.RoundOne.{is_selector_item, is_selector_sequence, is_with_marks, variation_sequences_from}
+use Rattle.shape_normalize.specs.RoundOne.{variation_sequences_merged, sequences, sequence_items, expanded, round_one}
 use Rattle.shape_normalize.specs.RoundTwo.{cgj_unhidden_where_seen}
 use Rattle.shape_normalize.specs.Normalized.{normalized, HookPreservesClusters}
 use Rattle.shape_normalize.proofs.RoundOne.DrawnLemmas.{DrawsBefore, DrawsBefore-same, draws_whole, draws_pieces}

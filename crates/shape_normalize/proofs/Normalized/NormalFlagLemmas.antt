@@ -1,5 +1,7 @@
 -- Normalising preserves flags: it copies items, and merges.
-use Rattle.std.proofs.Common.{◌≡◌, ◌==◌, ℕ, ◌+◌, ◌-◌, ◌<◌, ◌≤◌, Bool, true, false, if◌then◌else◌, ◌||◌, ◌&&◌, List, [], ◌∷◌, map, take, drop, length, get_or, zero, suc, slice_range, Option, None, Some, refl, sym, ap, subst, is_some, arith, ◌∙◌, inl, inr, bit_and, nat_lt}
+use Rattle.std.proofs.Common.{◌≡◌, ◌==◌, ℕ, ◌+◌, ◌-◌, ◌<◌, ◌≤◌, Bool, true, false, if◌then◌else◌, ◌||◌, ◌&&◌, List, [], ◌∷◌, map, take, drop, length}
+use Rattle.std.proofs.Common.{get_or, zero, suc, slice_range, Option, None, Some, refl, sym, ap, subst, is_some, arith, ◌∙◌, inl, inr, bit_and}
+use Rattle.std.proofs.Common.{nat_lt}
 use Rattle.std.specs.List.{AllByRecursion, fold}
 use Rattle.std.specs.Option.{option_map_or}
 use Rattle.std.proofs.lemmas.Bool.{cases_Bool}
@@ -22,7 +24,9 @@ use Rattle.canonical_form.proofs.Ordering.SwapLemmas.{all-swaps}
 use Rattle.shape_normalize.specs.Normalized.{normalized}
 use Rattle.shape_plan.specs.Reorder.{exchanged, ccc_set, Reorders}
 use Rattle.shape_normalize.specs.Recast.{recast_to, seen_chars}
-use Rattle.shape_normalize.specs.RoundOne.{whole_item, expansion_of, variation_sequences_merged, variation_sequences_from, sequences, round_one, remembers_space, seen_emitted, seen_variant, seen_sequence, variants, is_selector_sequence, is_with_marks, with_space_fallback, with_selector_fallback}
+use Rattle.shape_normalize.specs.RoundOne.{whole_item, expansion_of, variation_sequences_merged, variation_sequences_from, sequences, round_one}
+use Rattle.shape_normalize.specs.RoundOne.{remembers_space, seen_emitted, seen_variant, seen_sequence, variants, is_selector_sequence, is_with_marks}
+use Rattle.shape_normalize.specs.RoundOne.{with_space_fallback, with_selector_fallback}
 use Rattle.shape_items.specs.Spans.{spans_merged_out}
 use Rattle.shape_normalize.specs.RoundThree.{Placed, recomposed_items, absorbed_spans, with_cluster_at, round_three, composed_chars}
 use Rattle.shape_normalize.specs.RoundTwo.{spans, run_cccs, spans_merged, run_in_order, run_reordered, run_settled, marks_ordered, cgj_unhidden_where_seen, cgj_unhidden}

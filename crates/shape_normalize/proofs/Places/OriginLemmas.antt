@@ -12,7 +12,9 @@ use Rattle.shape_plan.specs.Rules.{Rules}
 use Rattle.shape_normalize.specs.Normalized.{features_of, hidden_char}
 use Rattle.shape_normalize.specs.Origins.{item_at, all_places, Origin, origin_at, variant_origins, sequence_origins, origins, HasOfOrigin}
 use Rattle.shape_normalize.specs.Recast.{recast_to}
-use Rattle.shape_normalize.specs.RoundOne.{item_glyph, skipped_item, whole_item, emitted_for, expansion_of, is_selector_item, is_selector_sequence, is_with_marks, marked_selector, variant_items, variants, sequences, sequence_items, variation_sequences_merged, round_one}
+use Rattle.shape_normalize.specs.RoundOne.{item_glyph, skipped_item, whole_item, emitted_for, expansion_of, is_selector_item, is_selector_sequence}
+use Rattle.shape_normalize.specs.RoundOne.{is_with_marks, marked_selector, variant_items, variants, sequences, sequence_items}
+use Rattle.shape_normalize.specs.RoundOne.{variation_sequences_merged, round_one}
 use Rattle.shape_normalize.proofs.Normalized.FeatureLemmas.{IsKey-features}
 use Rattle.shape_normalize.proofs.Normalized.HiddenLemmas.{IsKey-hidden_char}
 use Rattle.shape_normalize.proofs.Normalized.ItemGlyphLemmas.{item_has_glyphs}

@@ -16,7 +16,8 @@ use Rattle.shape_common.specs.Unicode.{UnicodeMeaning}
 use Rattle.shape_common.specs.declared.flags.ScratchFlags.{ScratchFlags}
 use Rattle.shape_common.specs.declared.text_types.GlyphId.{GlyphId}
 use Rattle.shape_plan.specs.Rules.{Rules}
-use Rattle.shape_normalize.specs.RoundOne.{emitted_for, seen_emitted, sequences, is_with_marks, is_selector_item, is_selector_sequence, sequence_items, seen_sequence, variation_sequences_from, variation_sequences_merged, expanded, round_one}
+use Rattle.shape_normalize.specs.RoundOne.{emitted_for, seen_emitted, sequences, is_with_marks, is_selector_item, is_selector_sequence}
+use Rattle.shape_normalize.specs.RoundOne.{sequence_items, seen_sequence, variation_sequences_from, variation_sequences_merged, expanded, round_one}
 use Rattle.shape_normalize.specs.OneWalk.{HasNoSelectorSequence, item_becomes, stands_with_marks, expanded_after, seen_after}
 use Rattle.shape_normalize.specs.RoundTwo.{has_mark_past_first}
 use Rattle.shape_normalize.proofs.RoundOne.SequenceLemmas.{each_part, each_weaker, flat_map_same, sequence_becomes, sequences-expanded}

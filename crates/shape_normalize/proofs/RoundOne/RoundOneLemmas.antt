@@ -20,7 +20,9 @@ use Rattle.shape_normalize.specs.Normalized.{BroughtInHaveGlyphs}
 use Rattle.shape_items.specs.Prepared.{IsPreparedItem}
 use Rattle.shape_items.specs.Spans.{all_merged}
 use Rattle.shape_normalize.specs.Recast.{recast_to}
-use Rattle.shape_normalize.specs.RoundOne.{item_glyph, skipped_item, whole_item, remembers_space, emitted_for, expanded, expansion_of, is_selector_item, is_selector_sequence, is_with_marks, marked_selector, variant_items, variants, sequences, sequence_items, variation_sequences_from, variation_sequences_merged, round_one}
+use Rattle.shape_normalize.specs.RoundOne.{item_glyph, skipped_item, whole_item, remembers_space, emitted_for, expanded, expansion_of}
+use Rattle.shape_normalize.specs.RoundOne.{is_selector_item, is_selector_sequence, is_with_marks, marked_selector, variant_items, variants, sequences}
+use Rattle.shape_normalize.specs.RoundOne.{sequence_items, variation_sequences_from, variation_sequences_merged, round_one}
 use Rattle.shape_plan.specs.Rules.{Rules, decompositions, has_glyph}
 use Rattle.shape_normalize.proofs.RoundOne.SequenceLemmas.{each_part, each_of_values, each_value, each_weaker, flat_map_all, flat_map_same, flat_map_parts_all, sequence_becomes, sequences-expanded}
 
@@ -40,7 +42,11 @@ module _ (rules : Rules) (invisible : Option GlyphId) where
       → P (whole_item rules invisible item)
   whole_item_is P item plain space =
       elim (remembers_space rules invisible item) as (λ t. P (if t
-      then record item { glyph_index = item_glyph rules invisible item; properties = record item.properties { space_type = rules.unicode.space_fallback item.codepoint } } else record item { glyph_index = item_glyph rules invisible item })) [
+      then record item {
+        glyph_index = item_glyph rules invisible item;
+        properties = record item.properties { space_type = rules.unicode.space_fallback item.codepoint };
+      }
+      else record item { glyph_index = item_glyph rules invisible item })) [
         | true ↦ space (item_glyph rules invisible item) (rules.unicode.space_fallback item.codepoint)
         | false ↦ plain (item_glyph rules invisible item)
       ]

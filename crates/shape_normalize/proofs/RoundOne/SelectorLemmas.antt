@@ -12,7 +12,9 @@ use Rattle.canonical_form.proofs.Lists.DividedLemmas.{lengths-divided}
 use Rattle.shape_items.proofs.Merging.KeyLemmas.{without_items}
 use Rattle.shape_items.proofs.MergingInOrder.EachSpanLemmas.{AreSpansInOrder-lower, AreSpansInOrder-append, without_items-all_merged}
 use Rattle.shape_plan.specs.Rules.{Rules}
-use Rattle.shape_normalize.specs.RoundOne.{is_with_marks, is_selector_item, is_selector_sequence, variants, sequences, variation_sequence_glyph, variation_sequence_spans, variation_sequences_from, variation_sequences_merged, expanded, seen_sequence, round_one}
+use Rattle.shape_normalize.specs.RoundOne.{is_with_marks, is_selector_item, is_selector_sequence, variants, sequences, variation_sequence_glyph}
+use Rattle.shape_normalize.specs.RoundOne.{variation_sequence_spans, variation_sequences_from, variation_sequences_merged, expanded, seen_sequence}
+use Rattle.shape_normalize.specs.RoundOne.{round_one}
 
 -- a sequence has marks if it has more than one item
 pub is_with_marks-length : (sequence : List Item) → is_with_marks sequence ≡ nat_lt 1 (length sequence)

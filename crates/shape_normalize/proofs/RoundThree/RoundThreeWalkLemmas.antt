@@ -1,5 +1,7 @@
 -- The walk of round three: what it puts in place, step by step.
-use Rattle.std.proofs.Common.{◌≡◌, ◌≢◌, ℕ, suc, ◌+◌, ◌<◌, ◌≤◌, Bool, true, false, ◌&&◌, not, max, if◌then◌else◌, List, [], ◌∷◌, ◌++◌, length, map, get_or, set, drop, Option, None, Some, IsTrue, refl, sym, ap, ap₂, subst, ◌∙◌, add-one, append_assoc, append-nil, drop-cons, drop-set-lt, lt-length-set, get_or-set_other, get_or-set_same, eq-eqb, ne_eqb, arith}
+use Rattle.std.proofs.Common.{◌≡◌, ◌≢◌, ℕ, suc, ◌+◌, ◌<◌, ◌≤◌, Bool, true, false, ◌&&◌, not, max, if◌then◌else◌, List, [], ◌∷◌, ◌++◌, length, map}
+use Rattle.std.proofs.Common.{get_or, set, drop, Option, None, Some, IsTrue, refl, sym, ap, ap₂, subst, ◌∙◌, add-one, append_assoc, append-nil}
+use Rattle.std.proofs.Common.{drop-cons, drop-set-lt, lt-length-set, get_or-set_other, get_or-set_same, eq-eqb, ne_eqb, arith}
 use Rattle.std.specs.Option.{option_map}
 use Rattle.std.specs.List.{AllByRecursion, flat_map, slice_get}
 use Rattle.std.proofs.Math.Seq.{map-set_same}

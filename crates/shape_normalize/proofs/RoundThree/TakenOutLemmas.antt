@@ -1,6 +1,8 @@
 -- Taking out the last item of each of many spans: what the walk keeps, and that it leaves the items at the places of
 -- what is emitted.
-use Rattle.std.proofs.Common.{◌≡◌, ℕ, zero, suc, ◌+◌, ◌-◌, ◌<◌, ◌≤◌, ◌==◌, true, false, List, [], ◌∷◌, ◌++◌, length, map, get_or, take, drop, set, replicate, Some, None, refl, sym, ap, ap₂, subst, ◌∙◌, arith, add-one, append_assoc, append-nil, drop-cons, drop-drop, drop-set-lt, eq-eqb, ne_eqb}
+use Rattle.std.proofs.Common.{◌≡◌, ℕ, zero, suc, ◌+◌, ◌-◌, ◌<◌, ◌≤◌, ◌==◌, true, false, List, [], ◌∷◌, ◌++◌, length, map, get_or, take, drop, set}
+use Rattle.std.proofs.Common.{replicate, Some, None, refl, sym, ap, ap₂, subst, ◌∙◌, arith, add-one, append_assoc, append-nil, drop-cons, drop-drop}
+use Rattle.std.proofs.Common.{drop-set-lt, eq-eqb, ne_eqb}
 use Rattle.std.specs.List.{slice_get}
 use Rattle.std.proofs.lemmas.Bool.{cond-true, cond-false}
 use Rattle.std.proofs.lemmas.List.{map-append, length-set, drop_all, drop_more, get_or_default, take_more_set}

@@ -10,7 +10,8 @@ use Rattle.shape_common.specs.Positions.{zero_position}
 use Rattle.shape_common.specs.Unicode.{UnicodeMeaning}
 use Rattle.shape_items.specs.UnicodeProps.{with_unicode_props}
 use Rattle.shape_common.specs.declared.general_category.hb_unicode_general_category_t.{hb_unicode_general_category_t}
-use Rattle.shape_common.specs.declared.general_category.hb_unicode_general_category_t.TheVariants.{LowercaseLetter, OtherLetter, OtherSymbol, NonspacingMark, EnclosingMark, SpaceSeparator}
+use Rattle.shape_common.specs.declared.general_category.hb_unicode_general_category_t.TheVariants.{LowercaseLetter, OtherLetter, OtherSymbol}
+use Rattle.shape_common.specs.declared.general_category.hb_unicode_general_category_t.TheVariants.{NonspacingMark, EnclosingMark, SpaceSeparator}
 use Rattle.shape_plan.specs.Rules.{Rules, goes_short, mode_recomposes}
 use Rattle.shape_plan.specs.Worked.Faces.{bare_face}
 

@@ -8,9 +8,11 @@ use Rattle.shape_items.specs.Items.{Item, char_of, is_mark_item}
 use Rattle.shape_items.specs.Prepared.{IsPrepared}
 use Rattle.shape_common.specs.Unicode.{is_mark}
 use Rattle.shape_plan.specs.Rules.{Rules}
-use Rattle.shape_normalize.specs.CanonicalForm.{text_of, AreEquivalent, HasNoSelector, HasLawfulHooks, IsSupported, EndsInOrder, TextPremises, EquivalencePremises, CanonicalTextPremises, CanonicalFormPremises, PlainPremises, CutPremises}
+use Rattle.shape_normalize.specs.CanonicalForm.{text_of, AreEquivalent, HasNoSelector, HasLawfulHooks, IsSupported, EndsInOrder, TextPremises}
+use Rattle.shape_normalize.specs.CanonicalForm.{EquivalencePremises, CanonicalTextPremises, CanonicalFormPremises, PlainPremises, CutPremises}
 use Rattle.shape_normalize.specs.NormalForm.{NormalForm, Normalizes, AreCompared}
-use Rattle.shape_normalize.specs.Normalized.{BroughtInHaveGlyphs, content, without_cluster, HasItemGlyph, HasShortRuns, PreservesHidden, OrdersExpanded, Recomposes}
+use Rattle.shape_normalize.specs.Normalized.{BroughtInHaveGlyphs, content, without_cluster, HasItemGlyph, HasShortRuns, PreservesHidden}
+use Rattle.shape_normalize.specs.Normalized.{OrdersExpanded, Recomposes}
 use Rattle.shape_normalize.specs.PremiseTest.{meets_premises}
 use Rattle.shape_normalize.specs.RoundOne.{round_one}
 use Rattle.shape_normalize.specs.RoundTwo.{has_mark_past_first, OrdersMarks}

@@ -7,7 +7,8 @@ use Rattle.shape_common.specs.declared.text_types.BufferClusterLevel.TheVariants
 use Rattle.shape_plan.specs.Plan.{Plan}
 use Rattle.shape_plan.specs.Rules.{goes_short, mode_recomposes, used_mode}
 use Rattle.shape_normalize.specs.Recast.{mapped_char, recast}
-use Rattle.shape_normalize.specs.RoundOne.{is_fallback_space, item_glyph, emitted_for, skipped_item, variant_items, sequences, is_selector_sequence, variation_sequence_spans, variation_sequences_from, variation_sequences_merged, round_one}
+use Rattle.shape_normalize.specs.RoundOne.{is_fallback_space, item_glyph, emitted_for, skipped_item, variant_items, sequences, is_selector_sequence}
+use Rattle.shape_normalize.specs.RoundOne.{variation_sequence_spans, variation_sequences_from, variation_sequences_merged, round_one}
 use Rattle.shape_normalize.specs.Worked.Fixture.{fixture, face_of, rules_in, item, buffer_of, at, glyph, marked}
 
 -- which modes go short, by themselves and in a sequence, and which compose

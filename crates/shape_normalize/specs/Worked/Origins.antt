@@ -5,7 +5,8 @@ use Rattle.shape_items.specs.Buffer.{Buffer}
 use Rattle.shape_items.specs.Items.{Item}
 use Rattle.shape_plan.specs.Rules.{Rules}
 use Rattle.shape_normalize.specs.Normalized.{PreservesFeatures}
-use Rattle.shape_normalize.specs.Origins.{Origin, origin_at, origins, new_origins, HasOfOrigin, all_places, AreInOneRun, IsOrderOf, IsFromPlace, IsFromStarter, ComesByPlace}
+use Rattle.shape_normalize.specs.Origins.{Origin, origin_at, origins, new_origins, HasOfOrigin, all_places, AreInOneRun, IsOrderOf, IsFromPlace}
+use Rattle.shape_normalize.specs.Origins.{IsFromStarter, ComesByPlace}
 use Rattle.shape_normalize.specs.RoundThree.{Placed}
 use Rattle.shape_normalize.specs.RoundTwo.{unhidden}
 use Rattle.shape_normalize.specs.Worked.Fixture.{rules_in, item, buffer_of}

@@ -4,7 +4,8 @@ use Rattle.shape_items.specs.Clusters.{merge}
 use Rattle.shape_items.specs.Items.{Item}
 use Rattle.shape_common.specs.declared.general_category.hb_unicode_general_category_t.TheVariants.{OtherSymbol}
 use Rattle.shape_common.specs.declared.text_types.BufferClusterLevel.TheVariants.{Characters}
-use Rattle.shape_normalize.specs.RoundThree.{Placed, recomposed_items, recomposed_by_last, absorbed_spans, chained_spans, round_three, AreComposedInPlace, ends_taken_out}
+use Rattle.shape_normalize.specs.RoundThree.{Placed, recomposed_items, recomposed_by_last, absorbed_spans, chained_spans, round_three}
+use Rattle.shape_normalize.specs.RoundThree.{AreComposedInPlace, ends_taken_out}
 use Rattle.shape_normalize.specs.Normalized.{normalized}
 use Rattle.shape_normalize.specs.Recast.{recast_to}
 use Rattle.shape_normalize.specs.RoundTwo.{run_settled}

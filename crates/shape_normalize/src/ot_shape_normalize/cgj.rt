@@ -1,6 +1,7 @@
 //! Combining grapheme joiners, U+034F, which keep marks apart that would change places or compose.
 //!
-//! One that keeps nothing apart is unhidden: lookups may then skip it as they skip other ignorable characters.
+//! One that keeps nothing apart is unhidden: lookups may then skip it as they skip other ignorable
+//! characters.
 ghost use Rattle.std.specs.Prelude.{◌≡◌};
 ghost use Rattle.shape_normalize.specs.RoundTwo;
 

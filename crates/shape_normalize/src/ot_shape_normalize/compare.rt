@@ -16,12 +16,12 @@ use std::alloc::Global;
 
 /// Normalises two buffers and says whether they have the same characters then.
 ///
-/// In the two modes that decompose fully, this tells whether two prepared texts are canonically equivalent
-/// (UAX 15): if the shaper's hooks are lawful and don't reorder, there is no variation selector, the face
-/// has a glyph for each character of the full decompositions, no run of marks in these is longer than 32,
-/// and each text has a mark past its first character. In the mode that doesn't compose, a text without such a
-/// mark will do if no mark of its full decomposition has a lower ccc than the mark before it: so U+00E9
-/// and U+0065 U+0301 are equal there.
+/// In the two modes that decompose fully, this tells whether two prepared texts are canonically
+/// equivalent (UAX 15): if the shaper's hooks are lawful and don't reorder, there is no variation
+/// selector, the face has a glyph for each character of the full decompositions, no run of marks in
+/// these is longer than 32, and each text has a mark past its first character. In the mode that
+/// doesn't compose, a text without such a mark will do if no mark of its full decomposition has a
+/// lower ccc than the mark before it: so U+00E9 and U+0065 U+0301 are equal there.
 ///
 /// Refuses as [`_hb_ot_shape_normalize`] does for one of the buffers; both are cleared then.
 pub fn normalized_equal<U, F, M, S>(

@@ -1,17 +1,17 @@
 //! The expansion of one character along its chain.
 //!
-//! In the modes for composed diacritics a character without marks takes the shortest expansion that the face
-//! has glyphs for, so itself if it can: whoever drew a glyph for the whole drew it as it should look, and most
-//! text then stays as it is. With marks beside it the longest is taken, since each part that is a mark has a
-//! place among them.
+//! In the modes for composed diacritics a character without marks takes the shortest expansion that
+//! the face has glyphs for, so itself if it can: whoever drew a glyph for the whole drew it as it
+//! should look, and most text then stays as it is. With marks beside it the longest is taken, since
+//! each part that is a mark has a place among them.
 //!
-//! A syllable of Hangul splits like any other character: LVT into LV and T, LV into L and V (The Unicode
-//! Standard, section 3.12). So a face that lacks it shows its jamo, and those are never composed again: they
-//! aren't marks, and faces don't mix them with whole syllables.
+//! A syllable of Hangul splits like any other character: LVT into LV and T, LV into L and V (The
+//! Unicode Standard, section 3.12). So a face that lacks it shows its jamo, and those are never
+//! composed again: they aren't marks, and faces don't mix them with whole syllables.
 //!
 //! The chain is walked in a loop that keeps the second parts in a list, so its depth is bounded by
-//! memory alone and the length of the expansion is known before any of it is emitted. Each part is kept with
-//! its glyph, so that the face is asked once about it.
+//! memory alone and the length of the expansion is known before any of it is emitted. Each part is
+//! kept with its glyph, so that the face is asked once about it.
 ghost use Rattle.std.specs.Prelude.{◌≡◌, [], ◌∷◌, ◌++◌, reverse, take, map, IfOk, IsTrue, Ok};
 ghost use Rattle.std.specs.Prelude.{if◌then◌else◌, Some, None, true, false};
 ghost use Rattle.std.specs.List.{list_all};
@@ -28,15 +28,16 @@ use shape_plan::ot_shaper::hb_ot_shaper_t;
 use shape_plan::shaping_types::{Meaning, PlanOf, ShapingTypes};
 use std::alloc::{AllocError, Global};
 
-/// What a character becomes: `first`, and after it `seconds` from the last to the first. One of these serves
-/// the whole text, so that the second parts of all its characters take memory once.
+/// What a character becomes: `first`, and after it `seconds` from the last to the first. One of
+/// these serves the whole text, so that the second parts of all its characters take memory once.
 #[derive(Drop)]
 pub(crate) struct Expansion {
     pub(crate) first: MappedChar,
     pub(crate) seconds: Vec<MappedChar>,
 }
 
-/// The split of a character: the hook's if it is given and the plan uses the shaper, else Unicode's.
+/// The split of a character: the hook's if it is given and the plan uses the shaper, else
+/// Unicode's.
 pub(crate) fn split_of<T: ShapingTypes>(
     plan: &PlanOf<'_, T>,
     face: &T::Face,
@@ -89,9 +90,10 @@ fn keep_second<F: hb_font_t>(
     Ok(true)
 }
 
-/// Walks along the chain of a character and keeps its second parts. Returns the last point that has a
-/// glyph and after which every second part has one, and how many these are; if the shortest expansion
-/// is asked for, of a character without a glyph, the first such point. The first split is known.
+/// Walks along the chain of a character and keeps its second parts. Returns the last point that has
+/// a glyph and after which every second part has one, and how many these are; if the shortest
+/// expansion is asked for, of a character without a glyph, the first such point. The first split is
+/// known.
 fn walk_chain<T: ShapingTypes>(
     plan: &PlanOf<'_, T>,
     face: &T::Face,
@@ -136,9 +138,9 @@ impl Expansion {
     }
 }
 
-/// Keeps the supported expansion of greatest length, or the one of least length if `shortest` holds, which it
-/// may for a character without a glyph alone. Says whether one is supported. Most characters don't split, so
-/// that is asked first.
+/// Keeps the supported expansion of greatest length, or the one of least length if `shortest`
+/// holds, which it may for a character without a glyph alone. Says whether one is supported. Most
+/// characters don't split, so that is asked first.
 pub(crate) fn decompose<T: ShapingTypes>(
     plan: &PlanOf<'_, T>,
     face: &T::Face,
@@ -159,8 +161,8 @@ pub(crate) fn decompose<T: ShapingTypes>(
     }
 }
 
-/// Decomposes by the walk along the chain. A call of its own, so that a character that doesn't split is not
-/// charged for what the walk keeps.
+/// Decomposes by the walk along the chain. A call of its own, so that a character that doesn't
+/// split is not charged for what the walk keeps.
 #[inline(never)]
 fn keep_expansion<T: ShapingTypes>(
     plan: &PlanOf<'_, T>,

@@ -1,8 +1,9 @@
-//! Rounds one and two: in one walk, or one after the other if marks stand past the first item and a sequence holds a
-//! variation selector or a shaper reorders marks.
+//! Rounds one and two: in one walk, or one after the other if marks stand past the first item and a
+//! sequence holds a variation selector or a shaper reorders marks.
 //!
-//! A variation sequence is merged before it becomes one item, and a shaper that reorders may merge what a
-//! later run takes in: both concern the whole list, so round one is over before round two begins.
+//! A variation sequence is merged before it becomes one item, and a shaper that reorders may merge
+//! what a later run takes in: both concern the whole list, so round one is over before round two
+//! begins.
 //!
 //! Both ways have one definition, what the two rounds make. Which is taken is decided before the
 //! first write, since items that stay keep the glyph index that they had.
@@ -24,8 +25,8 @@ use shape_plan::ot_shaper::hb_ot_shaper_t;
 use shape_plan::shaping_types::{Meaning, PlanOf, ShapingTypes};
 use std::alloc::Global;
 
-/// Whether a list may hold a sequence that isn't expanded; `has_marks` says whether a mark stands past its
-/// first item. Without one each sequence is one item, and no item is asked.
+/// Whether a list may hold a sequence that isn't expanded; `has_marks` says whether a mark stands
+/// past its first item. Without one each sequence is one item, and no item is asked.
 fn may_hold_selector_sequence<U: hb_unicode_funcs_t>(
     infos: &[hb_glyph_info_t],
     has_marks: bool,
@@ -50,7 +51,8 @@ fn takes_two_rounds<T: ShapingTypes>(
     reorders_marks::<T>(plan) || may_hold_selector_sequence::<T::Unicode>(infos, has_marks)
 }
 
-/// Expands the items in a round of their own, and follows the runs of that, unless a shaper reorders.
+/// Expands the items in a round of their own, and follows the runs of that, unless a shaper
+/// reorders.
 fn expand_then_follow<T: ShapingTypes>(
     alloc: Global,
     plan: &PlanOf<'_, T>,
@@ -73,9 +75,9 @@ fn expand_then_follow<T: ShapingTypes>(
     runs.follow_from(follows, buffer.infos(), 0)
 }
 
-/// Expands the items by one of the two ways: without a mark past the first item, as `has_marks` says, in one walk,
-/// since no hook is called and each sequence is one item. If marks stand there and no shaper reorders, the runs of the
-/// expanded list are followed.
+/// Expands the items by one of the two ways: without a mark past the first item, as `has_marks`
+/// says, in one walk, since no hook is called and each sequence is one item. If marks stand there
+/// and no shaper reorders, the runs of the expanded list are followed.
 fn expand_by_way<T: ShapingTypes>(
     alloc: Global,
     plan: &PlanOf<'_, T>,
@@ -105,9 +107,9 @@ fn expand_by_way<T: ShapingTypes>(
     expand_in_one_walk::<T>(alloc, plan, buffer, face, true, runs)
 }
 
-/// Expands the items and puts the marks in order, if some stand past the first item, as `has_marks` says.
-/// Refuses with `Length` if the expanded list passes the limit; after a refusal the settings that
-/// clearing keeps are as they were.
+/// Expands the items and puts the marks in order, if some stand past the first item, as `has_marks`
+/// says. Refuses with `Length` if the expanded list passes the limit; after a refusal the settings
+/// that clearing keeps are as they were.
 pub(crate) fn expand_and_order<T: ShapingTypes>(
     alloc: Global,
     plan: &PlanOf<'_, T>,

@@ -1,7 +1,8 @@
 //! The modes of normalising, by what they choose and whether they compose.
 //!
-//! AUTO leaves the choice to this layer, which may depend on what the plan can place; today that is the mode with
-//! composed diacritics in every case. A plan that uses no shaper has no preference to ask, so it takes AUTO.
+//! AUTO leaves the choice to this layer, which may depend on what the plan can place; today that is
+//! the mode with composed diacritics in every case. A plan that uses no shaper has no preference to
+//! ask, so it takes AUTO.
 ghost use Rattle.std.specs.Prelude.{◌≡◌};
 ghost use Rattle.shape_plan.specs.Rules;
 
@@ -24,7 +25,8 @@ fn mode_of<T: ShapingTypes>(plan: &PlanOf<'_, T>) -> hb_ot_shape_normalization_m
     }
 }
 
-/// Whether the shortest expansion is asked for, by whether a character stands in a sequence with marks.
+/// Whether the shortest expansion is asked for, by whether a character stands in a sequence with
+/// marks.
 pub(crate) fn goes_short<T: ShapingTypes>(plan: &PlanOf<'_, T>, with_marks: bool) -> bool
     ensures { result
         ≡ Rules.goes_short (Rules.used_mode T.Shaper.constants.preference plan.now) with_marks }

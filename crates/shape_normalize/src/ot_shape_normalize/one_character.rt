@@ -1,10 +1,11 @@
 //! Normalising one character: its item becomes the items of an expansion, or keeps the character.
 //!
-//! The mode says which expansion is asked for, the shortest or the longest ([`Shortest`]). An item that
-//! has a glyph and is asked for the shortest stays; any other is expanded along the chain of its splits,
-//! if it can be. An item without a glyph that has no expansion either may take that of another character:
-//! a space that of U+0020, or the invisible glyph, and remembers how wide it is; U+2011 that of U+2010. No
-//! shaper has a say in that, so the functions for one item that stays state it by the rules without one.
+//! The mode says which expansion is asked for, the shortest or the longest ([`Shortest`]). An item
+//! that has a glyph and is asked for the shortest stays; any other is expanded along the chain of
+//! its splits, if it can be. An item without a glyph that has no expansion either may take that of
+//! another character: a space that of U+0020, or the invisible glyph, and remembers how wide it is;
+//! U+2011 that of U+2010. No shaper has a say in that, so the functions for one item that stays
+//! state it by the rules without one.
 ghost use Rattle.std.specs.Prelude.{◌≡◌, ◌<◌, ◌≤◌, [], ◌∷◌, ◌++◌, length, map, reverse, vec_len};
 ghost use Rattle.std.specs.Prelude.{if◌then◌else◌, is_ok, Bool, IsTrue, OnOk, IfOk, IfSome};
 ghost use Rattle.std.specs.Prelude.{IfNone, Err, None};
@@ -35,8 +36,8 @@ const HYPHEN: char = '\u{2010}';
 
 const NON_BREAKING_HYPHEN: char = '\u{2011}';
 
-/// Whether the shortest expansion is asked for, of items by themselves and of those that stand in sequences with
-/// marks; the mode is asked once for a whole text.
+/// Whether the shortest expansion is asked for, of items by themselves and of those that stand in
+/// sequences with marks; the mode is asked once for a whole text.
 #[derive(Clone, Copy)]
 pub(crate) struct Shortest {
     alone: bool,
@@ -79,8 +80,8 @@ fn space_glyph<U: hb_unicode_funcs_t, F: hb_font_t>(
     face.get_nominal_glyph(SPACE).or(invisible)
 }
 
-/// Whether an item is a space that another glyph replaces. Its own category counts, which a shaper may have
-/// set.
+/// Whether an item is a space that another glyph replaces. Its own category counts, which a shaper
+/// may have set.
 fn is_fallback_space<U: hb_unicode_funcs_t, F: hb_font_t>(
     face: &F,
     info: &hb_glyph_info_t,
@@ -118,8 +119,8 @@ fn fallback_index<U: hb_unicode_funcs_t, F: hb_font_t>(
     0
 }
 
-/// An item that keeps its character, for which the face has no glyph. A call of its own, so that an item with
-/// a glyph isn't charged for what this keeps.
+/// An item that keeps its character, for which the face has no glyph. A call of its own, so that an
+/// item with a glyph isn't charged for what this keeps.
 #[inline(never)]
 fn lacking_item<U: hb_unicode_funcs_t, F: hb_font_t>(
     face: &F,
@@ -145,8 +146,8 @@ fn lacking_item<U: hb_unicode_funcs_t, F: hb_font_t>(
     whole
 }
 
-/// An item that keeps its character, with its glyph, or with what replaces that; `lacks` says that it is known to
-/// have none, and the face isn't asked again.
+/// An item that keeps its character, with its glyph, or with what replaces that; `lacks` says that
+/// it is known to have none, and the face isn't asked again.
 #[inline(always)]
 fn kept_item<U: hb_unicode_funcs_t, F: hb_font_t>(
     face: &F,
@@ -172,7 +173,8 @@ fn kept_item<U: hb_unicode_funcs_t, F: hb_font_t>(
     }
 }
 
-/// An item with this glyph. Part of its callers, so that the loop over a text writes the index alone.
+/// An item with this glyph. Part of its callers, so that the loop over a text writes the index
+/// alone.
 #[inline(always)]
 fn with_glyph(info: &hb_glyph_info_t, glyph: u32) -> hb_glyph_info_t
     ensures { result ≡ record info.now { glyph_index = glyph } }
@@ -196,7 +198,8 @@ fn push_item(infos: &mut Vec<hb_glyph_info_t>, item: hb_glyph_info_t) -> Result<
     Ok(())
 }
 
-/// The items that were emitted, at most `limit` of them, and the scratch flags that their characters show.
+/// The items that were emitted, at most `limit` of them, and the scratch flags that their
+/// characters show.
 #[derive(Drop)]
 pub(crate) struct Emitted {
     pub(crate) infos: Vec<hb_glyph_info_t>,
@@ -221,9 +224,9 @@ impl Emitted {
         }
     }
 
-    /// The item with its glyph, if it keeps its character; none if it expands, and then `expansion` is
-    /// what it becomes. The face is asked once about an item that has a glyph and keeps it. Part of the loops that
-    /// call it: most items of a text have a glyph, and no more is done for one.
+    /// The item with its glyph, if it keeps its character; none if it expands, and then `expansion`
+    /// is what it becomes. The face is asked once about an item that has a glyph and keeps it. Part
+    /// of the loops that call it: most items of a text have a glyph, and no more is done for one.
     #[inline(always)]
     pub(crate) fn keep_or_expand<T: ShapingTypes>(
         &mut self,
@@ -336,8 +339,8 @@ impl Emitted {
         Ok(())
     }
 
-    /// Emits what an item becomes. Refuses with `Length` if that passes the limit. Part of the loops that call
-    /// it, for each item of a text.
+    /// Emits what an item becomes. Refuses with `Length` if that passes the limit. Part of the
+    /// loops that call it, for each item of a text.
     #[inline(always)]
     pub(crate) fn put_item<T: ShapingTypes>(
         &mut self,

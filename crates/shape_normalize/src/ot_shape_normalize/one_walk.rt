@@ -1,11 +1,11 @@
-//! Rounds one and two in one walk, for a list whose sequences are all expanded, by a plan without the hook that
-//! reorders, or without a mark past the first item: in place, up to the first item that expands, and from there on
-//! into a list of its own.
+//! Rounds one and two in one walk, for a list whose sequences are all expanded, by a plan without
+//! the hook that reorders, or without a mark past the first item: in place, up to the first item
+//! that expands, and from there on into a list of its own.
 //!
-//! Most texts become no longer. So each item takes its glyph where it stands, and no memory is taken, as
-//! long as nothing expands. If marks stand past the first item, the walk follows the runs of what it emits.
-//! The spans that their order moves are merged in one call after the walk, since one by one they would
-//! write the items of clusters that chain again and again.
+//! Most texts become no longer. So each item takes its glyph where it stands, and no memory is
+//! taken, as long as nothing expands. If marks stand past the first item, the walk follows the runs
+//! of what it emits. The spans that their order moves are merged in one call after the walk, since
+//! one by one they would write the items of clusters that chain again and again.
 ghost use Rattle.std.specs.Prelude.{◌≡◌, ◌≤◌, ◌<◌, ◌==◌, ◌++◌, drop, take, length, vec_len};
 ghost use Rattle.std.specs.Prelude.{IfOk, IsOkUnless, OnOk, Err, [], map, true};
 ghost use Rattle.shape_items.specs.Buffer.{cleared, limit_of};
@@ -31,8 +31,9 @@ fn stands_with_marks_at(infos: &[hb_glyph_info_t], i: usize) -> bool
     is_after || i + 1 < infos.len() && infos[i + 1]._hb_glyph_info_is_unicode_mark()
 }
 
-/// Gives each item its glyph, up to the first that expands, and follows the runs, if `follows` says so.
-/// Returns the place of that one, or the length. Emits nothing; `out` has the buffer's scratch flags.
+/// Gives each item its glyph, up to the first that expands, and follows the runs, if `follows` says
+/// so. Returns the place of that one, or the length. Emits nothing; `out` has the buffer's scratch
+/// flags.
 #[inline(always)]
 fn place_glyphs<T: ShapingTypes>(
     plan: &PlanOf<'_, T>,
@@ -83,8 +84,8 @@ fn place_glyphs<T: ShapingTypes>(
 }
 
 impl Emitted {
-    /// Emits the first items of a list as they are, with room for half as many more as those after them.
-    /// Refuses with `Length` if they pass the limit.
+    /// Emits the first items of a list as they are, with room for half as many more as those after
+    /// them. Refuses with `Length` if they pass the limit.
     fn put_placed(&mut self, infos: &[hb_glyph_info_t], from: usize) -> Result<(), ShapeError>
         requires none { self.old.infos.items ≡ [] }
         requires from { from ≤ length infos.now }
@@ -103,8 +104,8 @@ impl Emitted {
         Ok(())
     }
 
-    /// Emits what the items after those that were emitted become, and follows the runs of that, if `follows`
-    /// says so. Refuses with `Length` if that passes the limit.
+    /// Emits what the items after those that were emitted become, and follows the runs of that, if
+    /// `follows` says so. Refuses with `Length` if that passes the limit.
     fn put_rest<T: ShapingTypes>(
         &mut self,
         plan: &PlanOf<'_, T>,
@@ -148,9 +149,9 @@ impl Emitted {
     }
 }
 
-/// Puts what the items become in their place, if each sequence is expanded, and follows the runs of that, if
-/// `follows` says so. Refuses with `Length` if that passes the limit; after a refusal the settings that
-/// clearing keeps are as they were. It is compiled for each of the two by itself.
+/// Puts what the items become in their place, if each sequence is expanded, and follows the runs of
+/// that, if `follows` says so. Refuses with `Length` if that passes the limit; after a refusal the
+/// settings that clearing keeps are as they were. It is compiled for each of the two by itself.
 #[inline(always)]
 pub(crate) fn expand_in_one_walk<T: ShapingTypes>(
     alloc: Global,

@@ -1,9 +1,9 @@
 //! The premises of canonical form, tested on a text.
 //!
-//! Normalising promises canonical form, and decides equivalence, under premises that a text from outside
-//! may miss: a face lacks a glyph, or marks stand in too long a row. This is the test of them. Full of the
-//! text is walked from its end to its beginning, the order in which a chain gives its parts; so all that
-//! is kept is how the walked part begins, and no memory is taken.
+//! Normalising promises canonical form, and decides equivalence, under premises that a text from
+//! outside may miss: a face lacks a glyph, or marks stand in too long a row. This is the test of
+//! them. Full of the text is walked from its end to its beginning, the order in which a chain gives
+//! its parts; so all that is kept is how the walked part begins, and no memory is taken.
 //!
 //! The premises range over all numbers, as Unicode's laws do. A hook is called on characters; past
 //! them "does not split" meets every law.
@@ -35,8 +35,8 @@ pub(crate) struct Front {
     ordered: bool,
 }
 
-/// How a list begins once `c` came in front of it. `None` if it begins with more than 32 marks then, or if
-/// the face has no glyph for `c`.
+/// How a list begins once `c` came in front of it. `None` if it begins with more than 32 marks
+/// then, or if the face has no glyph for `c`.
 fn with_char<U: hb_unicode_funcs_t, F: hb_font_t>(
     face: &F,
     front: Option<Front>,
@@ -91,8 +91,8 @@ fn with_full<T: ShapingTypes>(
     with_char::<T::Unicode, T::Face>(face, front, point)
 }
 
-/// How Full of a text begins. `None` if one of its characters has no glyph, or a run of marks in it is longer
-/// than 32.
+/// How Full of a text begins. `None` if one of its characters has no glyph, or a run of marks in it
+/// is longer than 32.
 fn front_of<T: ShapingTypes>(
     plan: &PlanOf<'_, T>,
     face: &T::Face,
@@ -114,9 +114,9 @@ fn front_of<T: ShapingTypes>(
     Some(front)
 }
 
-/// Whether each character of Full has a glyph, no run of marks in it is longer than 32, and the marks end in
-/// order: one stands past the first item, so that they are put in order, or they are in order in Full, and
-/// the mode doesn't compose.
+/// Whether each character of Full has a glyph, no run of marks in it is longer than 32, and the
+/// marks end in order: one stands past the first item, so that they are put in order, or they are
+/// in order in Full, and the mode doesn't compose.
 fn is_supported<T: ShapingTypes>(
     plan: &PlanOf<'_, T>,
     face: &T::Face,
@@ -158,16 +158,17 @@ fn is_full<T: ShapingTypes>(plan: &PlanOf<'_, T>) -> bool
     !short && !reorders
 }
 
-/// Whether a text, prepared for normalising, meets the premises of canonical form, except for those that a
-/// shaper's hooks must provide ([`crate::laws::hooks_not_given_are_lawful`] has them of hooks that aren't given):
-/// the mode decomposes fully, no hook reorders marks, items are as they were prepared, there is no
-/// variation selector, in the full decomposition each character has a glyph and no run of marks is longer
-/// than 32, and a mark stands past the first character; in a mode that doesn't compose it is enough that no
-/// mark of the full decomposition has a lower ccc than the mark before it, as in U+00E9 alone.
+/// Whether a text, prepared for normalising, meets the premises of canonical form, except for those
+/// that a shaper's hooks must provide ([`crate::laws::hooks_not_given_are_lawful`] has them of
+/// hooks that aren't given): the mode decomposes fully, no hook reorders marks, items are as they
+/// were prepared, there is no variation selector, in the full decomposition each character has a
+/// glyph and no run of marks is longer than 32, and a mark stands past the first character; in a
+/// mode that doesn't compose it is enough that no mark of the full decomposition has a lower ccc
+/// than the mark before it, as in U+00E9 alone.
 ///
 /// So a caller can tell of texts from outside whether they take canonical form, and whether
-/// [`crate::ot_shape_normalize::normalized_equal`] tells of two of them if they are equivalent. Takes no
-/// memory.
+/// [`crate::ot_shape_normalize::normalized_equal`] tells of two of them if they are equivalent.
+/// Takes no memory.
 pub fn meets_canonical_premises<U, F, M, S>(
     plan: &hb_ot_shape_plan_t<'_, S, M::Map, S::Data>,
     face: &F,

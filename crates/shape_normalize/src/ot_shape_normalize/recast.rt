@@ -1,7 +1,8 @@
 //! A character that is mapped to its glyph, and an item that is recast as another character.
 //!
-//! Round one recasts an item as each character of an expansion, round three as what a starter and a mark
-//! compose to. Either is a copy of the item that it comes from, so cluster, mask and features stay.
+//! Round one recasts an item as each character of an expansion, round three as what a starter and a
+//! mark compose to. Either is a copy of the item that it comes from, so cluster, mask and features
+//! stay.
 ghost use Rattle.std.specs.Prelude.{◌≡◌, if◌then◌else◌, Some, None};
 ghost use Rattle.shape_items.specs.UnicodeProps.{with_scratch_of};
 ghost use Rattle.shape_normalize.specs.Recast;

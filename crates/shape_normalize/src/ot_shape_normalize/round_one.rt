@@ -1,8 +1,9 @@
-//! Round one: each item becomes the items of its character's expansion, or takes a glyph with the variation
-//! selector after it.
+//! Round one: each item becomes the items of its character's expansion, or takes a glyph with the
+//! variation selector after it.
 //!
-//! Whether the shortest or the longest expansion is taken depends on the mode, and on whether the item stands
-//! in a sequence with marks. A sequence with marks that holds a variation selector isn't expanded.
+//! Whether the shortest or the longest expansion is taken depends on the mode, and on whether the
+//! item stands in a sequence with marks. A sequence with marks that holds a variation selector
+//! isn't expanded.
 //!
 //! `Length` counts what is emitted: the test is made when the items that a character becomes are
 //! known, and no estimate refuses earlier.
@@ -32,8 +33,8 @@ use shape_plan::shaping_types::{Meaning, PlanOf, ShapingTypes};
 use std::alloc::Global;
 
 impl Emitted {
-    /// Emits what the items of a sequence become, each by itself. Refuses with `Length` if that passes
-    /// the limit.
+    /// Emits what the items of a sequence become, each by itself. Refuses with `Length` if that
+    /// passes the limit.
     fn put_items<T: ShapingTypes>(
         &mut self,
         plan: &PlanOf<'_, T>,
@@ -64,8 +65,8 @@ impl Emitted {
         Ok(())
     }
 
-    /// Emits what the sequences of one item at the beginning of a list become, in one loop over them, and gives what
-    /// stands after them. Refuses with `Length` if that passes the limit.
+    /// Emits what the sequences of one item at the beginning of a list become, in one loop over
+    /// them, and gives what stands after them. Refuses with `Length` if that passes the limit.
     fn put_alone<'a, T: ShapingTypes>(
         &mut self,
         plan: &PlanOf<'_, T>,
@@ -159,8 +160,8 @@ fn expand_all<T: ShapingTypes>(
     Ok(out)
 }
 
-/// Puts what the items become in their place. Refuses with `Length` if that passes the limit; after a
-/// refusal the settings that clearing keeps are as they were.
+/// Puts what the items become in their place. Refuses with `Length` if that passes the limit; after
+/// a refusal the settings that clearing keeps are as they were.
 pub(crate) fn expand<T: ShapingTypes>(
     alloc: Global,
     plan: &PlanOf<'_, T>,

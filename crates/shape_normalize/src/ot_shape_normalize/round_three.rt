@@ -1,13 +1,15 @@
 //! Round three: marks are composed with their starters again.
 //!
-//! A face may have one glyph for what was split into a starter and its marks, so each mark that isn't
-//! blocked is composed with its starter, if the face has a glyph for the two as one (The Unicode
-//! Standard, D115 to D117). Marks may stand out of order, in a run too long to be put in order or if a
-//! hook has reordered them. So the greatest ccc since the starter decides, and not that of the last mark.
+//! A face may have one glyph for what was split into a starter and its marks, so each mark that
+//! isn't blocked is composed with its starter, if the face has a glyph for the two as one (The
+//! Unicode Standard, D115 to D117). Marks may stand out of order, in a run too long to be put in
+//! order or if a hook has reordered them. So the greatest ccc since the starter decides, and not
+//! that of the last mark.
 //!
-//! A walk puts each composed character in its starter's place, and notes the span that ends with the mark. In most
-//! texts nothing composes, and nothing is written. Otherwise the clusters of the spans are merged while all items still
-//! stand in the list, and then the marks are taken out of it in place: no list of items is made.
+//! A walk puts each composed character in its starter's place, and notes the span that ends with
+//! the mark. In most texts nothing composes, and nothing is written. Otherwise the clusters of the
+//! spans are merged while all items still stand in the list, and then the marks are taken out of it
+//! in place: no list of items is made.
 //!
 //! Spans are merged one by one as long as each begins in its least cluster, as in a text whose
 //! clusters rise: such a merge grows to the right alone. From the first other span on they are
@@ -33,7 +35,8 @@ use shape_plan::ot_shaper::hb_ot_shaper_t;
 use shape_plan::shaping_types::{Meaning, PlanOf, ShapingTypes};
 use std::alloc::{AllocError, Global};
 
-/// What two characters compose to: the hook's if it is given and the plan uses the shaper, else Unicode's.
+/// What two characters compose to: the hook's if it is given and the plan uses the shaper, else
+/// Unicode's.
 fn compose_of<T: ShapingTypes>(
     plan: &PlanOf<'_, T>,
     face: &T::Face,
@@ -62,16 +65,16 @@ fn compose_with_glyph_of<T: ShapingTypes>(
     compose_of::<T>(plan, face, a, b).filter(|&c| face.has_glyph(c))
 }
 
-/// Whether an item of this ccc is blocked from its starter by marks between them of this greatest ccc, 0
-/// if there are none.
+/// Whether an item of this ccc is blocked from its starter by marks between them of this greatest
+/// ccc, 0 if there are none.
 fn is_blocked(greatest: u8, ccc: u8) -> bool
     ensures { result ≡ is_blocked_after greatest ccc }
 {
     greatest > 0 && ccc <= greatest
 }
 
-/// The character that a starter makes with an item after it, past marks of this greatest ccc, if the two
-/// compose.
+/// The character that a starter makes with an item after it, past marks of this greatest ccc, if
+/// the two compose.
 fn composed_of<T: ShapingTypes>(
     plan: &PlanOf<'_, T>,
     face: &T::Face,
@@ -111,12 +114,12 @@ fn put_composed<U: hb_unicode_funcs_t, F: hb_font_t>(
     buffer.set_scratch_flags(scratch_flags);
 }
 
-/// Puts each composed character in the place of its starter, and gives the spans of what was composed; each
-/// ends with the mark that went into a starter, which still stands in its own place.
+/// Puts each composed character in the place of its starter, and gives the spans of what was
+/// composed; each ends with the mark that went into a starter, which still stands in its own place.
 ///
-/// A span goes from a starter to the first mark that was composed with it, or from each such mark to the
-/// next: merged in order they do what spans that all begin at the starter do, and their lengths stay linear
-/// if a starter takes many marks.
+/// A span goes from a starter to the first mark that was composed with it, or from each such mark
+/// to the next: merged in order they do what spans that all begin at the starter do, and their
+/// lengths stay linear if a starter takes many marks.
 fn compose_in_place<T: ShapingTypes>(
     alloc: Global,
     plan: &PlanOf<'_, T>,
@@ -173,8 +176,9 @@ fn begins_least(infos: &[hb_glyph_info_t]) -> bool {
 
 /// Merges the clusters of each span, in order.
 ///
-/// A span that begins in its least cluster grows to the right alone, over items that no later one grows over
-/// again. So such spans are merged one by one, without a walk over the items beside them.
+/// A span that begins in its least cluster grows to the right alone, over items that no later one
+/// grows over again. So such spans are merged one by one, without a walk over the items beside
+/// them.
 fn merge_composed(buffer: &mut hb_buffer_t, spans: &[(usize, usize)])
     requires { AreSpansInOrder 0 (length buffer.old.items) spans.now }
     ensures { buffer.new ≡ spans_merged_out spans.now buffer.old }
@@ -220,8 +224,8 @@ fn take_out_ends(buffer: &mut hb_buffer_t, spans: &[(usize, usize)])
     buffer.clear_positions();
 }
 
-/// Composes marks with their starters. Refuses with `Memory` if a growth was refused; the settings that
-/// clearing keeps are then as they were.
+/// Composes marks with their starters. Refuses with `Memory` if a growth was refused; the settings
+/// that clearing keeps are then as they were.
 pub(crate) fn recompose<T: ShapingTypes>(
     alloc: Global,
     plan: &PlanOf<'_, T>,

@@ -1,7 +1,7 @@
 //! The settings that clearing keeps.
 //!
-//! A hook or a lookup may have changed them before a later one was refused. What is returned then is the
-//! caller's buffer cleared, so these settings are put back as the caller had them.
+//! A hook or a lookup may have changed them before a later one was refused. What is returned then
+//! is the caller's buffer cleared, so these settings are put back as the caller had them.
 ghost use Rattle.std.specs.Prelude.{◌≡◌};
 ghost use Rattle.shape_items.specs.Buffer.{Buffer, new_buffer};
 ghost use Rattle.shape_pipeline.specs.SettingsPutBack.{kept_settings, cleared_with};

@@ -1,7 +1,7 @@
 //! The steps of a run, in their order.
 //!
-//! The contract is that the list of steps was run, or refused at one of them. Steps are joined by what is
-//! known of lists that stand one after the other, so no proof looks into a step.
+//! The contract is that the list of steps was run, or refused at one of them. Steps are joined by
+//! what is known of lists that stand one after the other, so no proof looks into a step.
 ghost use Rattle.shape_buffer.specs.Outcome.{IsWithinLimit, Outcome, RunOutcome};
 ghost use Rattle.shape_pipeline.specs.Shaped.{normalising, all_steps};
 

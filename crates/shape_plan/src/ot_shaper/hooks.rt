@@ -1,8 +1,9 @@
-//! The hooks of a script shaper: what each is called for, what it means and what its author must provide.
+//! The hooks of a script shaper: what each is called for, what it means and what its author must
+//! provide.
 //!
-//! A hook is a trait of its own, implemented for a type that the shaper names: the shaper itself as a rule,
-//! or [`no_hook`](crate::ot_shaper::no_hook) if it gives none. `S` is the shaper, `D` what it keeps in
-//! a plan.
+//! A hook is a trait of its own, implemented for a type that the shaper names: the shaper itself as
+//! a rule, or [`no_hook`](crate::ot_shaper::no_hook) if it gives none. `S` is the shaper, `D` what
+//! it keeps in a plan.
 //!
 //! A hook has no default body: a body in a trait is proved for every implementation, so it can't
 //! meet the meaning that each one gives. What `reorder_marks` must do is a list of steps over a
@@ -39,8 +40,8 @@ pub trait decompose_hook<S, D, U: hb_unicode_funcs_t, F, M: hb_ot_layout_t<F>> {
     /// Whether the hook is called.
     const GIVEN: bool;
 
-    /// The two parts that a character splits into in one step; the second one is U+0000 if it has one
-    /// part alone.
+    /// The two parts that a character splits into in one step; the second one is U+0000 if it has
+    /// one part alone.
     fn decompose(
         shaper: &S,
         plan: &hb_ot_shape_plan_t<'_, S, M::Map, D>,
@@ -85,8 +86,9 @@ pub trait reorder_marks_hook<S, D, U: hb_unicode_funcs_t, F, M: hb_ot_layout_t<F
     /// Whether the hook is called.
     const GIVEN: bool;
 
-    /// Puts the items from place `start` up to `end`, at most 32 marks in canonical order, in an order of
-    /// the shaper's own. May merge clusters within the run, and give its items other nonzero ccc.
+    /// Puts the items from place `start` up to `end`, at most 32 marks in canonical order, in an
+    /// order of the shaper's own. May merge clusters within the run, and give its items other
+    /// nonzero ccc.
     fn reorder_marks(
         shaper: &S,
         plan: &hb_ot_shape_plan_t<'_, S, M::Map, D>,
@@ -186,8 +188,8 @@ pub trait pause_hook<S, D, U: hb_unicode_funcs_t, F, M: hb_ot_layout_t<F>> {
     /// Whether the hook is called.
     const GIVEN: bool;
 
-    /// Runs the pause of number `n`, as it was requested of the planner. Refuses with `Length` if the
-    /// list would pass the limit, with `Memory` if a growth was refused.
+    /// Runs the pause of number `n`, as it was requested of the planner. Refuses with `Length` if
+    /// the list would pass the limit, with `Memory` if a growth was refused.
     fn pause(
         shaper: &S,
         alloc: Global,
@@ -201,8 +203,9 @@ pub trait pause_hook<S, D, U: hb_unicode_funcs_t, F, M: hb_ot_layout_t<F>> {
             buffer.old buffer.new result };
 }
 
-/// Requests the features of a script: after variations, the forms of a direction, fractions, alternates
-/// at random and tracking, and before the features of every text, those of a direction and the user's.
+/// Requests the features of a script: after variations, the forms of a direction, fractions,
+/// alternates at random and tracking, and before the features of every text, those of a direction
+/// and the user's.
 pub trait collect_features_hook<S> {
     /// What is requested, by the builder as it stands, the direction and the script.
     ghost collected: { S → Builder → AnyDirection → Option AnyScript → List AnyRequest };
@@ -212,8 +215,8 @@ pub trait collect_features_hook<S> {
     /// Whether the hook is called.
     const GIVEN: bool;
 
-    /// Appends requests, and changes nothing else. Refuses with `Memory` alone; nothing is said of the
-    /// builder then.
+    /// Appends requests, and changes nothing else. Refuses with `Memory` alone; nothing is said of
+    /// the builder then.
     fn collect_features(
         shaper: &S,
         alloc: Global,
@@ -236,8 +239,8 @@ pub trait override_features_hook<S> {
     /// Whether the hook is called.
     const GIVEN: bool;
 
-    /// Appends requests, and changes nothing else. Refuses with `Memory` alone; nothing is said of the
-    /// builder then.
+    /// Appends requests, and changes nothing else. Refuses with `Memory` alone; nothing is said of
+    /// the builder then.
     fn override_features(
         shaper: &S,
         alloc: Global,

@@ -12,7 +12,8 @@ use shape_buffer::buffer::{Direction, Script, ShapeError, hb_buffer_t};
 use shape_buffer::interfaces::{hb_ot_layout_t, hb_ot_map_builder_t, hb_unicode_funcs_t};
 use std::alloc::Global;
 
-/// Stands for every hook that a shaper does not give: it is never called, and does what is done without it.
+/// Stands for every hook that a shaper does not give: it is never called, and does what is done
+/// without it.
 #[derive(Clone, Copy, Debug)]
 pub struct no_hook;
 

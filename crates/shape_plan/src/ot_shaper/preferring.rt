@@ -46,8 +46,8 @@ impl Preference for Decomposed {
     ghost lawful = { refl };
 }
 
-/// A character with marks after it is split as far as the face allows, and composed with them again;
-/// every other one is split only if the face lacks it.
+/// A character with marks after it is split as far as the face allows, and composed with them
+/// again; every other one is split only if the face lacks it.
 pub struct ComposedDiacritics;
 
 impl Preference for ComposedDiacritics {

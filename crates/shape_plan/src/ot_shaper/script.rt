@@ -14,8 +14,8 @@ use crate::ot_shaper::hooks::{
 use shape_buffer::buffer::hb_tag_t;
 use shape_buffer::interfaces::{hb_font_t, hb_ot_layout_t, hb_unicode_funcs_t};
 
-/// A script shaper as its author writes it: five constants, and for each hook the type that gives it,
-/// the shaper itself or [`no_hook`](crate::ot_shaper::no_hook). Every such type is a
+/// A script shaper as its author writes it: five constants, and for each hook the type that gives
+/// it, the shaper itself or [`no_hook`](crate::ot_shaper::no_hook). Every such type is a
 /// [`hb_ot_shaper_t`](crate::ot_shaper::hb_ot_shaper_t).
 pub trait script_shaper<U: hb_unicode_funcs_t, F: hb_font_t, M: hb_ot_layout_t<F>> {
     /// What the shaper keeps in a plan.
@@ -75,8 +75,8 @@ pub trait script_shaper<U: hb_unicode_funcs_t, F: hb_font_t, M: hb_ot_layout_t<F
 
     ghost FALLBACK_POSITION: { Bool };
 
-    /// Whether marks are placed by their extents if neither `GPOS` nor `kerx` nor a `kern` across the
-    /// line is applied.
+    /// Whether marks are placed by their extents if neither `GPOS` nor `kerx` nor a `kern` across
+    /// the line is applied.
     const FALLBACK_POSITION: bool;
 
     /// The preference is a mode of normalising.

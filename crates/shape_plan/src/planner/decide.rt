@@ -1,11 +1,12 @@
 //! What a plan decides by what its planner, the face and the engine know.
 //!
-//! First all that the decisions depend on is asked, once; then each decision is a formula over it. They build
-//! on one another in this order: who positions (`GPOS` or `kerx`), who kerns if that leaves kerning out,
-//! and, since whoever positions or kerns may place marks, what is left to do for marks.
+//! First all that the decisions depend on is asked, once; then each decision is a formula over it.
+//! They build on one another in this order: who positions (`GPOS` or `kerx`), who kerns if that
+//! leaves kerning out, and, since whoever positions or kerns may place marks, what is left to do
+//! for marks.
 //!
-//! Questions to the face and the engine have no effect, so all are asked of every face. Formulas have `&` and `|`, which
-//! don't branch: what several of them have in common is computed once.
+//! Questions to the face and the engine have no effect, so all are asked of every face. Formulas
+//! have `&` and `|`, which don't branch: what several of them have in common is computed once.
 ghost use Rattle.std.specs.Prelude.{◌≡◌};
 ghost use Rattle.shape_plan.specs.Decisions as decision_rules;
 ghost use Rattle.shape_plan.specs.Planner;
@@ -153,7 +154,8 @@ impl PlanFacts {
         !(self.apply_gpos() | (self.apply_kerx() | self.apply_kern()))
     }
 
-    /// As the given shaper prefers; but `kerx`, and `kern` with a state machine, see to marks themselves.
+    /// As the given shaper prefers; but `kerx`, and `kern` with a state machine, see to marks
+    /// themselves.
     fn zero_marks(&self) -> bool
         ensures { result ≡ decision_rules.zero_marks self.now }
     {
@@ -161,7 +163,8 @@ impl PlanFacts {
             & (!self.apply_kerx() & (!self.apply_kern() | !self.has_machine_kerning))
     }
 
-    /// Nothing places marks: neither `GPOS` nor `kerx` nor a `kern` that moves glyphs across the line.
+    /// Nothing places marks: neither `GPOS` nor `kerx` nor a `kern` that moves glyphs across the
+    /// line.
     fn adjusts(&self) -> bool
         ensures { result ≡ decision_rules.adjusts self.now }
     {

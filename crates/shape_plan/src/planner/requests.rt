@@ -1,10 +1,10 @@
 //! What a planner asks of the layout engine, in order.
 //!
-//! An engine is to run lookups in the order of the features that asked for them, so the order of the
-//! requests is their meaning: variations of the face come before everything, a direction's forms and
-//! fractions before a script's features, those of every text and of a direction after them, then the
-//! user's, and last what a shaper overrides, which wins. Each function here appends one row of
-//! the order to a builder; what it appends stands in its contract.
+//! An engine is to run lookups in the order of the features that asked for them, so the order of
+//! the requests is their meaning: variations of the face come before everything, a direction's
+//! forms and fractions before a script's features, those of every text and of a direction after
+//! them, then the user's, and last what a shaper overrides, which wins. Each function here appends
+//! one row of the order to a builder; what it appends stands in its contract.
 ghost use Rattle.std.specs.Prelude.{◌≡◌, OnOk, IsOkUnless, map};
 ghost use Rattle.shape_buffer.specs.MapBuilder.{with_requests};
 ghost use Rattle.shape_plan.specs.Requests;
@@ -21,7 +21,8 @@ use shape_buffer::interfaces::{
 };
 use std::alloc::Global;
 
-/// As many requests as a planner makes for a text of any direction, without those of hooks and of the user.
+/// As many requests as a planner makes for a text of any direction, without those of hooks and of
+/// the user.
 pub(crate) const MOST_WITHOUT_HOOKS: usize = 27;
 
 /// The features of every text.
@@ -91,8 +92,8 @@ fn add_random(builder: &mut hb_ot_map_builder_t) -> Result<(), ShapeError>
     builder.enable_feature(tags::RAND, F_RANDOM, MAX_VALUE)
 }
 
-/// Tracking, which a user switches off like a feature though a table of its own does it, and two features of
-/// faces.
+/// Tracking, which a user switches off like a feature though a table of its own does it, and two
+/// features of faces.
 fn add_tracking(builder: &mut hb_ot_map_builder_t) -> Result<(), ShapeError>
     ensures ok { OnOk result (builder.new ≡ with_requests builder.old Requests.tracking) }
     ensures memory { IsOkUnless result ShapeError.Memory }
@@ -118,8 +119,8 @@ pub(crate) fn begin(
     add_tracking(builder)
 }
 
-/// A script's own features, if the shaper is used and collects some. The builder is no longer simple
-/// when the hook sees it.
+/// A script's own features, if the shaper is used and collects some. The builder is no longer
+/// simple when the hook sees it.
 pub(crate) fn collect<T: ShapingTypes>(
     alloc: Global,
     shaper: ChosenShaper<'_, T::Shaper>,
@@ -173,8 +174,8 @@ fn add_common(builder: &mut hb_ot_map_builder_t) -> Result<(), ShapeError>
     add_features(builder, &COMMON_FEATURES)
 }
 
-/// Those of a direction. Vertical forms are taken from any script that has them, since few faces list them
-/// under each.
+/// Those of a direction. Vertical forms are taken from any script that has them, since few faces
+/// list them under each.
 fn add_directed(builder: &mut hb_ot_map_builder_t, direction: Direction) -> Result<(), ShapeError>
     ensures ok { OnOk result (builder.new
         ≡ with_requests builder.old (Requests.directed direction)) }
@@ -187,7 +188,8 @@ fn add_directed(builder: &mut hb_ot_map_builder_t, direction: Direction) -> Resu
     }
 }
 
-/// Those that the user asks for, in order. One over the whole text is on; any other is switched on by masks.
+/// Those that the user asks for, in order. One over the whole text is on; any other is switched on
+/// by masks.
 fn add_user_features(
     builder: &mut hb_ot_map_builder_t,
     features: &[Feature],

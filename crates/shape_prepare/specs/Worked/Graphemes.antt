@@ -4,7 +4,9 @@ use Rattle.shape_items.specs.Buffer.{Buffer}
 use Rattle.shape_items.specs.Items.{Item, new_item}
 use Rattle.shape_common.specs.Unicode.{UnicodeMeaning}
 use Rattle.shape_common.specs.declared.general_category.hb_unicode_general_category_t.{hb_unicode_general_category_t}
-use Rattle.shape_common.specs.declared.general_category.hb_unicode_general_category_t.TheVariants.{UppercaseLetter, LowercaseLetter, TitlecaseLetter, ModifierLetter, OtherLetter, SpaceSeparator, LineSeparator, ModifierSymbol, OtherSymbol, Format}
+use Rattle.shape_common.specs.declared.general_category.hb_unicode_general_category_t.TheVariants.{UppercaseLetter, LowercaseLetter, TitlecaseLetter}
+use Rattle.shape_common.specs.declared.general_category.hb_unicode_general_category_t.TheVariants.{ModifierLetter, OtherLetter, SpaceSeparator}
+use Rattle.shape_common.specs.declared.general_category.hb_unicode_general_category_t.TheVariants.{LineSeparator, ModifierSymbol, OtherSymbol, Format}
 use Rattle.shape_prepare.specs.Graphemes.{graphemes_marked, is_unasked, is_skin_tone, is_extender, continues_by_rule, is_to_next, is_left_alone}
 use Rattle.shape_prepare.specs.DottedCircle.{circle_before, dotted_circled}
 use Rattle.shape_prepare.specs.declared.graphemes.Before.TheVariants.{Plain, Zwj}

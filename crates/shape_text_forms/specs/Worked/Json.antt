@@ -21,7 +21,8 @@ odd_names = record (form 3) { name = λ number. if number == 2 then Some (34 ∷
 
 pub record WorkedLists : Type 0 where
   pub empty : json_text (form 0) [] [] ≡ []
-  pub whole : list_of 0 ≡ codes "[{\"g\":\"A\",\"cl\":0,\"dx\":0,\"dy\":0,\"ax\":600,\"ay\":0},{\"g\":\"gid30\",\"cl\":1,\"dx\":-50,\"dy\":7,\"ax\":0,\"ay\":-1000}]"
+  pub whole : list_of 0
+      ≡ codes "[{\"g\":\"A\",\"cl\":0,\"dx\":0,\"dy\":0,\"ax\":600,\"ay\":0},{\"g\":\"gid30\",\"cl\":1,\"dx\":-50,\"dy\":7,\"ax\":0,\"ay\":-1000}]"
   pub no_clusters : list_of 3 ≡ codes "[{\"g\":\"A\"},{\"g\":\"gid30\"}]"
   pub no_positions : list_of 2 ≡ codes "[{\"g\":\"A\",\"cl\":0},{\"g\":\"gid30\",\"cl\":1}]"
   pub no_glyph_names : list_of 6 ≡ codes "[{\"g\":2,\"cl\":0},{\"g\":30,\"cl\":1}]"

@@ -9,7 +9,8 @@ use Rattle.shape_plan.specs.Plan.{Plan, Fits}
 use Rattle.shape_plan.specs.Run.{Run}
 use Rattle.shape_pipeline.specs.Headline.{target_of, prepared_text, normalised_list}
 use Rattle.shape_pipeline.specs.Shaped.{HasItems, PreparingPasses, ShapingPasses}
-use Rattle.shape_users.specs.Words.{spelled, AreSpelledAlike, IsTooLongToPrepare, IsTooLong, IsTooLongToShape, IsPlaceOf, IsNowhere, FindsTooLong, KeepsTooLong, FitsAt, NoneFits}
+use Rattle.shape_users.specs.Words.{spelled, AreSpelledAlike, IsTooLongToPrepare, IsTooLong, IsTooLongToShape, IsPlaceOf, IsNowhere, FindsTooLong}
+use Rattle.shape_users.specs.Words.{KeepsTooLong, FitsAt, NoneFits}
 use Rattle.shape_users.specs.Worked.Words.{bytes_of}
 use Rattle.shape_users.specs.declared.words.Word.{Word}
 

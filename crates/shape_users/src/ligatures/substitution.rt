@@ -31,8 +31,8 @@ fn put_singles(buffer: &mut hb_buffer_t)
     update_items(buffer, |info| single_of(info));
 }
 
-/// Puts the ligature in place of the two glyphs from a place on, if they are its parts. They are one
-/// cluster first, so that the text of both is that of the ligature.
+/// Puts the ligature in place of the two glyphs from a place on, if they are its parts. They are
+/// one cluster first, so that the text of both is that of the ligature.
 fn put_ligature(buffer: &mut hb_buffer_t, i: usize)
     ensures made { buffer.new ≡ ligated_at i buffer.old }
     ensures len { length buffer.new.items ≤ length buffer.old.items }

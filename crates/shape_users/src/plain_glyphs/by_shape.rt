@@ -1,6 +1,7 @@
-//! What `shape`, which plans for the text itself, says of what it counts and of the normalised list: the clauses in
-//! plain words, as [`plain_glyphs_counted`](super::plain_glyphs_counted) and
-//! [`plain_glyphs_formed`](super::plain_glyphs_formed) have those of `shape_with_plan`. Nothing is asked of the text.
+//! What `shape`, which plans for the text itself, says of what it counts and of the normalised
+//! list: the clauses in plain words, as [`plain_glyphs_counted`](super::plain_glyphs_counted) and
+//! [`plain_glyphs_formed`](super::plain_glyphs_formed) have those of `shape_with_plan`. Nothing is
+//! asked of the text.
 ghost use Rattle.std.specs.Prelude.{◌≡◌, ◌≢◌, [], IfOk, IfErr};
 ghost use Rattle.shape_users.specs.PlainGlyphs.{HasPlainForm, NoStepPasses, SomeStepPasses};
 
@@ -12,8 +13,8 @@ use shape_pipeline::shape;
 use shape_pipeline::shaping::TextRuns;
 use std::alloc::Global;
 
-/// The glyphs of a text: no step of the run made a list past the limit that it found, and a text is refused
-/// for its length only if one would have.
+/// The glyphs of a text: no step of the run made a list past the limit that it found, and a text is
+/// refused for its length only if one would have.
 pub fn glyphs_counted<U, F>(
     alloc: Global,
     face: &F,

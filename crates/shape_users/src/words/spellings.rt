@@ -15,8 +15,8 @@ use shape_pipeline::ot_shaper::{Runs, hb_ot_shaper_t};
 use shape_plan::shaping_types::{Meaning, PlanOf, ShapingTypes, TypesOf};
 use std::alloc::Global;
 
-/// The text of a spelling, with nothing else set. Refuses with `Memory` if a growth was refused, and with
-/// `Length` if the spelling has 4 GiB or more.
+/// The text of a spelling, with nothing else set. Refuses with `Memory` if a growth was refused,
+/// and with `Length` if the spelling has 4 GiB or more.
 pub fn spelled(alloc: Global, spelling: &str) -> Result<UnicodeBuffer, ShapeError>
     ensures ok { IfOk result (λ text. text ≡ Words.spelled spelling.now) }
     ensures length { (result ≡ Err ShapeError.Length) ↔ (2 ^ 32 ≤ length spelling.now) }
@@ -29,9 +29,10 @@ pub fn spelled(alloc: Global, spelling: &str) -> Result<UnicodeBuffer, ShapeErro
     Ok(text)
 }
 
-/// A text as a run prepares it for normalising. Refuses with `Length` if the spelling has 4 GiB or more,
-/// or a step of preparing would leave its list past the run's limit, and with `Memory` if a growth was
-/// refused. A spelling that is too long is always refused; with `Length` if that is for its bytes.
+/// A text as a run prepares it for normalising. Refuses with `Length` if the spelling has 4 GiB or
+/// more, or a step of preparing would leave its list past the run's limit, and with `Memory` if a
+/// growth was refused. A spelling that is too long is always refused; with `Length` if that is for
+/// its bytes.
 fn prepared<T: ShapingTypes>(
     alloc: Global,
     face: &T::Face,
@@ -61,11 +62,12 @@ fn prepared<T: ShapingTypes>(
     Ok(buffer)
 }
 
-/// Whether two spellings have the same normalised characters. Under the premises of canonical form, in the
-/// modes that decompose fully, this says whether they are canonically equivalent. Refuses with `Length` if
-/// one of them has 4 GiB or more, or preparing or normalising it would leave a list past the run's limit (in
-/// normalising the expanded list counts), and with `Memory` if a growth was refused. If one is too long
-/// the two are always refused; with `Length` if the first has 4 GiB or more.
+/// Whether two spellings have the same normalised characters. Under the premises of canonical form,
+/// in the modes that decompose fully, this says whether they are canonically equivalent. Refuses
+/// with `Length` if one of them has 4 GiB or more, or preparing or normalising it would leave a
+/// list past the run's limit (in normalising the expanded list counts), and with `Memory` if a
+/// growth was refused. If one is too long the two are always refused; with `Length` if the first
+/// has 4 GiB or more.
 pub fn same_word<U, F, M, S>(
     alloc: Global,
     face: &F,
@@ -98,11 +100,12 @@ where
     Ok(same)
 }
 
-/// Whether two spellings are canonically equivalent. Returns `None` if this can't be decided by their
-/// normalised characters: for one of them a premise of canonical form doesn't hold, as for a text with a
-/// variation selector, with a character that the face has no glyph for, with too many marks in a row, or, in a
-/// mode that composes, without a mark past its first character (so most words without accents). Refuses as
-/// `same_word` does, but spellings that are too long to normalise only if this can be decided.
+/// Whether two spellings are canonically equivalent. Returns `None` if this can't be decided by
+/// their normalised characters: for one of them a premise of canonical form doesn't hold, as for a
+/// text with a variation selector, with a character that the face has no glyph for, with too many
+/// marks in a row, or, in a mode that composes, without a mark past its first character (so most
+/// words without accents). Refuses as `same_word` does, but spellings that are too long to
+/// normalise only if this can be decided.
 pub fn equivalent_spellings<U, F, M, S>(
     alloc: Global,
     face: &F,

@@ -1,6 +1,9 @@
 use Rattle.bidi.specs.Worked.Sequences.{worked_brackets, worked_sequences}
-use Rattle.bidi.specs.Worked.{worked_explicit, worked_lines, worked_neutral, worked_weak}
+use Rattle.bidi.specs.Worked.{worked_classes, worked_explicit, worked_lines, worked_neutral, worked_weak}
 use Rattle.bidi.proofs.worked.rules_meet_worked_cases.Goals as goal
+
+pub returns-clause-classes : goal.returns-clause-classes
+returns-clause-classes c = worked_classes
 
 pub returns-clause-explicit : goal.returns-clause-explicit
 returns-clause-explicit c = worked_explicit

@@ -70,8 +70,8 @@ impl hb_buffer_t {
         self.positions.remove(i);
     }
 
-    /// Takes out the items from `len` on, and their positions; if there are no more than `len` items nothing
-    /// changes. Takes no memory.
+    /// Takes out the items from `len` on, and their positions; if there are no more than `len`
+    /// items nothing changes. Takes no memory.
     pub fn truncate(&mut self, len: usize)
         ensures { self.new ≡ record self.old {
           items = take len self.old.items;
@@ -82,9 +82,9 @@ impl hb_buffer_t {
         truncate_positions(&mut self.positions, len);
     }
 
-    /// Puts an item in before the one at `i`, at the end if `i` is the length, at a position of zeros.
-    /// Refuses with `Length` if the list has reached its limit, and with `Memory` if a growth was
-    /// refused; a refused call changes nothing.
+    /// Puts an item in before the one at `i`, at the end if `i` is the length, at a position of
+    /// zeros. Refuses with `Length` if the list has reached its limit, and with `Memory` if a
+    /// growth was refused; a refused call changes nothing.
     pub fn insert(&mut self, i: usize, item: hb_glyph_info_t) -> Result<(), ShapeError>
         requires { i ≤ length self.old.items }
         ensures ok { OnOk result (self.new ≡ record self.old {
@@ -105,9 +105,9 @@ impl hb_buffer_t {
         Ok(())
     }
 
-    /// Makes these the items, at positions of zeros. Refuses with `Length` if there are more than the
-    /// limit, and with `Memory` if a growth was refused; a refused call drops what it was given and
-    /// changes nothing.
+    /// Makes these the items, at positions of zeros. Refuses with `Length` if there are more than
+    /// the limit, and with `Memory` if a growth was refused; a refused call drops what it was given
+    /// and changes nothing.
     pub fn replace_infos(&mut self, infos: Vec<hb_glyph_info_t>) -> Result<(), ShapeError>
         ensures ok { OnOk result (self.new ≡ record self.old {
           items = infos.items;
@@ -126,8 +126,8 @@ impl hb_buffer_t {
         Ok(())
     }
 
-    /// Hands the items and their positions over to a walk that edits lists of its own, and leaves the buffer
-    /// without any. All settings stay. `put_lists` gives them back.
+    /// Hands the items and their positions over to a walk that edits lists of its own, and leaves
+    /// the buffer without any. All settings stay. `put_lists` gives them back.
     pub fn take_lists(&mut self, alloc: Global) -> (Vec<hb_glyph_info_t>, Vec<GlyphPosition>)
         ensures infos { result.0.items ≡ self.old.items }
         ensures positions { result.1.items ≡ self.old.positions }
@@ -140,8 +140,8 @@ impl hb_buffer_t {
         (infos, positions)
     }
 
-    /// Makes these the items, at these positions, as many as items. Refuses with `Memory` alone, if a growth
-    /// was refused; a refused call drops what it was given and changes nothing.
+    /// Makes these the items, at these positions, as many as items. Refuses with `Memory` alone, if
+    /// a growth was refused; a refused call drops what it was given and changes nothing.
     pub fn put_lists(
         &mut self,
         infos: Vec<hb_glyph_info_t>,
@@ -226,8 +226,9 @@ impl hb_buffer_t {
     }
 }
 
-/// How many characters a text has: as many as bytes that begin one. Each byte is looked at by itself, so that a machine
-/// counts many at once. No clause says so, since only the room that is asked for hangs on it.
+/// How many characters a text has: as many as bytes that begin one. Each byte is looked at by
+/// itself, so that a machine counts many at once. No clause says so, since only the room that is
+/// asked for hangs on it.
 fn count_chars(text: &str) -> usize {
     let mut count: usize = 0;
     for byte in text.as_bytes() {
@@ -287,8 +288,8 @@ pub(super) fn make_zeros(has_positions: bool, positions: &mut [GlyphPosition])
     }
 }
 
-/// Sets every position to zeros. A call of its own: if LLVM inlines it into a large function, the loop does not
-/// become one fill of memory.
+/// Sets every position to zeros. A call of its own: if LLVM inlines it into a large function, the
+/// loop does not become one fill of memory.
 #[inline(never)]
 fn zero_positions(positions: &mut [GlyphPosition])
     ensures { positions.new ≡ replicate (length positions.old) zero_position }
@@ -298,8 +299,8 @@ fn zero_positions(positions: &mut [GlyphPosition])
     }
 }
 
-/// Makes a list at least so long, and half as long again as it was if it grows. It gets no shorter, even if memory is
-/// refused.
+/// Makes a list at least so long, and half as long again as it was if it grows. It gets no shorter,
+/// even if memory is refused.
 fn make_room(numbers: &mut Vec<usize>, count: usize) -> Result<(), AllocError>
     ensures room { OnOk result (count ≤ length numbers.new.items) }
     ensures longer { length numbers.old.items ≤ length numbers.new.items }
@@ -313,8 +314,8 @@ fn make_room(numbers: &mut Vec<usize>, count: usize) -> Result<(), AllocError>
     Ok(())
 }
 
-/// Makes room for so many more, and for half as many more as there are if that takes memory. A list that grows item by
-/// item is so moved seldom, and leaves a third of its room free at most.
+/// Makes room for so many more, and for half as many more as there are if that takes memory. A list
+/// that grows item by item is so moved seldom, and leaves a third of its room free at most.
 fn make_way<T>(list: &mut Vec<T>, additional: usize) -> Result<(), AllocError>
     ensures items { list.new.items ≡ list.old.items }
     ensures room { OnOk result (vec_len list.new + additional ≤ vec_capacity list.new) }

@@ -18,8 +18,8 @@ impl hb_buffer_t {
             .or_else(|| first_script::<U>(self.infos.as_slice()))
     }
 
-    /// The direction of the text as guessing would set it: the one that is set, else that of the guessed
-    /// script, else left to right.
+    /// The direction of the text as guessing would set it: the one that is set, else that of the
+    /// guessed script, else left to right.
     pub fn guessed_direction<U: hb_unicode_funcs_t>(&self) -> Direction
         ensures { result ≡ Guess.guessed_direction U.unicode self.now }
     {
@@ -29,8 +29,9 @@ impl hb_buffer_t {
         self.direction_by::<U>(self.guessed_script::<U>())
     }
 
-    /// The direction of the text as guessing would set it, if its guessed script is known: the one that is
-    /// set, else that of the script, else left to right. The characters aren't gone over again.
+    /// The direction of the text as guessing would set it, if its guessed script is known: the one
+    /// that is set, else that of the script, else left to right. The characters aren't gone over
+    /// again.
     pub fn direction_by<U: hb_unicode_funcs_t>(&self, script: Option<Script>) -> Direction
         ensures { result ≡ Guess.direction_or self.now.direction
             (Guess.script_or_ltr U.unicode script) }

@@ -8,8 +8,8 @@ impl hb_buffer_t {
     ghost use Rattle.shape_common.specs.Positions.{zero_position};
     ghost use Rattle.shape_buffer.specs.Ranges.{reversed_range};
 
-    /// Reverses the order of the items from `start` up to `end`, and that of their positions with it. Takes no
-    /// memory.
+    /// Reverses the order of the items from `start` up to `end`, and that of their positions with
+    /// it. Takes no memory.
     pub fn reverse_range(&mut self, start: usize, end: usize)
         requires ordered { start ≤ end }
         requires within { end ≤ length self.old.items }

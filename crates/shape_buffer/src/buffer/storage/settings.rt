@@ -1,4 +1,5 @@
-//! The settings of a buffer: what its text is, what its caller asks of a run, and what the run has seen.
+//! The settings of a buffer: what its text is, what its caller asks of a run, and what the run has
+//! seen.
 //!
 //! A setting that may be unset is an `Option` in its setter as in its reader: a caller can unset
 //! what it has set.
@@ -166,8 +167,8 @@ impl hb_buffer_t {
         self.scratch_flags = scratch_flags;
     }
 
-    /// Reads what lookups may still ask for, in units of about one look at a glyph: `usize::MAX` if no run has
-    /// set a limit.
+    /// Reads what lookups may still ask for, in units of about one look at a glyph: `usize::MAX` if
+    /// no run has set a limit.
     pub fn max_ops(&self) -> usize
         ensures { result ≡ self.now.max_ops }
     {
@@ -195,9 +196,9 @@ impl hb_buffer_t {
         self.serial = serial;
     }
 
-    /// Gives the next ligature id: 1 to 7, and 1 again after 7, so never 0, which means no ligature. A
-    /// lookup gives it to a ligature and to the marks that stood between its components (HarfBuzz,
-    /// `_hb_allocate_lig_id`).
+    /// Gives the next ligature id: 1 to 7, and 1 again after 7, so never 0, which means no
+    /// ligature. A lookup gives it to a ligature and to the marks that stood between its components
+    /// (HarfBuzz, `_hb_allocate_lig_id`).
     pub fn allocate_lig_id(&mut self) -> u8
         ensures id { result ≡ next_ligature_id self.old.serial }
         ensures given { self.new ≡ record self.old { serial = next_ligature_id self.old.serial } }

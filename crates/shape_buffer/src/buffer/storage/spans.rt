@@ -18,15 +18,16 @@ use shape_items::clusters::{
 };
 use shape_items::hb_glyph_info_t;
 
-/// As many spans as a run of 32 marks can have: so few cost less one by one than a walk over the list.
+/// As many spans as a run of 32 marks can have: so few cost less one by one than a walk over the
+/// list.
 const FEW_SPANS: usize = 16;
 
 impl hb_buffer_t {
-    /// Merges the clusters of the items from `start` up to `end`: they, and the items beside them that
-    /// share a cluster which changes, get the least cluster of the span, and an item whose cluster
-    /// changes loses its defined flags. At level CHARACTERS the span is marked unsafe to break instead.
-    /// A span of fewer than two items changes nothing. The time is in step with the items it touches
-    /// (measured, not proved).
+    /// Merges the clusters of the items from `start` up to `end`: they, and the items beside them
+    /// that share a cluster which changes, get the least cluster of the span, and an item whose
+    /// cluster changes loses its defined flags. At level CHARACTERS the span is marked unsafe to
+    /// break instead. A span of fewer than two items changes nothing. The time is in step with the
+    /// items it touches (measured, not proved).
     pub fn merge_clusters(&mut self, start: usize, end: usize)
         requires ordered { start ≤ end }
         requires within { end ≤ length self.old.items }
@@ -56,10 +57,11 @@ impl hb_buffer_t {
         }
     }
 
-    /// Merges the clusters of many spans, as one call of `merge_clusters` after the other would. A span
-    /// is a start and an end; none begins before the one before it. Takes no memory; the time is in step
-    /// with the list and the lengths of the spans, whatever the clusters are (measured, not proved). Few
-    /// spans, as those of one run of marks, are merged one by one: the items before them aren't walked over.
+    /// Merges the clusters of many spans, as one call of `merge_clusters` after the other would. A
+    /// span is a start and an end; none begins before the one before it. Takes no memory; the time
+    /// is in step with the list and the lengths of the spans, whatever the clusters are (measured,
+    /// not proved). Few spans, as those of one run of marks, are merged one by one: the items
+    /// before them aren't walked over.
     pub fn merge_spans(&mut self, spans: &[(usize, usize)])
         requires in_order { Spans.AreSpansInOrder 0 (length self.old.items) spans.now }
         ensures merged { self.new ≡ Spans.all_merged spans.now self.old }
@@ -92,9 +94,10 @@ impl hb_buffer_t {
         self.merge_at_once(spans);
     }
 
-    /// Merges the clusters of each grapheme, as one call of `merge_clusters` after the other would; at level
-    /// CHARACTERS nothing changes. A grapheme is an item with the continuations directly after it. Takes no
-    /// memory; the time is in step with the list, whatever the clusters are (measured, not proved).
+    /// Merges the clusters of each grapheme, as one call of `merge_clusters` after the other would;
+    /// at level CHARACTERS nothing changes. A grapheme is an item with the continuations directly
+    /// after it. Takes no memory; the time is in step with the list, whatever the clusters are
+    /// (measured, not proved).
     pub fn merge_graphemes(&mut self)
         ensures merged { self.new
             ≡ Spans.spans_merged_out (grapheme_spans self.old.items) self.old }
@@ -137,9 +140,9 @@ impl hb_buffer_t {
         }
     }
 
-    /// Marks the items from `start` up to `end` unsafe to break and to concat, except for those of their
-    /// least cluster, and sets the scratch flag HAS_GLYPH_FLAGS. A span of fewer than two items changes
-    /// nothing. The time is in step with the span (measured, not proved).
+    /// Marks the items from `start` up to `end` unsafe to break and to concat, except for those of
+    /// their least cluster, and sets the scratch flag HAS_GLYPH_FLAGS. A span of fewer than two
+    /// items changes nothing. The time is in step with the span (measured, not proved).
     pub fn unsafe_to_break(&mut self, start: usize, end: usize)
         requires ordered { start ≤ end }
         requires within { end ≤ length self.old.items }
@@ -153,10 +156,11 @@ impl hb_buffer_t {
         mark_break(self.infos.as_mut_slice(), start, end);
     }
 
-    /// Marks the items from `start` up to `end` safe to insert tatweel, except for those of their least
-    /// cluster, and sets the scratch flag HAS_GLYPH_FLAGS, if the flag PRODUCE_SAFE_TO_INSERT_TATWEEL asks
-    /// for it; a span of fewer than two items changes nothing then. If it isn't asked for, marks the span
-    /// unsafe to break (HarfBuzz, `safe_to_insert_tatweel`).
+    /// Marks the items from `start` up to `end` safe to insert tatweel, except for those of their
+    /// least cluster, and sets the scratch flag HAS_GLYPH_FLAGS, if the flag
+    /// PRODUCE_SAFE_TO_INSERT_TATWEEL asks for it; a span of fewer than two items changes nothing
+    /// then. If it isn't asked for, marks the span unsafe to break (HarfBuzz,
+    /// `safe_to_insert_tatweel`).
     pub fn safe_to_insert_tatweel(&mut self, start: usize, end: usize)
         requires ordered { start ≤ end }
         requires within { end ≤ length self.old.items }
@@ -202,13 +206,13 @@ impl hb_buffer_t {
         mark_concat(self.infos.as_mut_slice(), start, end);
     }
 
-    /// Deletes the glyphs that the test picks, from left to right, each with its position. The test is
-    /// asked of an item as it stands when it is reached. Before a glyph of cluster `c` goes, the first
-    /// case that holds decides: the next item, picked or not, has cluster `c`, and nothing is done; items
-    /// were kept, and if `c` is below the last kept one's cluster, the last kept items with that
-    /// cluster get the picked item's cluster and its defined flags in place of theirs; there is a next
-    /// item, and the two are merged as `merge_clusters` does. Takes no memory; the time is in step with
-    /// the list, whatever the clusters are (measured, not proved).
+    /// Deletes the glyphs that the test picks, from left to right, each with its position. The test
+    /// is asked of an item as it stands when it is reached. Before a glyph of cluster `c` goes, the
+    /// first case that holds decides: the next item, picked or not, has cluster `c`, and nothing is
+    /// done; items were kept, and if `c` is below the last kept one's cluster, the last kept items
+    /// with that cluster get the picked item's cluster and its defined flags in place of theirs;
+    /// there is a next item, and the two are merged as `merge_clusters` does. Takes no memory; the
+    /// time is in step with the list, whatever the clusters are (measured, not proved).
     pub fn delete_glyphs_inplace<F: Fn(&hb_glyph_info_t) -> bool>(&mut self, test: F)
     where
         F: Drop,

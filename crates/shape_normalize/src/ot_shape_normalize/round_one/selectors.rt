@@ -1,5 +1,5 @@
-//! Sequences that hold a variation selector: an item and its selector become one item if the face has a
-//! glyph for the two; all other items stay.
+//! Sequences that hold a variation selector: an item and its selector become one item if the face
+//! has a glyph for the two; all other items stay.
 ghost use Rattle.std.specs.Prelude.{◌≡◌, ◌<◌, ◌≤◌, ◌∷◌, ◌++◌, length, map, fold, vec_len, OnOk};
 ghost use Rattle.std.specs.Prelude.{Err};
 ghost use Rattle.std.specs.List.{flat_map};

@@ -31,8 +31,8 @@ fn count_unmarked(infos: &[hb_glyph_info_t]) -> usize
         .count()
 }
 
-/// How many sequences of one item stand at the beginning, each followed by an item that is no mark; so the last item of
-/// a list isn't counted.
+/// How many sequences of one item stand at the beginning, each followed by an item that is no mark;
+/// so the last item of a list isn't counted.
 pub(super) fn count_alone(infos: &[hb_glyph_info_t]) -> usize
     ensures alone { sequences infos.now
         ≡ map (λ item. item ∷ []) (take result infos.now) ++ sequences (drop result infos.now) }
@@ -55,8 +55,8 @@ fn count_selectors<U: hb_unicode_funcs_t>(infos: &[hb_glyph_info_t]) -> usize
         .count()
 }
 
-/// The first sequence, and the items after it; nothing if there is no item. The first item may be a mark
-/// itself.
+/// The first sequence, and the items after it; nothing if there is no item. The first item may be a
+/// mark itself.
 pub(super) fn first_sequence(
     infos: &[hb_glyph_info_t],
 ) -> Option<(&[hb_glyph_info_t], &[hb_glyph_info_t])>
@@ -67,8 +67,8 @@ pub(super) fn first_sequence(
     Some(infos.split_at(1 + count_marks(after)))
 }
 
-/// The first item with the variation selectors directly after it, and the items after them; nothing if
-/// there is no item. The first item may be a selector itself.
+/// The first item with the variation selectors directly after it, and the items after them; nothing
+/// if there is no item. The first item may be a selector itself.
 pub(super) fn first_variant<U: hb_unicode_funcs_t>(
     infos: &[hb_glyph_info_t],
 ) -> Option<(&[hb_glyph_info_t], &[hb_glyph_info_t])>

@@ -23,8 +23,9 @@ fn variation_sequence_glyph<F: hb_font_t>(face: &F, part: &[hb_glyph_info_t]) ->
     face.glyph_variation_index(info.codepoint, selector.codepoint)
 }
 
-/// Adds the spans of the items of a sequence that become one with the selector after them. Kept out of line, since most
-/// sequences of a text hold no selector: inlined, it leaves no register to the walk over those.
+/// Adds the spans of the items of a sequence that become one with the selector after them. Kept out
+/// of line, since most sequences of a text hold no selector: inlined, it leaves no register to the
+/// walk over those.
 #[inline(never)]
 fn push_variation_sequences<U: hb_unicode_funcs_t, F: hb_font_t>(
     face: &F,
@@ -49,8 +50,8 @@ fn push_variation_sequences<U: hb_unicode_funcs_t, F: hb_font_t>(
     Ok(())
 }
 
-/// The spans of all items that become one with the selector after them. Takes no memory if there are
-/// none.
+/// The spans of all items that become one with the selector after them. Takes no memory if there
+/// are none.
 fn variation_sequences<U: hb_unicode_funcs_t, F: hb_font_t>(
     alloc: Global,
     face: &F,
@@ -74,7 +75,8 @@ fn variation_sequences<U: hb_unicode_funcs_t, F: hb_font_t>(
     Ok(spans)
 }
 
-/// Merges the clusters of each item that becomes one with the selector after it, and of that selector.
+/// Merges the clusters of each item that becomes one with the selector after it, and of that
+/// selector.
 pub(super) fn merge_variation_sequences<U: hb_unicode_funcs_t, F: hb_font_t>(
     alloc: Global,
     face: &F,

@@ -6,7 +6,7 @@ use Rattle.bidi.specs.Sequences.{AreWithin}
 use Rattle.bidi.specs.Text.{level_of}
 use Rattle.bidi.proofs.KeptLemmas.{length_sequences}
 use Rattle.bidi.proofs.WithinLemmas.{length_explicit, members_within}
-use Rattle.bidi.proofs.text.resolved_levels.Goals as goal
+use Rattle.bidi.proofs.text.sequence_levels.Goals as goal
 
 pub members-requires-clause-placed : goal.members-requires-clause-placed
 members-requires-clause-placed c =
