@@ -115,6 +115,7 @@ impl Failure {
             Failure::Argument(text) | Failure::File(text) => text.as_str(),
             Failure::Refused(ParagraphError::Uncut) => "glyphs are out of the order of the text",
             Failure::Refused(ParagraphError::NoFonts) => "the list of fonts is empty",
+            Failure::Refused(ParagraphError::Size) => "the size is too large for the fonts",
             Failure::Refused(_) => "the text is too long, or its glyphs would be too many",
             Failure::Memory => "out of memory",
         }

@@ -1,5 +1,6 @@
 -- Which font shows which cluster of a text, by which fonts have it.
-use Rattle.std.specs.Prelude.{◌≡◌, ◌≢◌, ◌⊎◌, ℕ, ◌+◌, ◌<◌, ◌≤◌, Bool, false, List, [], ◌∷◌, map, length, ◌++◌, ⊤, slice_index_or, Option, Some, None, unwrap_or, if◌then◌else◌}
+use Rattle.std.specs.Prelude.{◌≡◌, ◌≢◌, ◌⊎◌, ℕ, ◌+◌, ◌<◌, ◌≤◌, Bool, false, List, [], ◌∷◌, map, length, ◌++◌, ⊤, slice_index_or, Option, Some, None}
+use Rattle.std.specs.Prelude.{unwrap_or, if◌then◌else◌}
 use Rattle.font_fallback.specs.declared.choosing.Tried.{Tried}
 use Rattle.font_fallback.specs.declared.spans.Span.{Span}
 

@@ -11,7 +11,8 @@ use std::fmt::{Display, Formatter};
 /// A font as it was tried on a text.
 #[derive(Drop)]
 pub struct Tried<T> {
-    /// Whether the font has each cluster, in the order of the text. A cluster past its end is missed.
+    /// Whether the font has each cluster, in the order of the text. A cluster past its end is
+    /// missed.
     pub has: Vec<bool>,
     /// What the font made of the text, for the caller to use again.
     pub made: T,
@@ -105,10 +106,12 @@ fn shown(alloc: Global, fonts: &[Option<usize>]) -> Result<Vec<usize>, AllocErro
     fonts.iter().map(|font| font.unwrap_or(0)).collect(alloc)
 }
 
-/// The fonts for a text of so many clusters, of a list of so many fonts: each cluster gets the first font that has
-/// it, and the first of the list if none has. `try_font` tries a font on the text. Fonts are tried in their order, and
-/// no more of them than are needed, so a text that the first font has is tried in no other. Neighbours of one font
-/// make one span. Refuses with `NoFonts` exactly if there are none, with what `try_font` refuses with, and with `Memory` if a growth was refused.
+/// The fonts for a text of so many clusters, of a list of so many fonts: each cluster gets the
+/// first font that has it, and the first of the list if none has. `try_font` tries a font on the
+/// text. Fonts are tried in their order, and no more of them than are needed, so a text that the
+/// first font has is tried in no other. Neighbours of one font make one span. Refuses with
+/// `NoFonts` exactly if there are none, with what `try_font` refuses with, and with `Memory` if a
+/// growth was refused.
 pub fn choose_fonts<T, E, C>(
     alloc: Global,
     fonts: usize,

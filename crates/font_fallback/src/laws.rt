@@ -4,7 +4,8 @@ ghost use Rattle.font_fallback.specs.Choice.{AreSpans, HasFonts, has_by};
 ghost use Rattle.font_fallback.specs.Laws;
 ghost use Rattle.font_fallback.specs.declared.spans.Span.{Span as AnySpan};
 
-/// The fonts of the clusters decide the spans: there is one list of them alone, and each cluster stands in exactly one.
+/// The fonts of the clusters decide the spans: there is one list of them alone, and each cluster
+/// stands in exactly one.
 pub fn spans_part_a_text()
     ensures unique { (font_at : ℕ → ℕ) (start end : ℕ) (one other : List AnySpan)
         → AreSpans font_at start end one → AreSpans font_at start end other → one ≡ other }

@@ -4,7 +4,8 @@ ghost use Rattle.font_fallback.specs.Choice.{AreSpans};
 
 use std::alloc::{AllocError, Global};
 
-/// A part of a text in one font: its clusters from `start` up to `end`, counted from the first of the text.
+/// A part of a text in one font: its clusters from `start` up to `end`, counted from the first of
+/// the text.
 #[derive(Clone, Copy, PartialEq, Eq, Debug)]
 pub struct Span {
     /// The number of the font in its list.

@@ -1,1 +1,2 @@
 pub mod SettledLemmas
+mod StopLemmas

@@ -7,8 +7,11 @@
 //! `shape_carets` take its carets.
 #![tactic(auto)]
 
-ghost use Rattle.std.specs.Prelude.{◌≡◌, ◌++◌, map, reverse, IfOk, OnOk, slice_get};
+ghost use Rattle.std.specs.Prelude.{◌≡◌, ℕ, ◌<◌, ◌≤◌, ◌++◌, Bool, List, length, map, reverse};
+ghost use Rattle.std.specs.Prelude.{slice_get, slice_index, IfOk, OnOk};
 ghost use Rattle.std.specs.List.Sorted.{IsNonDecreasing};
+ghost use Rattle.shape_carets.specs.Carets.{carets_of};
+ghost use Rattle.shape_items.specs.declared.clusters.glyph_clusters.GlyphCluster.{GlyphCluster};
 ghost use Rattle.line_carets.specs.Laws.{ClicksReturn, OffsetsOfLinesRise};
 ghost use Rattle.line_carets.specs.LineCarets as places;
 
@@ -47,6 +50,31 @@ fn clusters_of(alloc: Global, run: &TextRun) -> Result<Vec<GlyphCluster>, AllocE
     Ok(clusters)
 }
 
+/// The first place of a list that rises whose number isn't below this one, found by halving.
+fn first_from(stops: &[u32], offset: u32) -> usize
+    requires { IsNonDecreasing stops.now }
+    ensures within { result ≤ length stops.now }
+    ensures below { (k : ℕ) → k < result → slice_index stops.now k < offset }
+    ensures reached { (k : ℕ) → result ≤ k → k < length stops.now
+        → offset ≤ slice_index stops.now k }
+{
+    stops.partition_point(|stop| *stop < offset)
+}
+
+/// The stops inside a text from an offset up to another. Its carets are the same by these as by
+/// all, so that a line with many runs doesn't go over all stops for each.
+fn stops_in(stops: &[u32], start: u32, end: u32) -> &[u32]
+    requires { IsNonDecreasing stops.now }
+    ensures rise { IsNonDecreasing result.now }
+    ensures same { (backward : Bool) (clusters : List GlyphCluster)
+        → carets_of backward start end result.now clusters
+        ≡ carets_of backward start end stops.now clusters }
+{
+    let first = first_from(stops, start);
+    let last = first_from(stops, end).max(first);
+    &stops[first..last]
+}
+
 /// The carets of a run, seen from its left end, in the order of its text. `stops` are as in
 /// [`carets`](shape_carets::caret::carets): where a caret may stand inside a cluster. Refuses with
 /// `Length` if an offset is 2^32 or more, and with `Memory` if a growth was refused.
@@ -63,7 +91,14 @@ pub fn run_carets(alloc: Global, run: &TextRun, stops: &[u32]) -> Result<Vec<Car
         Direction::LeftToRight
     };
     let clusters = clusters_of(alloc, run)?;
-    carets(alloc, &clusters, direction, start, end, stops)
+    carets(
+        alloc,
+        &clusters,
+        direction,
+        start,
+        end,
+        stops_in(stops, start, end),
+    )
 }
 
 /// Adds carets of a run that begins at x.

@@ -4,10 +4,15 @@
 //! a list.
 #![tactic(auto)]
 
-ghost use Rattle.std.specs.Prelude.{◌≡◌, [], Err, length, IfOk};
+ghost use Rattle.std.specs.Prelude.{◌≡◌, [], Err, All, length, map, IfOk};
+ghost use Rattle.paragraph.specs.Reach.{reach_of_face};
+ghost use Rattle.std.specs.Str.{chars};
+ghost use Rattle.text_lines.specs.Levels.{IsLevelled, byte_levels};
 ghost use Rattle.text_lines.specs.Lines.{AreCutBy, AreLines};
+ghost use Rattle.text_lines.specs.Reach.{Reaches, reaches_in, size_of};
 
 mod shaping;
+pub mod worked;
 
 use crate::shaping::Shaper;
 use opentype_layout::OpenedOpenTypeFace;
@@ -27,6 +32,10 @@ pub fn paragraph(
     ensures no_fonts { fonts.now ≡ [] → result ≡ Err ParagraphError.NoFonts }
     ensures follow { IfOk result (λ lines. AreLines 0 (length text.now) lines.items) }
     ensures cut { IfOk result (λ lines. AreCutBy text.now options.now.width lines.items) }
+    ensures reach { let reaches = map reach_of_face fonts.now in IfOk result
+        (λ lines. All (Reaches (reaches_in (size_of options.now.size reaches) reaches)) lines.items) }
+    ensures levels { let bytes = byte_levels options.now.direction (chars text.now) in IfOk result
+        (λ lines. All (IsLevelled bytes) lines.items) }
 {
     if fonts.is_empty() {
         return Err(ParagraphError::NoFonts);

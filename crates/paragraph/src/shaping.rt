@@ -1,5 +1,6 @@
 //! The glyphs of parts of a text, by plans that are made once for each font, direction and script.
-ghost use Rattle.std.specs.Prelude.{◌≡◌};
+ghost use Rattle.std.specs.Prelude.{◌≡◌, map};
+ghost use Rattle.paragraph.specs.Reach.{reach_of_face};
 ghost use Rattle.shape_unicode.specs.Meaning.{unicode_database};
 ghost use Rattle.shaper_choice.specs.ScriptPlans.{PlanFits};
 
@@ -108,7 +109,9 @@ impl<'f, 'a> Shaper<'f, 'a> {
         text: &'f str,
         fonts: &'f [OpenedOpenTypeFace<'a>],
         options: &'f ParagraphOptions<'_>,
-    ) -> Shaper<'f, 'a> {
+    ) -> Shaper<'f, 'a>
+        ensures { result.fonts.now ≡ fonts.now }
+    {
         Shaper {
             text,
             fonts,
@@ -166,6 +169,8 @@ impl<'f, 'a> Shaper<'f, 'a> {
 }
 
 impl<'f, 'a> PartShaper for Shaper<'f, 'a> {
+    ghost fonts = { λ shaper. map reach_of_face shaper.fonts.now };
+
     fn font_count(&self) -> usize {
         self.fonts.len()
     }

@@ -1,1 +1,3 @@
 pub mod PartLemmas
+pub mod LevelLemmas
+pub mod WorkedLemmas

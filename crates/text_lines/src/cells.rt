@@ -67,7 +67,7 @@ fn add_run(
     number: usize,
     scale: Scale,
     spaces: &[u32],
-) -> Result<(), AllocError> {
+) -> Result<(), ParagraphError> {
     let first = u32::try_from(run.part.start).unwrap_or(u32::MAX);
     if run.glyphs.is_empty() {
         let (info, position) = measured(first, false, 0);
@@ -88,7 +88,7 @@ fn add_run(
         };
         let space = has(spaces, glyph.cluster);
         let safe = glyph.cluster == first || !glyph.unsafe_to_break();
-        let width = scale.times(position.x_advance);
+        let width = scale.times(position.x_advance)?;
         let (info, position) = measured(glyph.cluster, safe && !space, width);
         cells.push(Cell {
             run: number,
@@ -116,7 +116,7 @@ pub(crate) fn cells(
     runs: &[Run],
     scales: &[Scale],
     breaks: &LineBreaks,
-) -> Result<Vec<Cell>, AllocError> {
+) -> Result<Vec<Cell>, ParagraphError> {
     let mut cells = Vec::new(alloc);
     for number in 0..runs.len() {
         let run = &runs[number];

@@ -51,6 +51,8 @@ pub enum ParagraphError {
     Length,
     /// A growth of memory was refused.
     Memory,
+    /// In this size a number of a font, or of its glyphs, has more than 32 bits.
+    Size,
     /// A font's lookups left glyphs out of the order of the text, so that they can't be cut into
     /// lines.
     Uncut,
@@ -64,6 +66,7 @@ impl Display for ParagraphError {
                 write!(f, "the text is too long, or its glyphs would be too many")
             }
             ParagraphError::Memory => write!(f, "out of memory"),
+            ParagraphError::Size => write!(f, "the size is too large for the fonts"),
             ParagraphError::Uncut => write!(f, "glyphs are out of the order of the text"),
         }
     }

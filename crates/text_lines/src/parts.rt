@@ -25,15 +25,25 @@ pub struct Part {
 
 /// Fonts of a list that shape the parts of one text.
 pub trait PartShaper {
-    /// How many fonts there are.
-    fn font_count(&self) -> usize;
+    ghost use Rattle.std.specs.Prelude.{◌≡◌, List, length, slice_index_or};
+    ghost use Rattle.text_lines.specs.Reach.{FontReach, no_font};
 
-    /// The side of the em square of a font.
-    fn units_per_em(&self, font: usize) -> u16;
+    /// What its fonts say of themselves.
+    ghost fonts: { Self → List FontReach };
+
+    /// How many fonts there are.
+    fn font_count(&self) -> usize
+        ensures { result ≡ length (fonts self.now) };
+
+    /// The side of the em square of a font; 0 if there is no such font.
+    fn units_per_em(&self, font: usize) -> u16
+        ensures { result ≡ (slice_index_or (fonts self.now) font no_font).units };
 
     /// How far a line in a font reaches above its baseline, and below it as a number that is never
-    /// positive.
-    fn reach(&self, font: usize) -> (i32, i32);
+    /// positive; nowhere if there is no such font.
+    fn reach(&self, font: usize) -> (i32, i32)
+        ensures above { result.0 ≡ (slice_index_or (fonts self.now) font no_font).above }
+        ensures below { result.1 ≡ (slice_index_or (fonts self.now) font no_font).below };
 
     /// The glyphs of a part of the text in a font, with the bytes of the text as their clusters,
     /// by what stands beside the part.

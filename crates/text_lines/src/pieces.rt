@@ -2,9 +2,11 @@
 //!
 //! L1 gives the spaces at the end of a line the level of the paragraph, so a run may have several
 //! pieces in it.
-ghost use Rattle.std.specs.Prelude.{◌<◌, ◌≤◌, map, IfOk};
+ghost use Rattle.std.specs.Prelude.{◌≡◌, ◌<◌, ◌≤◌, length, map, All, IfOk};
+ghost use Rattle.std.specs.List.{slice_range};
+ghost use Rattle.text_lines.specs.Levels.{HasLevel, level_at as level_by, levels_between};
 ghost use Rattle.text_lines.specs.Lines.{AreParts};
-ghost use Rattle.text_lines.specs.Pieces.{shown_of};
+ghost use Rattle.text_lines.specs.Pieces.{bytes_in, shown_of};
 
 use crate::cells::{Cell, start_of};
 use crate::fitting::Run;
@@ -51,27 +53,46 @@ pub(crate) struct Laid<'t> {
     pub runs: &'t [Run],
     pub cells: &'t [Cell],
     pub scales: &'t [Scale],
+    pub reaches: &'t [(i32, i32)],
+}
+
+/// What a list has from one place up to another, as far as it goes.
+fn between<T>(list: &[T], start: usize, end: usize) -> &[T]
+    ensures { result.now ≡ slice_range list.now start end }
+{
+    let end = end.min(list.len());
+    &list[start.min(end)..end]
+}
+
+/// The level of a byte of a line that begins at an offset, given those of its bytes.
+fn level_at(levels: &[u8], base: u8, start: usize, at: usize) -> u8
+    ensures { result ≡ level_by levels.now base start at }
+{
+    match levels.get(at.saturating_sub(start)) {
+        Some(level) => *level,
+        None => base,
+    }
 }
 
 impl Laid<'_> {
     /// L1: the levels of the bytes of a line.
-    fn levels_in(&self, alloc: Global, line: Span, base: u8) -> Result<Vec<u8>, AllocError> {
-        let levels = self.levels.bytes.get(line.start..line.end).unwrap_or(&[]);
-        let classes = self.levels.classes.get(line.start..line.end).unwrap_or(&[]);
+    fn levels_in(&self, alloc: Global, line: Span, base: u8) -> Result<Vec<u8>, AllocError>
+        requires { length self.now.levels.now.bytes.items
+            ≡ length self.now.levels.now.classes.items }
+        ensures { IfOk result (λ levels. levels.items
+            ≡ levels_between (bytes_in self.now.levels.now) base line.start line.end) }
+    {
+        let levels = between(&self.levels.bytes, line.start, line.end);
+        let classes = between(&self.levels.classes, line.start, line.end);
         let mut levels = Vec::from_slice(alloc, levels)?;
-        if levels.len() == classes.len() {
-            line_levels(&mut levels, classes, base);
-        }
+        line_levels(&mut levels, classes, base);
         Ok(levels)
     }
 
     /// The level of a cell of a line, given those of the line's bytes.
     fn level_of(&self, levels: &[u8], line: Span, base: u8, at: usize) -> u8 {
         match self.cells.get(at) {
-            Some(cell) => levels
-                .get(start_of(cell).saturating_sub(line.start))
-                .copied()
-                .unwrap_or(base),
+            Some(cell) => level_at(levels, base, line.start, start_of(cell)),
             None => base,
         }
     }
@@ -114,9 +135,14 @@ impl Laid<'_> {
 
     /// The pieces of a line, in the order of the text.
     pub fn pieces(&self, alloc: Global, line: Span, base: u8) -> Result<Vec<Piece>, AllocError>
-        requires { line.start ≤ line.end }
-        ensures { IfOk result
+        requires order { line.start ≤ line.end }
+        requires same { length self.now.levels.now.bytes.items
+            ≡ length self.now.levels.now.classes.items }
+        ensures parts { IfOk result
             (λ pieces. AreParts line.start line.end (map shown_of pieces.items)) }
+        ensures levels { let levels = levels_between (bytes_in self.now.levels.now)
+            base line.start line.end in IfOk result
+            (λ pieces. All (HasLevel levels base line.start) (map shown_of pieces.items)) }
     {
         let levels = self.levels_in(alloc, line, base)?;
         let mut pieces = Vec::new(alloc);
@@ -126,7 +152,7 @@ impl Laid<'_> {
             let end = self.text_until(line, last, start);
             pieces.push(Piece {
                 run: self.run_of(at),
-                level: self.level_of(&levels, line, base, at),
+                level: level_at(&levels, base, line.start, start),
                 first: at,
                 last,
                 start,
@@ -137,7 +163,7 @@ impl Laid<'_> {
         if start < line.end {
             pieces.push(Piece {
                 run: self.runs.len(),
-                level: base,
+                level: level_at(&levels, base, line.start, start),
                 first: at,
                 last: at,
                 start,

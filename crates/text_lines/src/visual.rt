@@ -4,12 +4,15 @@
 //! and the piece runs as the run does; else it is shaped again. Whatever the shaper is, glyphs of
 //! a run lead back to its text, in its order: else the text is refused with `Uncut`.
 ghost use Rattle.std.specs.Prelude.{◌≡◌, ◌↔◌, ◌≤◌, ◌+ℤ◌, ◌-ℤ◌, ℕ, pos, [], ◌∷◌, ◌++◌, map};
-ghost use Rattle.std.specs.Prelude.{if◌then◌else◌, slice_index_or, IsTrue, IfOk, OnOk};
+ghost use Rattle.std.specs.Prelude.{if◌then◌else◌, int_lt, length, slice_index_or};
+ghost use Rattle.std.specs.Prelude.{IsTrue, IfOk, OnOk};
 ghost use Rattle.bidi.specs.Lines.{visual_order as order_of, visual_places as places_of};
+ghost use Rattle.text_lines.specs.Levels.{IsLevelled};
 ghost use Rattle.text_lines.specs.Lines.{Follow, IsInOrder, IsMeasured, LeadsBack};
 ghost use Rattle.text_lines.specs.Lines.{left_of as left_by, pen_after as pen_from, pen_after_runs};
 ghost use Rattle.text_lines.specs.Lines.{run_shown};
-ghost use Rattle.text_lines.specs.Pieces.{level_in, no_piece, shown_of};
+ghost use Rattle.text_lines.specs.Reach.{Reaches, font_of, highest, lowest};
+ghost use Rattle.text_lines.specs.Pieces.{bytes_in, level_in, no_piece, shown_of};
 
 use crate::cells::{list_place, scale_of, start_of};
 use crate::fitting::Run;
@@ -63,16 +66,16 @@ fn glyphs_of(
     scale: Scale,
     from: usize,
     to: usize,
-) -> Result<Vec<Glyph>, AllocError> {
+) -> Result<Vec<Glyph>, ParagraphError> {
     let mut glyphs = Vec::new(alloc);
     for (info, position) in buffer.iter().skip(from).take(to.saturating_sub(from)) {
         glyphs.push(Glyph {
             glyph: info.glyph_id,
             cluster: info.cluster,
-            x_advance: scale.times(position.x_advance),
-            y_advance: scale.times(position.y_advance),
-            x_offset: scale.times(position.x_offset),
-            y_offset: scale.times(position.y_offset),
+            x_advance: scale.times(position.x_advance)?,
+            y_advance: scale.times(position.y_advance)?,
+            x_offset: scale.times(position.x_offset)?,
+            y_offset: scale.times(position.y_offset)?,
         })?;
     }
     Ok(glyphs)
@@ -154,6 +157,44 @@ fn left_of(level: u8, hanging: i64) -> Result<i64, ParagraphError>
     }
 }
 
+/// How far a font reaches above and below the baseline, nowhere if there is no such font.
+fn reach_at(reaches: &[(i32, i32)], font: usize) -> (i32, i32)
+    ensures { result ≡ slice_index_or reaches.now font (pos 0, pos 0) }
+{
+    match reaches.get(font) {
+        Some(reach) => *reach,
+        None => (0, 0),
+    }
+}
+
+/// The higher of two numbers.
+fn higher(one: i32, other: i32) -> i32
+    ensures { result ≡ (if int_lt one other then other else one) }
+{
+    if one < other { other } else { one }
+}
+
+/// The lower of two numbers.
+fn lower(one: i32, other: i32) -> i32
+    ensures { result ≡ (if int_lt other one then other else one) }
+{
+    if other < one { other } else { one }
+}
+
+/// How far runs reach above and below the baseline, given how far the fonts do.
+fn reach_of(reaches: &[(i32, i32)], runs: &[TextRun]) -> (i32, i32)
+    ensures above { result.0 ≡ highest reaches.now (pos 0) (map font_of runs.now) }
+    ensures below { result.1 ≡ lowest reaches.now (pos 0) (map font_of runs.now) }
+{
+    let (mut ascent, mut descent) = (0, 0);
+    for place in 0..runs.len() {
+        let (above, below) = reach_at(reaches, runs[place].font);
+        ascent = higher(ascent, above);
+        descent = lower(descent, below);
+    }
+    (ascent, descent)
+}
+
 /// The piece at a place, one without text if there is none.
 fn piece_at(pieces: &[Piece], place: usize) -> Piece
     ensures { result ≡ slice_index_or pieces.now place no_piece }
@@ -186,7 +227,7 @@ impl Laid<'_> {
                 list_place(run, first.saturating_add(count).saturating_sub(1)),
             );
             let (from, to) = (one.min(other), one.max(other).saturating_add(1));
-            return Ok(glyphs_of(alloc, &run.glyphs, scale, from, to)?);
+            return glyphs_of(alloc, &run.glyphs, scale, from, to);
         }
         let part = Part {
             start: piece.start,
@@ -195,7 +236,7 @@ impl Laid<'_> {
             ..run.part
         };
         let glyphs = shaper.shape(alloc, run.font, part)?;
-        Ok(glyphs_of(alloc, &glyphs, scale, 0, glyphs.len())?)
+        glyphs_of(alloc, &glyphs, scale, 0, glyphs.len())
     }
 
     /// The run of a piece, where the pen stands at 0; one that no font shows has no glyphs.
@@ -270,18 +311,6 @@ impl Laid<'_> {
         from
     }
 
-    /// How far the fonts of runs reach above and below the baseline.
-    fn reach_of<S: PartShaper>(&self, shaper: &S, runs: &[TextRun]) -> (i32, i32) {
-        let (mut ascent, mut descent) = (0, 0);
-        for run in runs {
-            let scale = scale_of(self.scales, run.font);
-            let (above, below) = shaper.reach(run.font);
-            ascent = scale.times(above).max(ascent);
-            descent = scale.times(below).min(descent);
-        }
-        (ascent, descent)
-    }
-
     /// A line. Spaces that stand last in it hang: they lie beyond its end.
     pub fn line<S: PartShaper>(
         &self,
@@ -289,11 +318,15 @@ impl Laid<'_> {
         shaper: &mut S,
         line: Span,
     ) -> Result<TextLine, ParagraphError>
-        requires { line.start ≤ line.end }
+        requires order { line.start ≤ line.end }
+        requires same { length self.now.levels.now.bytes.items
+            ≡ length self.now.levels.now.classes.items }
         ensures start { IfOk result (λ made. made.start ≡ line.start) }
         ensures end { IfOk result (λ made. made.end ≡ line.end) }
         ensures order { IfOk result (λ made. IsInOrder made) }
         ensures measured { IfOk result (λ made. IsMeasured made) }
+        ensures reach { IfOk result (λ made. Reaches self.now.reaches.now made) }
+        ensures levels { IfOk result (λ made. IsLevelled (bytes_in self.now.levels.now) made) }
     {
         let level = self.levels.base_at(line.start);
         let pieces = self.pieces(alloc, line, level)?;
@@ -301,7 +334,7 @@ impl Laid<'_> {
         let hanging = pen_after_all(self.hanging_from(line), &row.runs)?;
         let width = without(row.end, hanging)?;
         let left = left_of(level, hanging)?;
-        let (ascent, descent) = self.reach_of(shaper, &row.runs);
+        let (ascent, descent) = reach_of(self.reaches, &row.runs);
         Ok(TextLine {
             start: line.start,
             end: line.end,

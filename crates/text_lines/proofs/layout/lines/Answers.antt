@@ -1,7 +1,11 @@
-use Rattle.std.proofs.Common.{◌≡◌, ◌≤◌, [], ◌∷◌, ◌++◌, false, map, sym, ap, ap₂, subst, ◌∙◌, arith}
+use Rattle.std.proofs.Common.{◌≡◌, ◌≤◌, [], ◌∷◌, ◌++◌, false, map, All, sym, ap, ap₂, subst, ◌∙◌, arith}
 use Rattle.std.proofs.lemmas.List.{map_push, map_more}
+use Rattle.std.proofs.lemmas.List.Elements.{All-push}
 use Rattle.shape_lines.specs.declared.allowed.LineAt.{LineAt}
 use Rattle.text_lines.specs.Lines.{AreLines, cut_text, line_text}
+use Rattle.text_lines.specs.Levels.{IsLevelled}
+use Rattle.text_lines.specs.Pieces.{bytes_in}
+use Rattle.text_lines.specs.Reach.{Reaches}
 use Rattle.text_lines.proofs.PartLemmas.{AreLines-push}
 use Rattle.text_lines.proofs.layout.lines.Goals as goal
 
@@ -20,6 +24,8 @@ loop-place-preserved g c =
     let texts : line_text line ≡ (span.start, span.end) = ap₂ (λ a b. (a, b)) c.in_ok-line.ensures.start ends in
     let cut_start = c.span_of-line.ensures.start in
     let cut_end = c.span_of-line.ensures.end in
+    let reaches = c.args.laid.now.reaches.now in
+    let bytes = bytes_in c.args.laid.now.levels.now in
     record {
       follow = subst (AreLines 0 span.end) (sym c.in_ok-push.ensures.items)
           (subst (λ n. AreLines 0 n (lines ++ line ∷ [])) ends
@@ -27,4 +33,8 @@ loop-place-preserved g c =
       texts = ap (map line_text) c.in_ok-push.ensures.items ∙ map_push line_text lines line
           ∙ ap₂ (λ ls t. ls ++ t ∷ []) c.loop-place.invariant.texts (texts ∙ ap₂ (λ a b. (a, b)) cut_start cut_end)
           ∙ sym (map_more cut_text c.args.cut.now c.loop-place.place none c.loop-place-test.true);
+      reach = subst (All (Reaches reaches)) (sym c.in_ok-push.ensures.items)
+          (All-push (Reaches reaches) lines line c.loop-place.invariant.reach c.in_ok-line.ensures.reach);
+      levels = subst (All (IsLevelled bytes)) (sym c.in_ok-push.ensures.items)
+          (All-push (IsLevelled bytes) lines line c.loop-place.invariant.levels c.in_ok-line.ensures.levels);
     }
