@@ -4,8 +4,9 @@
 #   bench/c-library.sh [HB_SHAPE [FONT]]
 #
 # Time for 100,000 lines of 40 characters, each in one run of its program; instructions a line by callgrind, as the
-# difference of 2,000 and 1,000 lines; time of a start with one character; sizes of the archive and of the example. It wants
-# gcc, make, python3, valgrind and hb-shape, and is run by hand.
+# difference of 2,000 and 1,000 lines; time of a start with one character; sizes of the archive and of the example. Then
+# instructions a call for the first line, over a font that is kept, by the library and by HarfBuzz (kept.c), if pkg-config
+# finds that. It wants gcc, make, python3, valgrind and hb-shape, and is run by hand.
 set -eu
 here=$(cd "$(dirname "$0")" && pwd)
 hb=${1:-hb-shape-10}
@@ -57,3 +58,13 @@ done
 size=$(stat -c %s "$here/../crates/luthgarn_c/out/libluthgarn_c.a")
 echo "archive $size bytes, library $(stat -c %s "$bindings/libluthgarn.so"), example $(stat -c %s "$bindings/shape")," \
     "fontshape $(stat -c %s "$fontshape")"
+
+pkg-config --exists harfbuzz || exit 0
+gcc -O2 -Wall -o "$work/kept" "$here/kept.c" "$bindings/libluthgarn.a" $(pkg-config --cflags --libs harfbuzz)
+for kind in latin hebrew arabic; do
+    for engine in ours shared opened hb; do
+        one=$(instructions "$work/kept $engine $font 10" "$work/$kind.1")
+        two=$(instructions "$work/kept $engine $font 20" "$work/$kind.1")
+        echo "$kind $engine: $(((two - one) / 10)) instructions a call"
+    done
+done

@@ -16,8 +16,8 @@
  *     is used.
  *   - The bytes of a font stay where and as they are until the last font that was opened of them, or shares it, is freed.
  *   - While a call runs, no other thread writes what it reads, or touches what it writes: a `luthgarn_font` is for one
- *     thread at a time. Each further thread gets one of its own, by `luthgarn_font_share`; such fonts are used and freed
- *     at the same time. Calls that share nothing of this kind may run at the same time.
+ *     thread at a time. Each further thread gets one of its own, by `luthgarn_font_share`, with plans of its own; such
+ *     fonts are used and freed at the same time. Calls that share nothing of this kind may run at the same time.
  *   - malloc, realloc and free are of one allocator, and aligned to 16 bytes. No call is made from a signal handler.
  *   - The stack has 1 MiB for a call. */
 #ifndef LUTHGARN_H
@@ -40,7 +40,7 @@ enum {
   LUTHGARN_MEMORY = 1, /* malloc or realloc returned NULL */
   LUTHGARN_LENGTH = 2, /* a list would have passed the run's limit: 64 glyphs a character, or 16384 */
   LUTHGARN_FONT = 3,   /* the bytes have no font with this number; or no font is kept */
-  LUTHGARN_TEXT = 4,   /* the text of a run, or what stands beside it, isn't UTF-8; a text is no feature, or too long a language */
+  LUTHGARN_TEXT = 4,   /* the text of a run, or what stands beside it, isn't UTF-8; a text is no feature */
   LUTHGARN_RUN = 5,    /* a run's places aren't in order or not in the text, or it has no such direction or level */
   LUTHGARN_ROOM = 6    /* the array of glyphs is too short */
 };
@@ -50,7 +50,7 @@ static inline const char *
 luthgarn_error_name(uint32_t code)
 {
   static const char *const names[] = {
-    "done", "no memory", "too many glyphs", "no such font", "not UTF-8, no feature, or too long a language", "no such run", "no room for glyphs"};
+    "done", "no memory", "too many glyphs", "no such font", "not UTF-8, or no feature", "no such run", "no room for glyphs"};
   return code <= LUTHGARN_ROOM ? names[code] : "no such code";
 }
 
@@ -104,7 +104,7 @@ typedef struct {
   size_t runs, glyphs, needed;
 } luthgarn_outcome;
 
-/* A font that is kept open, or none: all zeros keep none. */
+/* A font that is kept open, and the plans that its texts needed, or none: all zeros keep none. */
 typedef struct {
   void *kept;
   uint32_t is_open;
@@ -127,8 +127,9 @@ uint32_t luthgarn_parse_direction(const uint8_t *text, size_t size);
 /* A script by its name of ISO 15924, in any case; 0 for an empty text. */
 uint32_t luthgarn_parse_script(const uint8_t *text, size_t size);
 
-/* Makes a run ask for the language with this name of BCP 47, of at most 64 bytes. Returns LUTHGARN_DONE, or LUTHGARN_TEXT for
- * a longer name, and leaves `run` as it was then. (A name that isn't UTF-8 is refused by the call that shapes.) */
+/* Makes a run ask for the language with this name of BCP 47. Of a name of more than 64 bytes it has the subtags that fit, without
+ * a last one of a single letter, as RFC 5646 cuts names (4.4.2). Returns LUTHGARN_DONE. (A name that isn't UTF-8 is refused by
+ * the call that shapes.) */
 uint32_t luthgarn_set_language(luthgarn_run *run, const uint8_t *name, size_t size);
 
 /* Shapes the runs of a text, by the shaper of each script, with the tables GDEF, GSUB, GPOS and kern of the font. The
@@ -156,7 +157,8 @@ luthgarn_outcome luthgarn_shape_utf16(const uint8_t *font, size_t font_size, uin
  * LUTHGARN_DONE, and `font` keeps it, in place of what it kept; else LUTHGARN_FONT or LUTHGARN_MEMORY, and leaves `font`. */
 uint32_t luthgarn_font_new(const uint8_t *bytes, size_t size, uint32_t index, luthgarn_font *font);
 
-/* Makes `copy` keep the same font, in place of what it kept. Both share what was opened, and each is freed by itself.
+/* Makes `copy` keep the same font, in place of what it kept. Both share what was opened, each has its plans, and each is
+ * freed by itself.
  * Returns LUTHGARN_DONE; else LUTHGARN_FONT, if `font` keeps none, or LUTHGARN_MEMORY, and leaves `copy`. */
 uint32_t luthgarn_font_share(luthgarn_font *font, luthgarn_font *copy);
 
@@ -170,7 +172,8 @@ uint32_t luthgarn_font_units_per_em(luthgarn_font *font);
  * `size` is enough; else `name` stays as it is. No zero ends it. */
 size_t luthgarn_font_glyph_name(luthgarn_font *font, uint32_t glyph, uint8_t *name, size_t size);
 
-/* As luthgarn_shape, with the font that is kept; LUTHGARN_FONT if none is. */
+/* As luthgarn_shape, with the font that is kept; LUTHGARN_FONT if none is. The font keeps what was planned for a direction,
+ * script, language and list of features, for later calls: 32 plans at most, and all are let go of where one more is needed. */
 luthgarn_outcome luthgarn_shape_font(luthgarn_font *font, const luthgarn_feature *features, size_t feature_count,
                                      const uint8_t *text, size_t text_size,
                                      luthgarn_run *runs, size_t run_count,

@@ -116,7 +116,7 @@ main(int argc, char **argv)
       break;
     case 's': like.script = luthgarn_parse_script(word, size); break;
     case 'l':
-      if (luthgarn_set_language(&like, word, size)) fail("too long a language");
+      luthgarn_set_language(&like, word, size);
       break;
     default: fail("no such option");
     }

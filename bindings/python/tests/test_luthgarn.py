@@ -84,6 +84,12 @@ def test_arrays(font):
     assert len(luthgarn.shape(font, "").arrays()["glyph"]) == 0
 
 
+def test_a_language_may_be_of_any_length(font):
+    expected = luthgarn.shape(font, "б", script="Cyrl", language="sr")
+    assert luthgarn.shape(font, "б", script="Cyrl", language="sr-x-" + "a" * 1000) == expected
+    assert len(luthgarn.shape(font, "a", language="a" * 1000)) == 1
+
+
 def test_refusals_have_names(font):
     with pytest.raises(luthgarn.BadFont):
         luthgarn.Font(b"no font")
@@ -93,8 +99,6 @@ def test_refusals_have_names(font):
         luthgarn.shape(font, "a", features=["kern="])
     with pytest.raises(luthgarn.UnknownName):
         luthgarn.shape(font, "a", direction="sideways")
-    with pytest.raises(luthgarn.UnknownName):
-        luthgarn.shape(font, "a", language="x-" + "a" * 63)
     with pytest.raises(luthgarn.BadText) as refused:
         luthgarn.shape_all(font, ["a", "\ud800"])
     assert refused.value.line == 1

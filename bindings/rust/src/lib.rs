@@ -28,7 +28,7 @@ mod native;
 
 pub use font::Font;
 
-use native::{DONE, LONGEST_LANGUAGE, ROOM};
+use native::{DONE, ROOM};
 use std::fmt;
 use std::str::FromStr;
 
@@ -43,7 +43,7 @@ pub enum Error {
     Font,
     /// No feature has this text.
     Feature,
-    /// A script has four letters; a language has at most 64 bytes.
+    /// A script has four letters.
     Name,
     /// A text of 4 GiB or more.
     Text,
@@ -67,7 +67,7 @@ impl fmt::Display for Error {
             Error::Length => "too many glyphs",
             Error::Font => "no such font",
             Error::Feature => "no such feature",
-            Error::Name => "no such script or language",
+            Error::Name => "no such script",
             Error::Text => "the text is too long",
         })
     }
@@ -192,12 +192,13 @@ impl<'t> Buffer<'t> {
         Ok(self)
     }
 
-    /// Sets the language by a name of BCP 47, of at most 64 bytes.
+    /// Sets the language by a name of BCP 47. Of a name of more than 64 bytes it has the subtags that fit.
     pub fn language(mut self, name: &str) -> Result<Buffer<'t>, Error> {
-        let mut language = [0; LONGEST_LANGUAGE];
-        language.get_mut(..name.len()).ok_or(Error::Name)?.copy_from_slice(name.as_bytes());
-        self.run.language = language;
-        Ok(self)
+        // SAFETY: the run is borrowed by us alone, and the pointer and the count are those of `name`.
+        match unsafe { native::luthgarn_set_language(&mut self.run, name.as_ptr(), name.len()) } {
+            DONE => Ok(self),
+            code => Err(Error::of(code)),
+        }
     }
 
     /// The glyphs of the text.

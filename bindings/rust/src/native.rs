@@ -93,6 +93,7 @@ pub type Shape<U> = unsafe extern "C" fn(
 extern "C" {
     pub fn luthgarn_parse_feature(text: *const u8, size: usize, feature: *mut Feature) -> u32;
     pub fn luthgarn_parse_script(text: *const u8, size: usize) -> u32;
+    pub fn luthgarn_set_language(run: *mut Run, name: *const u8, size: usize) -> u32;
     pub fn luthgarn_version() -> u32;
     pub fn luthgarn_font_new(bytes: *const u8, size: usize, index: u32, font: *mut Font) -> u32;
     pub fn luthgarn_font_share(font: *mut Font, copy: *mut Font) -> u32;

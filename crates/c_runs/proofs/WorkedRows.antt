@@ -2,7 +2,7 @@
 use Rattle.std.proofs.Common.{◌≡◌, true, false, List, refl, arith}
 use Rattle.std.specs.Char.Utf16.{utf16_chars}
 use Rattle.std.specs.Str.{chars}
-use Rattle.c_runs.specs.Worked.Runs.{TextsWorked, UnitsWorked, GlyphsWorked, WorkedRuns}
+use Rattle.c_runs.specs.Worked.Runs.{TextsWorked, UnitsWorked, NamesWorked, GlyphsWorked, WorkedRuns}
 use Rattle.c_runs.specs.declared.plain.luthgarn_glyph.{luthgarn_glyph}
 use Rattle.c_runs.specs.declared.plain.luthgarn_run.{luthgarn_run}
 
@@ -32,6 +32,9 @@ units = record {
   past_the_text = λ is. absurd (omega (arith, is.within));
 }
 
+names : NamesWorked
+names = record { whole = refl; subtags = refl; all_room = refl; underscore = refl; single = refl; no_subtag = refl }
+
 glyphs_of_two : (glyphs : luthgarn_run → List luthgarn_glyph) (g h i : luthgarn_glyph) → GlyphsWorked glyphs g h i
 glyphs_of_two glyphs g h i = record {
   in_order = λ a b. rw (a, b) refl;
@@ -40,4 +43,4 @@ glyphs_of_two glyphs g h i = record {
 }
 
 pub worked_runs : WorkedRuns
-worked_runs = record { texts = texts; units = units; glyphs = glyphs_of_two }
+worked_runs = record { texts = texts; units = units; names = names; glyphs = glyphs_of_two }

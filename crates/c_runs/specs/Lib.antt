@@ -1,4 +1,5 @@
 pub mod Glyphs
+pub mod Languages
 pub mod Numbers
 pub mod Opened
 pub mod Outcomes

@@ -38,7 +38,8 @@ pub record Stops (runs : Buffer → Run) (text : Units) (old : List luthgarn_run
 
 -- what a call did with a font, where `runs` says how a text is shaped: the first runs are placed and text, and done; these are
 -- all, or the next one is refused
-pub record Serves (runs : Buffer → Run) (text : Units) (old new : List luthgarn_run) (room written : List luthgarn_glyph) (outcome : luthgarn_outcome) : Type 0 where
+pub record Serves (runs : Buffer → Run) (text : Units) (old new : List luthgarn_run) (room written : List luthgarn_glyph)
+    (outcome : luthgarn_outcome) : Type 0 where
   pub done : IsDone (glyphs_of_run runs text) old new room written outcome.runs outcome.glyphs
   pub placed : All (IsPlaced text) (take outcome.runs old)
   pub text_is : All (IsText text) (take outcome.runs old)

@@ -1,7 +1,7 @@
 //! A kept font behind a pointer, as C has it.
 //!
-//! C sees no value of Rattle's: [`luthgarn_font`] is a pointer and a number. What the pointer owns stands in its type, so
-//! an export that is handed one finds the font there, or that there is none.
+//! C sees no value of Rattle's: [`luthgarn_font`] is a pointer and a number. What the pointer owns
+//! stands in its type, so an export that is handed one finds the font there, or that there is none.
 ghost use Rattle.std.specs.Prelude.{◌≡◌, Option, Some, None, is_some, nat_lt, true, MatchOption};
 ghost use Rattle.opentype_layout.specs.declared.face.OpenTypeFace.{OpenTypeFace};
 

@@ -1,37 +1,50 @@
-//! A font that is opened once.
+//! A font that is opened once, and the plans that its texts needed.
 ghost use Rattle.std.specs.Prelude.{◌≡◌, map, IfOk, IfErr};
 ghost use Rattle.c_runs.specs.Numbers.{feature_of_c};
 ghost use Rattle.c_runs.specs.Opened.{IsNamed, name_bytes};
 ghost use Rattle.c_runs.specs.Outcomes.{ServesBy};
 ghost use Rattle.c_runs.specs.Texts.{units_of};
 
-use crate::plain::{luthgarn_feature, luthgarn_glyph, luthgarn_outcome, luthgarn_run};
+use crate::plain::{features_of, luthgarn_feature, luthgarn_glyph, luthgarn_outcome, luthgarn_run};
+use crate::plans::Kept;
 use crate::refusal::Refusal;
-use crate::shape_with;
+use crate::runs::shape_runs;
+use crate::shaper::FontShaper;
 use crate::texts::Text;
 use crate::written::put_bytes;
+use layout_map::map::hb_ot_map_t;
 use opentype_layout::{OpenTypeFace, OpenTypeLayout, OpenedOpenTypeFace};
 use shape_buffer::GlyphId;
 use shape_buffer::interfaces::hb_font_t;
 use shape_unicode::UnicodeDatabase;
 use shaper_choice::choice::{ScriptRuns, by_script};
+use shaper_choice::plans::ScriptPlans;
 use std::alloc::Global;
 use std::marker::Model;
+use std::mem;
 use std::sync::Arc;
 
-/// An opened font. Contracts see it as its face. Copies share what was opened.
+/// An opened font. Contracts see it as its face. Copies share what was opened, and each has plans
+/// of its own.
 #[derive(Drop)]
 pub struct KeptFont {
     face: Arc<OpenedOpenTypeFace<'static>, Global>,
+    plans: Kept<'static, hb_ot_map_t>,
 }
 
 impl Model for KeptFont {
     ghost use Rattle.std.specs.Arc.{arc_value};
     ghost use Rattle.opentype_layout.specs.declared.face.OpenTypeFace.{OpenTypeFace};
+    ghost use Rattle.shaper_choice.specs.ScriptPlans.{all_shapers};
+    ghost use Rattle.c_runs.specs.Plans.{AreMadeBy};
 
     ghost Value = { OpenTypeFace };
 
     ghost view = { λ k. arc_value k.face };
+
+    ghost invariant = { λ k. AreMadeBy
+        (⟦<by_script as ScriptPlans<UnicodeDatabase, OpenedOpenTypeFace<'static>, OpenTypeLayout>>⟧.planned
+        (arc_value k.face) all_shapers) k.plans.items };
 }
 
 impl KeptFont {
@@ -42,16 +55,22 @@ impl KeptFont {
     {
         let opened = OpenedOpenTypeFace::new(alloc, face)?;
         let face = Arc::new(alloc, opened)?;
-        Ok(KeptFont { face })
+        Ok(KeptFont {
+            face,
+            plans: Vec::new(alloc),
+        })
     }
 
-    /// A font that shares what was opened. Refuses with `Memory` alone.
-    pub fn share(&self) -> Result<KeptFont, Refusal>
+    /// A font that shares what was opened, without plans yet. Refuses with `Memory` alone.
+    pub fn share(&self, alloc: Global) -> Result<KeptFont, Refusal>
         ensures ok { IfOk result (λ kept. kept ≡ self.now) }
         ensures memory { IfErr result (λ e. e ≡ Refusal.Memory) }
     {
         let face = Arc::try_clone(&self.face)?;
-        Ok(KeptFont { face })
+        Ok(KeptFont {
+            face,
+            plans: Vec::new(alloc),
+        })
     }
 
     /// How many units the em square has.
@@ -61,7 +80,8 @@ impl KeptFont {
         self.face.units_per_em()
     }
 
-    /// Writes the name of a glyph by `post` or the charset of `CFF `, if there is room for it, and gives how many bytes it has; 0 if it has none.
+    /// Writes the name of a glyph by `post` or the charset of `CFF `, if there is room for it, and
+    /// gives how many bytes it has; 0 if it has none.
     pub fn write_name(&self, glyph: u32, room: &mut [u8]) -> usize
         ensures { IsNamed (name_bytes self.now glyph) room.old room.new result }
     {
@@ -74,9 +94,10 @@ impl KeptFont {
         }
     }
 
-    /// Shapes runs of a text. Refuses with `Memory` alone.
+    /// Shapes runs of a text, by the plans that earlier calls made and those that it makes, which
+    /// are kept for later calls. Refuses with `Memory` alone.
     pub fn shape(
-        &self,
+        &mut self,
         alloc: Global,
         features: &[luthgarn_feature],
         text: Text<'_>,
@@ -85,11 +106,20 @@ impl KeptFont {
     ) -> Result<luthgarn_outcome, Refusal>
         ensures ok { IfOk result (λ outcome. ServesBy
             ⟦<by_script as ScriptRuns<UnicodeDatabase, OpenedOpenTypeFace<'static>, OpenTypeLayout>>⟧.text_run
-            (λ f. f ≡ self.now) (map feature_of_c features.now)
+            (λ f. f ≡ self.old) (map feature_of_c features.now)
             (units_of text.entry) runs.old runs.new glyphs.old glyphs.new outcome) }
+        ensures face { self.new ≡ self.old }
         ensures memory { IfErr result (λ e. e ≡ Refusal.Memory) }
         ensures same { IfErr result (λ _. (runs.new ≡ runs.old) × (glyphs.new ≡ glyphs.old)) }
     {
-        shape_with(alloc, &self.face, features, text, runs, glyphs)
+        let features = features_of(alloc, features)?;
+        let mut shaper = FontShaper {
+            face: &self.face,
+            features: features.as_slice(),
+            plans: mem::replace(&mut self.plans, Vec::new(alloc)),
+        };
+        let outcome = shape_runs(alloc, &mut shaper, text, runs, glyphs);
+        self.plans = shaper.plans;
+        Ok(outcome)
     }
 }

@@ -1,10 +1,11 @@
-//! What the library for C is made of: runs of a text shaped with a font file into an array, in structs and numbers that
-//! cross to C and back. `luthgarn_c` exports it.
+//! What the library for C is made of: runs of a text shaped with a font file into an array, in
+//! structs and numbers that cross to C and back. `luthgarn_c` exports it.
 //!
-//! A call reads slices, writes into slices, and returns. [`plain`] has the structs that cross, [`texts`] makes a text of a
-//! run, [`shaper`] shapes it by one of the [`plans`] that the runs of a call share, [`written`] writes its glyphs, [`runs`]
-//! goes over the runs, [`fonts`] opens a font, [`kept`] is one that stays open, which C has behind a [`handle`], and
-//! [`refusal`] has the reasons that come back as numbers.
+//! A call reads slices, writes into slices, and returns. [`plain`] has the structs that cross,
+//! [`texts`] makes a text of a run, [`shaper`] shapes it by one of the [`plans`] that the runs of a
+//! call share, [`written`] writes its glyphs, [`runs`] goes over the runs, [`fonts`] opens a font,
+//! [`kept`] is one that stays open, which C has behind a [`handle`], and [`refusal`] has the
+//! reasons that come back as numbers.
 #![tactic(auto)]
 #![allow(non_camel_case_types)]
 

@@ -21,9 +21,10 @@ pub struct luthgarn_feature {
     pub end: u32,
 }
 
-/// A run: the characters from `start` up to `end`, bytes of the text, and how they are to be shaped. The characters from
-/// `before` up to `start` and from `end` up to `after` stand beside it, and are looked at alone. `glyphs` is written: how
-/// many glyphs there are up to the end of this run.
+/// A run: the characters from `start` up to `end`, bytes of the text, and how they are to be
+/// shaped. The characters from `before` up to `start` and from `end` up to `after` stand beside it,
+/// and are looked at alone. `glyphs` is written: how many glyphs there are up to the end of this
+/// run.
 #[repr(C)]
 #[derive(Clone, Copy)]
 pub struct luthgarn_run {
@@ -39,7 +40,8 @@ pub struct luthgarn_run {
     pub glyphs: usize,
 }
 
-/// A glyph and its place: `cluster` is the first byte of its characters, counted from the start of the run.
+/// A glyph and its place: `cluster` is the first byte of its characters, counted from the start of
+/// the run.
 #[repr(C)]
 #[derive(Clone, Copy)]
 pub struct luthgarn_glyph {
@@ -52,8 +54,8 @@ pub struct luthgarn_glyph {
     pub y_offset: i32,
 }
 
-/// What became of a call: why it stopped, how many runs are done, and how many glyphs these have. `needed` is how many
-/// glyphs the run has that found no room.
+/// What became of a call: why it stopped, how many runs are done, and how many glyphs these have.
+/// `needed` is how many glyphs the run has that found no room.
 #[repr(C)]
 #[derive(Clone, Copy)]
 pub struct luthgarn_outcome {
@@ -69,6 +71,7 @@ impl luthgarn_outcome {
         ensures code { result.code ≡ code_of refusal }
         ensures runs { result.runs ≡ 0 }
         ensures glyphs { result.glyphs ≡ 0 }
+        ensures needed { result.needed ≡ 0 }
     {
         luthgarn_outcome {
             code: refusal.code(),

@@ -1,8 +1,11 @@
-//! Plans that the runs of a call share, and texts shaped by them.
-ghost use Rattle.std.specs.Prelude.{◌≡◌, ◌≤◌, List, length, IfOk, IfErr};
+//! Plans that the runs of a call share, and those of later calls with a kept font, and texts shaped
+//! by them.
+ghost use Rattle.std.specs.Prelude.{◌≡◌, ◌≤◌, ◌<◌, ℕ, List, Option, length, IfOk, IfErr};
 ghost use Rattle.plan_cache.specs.Keys.{IsKeptAt};
 ghost use Rattle.shape_buffer.specs.Guess.{guessed, guessed_direction, guessed_script};
+ghost use Rattle.shape_common.specs.declared.text_types.Direction.{Direction as AnyDirection};
 ghost use Rattle.shape_common.specs.declared.text_types.Feature.{Feature as AnyFeature};
+ghost use Rattle.shape_common.specs.declared.text_types.Script.{Script as AnyScript};
 ghost use Rattle.shape_items.specs.Buffer.{Buffer, run_limit};
 ghost use Rattle.shape_pipeline.specs.Headline.{target_of};
 ghost use Rattle.shape_pipeline.specs.Shaped.{shaped, ShapingPasses};
@@ -21,10 +24,14 @@ use std::alloc::Global;
 /// The number of the one face of a call.
 const FACE: u32 = 0;
 
+/// As many plans as are kept at most.
+const MOST_PLANS: usize = 32;
+
 /// Plans over a font file, each kept under all that it was made for.
 pub type Kept<'a, P> = Vec<KeptPlan<ScriptPlan<'a, P>>>;
 
-/// The plan that is made for a text fits it, and by it the text is shaped as by `shape_by_script`. Does nothing.
+/// The plan that is made for a text fits it, and by it the text is shaped as by `shape_by_script`.
+/// Does nothing.
 fn planned_for_text<U: hb_unicode_funcs_t, F: hb_font_t, M: hb_ot_layout_t<F>>()
     ensures fits { (face : F) (features : List AnyFeature) (text : Buffer) (plan : AnyPlan M.Map)
         → plan ≡ ⟦<by_script as ScriptPlans<U, F, M>>⟧.planned face all_shapers
@@ -38,12 +45,12 @@ fn planned_for_text<U: hb_unicode_funcs_t, F: hb_font_t, M: hb_ot_layout_t<F>>()
 {}
 
 /// The plan for a text.
-fn plan_for<'a, U: hb_unicode_funcs_t, F: hb_font_t, M: hb_ot_layout_t<F>>(
+fn plan_for<U: hb_unicode_funcs_t, F: hb_font_t, M: hb_ot_layout_t<F>>(
     alloc: Global,
-    face: &'a F,
+    face: &F,
     features: &[Feature],
     text: &UnicodeBuffer,
-) -> Result<ScriptPlan<'a, M::Map>, ShapeError>
+) -> Result<ScriptPlan<'static, M::Map>, ShapeError>
     ensures plan { IfOk result (λ plan. plan ≡ ⟦<by_script as ScriptPlans<U, F, M>>⟧.planned
         face.now all_shapers (guessed_direction U.unicode text.now)
         (guessed_script U.unicode text.now) text.now.language features.now) }
@@ -63,12 +70,23 @@ fn plan_for<'a, U: hb_unicode_funcs_t, F: hb_font_t, M: hb_ot_layout_t<F>>(
     )
 }
 
+/// Room for one plan more: where there are as many as are kept, all are let go of.
+fn make_room<P: Drop>(plans: &mut Kept<'static, P>)
+    ensures made { (planned : AnyDirection → Option AnyScript → Option (List ℕ) → List AnyFeature → AnyPlan P)
+        → AreMadeBy planned plans.old.items → AreMadeBy planned plans.new.items }
+    ensures room { length plans.new.items < 32 }
+{
+    if plans.len() >= MOST_PLANS {
+        plans.clear();
+    }
+}
+
 /// The place of the plan for a text, which is made if there is none yet.
-fn plan_place<'a, U: hb_unicode_funcs_t, F: hb_font_t, M: hb_ot_layout_t<F>>(
+fn plan_place<U: hb_unicode_funcs_t, F: hb_font_t, M: hb_ot_layout_t<F>>(
     alloc: Global,
-    face: &'a F,
+    face: &F,
     features: &[Feature],
-    plans: &mut Kept<'a, M::Map>,
+    plans: &mut Kept<'static, M::Map>,
     text: &UnicodeBuffer,
 ) -> Result<usize, ShapeError>
     requires { AreMadeBy (⟦<by_script as ScriptPlans<U, F, M>>⟧.planned face.now all_shapers) plans.old.items }
@@ -80,16 +98,17 @@ fn plan_place<'a, U: hb_unicode_funcs_t, F: hb_font_t, M: hb_ot_layout_t<F>>(
         return Ok(place);
     }
     let plan = plan_for::<U, F, M>(alloc, face, features, text)?;
+    make_room(plans);
     keep_plan::<U, _>(alloc, plans, FACE, features, text, plan)
 }
 
-/// The glyphs of a text by the shaper that its script asks for: those of `shape_by_script`, by a plan that is kept. Refuses
-/// as that does.
-pub fn shape_kept<'a, U: hb_unicode_funcs_t, F: hb_font_t, M: hb_ot_layout_t<F>>(
+/// The glyphs of a text by the shaper that its script asks for: those of `shape_by_script`, by a
+/// plan that is kept. Refuses as that does.
+pub fn shape_kept<U: hb_unicode_funcs_t, F: hb_font_t, M: hb_ot_layout_t<F>>(
     alloc: Global,
-    face: &'a F,
+    face: &F,
     features: &[Feature],
-    plans: &mut Kept<'a, M::Map>,
+    plans: &mut Kept<'static, M::Map>,
     text: UnicodeBuffer,
 ) -> Result<GlyphBuffer, ShapeError>
     requires { AreMadeBy (⟦<by_script as ScriptPlans<U, F, M>>⟧.planned face.now all_shapers) plans.old.items }

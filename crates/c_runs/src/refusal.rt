@@ -21,7 +21,8 @@ pub enum Refusal {
     Font,
     /// The text of a run, or the one beside it, is not UTF-8; or a text is no feature.
     Text,
-    /// The places of a run aren't in order or not in the text, or its direction or level has no such number.
+    /// The places of a run aren't in order or not in the text, or its direction or level has no
+    /// such number.
     Run,
     /// The array of glyphs has no room for those of the run.
     Room,

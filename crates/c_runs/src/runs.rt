@@ -31,6 +31,7 @@ fn shape_run<S: TextShaper>(
     requires { S.ready shaper.old }
     ensures ready { S.ready shaper.new }
     ensures same { S.runs shaper.new ≡ S.runs shaper.old }
+    ensures font { S.font shaper.new ≡ S.font shaper.old }
     ensures glyphs { let t = text_of_run (units_of text.entry) run.now in
         IfOk result (λ glyphs. glyphs ≡ shaped (S.runs shaper.old t) t) }
     ensures valid { IfOk result (λ _. IsValid (units_of text.entry) run.now) }
@@ -55,6 +56,7 @@ fn put_run<S: TextShaper>(
     requires used { used ≤ length room.old }
     ensures ready { S.ready shaper.new }
     ensures same { S.runs shaper.new ≡ S.runs shaper.old }
+    ensures font { S.font shaper.new ≡ S.font shaper.old }
     ensures count { IfOk result (λ n. n
         ≡ length (glyphs_of_run (S.runs shaper.old) (units_of text.entry) run.now)) }
     ensures written { IfOk result (λ n. room.new ≡ take used room.old
@@ -82,7 +84,8 @@ fn put_run<S: TextShaper>(
     }
 }
 
-/// Shapes the runs of a text, and writes their glyphs one after the other, up to the first run that is refused.
+/// Shapes the runs of a text, and writes their glyphs one after the other, up to the first run that
+/// is refused.
 pub fn shape_runs<S: TextShaper>(
     alloc: Global,
     shaper: &mut S,
@@ -91,7 +94,9 @@ pub fn shape_runs<S: TextShaper>(
     room: &mut [luthgarn_glyph],
 ) -> luthgarn_outcome
     requires { S.ready shaper.old }
-    ensures { Serves (S.runs shaper.old) (units_of text.entry)
+    ensures ready { S.ready shaper.new }
+    ensures font { S.font shaper.new ≡ S.font shaper.old }
+    ensures serves { Serves (S.runs shaper.old) (units_of text.entry)
         runs.old runs.new room.old room.new result }
 {
     let mut used: usize = 0;

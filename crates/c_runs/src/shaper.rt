@@ -4,6 +4,7 @@ ghost use Rattle.shape_items.specs.Buffer.{Buffer};
 ghost use Rattle.shape_pipeline.specs.Shaped.{shaped};
 ghost use Rattle.shape_plan.specs.Run.{Run};
 ghost use Rattle.shaper_choice.specs.ScriptPlans.{all_shapers};
+ghost use Rattle.opentype_layout.specs.declared.face.OpenTypeFace.{OpenTypeFace as AnyFace};
 ghost use Rattle.c_runs.specs.Plans.{AreMadeBy};
 ghost use Rattle.c_runs.specs.Refusals.{TextPasses};
 
@@ -24,12 +25,16 @@ pub trait TextShaper {
     /// How a text is shaped.
     ghost runs: { Self → Buffer → Run };
 
-    /// The glyphs of a text. Refuses with `Length` if a step would leave a list past the run's limit, and with `Memory` if
-    /// a growth was refused.
+    /// The face that it shapes with.
+    ghost font: { Self → AnyFace };
+
+    /// The glyphs of a text. Refuses with `Length` if a step would leave a list past the run's
+    /// limit, and with `Memory` if a growth was refused.
     fn shape(&mut self, alloc: Global, text: UnicodeBuffer) -> Result<GlyphBuffer, ShapeError>
         requires { ready self.old }
         ensures ready { ready self.new }
         ensures same { runs self.new ≡ runs self.old }
+        ensures font { font self.new ≡ font self.old }
         ensures glyphs { IfOk result (λ glyphs. glyphs ≡ shaped (runs self.old text) text) }
         ensures length { IfErr result (λ e. e ≡ ShapeError.Length → TextPasses (runs self.old) text) };
 }
@@ -39,7 +44,7 @@ pub trait TextShaper {
 pub struct FontShaper<'a> {
     pub face: &'a OpenedOpenTypeFace<'a>,
     pub features: &'a [Feature],
-    pub plans: Kept<'a, hb_ot_map_t>,
+    pub plans: Kept<'static, hb_ot_map_t>,
 }
 
 impl<'a> TextShaper for FontShaper<'a> {
@@ -48,6 +53,8 @@ impl<'a> TextShaper for FontShaper<'a> {
 
     ghost runs = { λ s. ⟦<by_script as ScriptRuns<UnicodeDatabase, OpenedOpenTypeFace<'a>, OpenTypeLayout>>⟧.text_run
         s.face.now s.features.now };
+
+    ghost font = { λ s. s.face.now };
 
     fn shape(&mut self, alloc: Global, text: UnicodeBuffer) -> Result<GlyphBuffer, ShapeError> {
         shape_kept::<UnicodeDatabase, OpenedOpenTypeFace, OpenTypeLayout>(

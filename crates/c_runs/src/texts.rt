@@ -1,9 +1,10 @@
 //! A run as a text to be shaped.
-ghost use Rattle.std.specs.Prelude.{◌≡◌, ◌≤◌, ◌<◌, ◌^◌, ◌++◌, length, replicate, true, IfOk, IfErr, IfSome, IfNone, string_bytes};
+ghost use Rattle.std.specs.Prelude.{◌≡◌, ◌≤◌, ◌<◌, ◌^◌, ◌++◌, length, replicate, true, IfOk, IfErr, string_bytes};
 ghost use Rattle.std.specs.Option.{option_map};
 ghost use Rattle.std.specs.Str.{IsUtf8};
 ghost use Rattle.shape_common.specs.Positions.{zero_position};
 ghost use Rattle.shape_text_forms.specs.Names.{language_of_text};
+ghost use Rattle.c_runs.specs.Languages;
 ghost use Rattle.c_runs.specs.Numbers.{is_direction, is_level};
 ghost use Rattle.c_runs.specs.Refusals.{IsNoPart, IsRefused, IsUnasked, IsUnnamed, IsValid};
 ghost use Rattle.c_runs.specs.Texts.{Utf8, Utf16, asked_of, filled_up, part_of, text_of_run, units_of};
@@ -17,7 +18,8 @@ use shape_text_forms::language_from_string;
 use std::alloc::Global;
 use utf16_text::{push_utf16, set_utf16_post_context, set_utf16_pre_context};
 
-/// A text of a caller's, whose places count its units: bytes of UTF-8, or units of UTF-16, of which any are a text.
+/// A text of a caller's, whose places count its units: bytes of UTF-8, or units of UTF-16, of which
+/// any are a text.
 #[derive(Clone, Copy)]
 pub enum Text<'a> {
     Utf8(&'a [u8]),
@@ -67,17 +69,61 @@ fn language(alloc: Global, name: &[u8]) -> Result<Option<Language>, Refusal>
     }
 }
 
-/// A name of a language with zeros behind it, as a run has it; none if it is longer.
-pub fn language_bytes(name: &[u8]) -> Option<[u8; 64]>
-    ensures some { IfSome result (λ language. language ≡ filled_up 64 name.now) }
-    ensures none { IfNone result (64 < length name.now) }
+/// Whether a byte is a hyphen, or what stands for one.
+fn is_hyphen(byte: u8) -> bool
+    ensures { result ≡ Languages.is_hyphen byte }
+{
+    byte == b'-' || byte == b'_'
+}
+
+/// The last place up to this one where a hyphen stands behind a subtag; 0 if there is none.
+fn last_hyphen(name: &[u8], most: usize) -> usize
+    requires { most < length name.now }
+    ensures last { result ≡ Languages.last_hyphen most name.now }
+    ensures within { result ≤ most }
+{
+    let mut last = 0;
+    for place in 0..most {
+        if is_hyphen(name[place + 1]) {
+            last = place + 1;
+        }
+    }
+    last
+}
+
+/// Where a name ends without a subtag of one letter or digit at this end.
+fn without_single(name: &[u8], end: usize) -> usize
+    requires { end < length name.now }
+    ensures end { result ≡ Languages.without_single end name.now }
+    ensures within { result ≤ end }
+{
+    if end > 1 && is_hyphen(name[end - 2]) {
+        end - 2
+    } else {
+        end
+    }
+}
+
+/// As much of a language's name as a run has room for.
+fn fitting(name: &[u8]) -> &[u8]
+    ensures fitting { result.now ≡ Languages.fitting 64 name.now }
+    ensures within { length result.now ≤ 64 }
+{
+    if name.len() <= 64 {
+        return name;
+    }
+    let end = without_single(name, last_hyphen(name, 64));
+    &name[..end]
+}
+
+/// A name of a language with zeros behind it, as a run has it: as much of it as there is room for.
+pub fn language_bytes(name: &[u8]) -> [u8; 64]
+    ensures { result ≡ filled_up 64 (Languages.fitting 64 name.now) }
 {
     let mut language = [0; 64];
-    if language.len() < name.len() {
-        return None;
-    }
+    let name = fitting(name);
     put_bytes(name, &mut language);
-    Some(language)
+    language
 }
 
 /// A buffer without text, with what a run asks for.
@@ -116,7 +162,8 @@ fn filled_utf8(alloc: Global, text: &[u8], run: &luthgarn_run) -> Result<Unicode
     Ok(buffer)
 }
 
-/// A buffer without text gets one in UTF-16, and what stands beside it. Refuses with `Memory` alone.
+/// A buffer without text gets one in UTF-16, and what stands beside it. Refuses with `Memory`
+/// alone.
 fn with_units(
     alloc: Global,
     mut buffer: UnicodeBuffer,
@@ -152,8 +199,9 @@ fn filled_utf16(alloc: Global, text: &[u16], run: &luthgarn_run) -> Result<Unico
     Ok(with_units(alloc, buffer, before, own, after)?)
 }
 
-/// A buffer with the characters of a run, what stands beside them, and what the run asks for. Refuses a run that isn't
-/// placed in the text, or whose units aren't text, and with `Memory` if a growth was refused.
+/// A buffer with the characters of a run, what stands beside them, and what the run asks for.
+/// Refuses a run that isn't placed in the text, or whose units aren't text, and with `Memory` if a
+/// growth was refused.
 pub fn filled(alloc: Global, text: Text<'_>, run: &luthgarn_run) -> Result<UnicodeBuffer, Refusal>
     ensures ok { IfOk result (λ buffer. buffer ≡ text_of_run (units_of text.entry) run.now) }
     ensures valid { IfOk result (λ _. IsValid (units_of text.entry) run.now) }

@@ -41,12 +41,13 @@ fn shared(alloc: Global, kept: &KeptFont) -> Result<Box<KeptFont>, Refusal>
     ensures ok { IfOk result (λ copy. copy.value ≡ kept.now) }
     ensures memory { IfErr result (λ e. e ≡ Refusal.Memory) }
 {
-    let copy = kept.share()?;
+    let copy = kept.share(alloc)?;
     boxed(alloc, copy)
 }
 
-/// Opens the font with this number: `font` keeps it, in place of what it kept. The bytes have to stay as they are for as
-/// long as that font, or one that shares it, is open. A refusal leaves `font` as it was.
+/// Opens the font with this number: `font` keeps it, in place of what it kept. The bytes have to
+/// stay as they are for as long as that font, or one that shares it, is open. A refusal leaves
+/// `font` as it was.
 #[unsafe(no_mangle)]
 pub extern "C" fn luthgarn_font_new(
     alloc: Global,
@@ -93,8 +94,8 @@ pub extern "C" fn luthgarn_font_units_per_em(alloc: Global, font: &mut luthgarn_
     units
 }
 
-/// Writes the name of a glyph by the font's table `post`, or else by the charset of `CFF `, if there is room for it, and gives
-/// how many bytes it has; 0 if it has none, or no font is kept.
+/// Writes the name of a glyph by the font's table `post`, or else by the charset of `CFF `, if
+/// there is room for it, and gives how many bytes it has; 0 if it has none, or no font is kept.
 #[unsafe(no_mangle)]
 pub extern "C" fn luthgarn_font_glyph_name(
     alloc: Global,
@@ -113,8 +114,8 @@ pub extern "C" fn luthgarn_font_glyph_name(
     count
 }
 
-/// Makes `copy` keep the same font: both share what was opened, so that two threads may shape with one each. A refusal
-/// leaves `copy` as it was.
+/// Makes `copy` keep the same font: both share what was opened, so that two threads may shape with
+/// one each. A refusal leaves `copy` as it was.
 #[unsafe(no_mangle)]
 pub extern "C" fn luthgarn_font_share(
     alloc: Global,
@@ -160,7 +161,7 @@ fn shape_kept(
     ensures within { (result.runs ≤ length runs.old) × (result.glyphs ≤ length glyphs.old) }
     ensures done { result.code ≡ 0 → result.runs ≡ length runs.old }
 {
-    let Some(kept) = font.take(alloc) else {
+    let Some(mut kept) = font.take(alloc) else {
         return luthgarn_outcome::refused(Refusal::Font);
     };
     let shaped = kept.shape(alloc, features, text, runs, glyphs);
@@ -171,7 +172,8 @@ fn shape_kept(
     }
 }
 
-/// Shapes the runs of a text with a kept font, as `luthgarn_shape` does with the bytes of one; nothing is opened.
+/// Shapes the runs of a text with a kept font, as `luthgarn_shape` does with the bytes of one;
+/// nothing is opened, and what was planned for earlier texts isn't planned again.
 #[unsafe(no_mangle)]
 pub extern "C" fn luthgarn_shape_font(
     alloc: Global,

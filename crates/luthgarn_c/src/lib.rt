@@ -1,8 +1,8 @@
-//! The library for C: texts shaped with a font file, into arrays that the caller owns. `bindings/c/luthgarn.h` declares
-//! what is exported here.
+//! The library for C: texts shaped with a font file, into arrays that the caller owns.
+//! `bindings/c/luthgarn.h` declares what is exported here.
 //!
-//! A call reads slices, writes into slices, and returns; nothing is global. A font that is kept is C's own: a pointer that
-//! [`kept`] hands out and takes back. `c_runs` has all but the exports.
+//! A call reads slices, writes into slices, and returns; nothing is global. A font that is kept is
+//! C's own: a pointer that [`kept`] hands out and takes back. `c_runs` has all but the exports.
 #![tactic(auto)]
 #![allow(non_camel_case_types)]
 
@@ -11,6 +11,7 @@ mod kept;
 ghost use Rattle.std.specs.Prelude.{◌≡◌, ◌↔◌, ◌≤◌, ◌<◌, Some, None, length, map};
 ghost use Rattle.std.specs.Str.{IsUtf8};
 ghost use Rattle.opentype_layout.specs.Fonts.{IsFaceOf, units_of};
+ghost use Rattle.c_runs.specs.Languages.{fitting};
 ghost use Rattle.c_runs.specs.Numbers.{direction_number, feature_of_c, script_number};
 ghost use Rattle.c_runs.specs.Outcomes.{IsUntouched, ServesBy};
 ghost use Rattle.c_runs.specs.Texts;
@@ -43,7 +44,8 @@ pub extern "C" fn luthgarn_version() -> u32
     VERSION
 }
 
-/// How many units the em square has of the font with this number; 0 exactly if the bytes have no such font.
+/// How many units the em square has of the font with this number; 0 exactly if the bytes have no
+/// such font.
 #[unsafe(no_mangle)]
 pub extern "C" fn luthgarn_units_per_em(font: &[u8], index: u32) -> u32
     ensures { result ≡ units_of font.now index }
@@ -73,8 +75,8 @@ pub extern "C" fn luthgarn_parse_feature(text: &[u8], feature: &mut luthgarn_fea
     }
 }
 
-/// The number of a direction: 4 for a text that begins with `l`, 5 with `r`, 6 with `t`, 7 with `b`, else 0, which asks
-/// for a guess.
+/// The number of a direction: 4 for a text that begins with `l`, 5 with `r`, 6 with `t`, 7 with
+/// `b`, else 0, which asks for a guess.
 #[unsafe(no_mangle)]
 pub extern "C" fn luthgarn_parse_direction(text: &[u8]) -> u32
     ensures direction { IsUtf8 text.now → result ≡ direction_number (direction_of_text text.now) }
@@ -101,20 +103,15 @@ pub extern "C" fn luthgarn_parse_script(text: &[u8]) -> u32
     }
 }
 
-/// Makes a run ask for the language of a name of BCP 47, of at most 64 bytes. A longer name leaves the run as it was.
+/// Makes a run ask for the language of a name of BCP 47. Of a name of more than 64 bytes it has the
+/// subtags that fit, as RFC 5646 cuts names (4.4.2).
 #[unsafe(no_mangle)]
 pub extern "C" fn luthgarn_set_language(run: &mut luthgarn_run, name: &[u8]) -> u32
-    ensures set { result ≡ 0 → run.new ≡ record run.old { language = filled_up 64 name.now } }
-    ensures longer { (result ≡ 0 → ⊥)
-        → (result ≡ 4) × (64 < length name.now) × (run.new ≡ run.old) }
+    ensures set { run.new ≡ record run.old { language = filled_up 64 (fitting 64 name.now) } }
+    ensures done { result ≡ 0 }
 {
-    match language_bytes(name) {
-        Some(language) => {
-            run.language = language;
-            DONE
-        }
-        None => Refusal::Text.code(),
-    }
+    run.language = language_bytes(name);
+    DONE
 }
 
 /// Shapes the runs of a text with the font that has this number in a file.
@@ -146,9 +143,10 @@ fn shape_bytes(
     }
 }
 
-/// Shapes the runs of a text, one after the other, and writes their glyphs one after the other: of each run those that
-/// `shape_by_script` makes of its text. One plan serves all runs of one direction, script and language. Stops at the
-/// first run that is refused; those before it are done, and nothing is written past their glyphs.
+/// Shapes the runs of a text, one after the other, and writes their glyphs one after the other: of
+/// each run those that `shape_by_script` makes of its text. One plan serves all runs of one
+/// direction, script and language. Stops at the first run that is refused; those before it are
+/// done, and nothing is written past their glyphs.
 #[unsafe(no_mangle)]
 pub extern "C" fn luthgarn_shape(
     alloc: Global,
@@ -172,8 +170,8 @@ pub extern "C" fn luthgarn_shape(
     shape_bytes(alloc, font, index, features, Text::Utf8(text), runs, glyphs)
 }
 
-/// As `luthgarn_shape`, of a text in UTF-16: the places of runs, clusters and features count its units, and a surrogate in
-/// no pair is U+FFFD.
+/// As `luthgarn_shape`, of a text in UTF-16: the places of runs, clusters and features count its
+/// units, and a surrogate in no pair is U+FFFD.
 #[unsafe(no_mangle)]
 pub extern "C" fn luthgarn_shape_utf16(
     alloc: Global,

@@ -1,5 +1,7 @@
 -- Texts in UTF-16: their characters are characters, have as many units, and begin at the units that their clusters name.
-use Rattle.std.proofs.Common.{◌≡◌, ◌∙◌, ℕ, zero, suc, ◌+◌, ◌<◌, ◌≤◌, Bool, true, false, ◌&&◌, Option, Some, None, Result, Ok, Err, List, [], ◌∷◌, ◌++◌, length, map, get_or, take, drop, cond, nat_lt, nat_le, lit<, Fits, w16, refl, ap, sym, subst, arith, append_assoc, append-nil, length-append, replicate}
+use Rattle.std.proofs.Common.{◌≡◌, ◌∙◌, ℕ, zero, suc, ◌+◌, ◌<◌, ◌≤◌, Bool, true, false, ◌&&◌, Option, Some, None, Result, Ok, Err, List, [], ◌∷◌}
+use Rattle.std.proofs.Common.{◌++◌, length, map, get_or, take, drop, cond, nat_lt, nat_le, lit<, Fits, w16, refl, ap, sym, subst, arith, append_assoc}
+use Rattle.std.proofs.Common.{append-nil, length-append, replicate}
 use Rattle.std.proofs.Math.Seq.{drop-length}
 use Rattle.std.proofs.Math.Utf8.{encode, scalars, scalar}
 use Rattle.std.proofs.lemmas.Bool.{and_parts}

@@ -1,7 +1,8 @@
-//! Texts in UTF-16 for a buffer, as Windows, Java, .NET and ICU have them: what `push_str`, `set_pre_context` and
-//! `set_post_context` of a `UnicodeBuffer` do with a text in UTF-8.
+//! Texts in UTF-16 for a buffer, as Windows, Java, .NET and ICU have them: what `push_str`,
+//! `set_pre_context` and `set_post_context` of a `UnicodeBuffer` do with a text in UTF-8.
 //!
-//! Any units are a text: a surrogate in no pair stands for U+FFFD, as in HarfBuzz (`hb_buffer_add_utf16`).
+//! Any units are a text: a surrogate in no pair stands for U+FFFD, as in HarfBuzz
+//! (`hb_buffer_add_utf16`).
 #![tactic(auto)]
 
 ghost use Rattle.std.specs.Prelude.{◌≡◌, ◌<◌, ◌^◌, ◌++◌, length, take, replicate, All};
@@ -15,9 +16,9 @@ ghost use Rattle.utf16_text.specs.Worked.Units.{WorkedUnits};
 use shape_buffer::buffer::{ShapeError, UnicodeBuffer};
 use std::alloc::{AllocError, Global};
 
-/// Appends the characters of a text in UTF-16, each in the cluster of its first unit, counted from the start of the
-/// text. The text has fewer than 2^32 units, since clusters are 32 bits. Refuses with `Memory` alone; a refused call
-/// may have appended some of the characters.
+/// Appends the characters of a text in UTF-16, each in the cluster of its first unit, counted from
+/// the start of the text. The text has fewer than 2^32 units, since clusters are 32 bits. Refuses
+/// with `Memory` alone; a refused call may have appended some of the characters.
 pub fn push_utf16(alloc: Global, buffer: &mut UnicodeBuffer, text: &[u16]) -> Result<(), ShapeError>
     requires { length text.now < 2 ^ 32 }
     ensures ok { OnOk result (buffer.new ≡ record buffer.old {
@@ -65,8 +66,8 @@ fn first_units(text: &[u16]) -> &[u16]
     &text[..text.len().min(BESIDE)]
 }
 
-/// Keeps the last five characters of a text in UTF-16 before that of the buffer, and sets nothing else. Refuses with
-/// `Memory` alone, and sets nothing then.
+/// Keeps the last five characters of a text in UTF-16 before that of the buffer, and sets nothing
+/// else. Refuses with `Memory` alone, and sets nothing then.
 pub fn set_utf16_pre_context(
     alloc: Global,
     buffer: &mut UnicodeBuffer,
@@ -83,8 +84,8 @@ pub fn set_utf16_pre_context(
     Ok(())
 }
 
-/// Keeps the first five characters of a text in UTF-16 after that of the buffer, and sets nothing else. Refuses with
-/// `Memory` alone, and sets nothing then.
+/// Keeps the first five characters of a text in UTF-16 after that of the buffer, and sets nothing
+/// else. Refuses with `Memory` alone, and sets nothing then.
 pub fn set_utf16_post_context(
     alloc: Global,
     buffer: &mut UnicodeBuffer,

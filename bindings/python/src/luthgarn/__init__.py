@@ -59,7 +59,7 @@ class BadFeature(ShapingError, ValueError):
 
 
 class UnknownName(ShapingError, ValueError):
-    """No direction, script or language has this name."""
+    """No direction or script has this name."""
 
 
 REFUSED = {
@@ -330,9 +330,7 @@ def run_like(direction: str, script: str, language: str, cluster_level: int) -> 
         raise UnknownName(f"no direction: {direction!r}")
     run.script = _native.LIBRARY.luthgarn_parse_script(name, len(name))
     tag = language.encode()
-    if len(tag) > _native.LONGEST_LANGUAGE:
-        raise UnknownName(f"a language of over {_native.LONGEST_LANGUAGE} bytes: {language!r}")
-    run.language[:] = tag.ljust(_native.LONGEST_LANGUAGE, b"\0")
+    _native.LIBRARY.luthgarn_set_language(ctypes.byref(run), tag, len(tag))
     return run
 
 
@@ -362,7 +360,7 @@ def shape(font: Font, text: Union[str, Buffer], features: Features = None, *, di
     """The glyphs of a text; those of a `Buffer`, which has its own settings, it keeps, too.
 
     `features` are texts as `kern=0` and `aalt[3:5]=2`, or values by tag, as `{"kern": False, "aalt": [(3, 5, 2)]}`; spans
-    count characters. `direction` (ltr, rtl, ttb, btt), `script` (ISO 15924) and `language` (BCP 47, at most 64 bytes) are
+    count characters. `direction` (ltr, rtl, ttb, btt), `script` (ISO 15924) and `language` (BCP 47) are
     guessed if they are empty.
     """
     if isinstance(text, Buffer):

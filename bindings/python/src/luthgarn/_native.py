@@ -42,6 +42,7 @@ DECLARED = {
     "parse_feature": (BYTES + [ctypes.POINTER(Feature)], ctypes.c_uint32),
     "parse_direction": (BYTES, ctypes.c_uint32),
     "parse_script": (BYTES, ctypes.c_uint32),
+    "set_language": ([ctypes.POINTER(Run)] + BYTES, ctypes.c_uint32),
     "font_new": (BYTES + [ctypes.c_uint32, KEPT], ctypes.c_uint32),
     "font_share": ([KEPT, KEPT], ctypes.c_uint32),
     "font_free": ([KEPT], None),

@@ -7,5 +7,5 @@ returns-clause-ok c = record {
   is_face = refl;
   features = c.as_slice.result.now;
   features_are = c.as_slice.ensures.value ∙ c.in_ok-features.ensures;
-  serves = c.shape_runs.ensures;
+  serves = c.shape_runs.ensures.serves;
 }

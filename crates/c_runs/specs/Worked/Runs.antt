@@ -1,11 +1,12 @@
 -- Runs of the text "abc", of one in UTF-16, and their glyphs, by hand.
-use Rattle.std.specs.Prelude.{◌≡◌, ℕ, pos, List, [], ◌∷◌, Some, map}
+use Rattle.std.specs.Prelude.{◌≡◌, ℕ, true, false, pos, List, [], ◌∷◌, Some, codes, map}
 use Rattle.shape_common.specs.Positions.{zero_position}
 use Rattle.shape_common.specs.declared.text_types.BufferClusterLevel.TheVariants.{MonotoneCharacters}
 use Rattle.shape_common.specs.declared.text_types.Direction.TheVariants.{LeftToRight}
 use Rattle.shape_items.specs.Buffer.{new_buffer}
 use Rattle.shape_items.specs.Items.{new_item}
 use Rattle.c_runs.specs.Glyphs.{glyph_of, joined, counted}
+use Rattle.c_runs.specs.Languages.{fitting, is_hyphen, last_hyphen, without_single}
 use Rattle.c_runs.specs.Texts.{Utf8, Utf16, IsPlaced, part_of, text_of_run}
 use Rattle.c_runs.specs.declared.plain.luthgarn_glyph.{luthgarn_glyph}
 use Rattle.c_runs.specs.declared.plain.luthgarn_run.{luthgarn_run}
@@ -74,7 +75,27 @@ pub record GlyphsWorked (glyphs : luthgarn_run → List luthgarn_glyph) (g h i :
   pub numbers : glyph_of (record (new_item 98 5) { glyph_id = 69; mask = 0x80000003 }, record zero_position { x_advance = pos 9; y_offset = pos 2 })
       ≡ record { glyph = 69; cluster = 5; flags = 3; x_advance = pos 9; y_advance = pos 0; x_offset = pos 0; y_offset = pos 2 }
 
+-- names of languages where there is room for so many bytes
+pub record NamesWorked : Type 0 where
+  pub whole : fitting 5 (codes "sr-ME") ≡ codes "sr-ME"
+  pub subtags : fitting 9 (codes "sr-Latn-ME") ≡ codes "sr-Latn"
+  pub all_room : fitting 7 (codes "sr-Latn-ME") ≡ codes "sr-Latn"
+  pub underscore : fitting 6 (codes "sr_Latn") ≡ codes "sr"
+  pub single : fitting 6 (codes "sr-x-ME") ≡ codes "sr"
+  pub no_subtag : fitting 2 (codes "srp") ≡ []
+  pub hyphens : map is_hyphen (45 ∷ 95 ∷ 44 ∷ 0 ∷ []) ≡ true ∷ true ∷ false ∷ false ∷ []
+  pub last : last_hyphen 9 (codes "sr-Latn-ME") ≡ 7
+  pub at_the_place : last_hyphen 7 (codes "sr-Latn-ME") ≡ 7
+  pub before_it : last_hyphen 6 (codes "sr-Latn-ME") ≡ 2
+  -- one that begins a name ends no subtag
+  pub not_the_first : last_hyphen 2 (codes "-sr") ≡ 0
+  pub past_the_name : last_hyphen 9 (codes "sr-ME") ≡ 2
+  pub letter_removed : without_single 4 (codes "sr-x-ME") ≡ 2
+  pub two_letters_stay : without_single 5 (codes "sr-ME-x") ≡ 5
+  pub first_stays : without_single 1 (codes "x-sr") ≡ 1
+
 pub record WorkedRuns : Type 0 where
   pub texts : TextsWorked
   pub units : UnitsWorked
+  pub names : NamesWorked
   pub glyphs : (glyphs : luthgarn_run → List luthgarn_glyph) (g h i : luthgarn_glyph) → GlyphsWorked glyphs g h i

@@ -17,9 +17,9 @@ use Rattle.c_runs.proofs.runs.shape_runs.Goals as goal
 no_run : luthgarn_run
 no_run = record { before = 0; start = 0; end = 0; after = 0; direction = 0; script = 0; flags = 0; level = 0; language = []; glyphs = 0 }
 
-pub returns-in-Err : goal.returns-in-Err
+pub returns-in-Err-clause-serves : goal.returns-in-Err-clause-serves
 unfolding no_run
-returns-in-Err g c =
+returns-in-Err-clause-serves g c =
     let runs = g.S.TextShaper.runs c.args.shaper.now in
     let text = units_of c.args.text in
     let glyphs = glyphs_of_run runs text in
@@ -64,6 +64,7 @@ loop-k-preserved g c =
     record {
       ready = c.in-Ok.ensures.ready;
       same = c.in-Ok.ensures.same ∙ inv.same;
+      font = c.in-Ok.ensures.font ∙ inv.font;
       done = done-more glyphs old c.args.room.now k c.loop-k.used c.in-Ok.count c.loop-k.runs c.loop-k.room c.put_run.new.room run no_run
           inv.done lt is count written;
       placed = All-more (IsPlaced text) old k no_run lt inv.placed (subst (IsPlaced text) is c.in-Ok.ensures.valid.0);
@@ -71,8 +72,8 @@ loop-k-preserved g c =
       fits = omega arith;
     }
 
-pub returns : goal.returns
-returns g c =
+pub returns-clause-serves : goal.returns-clause-serves
+returns-clause-serves g c =
     let runs = g.S.TextShaper.runs c.args.shaper.now in
     let text = units_of c.args.text in
     let old = c.args.runs.now in
