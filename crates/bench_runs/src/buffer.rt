@@ -1,4 +1,5 @@
-//! The buffer's calls on texts of any length, whose cost should grow in step with the text, on hostile texts too.
+//! The buffer's calls on texts of any length, whose cost should grow in step with the text, on
+//! hostile texts too.
 ghost use Rattle.std.specs.Prelude.{◌≡◌, IfOk, length};
 ghost use Rattle.shape_items.specs.Spans.{AreSpansInOrder};
 
@@ -28,8 +29,8 @@ fn falling(alloc: Global, count: u32) -> Result<hb_buffer_t, ShapeError> {
     Ok(text.into_inner())
 }
 
-/// A large kept cluster, and after it items that join it again and again: one is kept in a cluster of its
-/// own, one picked takes it to the large cluster, and one picked takes all of that one down.
+/// A large kept cluster, and after it items that join it again and again: one is kept in a cluster
+/// of its own, one picked takes it to the large cluster, and one picked takes all of that one down.
 fn joining(alloc: Global, count: u32) -> Result<hb_buffer_t, ShapeError> {
     let mut text = UnicodeBuffer::new(alloc);
     for i in 0..count {
@@ -63,8 +64,8 @@ fn marked(info: &hb_glyph_info_t) -> hb_glyph_info_t {
     item
 }
 
-/// Graphemes of two items each, of which the second one is in the cluster that the next one begins in:
-/// each takes in all those before it.
+/// Graphemes of two items each, of which the second one is in the cluster that the next one begins
+/// in: each takes in all those before it.
 fn chained(alloc: Global, count: u32) -> Result<hb_buffer_t, ShapeError> {
     let mut text = UnicodeBuffer::new(alloc);
     for i in 0..count {
@@ -121,7 +122,8 @@ fn merge_graphemes(buffer: &mut hb_buffer_t) {
     buffer.merge_graphemes();
 }
 
-/// Makes a text of so many items, does the work of a number on it, and gives how many items are left.
+/// Makes a text of so many items, does the work of a number on it, and gives how many items are
+/// left.
 fn worked(alloc: Global, work: u32, count: u32) -> Result<usize, ShapeError> {
     let mut text = match work {
         0..=2 => plain(alloc, count)?,
@@ -143,9 +145,9 @@ fn worked(alloc: Global, work: u32, count: u32) -> Result<usize, ShapeError> {
     Ok(text.len())
 }
 
-/// Does a work on a text of so many items, and gives how many are left: 0 marks, 1 deletes and 2 merges an ordinary
-/// text, 3 deletes where clusters fall, 4 where they join again and again, 5 merges each two neighbours where they
-/// fall, and 6 merges graphemes whose clusters chain.
+/// Does a work on a text of so many items, and gives how many are left: 0 marks, 1 deletes and 2
+/// merges an ordinary text, 3 deletes where clusters fall, 4 where they join again and again, 5
+/// merges each two neighbours where they fall, and 6 merges graphemes whose clusters chain.
 #[unsafe(no_mangle)]
 pub extern "C" fn bench_buffer(alloc: Global, work: u32, count: u32) -> usize
     ensures { count ≡ 0 → result ≡ 0 }

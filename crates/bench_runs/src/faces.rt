@@ -1,6 +1,7 @@
 //! Faces over the bytes of a font file: opening them, and looking glyphs up.
 //!
-//! An export returns a sum of what it was given, and 0 if the file has no face or a growth was refused.
+//! An export returns a sum of what it was given, and 0 if the file has no face or a growth was
+//! refused.
 ghost use Rattle.std.specs.Prelude.{◌≡◌};
 
 use opened_face::OpenedFace;
@@ -20,7 +21,8 @@ fn open<'a>(alloc: Global, face: FontFace<'a>) -> Result<OpenedFace<'a>, ShapeEr
     OpenedFace::new(alloc, face)
 }
 
-/// Makes a face of the bytes and opens it if that is asked for. Returns how many glyphs the face has.
+/// Makes a face of the bytes and opens it if that is asked for. Returns how many glyphs the face
+/// has.
 fn opened_count(alloc: Global, font: &[u8], opened: bool) -> usize {
     let Some(face) = face_of(font) else {
         return 0;
@@ -34,7 +36,8 @@ fn opened_count(alloc: Global, font: &[u8], opened: bool) -> usize {
     }
 }
 
-/// A sum over the glyphs of characters and their advances, begun with the last one, so that no call is like another.
+/// A sum over the glyphs of characters and their advances, begun with the last one, so that no call
+/// is like another.
 #[inline(never)]
 fn looked_up<F: hb_font_t>(face: &F, chars: &[u32], last: u32) -> u32 {
     let mut sum = last;
@@ -61,8 +64,8 @@ fn repeated<F: hb_font_t>(face: &F, chars: &[u32], times: u32) -> u32 {
     sum
 }
 
-/// Makes a face of the bytes so many times, and opens it each time if `opened` isn't 0. Returns how many glyphs
-/// the face has.
+/// Makes a face of the bytes so many times, and opens it each time if `opened` isn't 0. Returns how
+/// many glyphs the face has.
 #[unsafe(no_mangle)]
 pub extern "C" fn bench_open(alloc: Global, font: &[u8], opened: u32, times: u32) -> usize
     ensures { times ≡ 0 → result ≡ 0 }
@@ -77,8 +80,8 @@ pub extern "C" fn bench_open(alloc: Global, font: &[u8], opened: u32, times: u32
     count
 }
 
-/// Looks the glyphs of a text up so many times, and their advances: by the face, or by the opened face if `opened`
-/// isn't 0.
+/// Looks the glyphs of a text up so many times, and their advances: by the face, or by the opened
+/// face if `opened` isn't 0.
 #[unsafe(no_mangle)]
 pub extern "C" fn bench_look_up(
     alloc: Global,

@@ -27,9 +27,9 @@ fn shape_by<F: hb_font_t, M: hb_ot_layout_t<F>>(
     outcome.unwrap_or(0)
 }
 
-/// What a run is to be: with one plan for all times, or a plan each time; with the table `kern`, or without lookups; over the
-/// face that is opened once, or over the one without tables beside it; by the shaper of the text's script, or by the default
-/// one.
+/// What a run is to be: with one plan for all times, or a plan each time; with the table `kern`, or
+/// without lookups; over the face that is opened once, or over the one without tables beside it; by
+/// the shaper of the text's script, or by the default one.
 #[derive(Clone, Copy)]
 struct How {
     kept: bool,
@@ -59,8 +59,9 @@ fn shape_opened(alloc: Global, face: FontFace<'_>, text: &str, how: How, times: 
     }
 }
 
-/// Shapes a text by the tables of lookups of the font, over the face that is opened once or over the one without tables
-/// beside it. By the shaper of its script it is shaped over the face that is opened once, with one plan.
+/// Shapes a text by the tables of lookups of the font, over the face that is opened once or over
+/// the one without tables beside it. By the shaper of its script it is shaped over the face that is
+/// opened once, with one plan.
 fn shape_laid_out(
     alloc: Global,
     face: OpenTypeFace<'_>,
@@ -80,9 +81,10 @@ fn shape_laid_out(
     }
 }
 
-/// Shapes a text over a font file so many times. Bits of `how`: 1 takes one plan for all times, 2 kerns by the table
-/// `kern`, 4 takes the face that is opened once, 8 takes all tables of lookups in place of `kern`, 16 with 4 and 8 takes the
-/// shaper of the text's script. For 0 times nothing is shaped.
+/// Shapes a text over a font file so many times. Bits of `how`: 1 takes one plan for all times, 2
+/// kerns by the table `kern`, 4 takes the face that is opened once, 8 takes all tables of lookups
+/// in place of `kern`, 16 with 4 and 8 takes the shaper of the text's script. For 0 times nothing
+/// is shaped.
 #[unsafe(no_mangle)]
 pub extern "C" fn bench_font(alloc: Global, font: &[u8], utf8: &[u8], how: u32, times: u32) -> usize
     ensures { times ≡ 0 → result ≡ 0 }

@@ -1,4 +1,5 @@
-//! Cutting glyphs into lines, whose cost should grow in step with the glyphs whatever the width and the advances.
+//! Cutting glyphs into lines, whose cost should grow in step with the glyphs whatever the width and
+//! the advances.
 ghost use Rattle.std.specs.Prelude.{◌≡◌, ◌<◌, ◌^◌, length};
 ghost use Rattle.std.specs.List.Sorted.{IsNonDecreasing};
 
@@ -44,7 +45,8 @@ fn lines_of(
     cut(alloc, &glyphs, count, width)
 }
 
-/// Cuts so many glyphs, whose advances alternate, into lines of a width, and gives how many there are.
+/// Cuts so many glyphs, whose advances alternate, into lines of a width, and gives how many there
+/// are.
 #[unsafe(no_mangle)]
 pub extern "C" fn bench_lines(alloc: Global, even: i32, odd: i32, width: u32, count: u32) -> usize
     ensures { count ≡ 0 → result ≡ 0 }
@@ -133,8 +135,8 @@ fn text_lines(
     }
 }
 
-/// Cuts a text of ASCII so many times into lines of a width, each glyph 600 wide, and gives how many lines there are: where its
-/// lines may end, or anywhere, if `allowed` is 0.
+/// Cuts a text of ASCII so many times into lines of a width, each glyph 600 wide, and gives how
+/// many lines there are: where its lines may end, or anywhere, if `allowed` is 0.
 #[unsafe(no_mangle)]
 pub extern "C" fn bench_text_lines(
     alloc: Global,

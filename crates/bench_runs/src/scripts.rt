@@ -1,4 +1,5 @@
-//! A text shaped so many times with one plan, by the shaper that its script asks for, with all tables of lookups of a font.
+//! A text shaped so many times with one plan, by the shaper that its script asks for, with all
+//! tables of lookups of a font.
 ghost use Rattle.shape_unicode.specs.Meaning.{unicode_database};
 ghost use Rattle.shaper_choice.specs.ScriptPlans.{PlanFits};
 

@@ -1,5 +1,5 @@
-//! A face that is tables: glyphs by characters, 0 for none, advances by glyphs, and boxes by glyphs;
-//! U+0061 with U+FE00 after it has glyph 7. It has no tables of lookups.
+//! A face that is tables: glyphs by characters, 0 for none, advances by glyphs, and boxes by
+//! glyphs; U+0061 with U+FE00 after it has glyph 7. It has no tables of lookups.
 ghost use Rattle.std.specs.Prelude.{◌≡◌};
 ghost use Rattle.bench_runs.specs.Face;
 

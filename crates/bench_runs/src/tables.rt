@@ -35,8 +35,8 @@ fn boxes_of(alloc: Global, numbers: &[i32]) -> Result<Vec<hb_glyph_extents_t>, A
     Ok(boxes)
 }
 
-/// Shapes a text of characters and clusters so many times: with one plan if `kept` holds, else with a
-/// plan each time. A text without clusters is that of `utf8`. For 0 times nothing is shaped.
+/// Shapes a text of characters and clusters so many times: with one plan if `kept` holds, else with
+/// a plan each time. A text without clusters is that of `utf8`. For 0 times nothing is shaped.
 #[unsafe(no_mangle)]
 pub extern "C" fn bench_shape(
     alloc: Global,

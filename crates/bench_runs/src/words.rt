@@ -171,8 +171,9 @@ fn words_of(
     }
 }
 
-/// Over a font file that is opened once, finds the words of a text in Latin script so many times in a cache that has them
-/// all, a line each; if `found` is 0 normalises each so many times. Returns how many words there are.
+/// Over a font file that is opened once, finds the words of a text in Latin script so many times in
+/// a cache that has them all, a line each; if `found` is 0 normalises each so many times. Returns
+/// how many words there are.
 #[unsafe(no_mangle)]
 pub extern "C" fn bench_words(
     alloc: Global,

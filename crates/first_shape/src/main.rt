@@ -1,4 +1,5 @@
-//! The smallest program over a font file: shapes a word, and prints each glyph with its cluster and its advance.
+//! The smallest program over a font file: shapes a word, and prints each glyph with its cluster and
+//! its advance.
 #![tactic(auto)]
 
 use font_shaping::shape_with_bytes;

@@ -1,2 +1,5 @@
 mod ScriptLemmas
 mod PlanLemmas
+mod CutLemmas
+mod RunTriesLemmas
+mod WorkStaysLemmas

@@ -1,2 +1,3 @@
 pub mod EachShaper
 pub mod Strings
+pub mod RunTries

@@ -1,4 +1,5 @@
-//! What the runs of each shaper preserve where the lookups of an engine do, with any engine and any face.
+//! What the runs of each shaper preserve where the lookups of an engine do, with any engine and any
+//! face.
 ghost use Rattle.std.specs.Prelude.{◌≡◌, List, true};
 ghost use Rattle.shape_common.specs.declared.text_types.Feature.{Feature as AnyFeature};
 ghost use Rattle.shape_items.specs.Buffer.{Buffer};
@@ -26,8 +27,8 @@ use shaper_choice::choice::{ScriptRuns, by_script};
 use shaper_choice::plans::ScriptPlans;
 use universal_shaper::shaper::{UniversalShaper, universal_runs_preserve};
 
-/// Where the lookups of an engine preserve clusters and flags, runs by kept plans of the shaper of each script do. Their Unicode
-/// functions are those that they are given.
+/// Where the lookups of an engine preserve clusters and flags, runs by kept plans of the shaper of
+/// each script do. Their Unicode functions are those that they are given.
 pub(crate) fn plans_preserve<U: hb_unicode_funcs_t, F: hb_font_t, M: hb_ot_layout_t<F>>()
     ensures unicode { (plan : AnyPlan M.Map) (face : F)
         → (⟦<by_script as ScriptPlans<U, F, M>>⟧.run plan face).unicode ≡ U.unicode }
@@ -69,8 +70,8 @@ where
         → RunPreservesEquivalence (⟦<S as TextRuns<U, F, M>>⟧.text_run face shaper features text) }
 {}
 
-/// The same of the run that is made of a text. By the default shaper, and those of Myanmar and Zawgyi, it preserves equivalence,
-/// too.
+/// The same of the run that is made of a text. By the default shaper, and those of Myanmar and
+/// Zawgyi, it preserves equivalence, too.
 pub(crate) fn texts_preserve<U: hb_unicode_funcs_t, F: hb_font_t, M: hb_ot_layout_t<F>>()
     ensures unicode { (face : F) (features : List AnyFeature) (text : Buffer)
         → (⟦<by_script as ScriptRuns<U, F, M>>⟧.text_run face features text).unicode ≡ U.unicode }

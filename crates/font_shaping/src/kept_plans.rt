@@ -14,8 +14,8 @@ use shape_buffer::interfaces::hb_unicode_funcs_t;
 use shaper_choice::choice::by_script;
 use shaper_choice::plans::ScriptPlans;
 
-/// A run by a kept plan of the shaper of a script preserves clusters and flags, whatever the bytes of the font are and whatever
-/// is planned. Its Unicode functions are those that it is given.
+/// A run by a kept plan of the shaper of a script preserves clusters and flags, whatever the bytes
+/// of the font are and whatever is planned. Its Unicode functions are those that it is given.
 pub fn kept_plans_preserve<'a, U: hb_unicode_funcs_t>()
     ensures unicode { (plan : AnyPlan Map) (face : Face)
         → (⟦<by_script as ScriptPlans<U, OpenTypeFace<'a>, OpenTypeLayout>>⟧.run plan face).unicode

@@ -1,16 +1,22 @@
 //! What a run with a font file must provide: nothing is left of it.
 ghost use Rattle.std.specs.Prelude.{◌≡◌, List, true};
 ghost use Rattle.layout_map.specs.Map.{OtMap as Map};
-ghost use Rattle.opentype_layout.specs.Engine.{opentype_layout};
+ghost use Rattle.opentype_layout.specs.Engine.{opentype_layout, opentype_lookups};
+ghost use Rattle.opentype_layout.specs.Tries.{made_by};
 ghost use Rattle.opentype_layout.specs.declared.face.OpenTypeFace.{OpenTypeFace as Face};
 ghost use Rattle.shaper_choice.specs.Choice.{category_for, preserves_equivalence};
 ghost use Rattle.shape_common.specs.declared.text_types.Feature.{Feature as AnyFeature};
 ghost use Rattle.shape_items.specs.Buffer.{Buffer};
+ghost use Rattle.shape_buffer.specs.Outcome.{run_steps};
+ghost use Rattle.shape_common.specs.declared.text_types.Direction.{Direction};
 ghost use Rattle.shape_pipeline.specs.Canonical.{RunPreservesEquivalence};
 ghost use Rattle.shape_pipeline.specs.Order.{RunOrdersClusters};
 ghost use Rattle.shape_pipeline.specs.Premises.{HasNoObligations};
+ghost use Rattle.shape_pipeline.specs.Shaped.{all_steps};
 ghost use Rattle.shape_plan.specs.Plan.{Plan};
 ghost use Rattle.shape_plan.specs.Preservation.{RunPreservesFlags};
+ghost use Rattle.shape_plan.specs.Run.{Run};
+ghost use Rattle.font_shaping.specs.RunTries.{run_calls, HooksNeverRaise, TriesWithin};
 ghost use Rattle.shape_plan.specs.declared.ot_shaper.shapers.hb_default_shaper_t.{hb_default_shaper_t as DefaultShaper};
 
 use crate::each_shaper::texts_preserve;
@@ -21,8 +27,9 @@ use shape_pipeline::laws::runs_without_hooks_have_no_obligations;
 use shape_pipeline::ot_shaper::{Runs, hb_default_shaper_t};
 use shaper_choice::choice::{ScriptRuns, by_script};
 
-/// A run of the default shaper with the tables of a font file has no obligations, whatever the bytes of the file are
-/// and whatever the plan: every premise of the promises about a run holds of it.
+/// A run of the default shaper with the tables of a font file has no obligations, whatever the
+/// bytes of the file are and whatever the plan: every premise of the promises about a run holds of
+/// it.
 pub fn opentype_runs_have_no_obligations<'a, U: hb_unicode_funcs_t>()
     ensures { (plan : Plan DefaultShaper Map Unit) (face : Face) → HasNoObligations
         (⟦<hb_default_shaper_t as Runs<U, OpenTypeFace<'a>, OpenTypeLayout>>⟧.run plan face) }
@@ -36,9 +43,9 @@ pub fn opentype_runs_have_no_obligations<'a, U: hb_unicode_funcs_t>()
     >();
 }
 
-/// A run by the shaper of a text's script with the tables of a font file preserves clusters and flags, whatever the bytes of
-/// the file are; by the default shaper, and those of Myanmar and Zawgyi, it preserves equivalence, too. Its Unicode functions are
-/// those that it is given.
+/// A run by the shaper of a text's script with the tables of a font file preserves clusters and
+/// flags, whatever the bytes of the file are; by the default shaper, and those of Myanmar and
+/// Zawgyi, it preserves equivalence, too. Its Unicode functions are those that it is given.
 pub fn script_runs_preserve<'a, U: hb_unicode_funcs_t>()
     ensures unicode { (face : Face) (features : List AnyFeature) (text : Buffer)
         → (⟦<by_script as ScriptRuns<U, OpenTypeFace<'a>, OpenTypeLayout>>⟧.text_run face features text).unicode
@@ -54,4 +61,27 @@ pub fn script_runs_preserve<'a, U: hb_unicode_funcs_t>()
 {
     opentype_layout_preserves();
     texts_preserve::<U, OpenTypeFace, OpenTypeLayout>();
+}
+
+/// No font makes a run try more than it may: the subtables that the lookups of its stages and of
+/// positioning ask, and the rules and ligatures that they compare, are at most what it may ask for
+/// as it begins less what is left as it ends. What it begins with depends on the length of the text
+/// alone. Asked is that no hook of its shaper raises what is left. The calls that are counted make
+/// what the run's steps make.
+pub fn runs_try_no_more_than_they_may()
+    ensures calls { (map : Map) (face : Face) (run : Run) (target : Direction)
+        → run.lookups ≡ opentype_lookups map face → (b : Buffer)
+        → made_by (run_calls map face run target) b ≡ run_steps (all_steps run target) b }
+    ensures within { (map : Map) (face : Face) (run : Run)
+        → run.lookups ≡ opentype_lookups map face → HooksNeverRaise run → TriesWithin map face run }
+{}
+
+/// So it is of every run of the default shaper over a font, whatever the bytes of the font are and
+/// whatever the plan.
+pub fn opentype_runs_try_no_more_than_they_may<'a, U: hb_unicode_funcs_t>()
+    ensures { (plan : Plan DefaultShaper Map Unit) (face : Face) → TriesWithin plan.ot_map face
+        (⟦<hb_default_shaper_t as Runs<U, OpenTypeFace<'a>, OpenTypeLayout>>⟧.run plan face) }
+{
+    opentype_runs_have_no_obligations::<U>();
+    runs_try_no_more_than_they_may();
 }

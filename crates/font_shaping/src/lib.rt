@@ -1,9 +1,9 @@
 //! Texts shaped with font files, whatever bytes these are.
 //!
-//! [`shape_with_font`] shapes a text with a face of OpenType layout, [`shape_str`] a string, and [`shape_with_bytes`] a
-//! string with the bytes of a font file. Nothing is asked of the font: every premise on an engine's lookups is proved
-//! here once, for all bytes, by [`laws`]. So a hostile file changes what glyphs come out, and neither whether a call
-//! returns nor what it promises.
+//! [`shape_with_font`] shapes a text with a face of OpenType layout, [`shape_str`] a string, and
+//! [`shape_with_bytes`] a string with the bytes of a font file. Nothing is asked of the font: every
+//! premise on an engine's lookups is proved here once, for all bytes, by [`laws`]. So a hostile
+//! file changes what glyphs come out, and neither whether a call returns nor what it promises.
 #![tactic(auto)]
 #![allow(non_camel_case_types)]
 

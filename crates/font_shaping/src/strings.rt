@@ -1,6 +1,7 @@
 //! A string shaped with a font file.
 ghost use Rattle.std.specs.Prelude.{◌≡◌, ◌≤◌, ◌^◌, ◌⊎◌, ◌↔◌, length, Err, IfOk, IfErr, MatchResult};
 ghost use Rattle.shape_items.specs.Buffer.{new_buffer};
+ghost use Rattle.shape_lines.specs.CanCut.{CanCut};
 ghost use Rattle.opentype_layout.specs.Fonts.{units_of};
 ghost use Rattle.shape_pipeline.specs.GlyphsOf.{AreGlyphsOf, TextPasses};
 ghost use Rattle.shape_pipeline.specs.Strings.{AreGlyphsOfString};
@@ -42,12 +43,13 @@ impl FontError {
 
 /// The glyphs of a string with a font file, in the direction of its script and by the shaper that
 /// this asks for: those that `shape_by_script` makes of its text with these features and nothing
-/// else set. Nothing is asked of the string or the font: each cluster is the place of a
-/// character's first byte in the string, clusters stand in the order in which the glyphs run,
-/// neighbours in one cluster have the same flags, no glyph is unsafe to concat, and a string of at
-/// most 256 characters has at most 16384 glyphs, a longer one at most 64 for each. Refuses with
-/// `Length` a string of 2^32 bytes and more, or one of which a step would leave a list past the
-/// run's limit, and with `Memory` if a growth was refused; a new buffer comes back then.
+/// else set. Nothing is asked of the string or the font: each cluster is the place of a character's
+/// first byte in the string, clusters stand in the order in which the glyphs run, neighbours in one
+/// cluster have the same flags, so that the glyphs can be cut into lines, no glyph is unsafe to
+/// concat, and a string of at most 256 characters has at most 16384 glyphs, a longer one at most 64
+/// for each. Refuses with `Length` a string of 2^32 bytes and more, or one of which a step would
+/// leave a list past the run's limit, and with `Memory` if a growth was refused; a new buffer comes
+/// back then.
 pub fn shape_str<'a, U: hb_unicode_funcs_t>(
     alloc: Global,
     face: &OpenTypeFace<'a>,
@@ -64,6 +66,7 @@ pub fn shape_str<'a, U: hb_unicode_funcs_t>(
     ensures bytes { 2 ^ 32 ≤ length string.now
         → MatchResult result (λ _. ⊥) (λ fault. fault.cause ≡ ShapeError.Length) }
     ensures of_string { IfOk result (AreGlyphsOfString U.unicode string.now) }
+    ensures cut { IfOk result (λ glyphs. CanCut glyphs (length string.now)) }
     ensures refused { IfErr result (λ fault. fault.buffer ≡ new_buffer) }
 {
     script_runs_preserve::<U>();
@@ -74,9 +77,10 @@ pub fn shape_str<'a, U: hb_unicode_funcs_t>(
     }
 }
 
-/// The glyphs of a string with the bytes of a font file, of the font with this number in a collection: those that
-/// [`shape_str`] returns over the face of these bytes. For any bytes and any string the call returns, and what it returns is
-/// so; `Length` comes when it would come there, and `NoFont` exactly if the bytes have no such font.
+/// The glyphs of a string with the bytes of a font file, of the font with this number in a
+/// collection: those that [`shape_str`] returns over the face of these bytes. For any bytes and any
+/// string the call returns, and what it returns is so; `Length` comes when it would come there, and
+/// `NoFont` exactly if the bytes have no such font.
 pub fn shape_with_bytes<U: hb_unicode_funcs_t>(
     alloc: Global,
     bytes: &[u8],
@@ -93,7 +97,10 @@ pub fn shape_with_bytes<U: hb_unicode_funcs_t>(
         → (2 ^ 32 ≤ length string.now) ⊎ WithFaceOf bytes.now index (λ face. WithTextOf string.now (λ text.
         let run = ⟦<by_script as ScriptRuns<U, OpenTypeFace<'static>, OpenTypeLayout>>⟧.text_run
         face features.now text in TextPasses run text))) }
+    ensures bytes { 2 ^ 32 ≤ length string.now → MatchResult result (λ _. ⊥) (λ error.
+        (error ≡ FontError.Length) ⊎ (error ≡ FontError.NoFont)) }
     ensures of_string { IfOk result (AreGlyphsOfString U.unicode string.now) }
+    ensures cut { IfOk result (λ glyphs. CanCut glyphs (length string.now)) }
 {
     match OpenTypeFace::from_slice(bytes, index) {
         Some(face) => match shape_str::<U>(alloc, &face, features, string) {

@@ -1,4 +1,5 @@
-//! Lines that are drawn: on a picture of SVG, or on a page of HTML that shows where each glyph comes from.
+//! Lines that are drawn: on a picture of SVG, or on a page of HTML that shows where each glyph
+//! comes from.
 use crate::failure::Failure;
 use crate::glyphs::Glyphs;
 use crate::line::Line;
@@ -25,7 +26,8 @@ pub struct Drawn<'a> {
     canvas: Canvas,
 }
 
-/// What lines are to be drawn on, none if they are written. Refuses to draw a font without outlines.
+/// What lines are to be drawn on, none if they are written. Refuses to draw a font without
+/// outlines.
 pub fn begin_drawing<'a>(
     alloc: Global,
     options: &Options,
@@ -62,8 +64,8 @@ fn add_named(
 }
 
 impl<'a> Drawn<'a> {
-    /// Draws a line below all others, on a page with its numbers in the size that is asked for. Refuses if a growth was
-    /// refused.
+    /// Draws a line below all others, on a page with its numbers in the size that is asked for.
+    /// Refuses if a growth was refused.
     pub fn add(
         &mut self,
         alloc: Global,
@@ -94,6 +96,15 @@ impl<'a> Drawn<'a> {
             positions: positions.as_slice(),
         };
         add_named(alloc, page, &self.outlines, font, line)
+    }
+
+    /// Adds the steps of the last line's run, if it is drawn on a page. Refuses only if a growth
+    /// was refused.
+    pub fn add_steps(&mut self, alloc: Global, steps: &str) -> Result<(), AllocError> {
+        match &mut self.canvas {
+            Canvas::Svg(_) => Ok(()),
+            Canvas::Html(page) => page.add_steps(alloc, steps),
+        }
     }
 
     /// The picture or the page. Refuses only if a growth was refused.

@@ -74,7 +74,8 @@ impl Failure {
         }
     }
 
-    /// A write that failed; where nobody reads on, as `head` after its lines, there is nothing to say.
+    /// A write that failed; where nobody reads on, as `head` after its lines, there is nothing to
+    /// say.
     pub fn write(alloc: Global, name: &str, error: io::Error) -> Failure {
         match error.kind() {
             io::ErrorKind::BrokenPipe => Failure::Closed,
@@ -105,8 +106,9 @@ impl Failure {
         }
     }
 
-    /// The status that the program ends with: 2 if the arguments are wrong, 1 for a file or for want of memory, 3 for a
-    /// text that was refused, and 0 only after help and the version, and where nobody reads on.
+    /// The status that the program ends with: 2 if the arguments are wrong, 1 for a file or for
+    /// want of memory, 3 for a text that was refused, and 0 only after help and the version, and
+    /// where nobody reads on.
     pub fn status(&self) -> u8
         ensures within { result ≤ 3 }
         ensures usage { (e : _) → self.now ≡ Failure.Usage e → (result ≡ 0) ⊎ (result ≡ 2) }

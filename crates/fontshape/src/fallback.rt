@@ -1,5 +1,5 @@
-//! HarfBuzz's shaper `fallback`: each character by itself, with its own glyph and advance, whatever its script and the
-//! font's tables of lookups.
+//! HarfBuzz's shaper `fallback`: each character by itself, with its own glyph and advance, whatever
+//! its script and the font's tables of lookups.
 use shape_buffer::wrapping::difference;
 use shape_pipeline::{
     Direction, GlyphBuffer, GlyphId, GlyphPosition, UnicodeBuffer, hb_font_t, hb_unicode_funcs_t,
@@ -19,7 +19,8 @@ fn alone<F: hb_font_t>(face: &F, direction: Direction, glyph: GlyphId) -> GlyphP
     position
 }
 
-/// A character's glyph, and its position. A default ignorable is a space of no width, if the font has a space.
+/// A character's glyph, and its position. A default ignorable is a space of no width, if the font
+/// has a space.
 fn placed<F: hb_font_t>(face: &F, direction: Direction, c: char) -> (GlyphId, GlyphPosition) {
     if UnicodeDatabase::is_default_ignorable(c) {
         if let Some(space) = face.get_nominal_glyph(' ') {

@@ -111,7 +111,8 @@ pub fn format(alloc: Global, matches: &ArgMatches) -> Result<Format, Failure> {
     }
 }
 
-/// The name of the file to write to, none for standard output: a page has a name of its own, `-` for standard output.
+/// The name of the file to write to, none for standard output: a page has a name of its own, `-`
+/// for standard output.
 pub fn output(alloc: Global, matches: &ArgMatches) -> Result<Option<String>, Failure> {
     let name = match (matches.get_str("html"), matches.get_str("output-file")) {
         (Some(_), Some(_)) => return Err(Failure::both(alloc, "--html", "--output-file")),

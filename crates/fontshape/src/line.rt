@@ -2,7 +2,8 @@
 use glyph_pictures::Character;
 use std::alloc::{AllocError, Global};
 
-/// What stands for a byte that is part of no character (HarfBuzz, `hb_buffer_set_replacement_codepoint`).
+/// What stands for a byte that is part of no character (HarfBuzz,
+/// `hb_buffer_set_replacement_codepoint`).
 const REPLACEMENT: char = '\u{FFFD}';
 
 /// The characters of a line.
@@ -13,8 +14,8 @@ pub struct Line {
 }
 
 impl Line {
-    /// The characters of these bytes, each with its place as its cluster: that of its first byte, or its number. A byte
-    /// that is part of no character of UTF-8 stands for U+FFFD.
+    /// The characters of these bytes, each with its place as its cluster: that of its first byte,
+    /// or its number. A byte that is part of no character of UTF-8 stands for U+FFFD.
     pub fn new(alloc: Global, bytes: &[u8], by_bytes: bool) -> Result<Line, AllocError> {
         let mut line = Line {
             characters: Vec::new(alloc),
@@ -35,8 +36,8 @@ impl Line {
         self.characters.as_slice()
     }
 
-    /// Appends the text that begins at this byte, and U+FFFD for a byte after it that is part of no character. Gives
-    /// where the rest begins.
+    /// Appends the text that begins at this byte, and U+FFFD for a byte after it that is part of no
+    /// character. Gives where the rest begins.
     fn append(&mut self, bytes: &[u8], at: usize) -> Result<usize, AllocError> {
         let rest = bytes.get(at..).unwrap_or(&[]);
         let valid = match str::from_utf8(rest) {

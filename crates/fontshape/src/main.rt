@@ -1,9 +1,10 @@
 //! Shapes texts with a font file, and writes the glyphs as `hb-shape` does.
 //!
-//! [`command`] says which arguments there are, [`options`], [`values`] and [`forms`] what they ask for; [`line`] reads a
-//! line, [`shaping`] shapes it, or [`fallback`], [`written`] writes it to an [`output`] in a [`size`], and [`drawing`] draws
-//! it. A [`trace`] has what its run makes of it step by step. [`axes`] lists the axes of a variable font, and [`warnings`]
-//! say what a font doesn't have that is asked for.
+//! [`command`] says which arguments there are, [`options`], [`values`] and [`forms`] what they ask
+//! for; [`line`] reads a line, [`shaping`] shapes it, or [`fallback`], [`written`] writes it to an
+//! [`output`] in a [`size`], and [`drawing`] draws it. A [`trace`] has what its run makes of it
+//! step by step. [`axes`] lists the axes of a variable font, and [`warnings`] say what a font
+//! doesn't have that is asked for.
 #![tactic(auto)]
 #![allow(non_camel_case_types)]
 
@@ -55,6 +56,13 @@ const OUTPUT: &str = "standard output";
 
 const ERRORS: &str = "standard error";
 
+/// The glyphs of a line, and the trace of its run, empty if none is asked for.
+#[derive(Drop)]
+struct LineGlyphs {
+    glyphs: GlyphBuffer,
+    steps: String,
+}
+
 /// The program at work: what it shapes with, and what it draws on or writes to.
 #[derive(Drop)]
 struct Work<'a, W: Write + Drop> {
@@ -66,13 +74,14 @@ struct Work<'a, W: Write + Drop> {
 }
 
 impl<'a, W: Write + Drop> Work<'a, W> {
-    /// Shapes a line, and writes the trace of its run to standard error, also if the line is refused.
+    /// Shapes a line, and writes the trace of its run to standard error, also if the line is
+    /// refused.
     fn shape_traced(
         &self,
         rt: &HostRuntime,
         line: &Line,
         number: usize,
-    ) -> Result<GlyphBuffer, Failure> {
+    ) -> Result<LineGlyphs, Failure> {
         let alloc = rt.alloc();
         let trace = Trace::new(alloc, self.options, &self.font, number);
         let planned = self.planned.as_ref();
@@ -83,7 +92,10 @@ impl<'a, W: Write + Drop> Work<'a, W> {
             Err(error) => return Err(Failure::io(alloc, ERRORS, error)),
         }
         match done {
-            Ok(glyphs) => Ok(glyphs),
+            Ok(glyphs) => Ok(LineGlyphs {
+                glyphs,
+                steps: text,
+            }),
             Err(error) => Err(Failure::line(alloc, number, error)),
         }
     }
@@ -94,14 +106,17 @@ impl<'a, W: Write + Drop> Work<'a, W> {
         rt: &HostRuntime,
         line: &Line,
         number: usize,
-    ) -> Result<GlyphBuffer, Failure> {
+    ) -> Result<LineGlyphs, Failure> {
         if self.options.traced() {
             return self.shape_traced(rt, line, number);
         }
         let alloc = rt.alloc();
         let planned = self.planned.as_mut();
         match shaped(alloc, self.options, &self.font.face, planned, line) {
-            Ok(glyphs) => Ok(glyphs),
+            Ok(glyphs) => Ok(LineGlyphs {
+                glyphs,
+                steps: String::new(alloc),
+            }),
             Err(error) => Err(Failure::line(alloc, number, error)),
         }
     }
@@ -110,12 +125,13 @@ impl<'a, W: Write + Drop> Work<'a, W> {
     fn take_line(&mut self, rt: &HostRuntime, text: &[u8], number: usize) -> Result<(), Failure> {
         let alloc = rt.alloc();
         let line = Line::new(alloc, text, self.options.utf8_clusters())?;
-        let glyphs = self.shape(rt, &line, number)?;
+        let LineGlyphs { glyphs, steps } = self.shape(rt, &line, number)?;
         if let Some(drawn) = &mut self.drawn {
-            return match drawn.add(alloc, self.options, &self.font, &line, &glyphs) {
-                Ok(()) => Ok(()),
-                Err(error) => Err(Failure::line(alloc, number, error)),
-            };
+            if let Err(error) = drawn.add(alloc, self.options, &self.font, &line, &glyphs) {
+                return Err(Failure::line(alloc, number, error));
+            }
+            drawn.add_steps(alloc, steps.as_str())?;
+            return Ok(());
         }
         let given = Given {
             text,
@@ -230,7 +246,8 @@ fn buffered<R: Read + Drop>(alloc: Global, reader: R) -> Result<BufReader<R>, Fa
     }
 }
 
-/// Takes all lines with a face, and the same face for the font's tables of lookups if that was opened.
+/// Takes all lines with a face, and the same face for the font's tables of lookups if that was
+/// opened.
 fn run_over<'a, W: Write + Drop>(
     rt: &HostRuntime,
     options: &'a Options,
@@ -291,7 +308,8 @@ fn run(rt: &HostRuntime, options: &Options, bytes: &[u8]) -> Result<(), Failure>
 /// The most bytes of an argument that is looked at.
 const LONGEST: usize = 4096;
 
-/// The argument that isn't UTF-8, and its byte from which on it isn't, both counted from 1; none if it isn't found.
+/// The argument that isn't UTF-8, and its byte from which on it isn't, both counted from 1; none if
+/// it isn't found.
 fn malformed(rt: &HostRuntime) -> Option<(usize, usize)> {
     let mut bytes = [0u8; LONGEST];
     for number in 1..usize::MAX {

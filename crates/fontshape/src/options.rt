@@ -79,8 +79,8 @@ pub struct Options {
 }
 
 impl Options {
-    /// What these words ask for. Refuses the first value that isn't as it should be, and two options that exclude each
-    /// other.
+    /// What these words ask for. Refuses the first value that isn't as it should be, and two
+    /// options that exclude each other.
     pub fn new(alloc: Global, matches: &ArgMatches, words: &[String]) -> Result<Options, Failure> {
         Ok(Options {
             font: values::word_or(alloc, matches, "font", "")?,

@@ -25,9 +25,9 @@ use shaper_choice::{
 use std::alloc::Global;
 use watched_runs::{Watched, WatchedFace};
 
-/// The face for the font's tables of lookups, with the plan of the last line. A line of the same script and direction
-/// needs no other one, since language and features are those of the options. Making a plan takes as long as shaping a
-/// few words, and far longer in a font of many features.
+/// The face for the font's tables of lookups, with the plan of the last line. A line of the same
+/// script and direction needs no other one, since language and features are those of the options.
+/// Making a plan takes as long as shaping a few words, and far longer in a font of many features.
 #[derive(Drop)]
 pub struct Planned<'a> {
     face: &'a OpenedOpenTypeFace<'a>,
@@ -106,7 +106,8 @@ fn by_plan(
     }
 }
 
-/// A line as a buffer with the settings that are asked for, script and direction guessed if they aren't.
+/// A line as a buffer with the settings that are asked for, script and direction guessed if they
+/// aren't.
 pub fn filled(alloc: Global, options: &Options, line: &Line) -> Result<UnicodeBuffer, ShapeError> {
     let mut buffer = UnicodeBuffer::new(alloc);
     buffer.reserve(line.characters().len())?;
@@ -180,8 +181,8 @@ fn shaped_default<F: hb_font_t, M: hb_ot_layout_t<F>>(
     shaped_by::<F, M, hb_default_shaper_t>(alloc, options, face, &DEFAULT_SHAPER, buffer)
 }
 
-/// The glyphs of a buffer by this engine: with a default shaper that prefers the mode that is asked for, else with the
-/// shaper of its script.
+/// The glyphs of a buffer by this engine: with a default shaper that prefers the mode that is asked
+/// for, else with the shaper of its script.
 fn shaped_with<F: hb_font_t, M: hb_ot_layout_t<F>>(
     alloc: Global,
     options: &Options,
@@ -200,8 +201,8 @@ fn shaped_with<F: hb_font_t, M: hb_ot_layout_t<F>>(
     }
 }
 
-/// The glyphs of a buffer without tables of lookups, kerned by the table `kern` of a font without GPOS: a font with GPOS
-/// has its kerning there.
+/// The glyphs of a buffer without tables of lookups, kerned by the table `kern` of a font without
+/// GPOS: a font with GPOS has its kerning there.
 fn shaped_without_layout(
     alloc: Global,
     options: &Options,
@@ -215,8 +216,8 @@ fn shaped_without_layout(
     }
 }
 
-/// The face for the font's tables of lookups, opened once for all lines; none if the options say to leave them alone. Refuses
-/// with `Memory` if a growth was refused.
+/// The face for the font's tables of lookups, opened once for all lines; none if the options say to
+/// leave them alone. Refuses with `Memory` if a growth was refused.
 pub fn opened<'a>(
     alloc: Global,
     options: &Options,
@@ -230,8 +231,8 @@ pub fn opened<'a>(
     }
 }
 
-/// The glyphs of a line, by the font's tables of lookups if the face was opened for them, or of each character by itself.
-/// Refuses as `shape` does.
+/// The glyphs of a line, by the font's tables of lookups if the face was opened for them, or of
+/// each character by itself. Refuses as `shape` does.
 pub fn shaped(
     alloc: Global,
     options: &Options,
@@ -252,7 +253,8 @@ pub fn shaped(
     }
 }
 
-/// The glyphs of a buffer without tables of lookups, as `shaped_without_layout`, with a trace of the run.
+/// The glyphs of a buffer without tables of lookups, as `shaped_without_layout`, with a trace of
+/// the run.
 fn traced_without_layout(
     alloc: Global,
     options: &Options,

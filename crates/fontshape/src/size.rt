@@ -1,8 +1,8 @@
 //! Sizes of a font: how many units wide and high its em square is to be.
 //!
-//! A number of the font is multiplied and rounded as HarfBuzz does it: by the size times 2^16 over the units of the em
-//! square, cut to a whole number, and then by 2^-16, halves upwards.
+//! A number of the font is multiplied and rounded as HarfBuzz does it (`font_sizes`).
 use crate::glyphs::Glyphs;
+use font_sizes::Factor;
 use shape_buffer::wrapping::{difference, sum};
 use shape_pipeline::{
     GlyphId, GlyphPosition, MapFace, Metrics, hb_font_t, hb_glyph_extents_t, hb_glyph_info_t,
@@ -32,44 +32,33 @@ pub fn size_from_string(text: &str) -> Option<Size> {
 /// What numbers of the font are multiplied by, along the line and upwards.
 #[derive(Clone, Copy)]
 pub struct Scale {
-    across: Factor,
-    up: Factor,
+    across: Axis,
+    up: Axis,
 }
 
-/// What numbers of one axis are multiplied by: as 2^-16ths, and as HarfBuzz multiplies the sides of boxes.
+/// What numbers of one axis are multiplied by, and as HarfBuzz multiplies the sides of boxes.
 #[derive(Clone, Copy)]
-struct Factor {
-    fixed: i64,
+struct Axis {
+    factor: Factor,
     real: f32,
 }
 
-impl Factor {
+impl Axis {
     /// A size over the units of the em square.
-    fn new(size: i32, units: u16) -> Factor {
-        if units == 0 {
-            return Factor {
-                fixed: 0,
-                real: 0.0,
-            };
-        }
-        Factor {
-            fixed: i64::from(size)
-                .wrapping_mul(65536)
-                .checked_div(i64::from(units))
-                .unwrap_or(0),
+    fn new(size: i32, units: u16) -> Axis {
+        Axis {
+            factor: Factor::new(size, units),
             real: nearest_i32_to_f32(size) / f32::from(units),
         }
     }
 
-    /// A number, rounded, halves upwards; 0 if that is no number of 32 bits.
+    /// A number at the size.
     fn times(self, number: i32) -> i32 {
-        let product = i64::from(number)
-            .wrapping_mul(self.fixed)
-            .wrapping_add(32768);
-        i32::try_from(product >> 16).unwrap_or(0)
+        self.factor.times(number)
     }
 
-    /// An advance: that of the glyph, and what is added to it, each by itself; a glyph without one stays so.
+    /// An advance: that of the glyph, and what is added to it, each by itself; a glyph without one
+    /// stays so.
     fn advance(self, advance: i32, own: i32) -> i32 {
         if advance == 0 {
             0
@@ -78,7 +67,8 @@ impl Factor {
         }
     }
 
-    /// The side of a box and how far the other one lies from it, so that the box holds all that it held.
+    /// The side of a box and how far the other one lies from it, so that the box holds all that it
+    /// held.
     fn sides(self, side: i32, len: i32) -> (i32, i32) {
         let low = saturating_f32_to_i32((nearest_i32_to_f32(side) * self.real).floor());
         let far = nearest_i32_to_f32(sum(side, len)) * self.real;
@@ -90,8 +80,8 @@ impl Scale {
     /// What the numbers of a font with such an em square are multiplied by.
     pub fn new(size: Size, units: u16) -> Scale {
         Scale {
-            across: Factor::new(size.x, units),
-            up: Factor::new(size.y, units),
+            across: Axis::new(size.x, units),
+            up: Axis::new(size.y, units),
         }
     }
 

@@ -1,6 +1,6 @@
-//! What a run makes of a line's list, step by step, in the form of `hb-shape --trace`: before the first lookup of GSUB, after
-//! each stage of lookups that changed what is written of the list, once each glyph has its advance, and if they changed it after
-//! GPOS and after the table `kern`.
+//! What a run makes of a line's list, step by step, in the form of `hb-shape --trace`: before the
+//! first lookup of GSUB, after each stage of lookups that changed what is written of the list, once
+//! each glyph has its advance, and if they changed it after GPOS and after the table `kern`.
 //!
 //! A trace takes at most [`MOST_BYTES`]: what would follow is left out, and the trace says so.
 use crate::failure::Failure;
@@ -19,7 +19,8 @@ use watched_runs::{Moment, watcher};
 /// The most bytes of a line's trace, but for its last words.
 const MOST_BYTES: usize = 1_000_000;
 
-/// A text of at most so many bytes: the first part that would pass them is left out, and all that follow it.
+/// A text of at most so many bytes: the first part that would pass them is left out, and all that
+/// follow it.
 #[derive(Drop)]
 struct Kept {
     text: String,

@@ -41,7 +41,8 @@ fn character(digits: &str) -> Option<char> {
     }
 }
 
-/// The text of these characters, by their numbers in hexadecimal digits; none if one isn't the number of a character.
+/// The text of these characters, by their numbers in hexadecimal digits; none if one isn't the
+/// number of a character.
 pub fn text_of_numbers(alloc: Global, list: &str) -> Result<Option<String>, AllocError> {
     let mut text = String::new(alloc);
     for digits in list.split(is_delimiter) {

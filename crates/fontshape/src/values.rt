@@ -1,4 +1,5 @@
-//! The values of options of the input and of shaping: what each takes, and what is said of one that it doesn't take.
+//! The values of options of the input and of shaping: what each takes, and what is said of one that
+//! it doesn't take.
 ghost use Rattle.std.specs.Prelude.{◌≡◌};
 
 use crate::failure::Failure;
@@ -224,7 +225,8 @@ pub fn script(alloc: Global, matches: &ArgMatches) -> Result<Option<Script>, Fai
     }
 }
 
-/// Whether the first shaper of the list is `fallback` and not `ot`: either serves each text, so that no other one is tried.
+/// Whether the first shaper of the list is `fallback` and not `ot`: either serves each text, so
+/// that no other one is tried.
 pub fn fallback(alloc: Global, matches: &ArgMatches) -> Result<bool, Failure> {
     let list = matches.get_str("shapers").unwrap_or("ot");
     if !list

@@ -6,18 +6,22 @@ use shape_font::directory::Directory;
 use shape_text_forms::SerializeFlags;
 use std::alloc::{AllocError, Global};
 
-/// Tables of bitmaps and of layers in colours: `sbix`, `CBDT`, `COLR`.
-const COLOURED: [u32; 3] = [0x7362_6978, 0x4342_4454, 0x434F_4C52];
+const SBIX: u32 = 0x7362_6978;
+
+const CBDT: u32 = 0x4342_4454;
+
+const COLR: u32 = 0x434F_4C52;
 
 /// What boxes a font has not, none if it has all.
 fn missing_boxes(options: &Options, bytes: &[u8]) -> Option<&'static str> {
     let index = options.face_index();
-    if Outlines::from_slice(bytes, index).is_none() {
-        return Some("no boxes, since it has no table glyf, CFF or CFF2");
-    }
     let font = Directory::of(bytes, index);
-    if COLOURED.iter().any(|tag| font.has(*tag)) {
-        return Some("boxes of outlines alone, and not of its bitmaps or layers (sbix, CBDT, COLR)");
+    let bitmaps = font.has(SBIX) || font.has(CBDT);
+    if !bitmaps && Outlines::from_slice(bytes, index).is_none() {
+        return Some("no boxes, since it has no table glyf, CFF, CFF2, sbix or CBDT");
+    }
+    if font.has(COLR) {
+        return Some("boxes of outlines alone, and not of its layers in colours (COLR)");
     }
     None
 }
@@ -48,23 +52,29 @@ const VVAR: u32 = 0x5656_4152;
 
 const VORG: u32 = 0x564F_5247;
 
+const GVAR: u32 = 0x6776_6172;
+
 const GPOS: u32 = 0x4750_4F53;
 
 /// What is not varied that is asked for: its names, with commas between them.
 fn unvaried(alloc: Global, options: &Options, font: &Directory<'_>) -> Result<String, AllocError> {
     let upright = options.direction().is_vertical();
+    let points = font.has(GVAR);
     let boxes = options.form().asks(SerializeFlags::GLYPH_EXTENTS) || !font.has(GPOS);
     let parts = [
-        (!font.has(HVAR), "advances (it has no table HVAR)"),
-        (boxes, "boxes"),
+        (
+            !font.has(HVAR) && !points,
+            "advances (it has no table HVAR or gvar)",
+        ),
+        (boxes && !points, "boxes"),
         (options.draws(), "outlines"),
         (
-            upright && !font.has(VVAR),
-            "vertical advances (it has no table VVAR)",
+            upright && !font.has(VVAR) && !points,
+            "vertical advances (it has no table VVAR or gvar)",
         ),
         (
-            upright && !font.has(VORG),
-            "vertical origins (it has no table VORG)",
+            upright && !font.has(VORG) && !points,
+            "vertical origins (it has no table VORG or gvar)",
         ),
     ];
     let mut names = String::new(alloc);

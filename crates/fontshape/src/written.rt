@@ -13,7 +13,8 @@ use shape_text_forms::{
 use std::alloc::{AllocError, Global};
 use std::io::Write;
 
-/// How many glyphs are written at once: with the names of a hostile font each may take a thousand bytes.
+/// How many glyphs are written at once: with the names of a hostile font each may take a thousand
+/// bytes.
 const PART: usize = 256;
 
 /// The font of what is written: its face, and the names of its glyphs if they are written.

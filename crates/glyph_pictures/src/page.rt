@@ -1,7 +1,8 @@
 //! All lines as one page of HTML, which stands alone: no server, no network, no other file.
 //!
 //! Each line has its text in bands, its picture and the table of its glyphs. A pointer or the
-//! keyboard on one of them marks the others, and shows the glyph's row below. A page has at most
+//! keyboard on one of them marks the others, and shows the glyph's row below. The steps of a line's
+//! run may follow, of which the page shows one at a time. A page has at most
 //! [`MOST_PAGE`] bytes: a line that would pass them is left out, with all that follow, and the
 //! page says so.
 ghost use Rattle.std.specs.Prelude.{◌≡◌, ◌≤◌, IfOk, length, string_bytes};
@@ -15,6 +16,7 @@ use crate::picture::PIXELS;
 use crate::rows::Table;
 use crate::sheet::Sheet;
 use crate::spots::spots;
+use crate::steps::{self, entries};
 use glyph_outlines::Outlines;
 use shape_buffer::{Direction, GlyphBuffer, GlyphPosition, ShapeError};
 use shape_text_forms::glyph_names;
@@ -174,6 +176,18 @@ impl Page {
         out.push_str("</tbody></table></section>\n")?;
         self.sheet.put(out.as_str())?;
         Ok(())
+    }
+
+    /// Adds what the run of the last line made of its list, a line of this text for each step;
+    /// nothing if there is none. Refuses if a growth was refused.
+    pub fn add_steps(&mut self, alloc: Global, steps: &str) -> Result<(), AllocError> {
+        if steps.is_empty() || self.sheet.is_full() {
+            return Ok(());
+        }
+        let mut out = String::from_str(alloc, steps::BEGIN)?;
+        out.push_str(entries(alloc, steps)?.as_str())?;
+        out.push_str(steps::END)?;
+        self.sheet.put(out.as_str())
     }
 
     /// The page. Refuses only if a growth was refused.

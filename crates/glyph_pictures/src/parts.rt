@@ -41,6 +41,11 @@ thead th { position: sticky; top: 0; background: var(--paper); font-weight: norm
 #shown { position: fixed; inset: auto 0 0 0; max-height: 8rem; overflow: auto; padding: .5rem 1rem; background: var(--soft); border-top: 1px solid var(--edge); font-size: .9rem }
 #shown p { margin: 0; display: flex; flex-wrap: wrap; gap: 0 1rem }
 #shown i { opacity: .7; font-style: normal }
+.steps { display: flex; flex-wrap: wrap; gap: .5rem 1rem; align-items: baseline; padding: 0 0 1rem }
+.steps p { margin: 0 }
+.steps ol { flex: 1 1 20rem; margin: 0; padding: 0; list-style: none; font-size: .85rem; overflow-wrap: anywhere }
+.steps i { opacity: .7; font-style: normal; margin-inline-end: 1rem }
+.steps .new { background: var(--hot) }
 @media (max-width: 60rem) { section { grid-template-columns: minmax(0, 1fr) } }
 </style>
 "#;
@@ -81,6 +86,42 @@ addEventListener('DOMContentLoaded', () => {
     const next = step > 0 ? place.nextElementSibling : place.previousElementSibling;
     if (next && next.dataset.c !== undefined) { next.focus(); event.preventDefault(); }
   });
+  const parted = item => {
+    const [moment, list = ''] = item.textContent.split('\tbuffer: ');
+    return { moment, glyphs: list.slice(1, -1).split('|') };
+  };
+  const mark = (item, { moment, glyphs }, before) => {
+    const said = document.createElement('i');
+    said.textContent = moment;
+    const parts = glyphs.map(glyph => {
+      const part = document.createElement('span');
+      part.textContent = glyph;
+      part.className = before.includes(glyph) ? '' : 'new';
+      return part;
+    });
+    item.replaceChildren(said, ...parts.flatMap((part, at) => at ? ['|', part] : [part]));
+  };
+  for (const steps of document.querySelectorAll('.steps')) {
+    const items = Array.from(steps.querySelectorAll('li')), all = items.map(parted);
+    const [back, on] = steps.querySelectorAll('button'), place = steps.querySelector('b');
+    const last = items.length - 1;
+    let now = 0;
+    items.forEach((item, at) => mark(item, all[at], all[/ start /.test(all[at].moment) ? at : Math.max(0, at - 1)].glyphs));
+    const turn = to => {
+      now = Math.max(0, Math.min(last, to));
+      items.forEach((item, at) => { item.hidden = at !== now; });
+      place.textContent = `step ${now + 1} of ${items.length}`;
+    };
+    back.addEventListener('click', () => turn(now - 1));
+    on.addEventListener('click', () => turn(now + 1));
+    steps.addEventListener('keydown', event => {
+      const to = { ArrowRight: now + 1, ArrowDown: now + 1, ArrowLeft: now - 1, ArrowUp: now - 1, Home: 0, End: last }[event.key];
+      if (to === undefined) return;
+      turn(to);
+      event.preventDefault();
+    });
+    turn(0);
+  }
 });
 </script></head>
 "#;

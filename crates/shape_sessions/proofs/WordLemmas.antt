@@ -1,5 +1,6 @@
 -- How the words of a line are taken off one by one, and parted at a `/`.
-use Rattle.std.proofs.Common.{◌≡◌, ◌≢◌, ℕ, ◌<◌, ◌-◌, ⊎_elim, false, List, [], ◌∷◌, ◌++◌, length, drop, take, get_or, Option, Some, None, unwrap_or, ◌==◌, refl, sym, ◌∙◌, ap, subst, lit<, arith, append-nil, append_assoc, take-append-drop, suc}
+use Rattle.std.proofs.Common.{◌≡◌, ◌≢◌, ℕ, ◌<◌, ◌-◌, ⊎_elim, false, List, [], ◌∷◌, ◌++◌, length, drop, take, get_or, Option, Some, None, unwrap_or}
+use Rattle.std.proofs.Common.{◌==◌, refl, sym, ◌∙◌, ap, subst, lit<, arith, append-nil, append_assoc, take-append-drop, suc}
 use Rattle.std.proofs.Math.ListN.{drop_of_length-le}
 use Rattle.std.proofs.Math.Seq.{drop-cons}
 use Rattle.std.proofs.lemmas.Bool.{cases_Bool}

@@ -1,5 +1,6 @@
 -- The laws of the program's Unicode functions: the rule of a table is a test that computes over the whole table.
-use Rattle.std.specs.Prelude.{◌≡◌, ◌≢◌, ℕ, ◌<◌, ◌⊎◌, ◌==◌, ◌&&◌, ◌||◌, not, nat_lt, Bool, true, false, List, [], ◌∷◌, Option, Some, None, ◌++◌, is_none, option_and_then, refl}
+use Rattle.std.specs.Prelude.{◌≡◌, ◌≢◌, ℕ, ◌<◌, ◌⊎◌, ◌==◌, ◌&&◌, ◌||◌, not, nat_lt, Bool, true, false, List, [], ◌∷◌, Option, Some, None, ◌++◌}
+use Rattle.std.specs.Prelude.{is_none, option_and_then, refl}
 use Rattle.std.specs.List.{find, list_all}
 use Rattle.std.specs.Option.{option_map}
 use Rattle.std.proofs.Common.{cond, inl, inr, ap, sym, ◌∙◌, arith, subst}

@@ -38,8 +38,8 @@ impl Command {
     }
 }
 
-/// The direction that a word stands for; `auto`, which leaves it to be guessed, stands for Invalid. Refuses every
-/// other word.
+/// The direction that a word stands for; `auto`, which leaves it to be guessed, stands for Invalid.
+/// Refuses every other word.
 pub fn direction(word: &str) -> Option<Direction>
     ensures { result ≡ direction_of word.now }
 {

@@ -3,8 +3,8 @@ ghost use Rattle.std.specs.Prelude.{◌≤◌};
 ghost use Rattle.std.specs.Option.{SomeIff};
 ghost use Rattle.shape_sessions.specs.Modes.{mode_of};
 
-/// The modes of normalising. Each stands for a shaper that prefers it; the last is that of the default
-/// shaper.
+/// The modes of normalising. Each stands for a shaper that prefers it; the last is that of the
+/// default shaper.
 #[derive(Clone, Copy)]
 pub enum Mode {
     Shortest,

@@ -1,7 +1,7 @@
 //! The words of a line, and the characters and numbers that they write.
 //!
-//! Words are separated by spaces alone. A digit is an ASCII digit; leading zeros are fine, and the only
-//! sign is one minus before a signed number.
+//! Words are separated by spaces alone. A digit is an ASCII digit; leading zeros are fine, and the
+//! only sign is one minus before a signed number.
 ghost use Rattle.std.specs.Prelude.{◌≡◌, ◌≤◌, ◌≢◌, ℕ, List, [], ◌∷◌, ◌++◌, ◌^◌, ◌<◌, length};
 ghost use Rattle.std.specs.Prelude.{slice_index, All};
 ghost use Rattle.std.specs.Option.{SomeIff, MatchOption};
@@ -80,8 +80,8 @@ fn digits(word: &str, radix: u32) -> Option<u32>
     u32::from_str_radix(word, radix).ok()
 }
 
-/// The character that one to six hexadecimal digits write. Refuses every other word, and a number that
-/// is no character.
+/// The character that one to six hexadecimal digits write. Refuses every other word, and a number
+/// that is no character.
 pub fn character(word: &str) -> Option<char>
     ensures { SomeIff result (IsCharacterWord word.now) (digits_value 16 word.now) }
 {
@@ -100,7 +100,8 @@ pub fn natural(word: &str, most: u32) -> Option<u32>
     if number <= most { Some(number) } else { None }
 }
 
-/// The number of 32 bits that decimal digits write, after one minus at most. Refuses every other word.
+/// The number of 32 bits that decimal digits write, after one minus at most. Refuses every other
+/// word.
 pub fn integer(word: &str) -> Option<i32>
     ensures { SomeIff result ((slice_index word.now 0 ≢ 43)
         × IsNumeral 10 (without_leading_sign word.now)

@@ -41,8 +41,8 @@ pub fn append_glyphs(
     lines.push('\n')
 }
 
-/// Appends a line of a text's line, which shows the text from one cluster up to another: its glyphs, each with
-/// its cluster.
+/// Appends a line of a text's line, which shows the text from one cluster up to another: its
+/// glyphs, each with its cluster.
 pub fn append_line(
     lines: &mut String,
     text_start: u32,

@@ -1,7 +1,7 @@
 //! What the lines so far have set.
 //!
-//! The state after a line is a function of the state before it and of the line's words: each command sets
-//! one thing, a malformed line nothing, and lines that ask for output leave the state.
+//! The state after a line is a function of the state before it and of the line's words: each
+//! command sets one thing, a malformed line nothing, and lines that ask for output leave the state.
 //!
 //! Its setters are public, one for each line that sets something, and the program chooses among
 //! them: a line that asks for glyphs needs the pipeline, which a session doesn't know.
@@ -57,8 +57,8 @@ impl Model for Session {
     } };
 }
 
-/// The words of a line in UTF-8. It may end with a line feed, before which a carriage return may stand. Refuses a line
-/// that isn't in UTF-8.
+/// The words of a line in UTF-8. It may end with a line feed, before which a carriage return may
+/// stand. Refuses a line that isn't in UTF-8.
 pub fn words_of_line(line: &[u8]) -> Option<Words<'_>>
     ensures { MatchOption result
         (¬ IsUtf8 line.now)
@@ -122,8 +122,8 @@ impl Session {
         Outcome::Done
     }
 
-    /// `glyph C I A ..`: the character C has glyph I, whose advance is A, and perhaps its extents. Out of memory
-    /// if a growth was refused; then the character keeps the glyph that it had.
+    /// `glyph C I A ..`: the character C has glyph I, whose advance is A, and perhaps its extents.
+    /// Out of memory if a growth was refused; then the character keeps the glyph that it had.
     pub fn set_glyph(&mut self, words: Words) -> Outcome
         ensures { IsObeyed (Some Command.Glyph)
             (IsMeant Command.Glyph (word_rules.words words.entry.rest.now)) self.old

@@ -1,11 +1,12 @@
-//! The program's Unicode functions: categories and scripts of the Unicode Character Database, widths of
-//! spaces as `shape_unicode` has them, and small tables for everything else.
+//! The program's Unicode functions: categories and scripts of the Unicode Character Database,
+//! widths of spaces as `shape_unicode` has them, and small tables for everything else.
 //!
-//! A file for each property. No proof of this program knows the value of a category, so the laws may not rest
-//! on one: if a law speaks of marks, the function asks for the category as it runs. A ccc counts only for
-//! a mark, a mark splits only into marks, characters compose only into one that splits into them, mirror
-//! images and vertical forms are of characters that are neither marks nor spaces, and an ASCII character
-//! would be no mark whatever the database said. On these tables none of the tests changes a result.
+//! A file for each property. No proof of this program knows the value of a category, so the laws
+//! may not rest on one: if a law speaks of marks, the function asks for the category as it runs. A
+//! ccc counts only for a mark, a mark splits only into marks, characters compose only into one that
+//! splits into them, mirror images and vertical forms are of characters that are neither marks nor
+//! spaces, and an ASCII character would be no mark whatever the database said. On these tables none
+//! of the tests changes a result.
 
 mod category;
 mod ccc;

@@ -1,7 +1,8 @@
 //! The program over any reader and writer: a line sets something or asks for something.
 //!
-//! Nothing is kept of a line but what it sets, and what a line prints is written before the next one is
-//! read. The first line that can't be obeyed ends the program's run, with a status that says why.
+//! Nothing is kept of a line but what it sets, and what a line prints is written before the next
+//! one is read. The first line that can't be obeyed ends the program's run, with a status that says
+//! why.
 //!
 //! Lines are counted in a loop over all u128 numbers, which ends later than any input: a loop
 //! without an end would need a handle. The printed number stays at the greatest u64.
@@ -33,9 +34,9 @@ const FAILED: u8 = 1;
 /// The status if a line was malformed.
 const MALFORMED: u8 = 2;
 
-/// Obeys the lines of the reader and gives the exit status: 0 at the end of the input, 1 if a read or
-/// a write failed, 2 at a malformed line. Running out of memory outside shaping counts as a failed read.
-/// After a failed write nothing more is written.
+/// Obeys the lines of the reader and gives the exit status: 0 at the end of the input, 1 if a read
+/// or a write failed, 2 at a malformed line. Running out of memory outside shaping counts as a
+/// failed read. After a failed write nothing more is written.
 pub fn run<R: BufRead + Drop, W: Write + Drop>(alloc: Global, mut reader: R, mut writer: W) -> u8
     ensures { result ≤ 2 }
 {
@@ -79,8 +80,9 @@ fn malformed<W: Write>(number: u64, writer: &mut W) -> u8
     }
 }
 
-/// Does what one line says, and writes what it asks for. A malformed line changes nothing. A `glyph` line is
-/// out of memory if a growth was refused, and then changes at most the metrics of glyphs.
+/// Does what one line says, and writes what it asks for. A malformed line changes nothing. A
+/// `glyph` line is out of memory if a growth was refused, and then changes at most the metrics of
+/// glyphs.
 fn obey<W: Write>(alloc: Global, session: &mut Session, line: &[u8], writer: &mut W) -> Outcome
     ensures { IsObeyed (command_of_words (line_words line.now)) (IsLine line.now) session.old
         (obeyed (line_words line.now) session.old) result session.new }

@@ -1,4 +1,5 @@
-//! Which characters may take another's place as a run mirrors a text or sets it upright: both must be plain.
+//! Which characters may take another's place as a run mirrors a text or sets it upright: both must
+//! be plain.
 ghost use Rattle.std.specs.Prelude.{◌≡◌};
 ghost use Rattle.shape_sessions.specs.Plain.{is_plain, plain_form};
 

@@ -1,4 +1,5 @@
-//! Scripts (UAX 24), from the Unicode Character Database, and the directions that they are written in.
+//! Scripts (UAX 24), from the Unicode Character Database, and the directions that they are written
+//! in.
 ghost use Rattle.std.specs.Prelude.{◌≡◌};
 ghost use Rattle.shape_sessions.specs.Scripts.{script_from, script_of, direction_of_script};
 

@@ -1,7 +1,7 @@
 //! What becomes of a text on its way through a run: prepared, normalised, shaped.
 //!
-//! A whole run returns its glyphs alone. So the program runs the steps up to normalising on a buffer of
-//! its own, and reads the lists that they leave.
+//! A whole run returns its glyphs alone. So the program runs the steps up to normalising on a
+//! buffer of its own, and reads the lists that they leave.
 ghost use Rattle.std.specs.Prelude.{◌≡◌, ◌≢◌, IfOk};
 ghost use Rattle.shape_buffer.specs.Guess.{guessed};
 ghost use Rattle.shape_plan.specs.Plan.{Fits};
@@ -25,7 +25,8 @@ pub fn guess(text: &mut UnicodeBuffer)
     text.guess_segment_properties::<UnicodeTables>();
 }
 
-/// Guesses what a text leaves open, and plans for it. Refuses with `Memory` if a growth was refused.
+/// Guesses what a text leaves open, and plans for it. Refuses with `Memory` if a growth was
+/// refused.
 #[tactic(auto, using(crate::proofs::PlanLemmas::planned_direction, crate::proofs::PlanLemmas::planned_script, crate::proofs::PlanLemmas::script_guessed_again, crate::proofs::PlanLemmas::direction_guessed_again))]
 pub fn planned<'a, S>(
     alloc: Global,

@@ -1,4 +1,5 @@
-//! The line `lines W C ..`: shapes the characters, and prints the lines that their glyphs are cut into.
+//! The line `lines W C ..`: shapes the characters, and prints the lines that their glyphs are cut
+//! into.
 ghost use Rattle.shape_lines.specs.CanCut.{CanCut};
 ghost use Rattle.shape_sessions.specs.Lines.{IsAnswered};
 ghost use Rattle.shape_sessions.specs.Text.{IsText, IsWidthAndText};
@@ -19,8 +20,9 @@ use shape_sessions::unicode_tables::UnicodeTables;
 use std::alloc::Global;
 use std::io::Write;
 
-/// Shapes a text and writes the lines that it is cut into, or the number of the refusal. Malformed if the
-/// first word is no width, if another is no character, or if 32 bits can't count the bytes in UTF-8.
+/// Shapes a text and writes the lines that it is cut into, or the number of the refusal. Malformed
+/// if the first word is no width, if another is no character, or if 32 bits can't count the bytes
+/// in UTF-8.
 #[tactic(auto, using(crate::proofs::WidthLemmas::no_width, crate::proofs::WidthLemmas::other_width, crate::proofs::WidthLemmas::other_text, crate::proofs::WidthLemmas::width_and_text))]
 pub fn answer<W: Write>(
     alloc: Global,

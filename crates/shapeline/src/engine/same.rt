@@ -16,8 +16,9 @@ use shape_sessions::unicode_tables::UnicodeTables;
 use std::alloc::Global;
 use std::io::Write;
 
-/// Compares two texts and writes the answer, or the number of the refusal. Malformed if no word `/` parts
-/// the two, if a word of theirs is no character, or if 32 bits can't count the bytes of one in UTF-8.
+/// Compares two texts and writes the answer, or the number of the refusal. Malformed if no word `/`
+/// parts the two, if a word of theirs is no character, or if 32 bits can't count the bytes of one
+/// in UTF-8.
 pub fn answer<W: Write>(
     alloc: Global,
     face: &MapFace,
@@ -60,7 +61,8 @@ fn are_same(
     with_shaper(text_settings.mode, Comparing { alloc, face, a, b })
 }
 
-/// A buffer with a text in the script Common, which runs from left to right if lines have left it open.
+/// A buffer with a text in the script Common, which runs from left to right if lines have left it
+/// open.
 fn in_common(
     alloc: Global,
     text_settings: TextSettings,

@@ -25,8 +25,8 @@ use std::alloc::Global;
 use std::io;
 use std::io::Write;
 
-/// Shapes a text and writes what is printed for it, or the number of the refusal. Malformed if a word is no
-/// character, or if 32 bits can't count the bytes in UTF-8.
+/// Shapes a text and writes what is printed for it, or the number of the refusal. Malformed if a
+/// word is no character, or if 32 bits can't count the bytes in UTF-8.
 pub fn answer<W: Write>(
     alloc: Global,
     face: &MapFace,
@@ -57,8 +57,8 @@ pub(super) fn write_refusal<W: Write>(cause: ShapeError, writer: &mut W) -> io::
     }
 }
 
-/// How many bytes a text takes in UTF-8, if each word is a character and 32 bits can count them. Takes
-/// no memory, so that a malformed text is malformed however little there is.
+/// How many bytes a text takes in UTF-8, if each word is a character and 32 bits can count them.
+/// Takes no memory, so that a malformed text is malformed however little there is.
 pub(super) fn text_len(words: Words) -> Option<u32>
     ensures { SomeIff result (IsText (word_rules.words words.entry.rest.now))
         (utf8_len (word_rules.words words.entry.rest.now)) }
@@ -70,8 +70,8 @@ pub(super) fn text_len(words: Words) -> Option<u32>
     Some(len)
 }
 
-/// A buffer with a text, whose clusters are byte offsets in UTF-8, to be shaped as lines have set it. Refuses
-/// with `Memory` if a growth was refused.
+/// A buffer with a text, whose clusters are byte offsets in UTF-8, to be shaped as lines have set
+/// it. Refuses with `Memory` if a growth was refused.
 pub(super) fn filled(
     alloc: Global,
     text_settings: TextSettings,
@@ -124,8 +124,8 @@ fn lines(
     )
 }
 
-/// A text whose lists are asked for, and the same text again, whose glyphs are: a run to the end leaves no list
-/// before the last one.
+/// A text whose lists are asked for, and the same text again, whose glyphs are: a run to the end
+/// leaves no list before the last one.
 struct Answering<'a> {
     alloc: Global,
     face: &'a MapFace,

@@ -20,3 +20,12 @@ returns-clause-flags g c =
     IfOk-weaker c.shape_by_script.result _ _
     (λ glyphs are. are.flags (c.script_runs_preserve.ensures.flags c.args.face.now c.args.features.now c.args.text))
     c.shape_by_script.ensures.ok
+
+pub returns-clause-cut : goal.returns-clause-cut
+returns-clause-cut g c = λ level rising text_end below.
+    let preserves = c.script_runs_preserve.ensures.clusters c.args.face.now c.args.features.now c.args.text in
+    let preserves_flags = c.script_runs_preserve.ensures.flags c.args.face.now c.args.features.now c.args.text in
+    IfOk-weaker c.shape_by_script.result _ _
+    (λ glyphs are. c.glyphs_can_be_cut.ensures _ _ c.args.text glyphs text_end are.clusters are.flags preserves preserves_flags level rising
+    below)
+    c.shape_by_script.ensures.ok
