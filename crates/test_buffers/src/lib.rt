@@ -1,6 +1,6 @@
-//! Tests of buffers through their public calls: lists that were worked out by hand from the rules, calls that take memory and
-//! calls that take none, and the lines that glyphs are cut into; and the numbers by which callers name things. `unicode` has those
-//! of Unicode functions.
+//! Tests of buffers through their public calls: lists that were worked out by hand from the rules,
+//! calls that take memory and calls that take none, and the lines that glyphs are cut into; and the
+//! numbers by which callers name things. `unicode` has those of Unicode functions.
 #![tactic(auto)]
 #![allow(non_camel_case_types)]
 

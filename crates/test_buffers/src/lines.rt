@@ -1,7 +1,7 @@
 //! Lines of glyphs that were put together by hand.
 //!
-//! The gate's script counts growths: a test that cuts a buffer without glyphs has as many as one that cuts none. It
-//! refuses each growth of the test `growths` in turn.
+//! The gate's script counts growths: a test that cuts a buffer without glyphs has as many as one
+//! that cuts none. It refuses each growth of the test `growths` in turn.
 
 use crate::support::{assert_same, assert_that, filled};
 use shape_buffer::buffer::{Direction, GlyphBuffer, ShapeError, UnicodeBuffer};

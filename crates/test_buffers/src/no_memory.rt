@@ -1,6 +1,6 @@
-//! Calls of `hb_buffer_t` and of its items that can't be refused take no memory. Two tests fill the same buffer,
-//! and the second one makes each such call besides; the gate's script counts the growths of both, and the
-//! two numbers must be equal.
+//! Calls of `hb_buffer_t` and of its items that can't be refused take no memory. Two tests fill the
+//! same buffer, and the second one makes each such call besides; the gate's script counts the
+//! growths of both, and the two numbers must be equal.
 
 use crate::support::{assert_same, assert_that, with_every_property};
 use shape_buffer::buffer::{
@@ -15,8 +15,8 @@ use shape_buffer::walks::update_items;
 use std::alloc::Global;
 use std::process::Abort;
 
-/// A buffer of sixteen items, and a language to be set. The lists have room for so many items and no
-/// more, so that a growth by one is seen.
+/// A buffer of sixteen items, and a language to be set. The lists have room for so many items and
+/// no more, so that a growth by one is seen.
 fn begun(rt: &impl Abort, alloc: Global) -> (hb_buffer_t, Language) {
     let mut infos: Vec<hb_glyph_info_t> = Vec::new(alloc);
     for cluster in 0..16 {

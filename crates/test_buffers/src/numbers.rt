@@ -1,5 +1,5 @@
-//! The numbers by which callers in other languages and stored data name things, as the rules have them. No
-//! body computes with most of them, so no clause would notice a wrong one.
+//! The numbers by which callers in other languages and stored data name things, as the rules have
+//! them. No body computes with most of them, so no clause would notice a wrong one.
 
 use crate::support::assert_same;
 use shape_buffer::buffer::{

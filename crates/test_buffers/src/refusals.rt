@@ -1,5 +1,6 @@
-//! The calls that take memory: each does what it is asked for, or is refused and changes nothing. With memory
-//! at hand the tests pass; the gate's script refuses one growth after the other of `growths`, and reads that it was so.
+//! The calls that take memory: each does what it is asked for, or is refused and changes nothing.
+//! With memory at hand the tests pass; the gate's script refuses one growth after the other of
+//! `growths`, and reads that it was so.
 
 use crate::support::assert_same;
 use shape_buffer::buffer::{ShapeError, UnicodeBuffer, hb_buffer_t, hb_glyph_info_t, hb_tag_t};

@@ -2,10 +2,10 @@
 
 use crate::sessions::check_rows;
 
-/// Merging grows over the first item's cluster and over the last item's, and on neither side if the outer items are in
-/// the least cluster. Features stay, and defined flags go if the cluster changes. At the level of single characters the
-/// span is marked instead, or nothing happens. Marks are made where a cluster changes; two kinds of them if they are
-/// asked for.
+/// Merging grows over the first item's cluster and over the last item's, and on neither side if the
+/// outer items are in the least cluster. Features stay, and defined flags go if the cluster
+/// changes. At the level of single characters the span is marked instead, or nothing happens. Marks
+/// are made where a cluster changes; two kinds of them if they are asked for.
 const MERGED_AND_MARKED: &str = "
     monotone | 5/8 5/8 3/8 3/8 | merge 1..3 -> 3/8 3/8 3/8 3/8
     graphemes | 1/0 5/0 5/0 5/0 6/0 | merge 0..2 -> 1/0 1/0 1/0 1/0 6/0
@@ -25,10 +25,11 @@ const MERGED_AND_MARKED: &str = "
     graphemes | 4/8 2/4 6/0 6/0 | asked, tatweel 0..3 -> 4/11 2/4 6/3 6/0 flags 32
 ";
 
-/// Items of glyph 1 are deleted. The next item has the cluster, picked or not; the last kept items of one cluster take a
-/// smaller one, with the flags, and clusters fall with each picked item; the last kept item joins the cluster before it;
-/// none was kept, so the first items are merged, or marked at the level of single characters; nothing is left or picked;
-/// positions go with their items.
+/// Items of glyph 1 are deleted. The next item has the cluster, picked or not; the last kept items
+/// of one cluster take a smaller one, with the flags, and clusters fall with each picked item; the
+/// last kept item joins the cluster before it; none was kept, so the first items are merged, or
+/// marked at the level of single characters; nothing is left or picked; positions go with their
+/// items.
 const DELETED: &str = "
     graphemes | 2/8 1@1/15 1@1/7 1/4 | delete -> 2/8 1/4
     monotone | 4/5 2/9 2/10 1@1/20 3/0 | delete -> 4/5 1/12 1/12 3/0
@@ -48,10 +49,11 @@ const DELETED: &str = "
     graphemes | 0/0+100 1@1/1+101 2/0+102 1@3/1+103 4/0+104 | delete -> 0/0+100 2/0+102 4/0+104
 ";
 
-/// Graphemes, of which one takes in those before it, begins with a mark, or is of an empty list; and spans that are merged
-/// one after the other: 9 9 8 7 6 becomes 8 8 8 7 6, then 7 7 7 7 6, then 6 6 6 6 6; 5 7 7 5 3 becomes 5 5 5 5 3, then
-/// 3 3 3 3 3; 4 9 9 2 8 7 becomes 4 2 2 2 8 7, then 4 2 2 2 7 7; 1 5 5 5 6 becomes 1 1 1 1 6, then 1 1 1 1 1. Fourteen
-/// spans that change nothing come before those of the last row, since many are merged in another way than few.
+/// Graphemes, of which one takes in those before it, begins with a mark, or is of an empty list;
+/// and spans that are merged one after the other: 9 9 8 7 6 becomes 8 8 8 7 6, then 7 7 7 7 6, then
+/// 6 6 6 6 6; 5 7 7 5 3 becomes 5 5 5 5 3, then 3 3 3 3 3; 4 9 9 2 8 7 becomes 4 2 2 2 8 7, then 4
+/// 2 2 2 7 7; 1 5 5 5 6 becomes 1 1 1 1 6, then 1 1 1 1 1. Fourteen spans that change nothing come
+/// before those of the last row, since many are merged in another way than few.
 const SPANS: &str = "
     graphemes | 9/9 *9/9 *8/9 8/9 *8/9 *7/9 | graphemes -> 7/8 7/8 7/8 7/8 7/8 7/9
     monotone | 9/9 *9/9 *8/9 8/9 *8/9 *7/9 | graphemes -> 7/8 7/8 7/8 7/8 7/8 7/9
@@ -74,7 +76,8 @@ const SPANS: &str = "
         0..1 0..1 1..3 2..4 3..5 -> 6/8 6/8 6/8 6/8 6/12
 ";
 
-/// Items are exchanged with their positions or without, written, inserted and taken out; the limit of a run.
+/// Items are exchanged with their positions or without, written, inserted and taken out; the limit
+/// of a run.
 const MOVED: &str = "
     characters | 0/1 1/2 2/4 | advance 0..7, swap 0..2 -> 2/4 1/2 0/1+7
     characters | 2/4 1/2 0/1+7 | swap_infos 1..2 -> 2/4 0/1 1/2+7

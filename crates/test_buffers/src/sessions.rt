@@ -159,7 +159,8 @@ fn make(rt: &(impl Abort + AllocGlobal), buffer: &mut hb_buffer_t, call: &str) {
     }
 }
 
-/// Makes the calls of a row and compares what they leave: `LEVEL | ITEM ITEM | CALL, CALL -> ITEM ITEM`.
+/// Makes the calls of a row and compares what they leave:
+/// `LEVEL | ITEM ITEM | CALL, CALL -> ITEM ITEM`.
 fn check_row(rt: &(impl Abort + AllocGlobal), row: &str) {
     let (level, rest) = parts(rt, row, "|");
     let (items, line) = parts(rt, rest, "|");
@@ -172,9 +173,9 @@ fn check_row(rt: &(impl Abort + AllocGlobal), row: &str) {
     assert_shown(rt, row, &shown(rt, &buffer), wanted);
 }
 
-/// Does so for each row. An item is `CLUSTER/MASK`, and may have a glyph before it and an advance after it, as in
-/// `1@0/8+600`; `*` stands before a continuation. After the items left stand the scratch flags, as in `flags 32`, if
-/// there are any; 32 is HAS_GLYPH_FLAGS.
+/// Does so for each row. An item is `CLUSTER/MASK`, and may have a glyph before it and an advance
+/// after it, as in `1@0/8+600`; `*` stands before a continuation. After the items left stand the
+/// scratch flags, as in `flags 32`, if there are any; 32 is HAS_GLYPH_FLAGS.
 pub fn check_rows(rt: &(impl Abort + AllocGlobal), rows: &str) {
     for row in rows_of(rt, rows).lines() {
         check_row(rt, row);

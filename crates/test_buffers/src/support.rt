@@ -1,8 +1,9 @@
 //! Small buffers for the tests, what they show, and calls on them, written in lines of text.
 //!
-//! A test hands its rows to one function, which reads each row, does what it says and compares what is left, printed
-//! in one line: the proof of a test takes next to nothing for a text, and a good part of a second for each list of
-//! its own. The functions below have no contract. A row that can't be read ends the test, as does a text without rows.
+//! A test hands its rows to one function, which reads each row, does what it says and compares what
+//! is left, printed in one line: the proof of a test takes next to nothing for a text, and a good
+//! part of a second for each list of its own. The functions below have no contract. A row that
+//! can't be read ends the test, as does a text without rows.
 
 use shape_buffer::buffer::{
     BufferClusterLevel, GlyphPosition, GlyphPropsFlags, ScratchFlags, ShapeError, hb_buffer_t,
@@ -53,8 +54,8 @@ where
     }
 }
 
-/// The item that a word writes: `CLUSTER/MASK`, after `GLYPH@` if it has one, and after `*` if it is a continuation.
-/// Advances may stand after it.
+/// The item that a word writes: `CLUSTER/MASK`, after `GLYPH@` if it has one, and after `*` if it
+/// is a continuation. Advances may stand after it.
 fn item(rt: &impl Abort, word: &str) -> hb_glyph_info_t {
     let (word, _) = word.split_once('+').unwrap_or((word, ""));
     let (glyph, place) = word.split_once('@').unwrap_or(("0", word));

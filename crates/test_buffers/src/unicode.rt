@@ -1,5 +1,6 @@
-//! Unicode functions: answers for single characters beside the database's files and HarfBuzz, and whole tables
-//! beside other sources; OpenType's tags of languages; the small tables of the program `shapeline`, and what it prints.
+//! Unicode functions: answers for single characters beside the database's files and HarfBuzz, and
+//! whole tables beside other sources; OpenType's tags of languages; the small tables of the program
+//! `shapeline`, and what it prints.
 
 mod answers;
 mod callers;

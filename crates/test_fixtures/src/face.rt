@@ -16,8 +16,8 @@ pub struct KnownGlyph {
     pub extents: Option<hb_glyph_extents_t>,
 }
 
-/// A face that is plain data, and what [`crate::TestLayout`] does for it. A test says what differs from
-/// [`PLAIN_FACE`].
+/// A face that is plain data, and what [`crate::TestLayout`] does for it. A test says what differs
+/// from [`PLAIN_FACE`].
 #[derive(Clone, Copy, Debug)]
 pub struct TestFace<'a> {
     /// Characters whose glyphs are listed one by one.
@@ -61,7 +61,8 @@ pub struct TestFace<'a> {
     pub kern_adds: i32,
 }
 
-/// No character has a glyph, there are no tables, the em square has 1000 units and every other number is 0.
+/// No character has a glyph, there are no tables, the em square has 1000 units and every other
+/// number is 0.
 pub const PLAIN_FACE: TestFace<'static> = TestFace {
     known: &[],
     every: false,
@@ -111,7 +112,8 @@ impl<'a> TestFace<'a> {
         }
     }
 
-    /// Every character has the glyph of its own number, and `GSUB` these stages; bit 3 is on for every item.
+    /// Every character has the glyph of its own number, and `GSUB` these stages; bit 3 is on for
+    /// every item.
     pub fn ruled(stages: &'a [Stage]) -> TestFace<'a> {
         TestFace {
             stages,

@@ -1,5 +1,5 @@
-//! The engine of tests: it substitutes by the stages that its face lists, adds to advances what the face says, and
-//! answers as the face says.
+//! The engine of tests: it substitutes by the stages that its face lists, adds to advances what the
+//! face says, and answers as the face says.
 ghost use Rattle.std.specs.Prelude.{◌≡◌};
 ghost use Rattle.shape_buffer.specs.Outcome.{Made};
 ghost use Rattle.test_fixtures.specs.declared.face.TestFace.{TestFace as Face};

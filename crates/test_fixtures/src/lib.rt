@@ -1,6 +1,7 @@
-//! What tests bring to shaping: a face that is plain data, an engine that does what the face says, and shapers that
-//! compose, reorder, change or double characters, or have preferences for marks.
-//! How cases are read from lines of text, and how glyphs are printed. And definitions computed on cases over them.
+//! What tests bring to shaping: a face that is plain data, an engine that does what the face says,
+//! and shapers that compose, reorder, change or double characters, or have preferences for marks.
+//! How cases are read from lines of text, and how glyphs are printed. And definitions computed on
+//! cases over them.
 #![tactic(auto)]
 #![allow(non_camel_case_types)]
 

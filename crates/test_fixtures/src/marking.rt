@@ -106,8 +106,8 @@ impl Marking for LateHanging {
     ghost lawful = { refl };
 }
 
-/// Marks are zeroed before tables place them, and are placed by their boxes unless the positioning lookups are those of the
-/// script 1.
+/// Marks are zeroed before tables place them, and are placed by their boxes unless the positioning
+/// lookups are those of the script 1.
 pub struct EarlyScripted;
 
 impl Marking for EarlyScripted {

@@ -1,4 +1,5 @@
-//! Shapers that have preferences alone, for normalising and for marks, and give way to a face with `morx`.
+//! Shapers that have preferences alone, for normalising and for marks, and give way to a face with
+//! `morx`.
 ghost use Rattle.std.specs.Prelude.{◌≡◌, true, false, pos, refl};
 
 use crate::marking::{Early, Hanging, Late, Marking};

@@ -1,5 +1,6 @@
-//! How tests print glyphs: the number of a glyph in base 16 and its cluster, `1A@3`, then its advances and offsets, x before
-//! y, `(0,0,-450,112)`, and its mask in base 16, `/1`, if they are asked for.
+//! How tests print glyphs: the number of a glyph in base 16 and its cluster, `1A@3`, then its
+//! advances and offsets, x before y, `(0,0,-450,112)`, and its mask in base 16, `/1`, if they are
+//! asked for.
 
 use shape_buffer::buffer::{GlyphPosition, hb_glyph_info_t};
 use std::alloc::AllocError;

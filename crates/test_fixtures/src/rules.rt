@@ -1,5 +1,5 @@
-//! Rules of substitution. Each stands for a lookup with one rule: it is on for the items whose masks have a
-//! bit of its feature, or for all if the feature is 0.
+//! Rules of substitution. Each stands for a lookup with one rule: it is on for the items whose
+//! masks have a bit of its feature, or for all if the feature is 0.
 
 use shape_buffer::buffer::hb_mask_t;
 

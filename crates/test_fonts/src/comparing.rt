@@ -1,6 +1,6 @@
-//! What tests compare with. These functions have no contract, since no later call of a test relies on what
-//! they found: so the proof of a test takes next to nothing for a call, and a second for each `assert_eq!`
-//! of the test's own.
+//! What tests compare with. These functions have no contract, since no later call of a test relies
+//! on what they found: so the proof of a test takes next to nothing for a call, and a second for
+//! each `assert_eq!` of the test's own.
 use std::fmt::Debug;
 use std::process::Abort;
 

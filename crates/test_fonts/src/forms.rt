@@ -1,4 +1,5 @@
-//! Tests of outlines and of the measures of a line, and of glyphs as text, through public calls over the tests' font.
+//! Tests of outlines and of the measures of a line, and of glyphs as text, through public calls
+//! over the tests' font.
 
 mod drawing;
 mod writing;

@@ -1,5 +1,5 @@
-//! A run that kerns by the table `kern` of the tests' font, in which A and B are moved together by 50, B and A by 35; and what
-//! it leaves if a growth of its memory is refused.
+//! A run that kerns by the table `kern` of the tests' font, in which A and B are moved together by
+//! 50, B and A by 35; and what it leaves if a growth of its memory is refused.
 
 use crate::comparing::{assert_same, assert_that};
 use crate::tiny::DIGITS;
@@ -25,8 +25,8 @@ fn to_be_kerned(mut buffer: UnicodeBuffer) -> Result<UnicodeBuffer, ShapeError> 
     Ok(buffer)
 }
 
-/// The glyphs of a text by an engine, or a refusal. The proof of this takes a fraction of what the same call takes
-/// if the types are known.
+/// The glyphs of a text by an engine, or a refusal. The proof of this takes a fraction of what the
+/// same call takes if the types are known.
 fn shaped_by<F, M, S>(
     alloc: Global,
     face: &F,
@@ -55,7 +55,8 @@ fn assert_moved(rt: &impl Abort, glyphs: &GlyphBuffer) {
     }
 }
 
-/// Compares the advances and offsets of a text. If it is refused for memory, hands back what is left of it.
+/// Compares the advances and offsets of a text. If it is refused for memory, hands back what is
+/// left of it.
 fn moved_or_left(
     rt: &impl Abort,
     alloc: Global,
@@ -89,8 +90,8 @@ fn assert_moved_again(
     Ok(())
 }
 
-/// Whether a growth of the run is refused, planning included. If one is, the text must give the same once it is in the
-/// buffer that is handed back.
+/// Whether a growth of the run is refused, planning included. If one is, the text must give the
+/// same once it is in the buffer that is handed back.
 fn is_refused(rt: &impl Abort, alloc: Global, face: &FontFace<'_>) -> Result<bool, ShapeError> {
     let text = to_be_kerned(UnicodeBuffer::new(alloc))?;
     match moved_or_left(rt, alloc, face, text) {
@@ -102,7 +103,8 @@ fn is_refused(rt: &impl Abort, alloc: Global, face: &FontFace<'_>) -> Result<boo
     }
 }
 
-/// With memory at hand the test passes. If one growth of the run is refused, it says so, after its comparisons.
+/// With memory at hand the test passes. If one growth of the run is refused, it says so, after its
+/// comparisons.
 #[test]
 fn growths(rt: HostRuntime) -> Result<(), Fail> {
     let bytes = hex::decode(rt.alloc(), DIGITS)?;

@@ -12,8 +12,8 @@ use shape_pipeline::hb_unicode_funcs_t;
 use shape_pipeline::laws::runs_without_hooks_have_no_obligations;
 use shape_pipeline::ot_shaper::{Runs, hb_default_shaper_t};
 
-/// A run of the default shaper that kerns by the table `kern` has no obligations, whatever the font: every premise of the
-/// promises about a run holds of it.
+/// A run of the default shaper that kerns by the table `kern` has no obligations, whatever the
+/// font: every premise of the promises about a run holds of it.
 pub fn kerned_runs_have_no_obligations<'a, U: hb_unicode_funcs_t>()
     ensures { (plan : Plan DefaultShaper Map Unit) (face : Face)
         → HasNoObligations (⟦<hb_default_shaper_t as Runs<U, FontFace<'a>, KernTable>>⟧.run plan face) }

@@ -1,5 +1,6 @@
-//! Tests of what stands on font files, through public calls: faces, kerning by `kern`, lookups of `GPOS`, outlines, glyphs as
-//! text, texts shaped with a file that has GDEF, GSUB, GPOS and `kern`, and a walk of substitution with many edits.
+//! Tests of what stands on font files, through public calls: faces, kerning by `kern`, lookups of
+//! `GPOS`, outlines, glyphs as text, texts shaped with a file that has GDEF, GSUB, GPOS and `kern`,
+//! and a walk of substitution with many edits.
 #![tactic(auto)]
 #![allow(non_camel_case_types)]
 

@@ -44,7 +44,8 @@ fn walk_over(walk: &mut GapBuffer, count: u32) -> Result<(), ShapeError> {
     Ok(())
 }
 
-/// Edits a text of three times so many items, and returns how many are left and the cluster of the last one.
+/// Edits a text of three times so many items, and returns how many are left and the cluster of the
+/// last one.
 fn edited(alloc: Global, count: u32) -> Result<(usize, u32), ShapeError> {
     let mut buffer = text(alloc, count.saturating_mul(3))?;
     let mut walk = GapBuffer::open(alloc, &mut buffer);

@@ -1,4 +1,5 @@
-//! Texts by each call of `font_shaping`. What is wanted is what HarfBuzz 10.2.0's `hb-shape` writes of `data/rich.ttf`.
+//! Texts by each call of `font_shaping`. What is wanted is what HarfBuzz 10.2.0's `hb-shape` writes
+//! of `data/rich.ttf`.
 
 use crate::comparing::assert_that;
 use crate::rich::RICH;
@@ -31,8 +32,8 @@ fn assert_line(
     assert_that(rt, line.as_str() == wanted);
 }
 
-/// The glyphs of a string by a face. What this call and those below promise ends here: a function that makes several is slow
-/// to prove.
+/// The glyphs of a string by a face. What this call and those below promise ends here: a function
+/// that makes several is slow to prove.
 fn by_face(rt: &impl Abort, alloc: Global, face: &OpenTypeFace<'_>, string: &str) -> GlyphBuffer {
     shape_str::<UnicodeDatabase>(alloc, face, &[], string).expect(rt, "memory")
 }

@@ -10,8 +10,8 @@ use text_items::{Item, ItemOptions, text_items};
 /// The status of a run that came to the end of its input.
 const DONE: u8 = 0;
 
-/// The status of a run whose input couldn't be read or whose output couldn't be written, or that had no
-/// memory.
+/// The status of a run whose input couldn't be read or whose output couldn't be written, or that
+/// had no memory.
 const FAILED: u8 = 1;
 
 /// The status of a run that met a malformed line.
@@ -73,7 +73,8 @@ fn runs(alloc: Global, text: &[char], direction: Option<Direction>) -> Result<St
     written(alloc, &items)
 }
 
-/// What a line is answered by, a line too, or nothing if it has no column before its comment. None if it is malformed.
+/// What a line is answered by, a line too, or nothing if it has no column before its comment. None
+/// if it is malformed.
 fn answer(alloc: Global, line: &[u8]) -> Result<Option<String>, AllocError> {
     let Ok(line) = str::from_utf8(line) else {
         return Ok(None);

@@ -1,5 +1,5 @@
 //! Carets of small lines, by hand.
-use crate::letters::Letters;
+use crate::letters::{LetterFont, Letters};
 use line_carets::{line_carets, run_carets};
 use shape_carets::{caret_of_offset, offset_of_x};
 use std::process::Abort;
@@ -12,7 +12,12 @@ fn carets_jump_where_the_direction_changes(rt: HostRuntime) -> Result<(), Fail> 
     let text = "ab \u{5d0}\u{5d1}";
     let mut shaper = Letters {
         text,
-        fonts: &["ab \u{5d0}\u{5d1}"],
+        fonts: &[LetterFont {
+            letters: "ab \u{5d0}\u{5d1}",
+            units: 100,
+            above: 80,
+            below: -20,
+        }],
     };
     let lines = text_lines(rt.alloc(), &mut shaper, text, &ParagraphOptions::new())?;
     let carets = line_carets(rt.alloc(), &lines[0], &[])?;

@@ -1,14 +1,26 @@
 //! Fonts of letters: each glyph is a letter, ten units wide.
+ghost use Rattle.std.specs.Prelude.{map};
+ghost use Rattle.test_lines.specs.Letters.{reach_of_letters};
+
 use shape_buffer::buffer::{GlyphBuffer, GlyphPosition, ShapeError, UnicodeBuffer};
 use shape_buffer::hb_glyph_info_t;
 use std::alloc::{AllocError, Global};
 use text_lines::{Part, PartShaper};
 
+/// A font that has some letters, and how large and high it is.
+#[derive(Clone, Copy)]
+pub struct LetterFont<'a> {
+    pub letters: &'a str,
+    pub units: u16,
+    pub above: i32,
+    pub below: i32,
+}
+
 /// Fonts that each have some letters, for a text. A letter that a font hasn't is glyph 0.
 #[derive(Clone, Copy)]
 pub struct Letters<'a> {
     pub text: &'a str,
-    pub fonts: &'a [&'a str],
+    pub fonts: &'a [LetterFont<'a>],
 }
 
 /// A glyph where it stands.
@@ -47,20 +59,28 @@ fn buffer_of(alloc: Global, placed: &[Placed]) -> Result<GlyphBuffer, ShapeError
 }
 
 impl PartShaper for Letters<'_> {
+    ghost fonts = { λ shaper. map reach_of_letters shaper.fonts.now };
+
     fn font_count(&self) -> usize {
         self.fonts.len()
     }
 
     fn units_per_em(&self, font: usize) -> u16 {
-        if font == 0 { 100 } else { 50 }
+        match self.fonts.get(font) {
+            Some(font) => font.units,
+            None => 0,
+        }
     }
 
     fn reach(&self, font: usize) -> (i32, i32) {
-        if font == 0 { (80, -20) } else { (45, -5) }
+        match self.fonts.get(font) {
+            Some(font) => (font.above, font.below),
+            None => (0, 0),
+        }
     }
 
     fn shape(&mut self, alloc: Global, font: usize, part: Part) -> Result<GlyphBuffer, ShapeError> {
-        let has = self.fonts.get(font).copied().unwrap_or("");
+        let has = self.fonts.get(font).map_or("", |font| font.letters);
         let mut placed = placed_in(alloc, self.text, part, has)?;
         if part.level % 2 == 1 {
             placed.reverse();

@@ -1,5 +1,5 @@
 //! Tests of lines and carets through public calls, over a shaper whose results can be worked out
-//! by hand.
+//! by hand, and of paragraphs over a font file.
 #![tactic(auto)]
 
 #[cfg(test)]
@@ -7,3 +7,7 @@ mod carets;
 pub mod letters;
 #[cfg(test)]
 mod lines;
+#[cfg(test)]
+mod paragraphs;
+#[cfg(test)]
+mod tall;

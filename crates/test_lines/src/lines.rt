@@ -1,12 +1,25 @@
 //! Lines of small texts, by hand.
-use crate::letters::Letters;
+use crate::letters::{LetterFont, Letters};
 use std::alloc::Global;
 use std::process::Abort;
 use std::test::Fail;
 use text_lines::{Direction, ParagraphError, ParagraphOptions, TextLine, TextRun, text_lines};
 
-/// Letters of the first font and of the second.
-const FONTS: [&str; 2] = ["abcdef 123()\u{5d0}\u{5d1}", "abcxyz\u{5d2}\u{301}"];
+/// A font, and one whose em square has half as many units.
+const FONTS: [LetterFont<'static>; 2] = [
+    LetterFont {
+        letters: "abcdef 123()\u{5d0}\u{5d1}",
+        units: 100,
+        above: 80,
+        below: -20,
+    },
+    LetterFont {
+        letters: "abcxyz\u{5d2}\u{301}",
+        units: 50,
+        above: 45,
+        below: -5,
+    },
+];
 
 /// The lines of a text.
 fn lines_of(
@@ -186,4 +199,18 @@ fn an_empty_list_of_fonts_is_an_error(rt: HostRuntime) {
     };
     let lines = text_lines(rt.alloc(), &mut none, "a", &ParagraphOptions::new());
     assert!(&rt; matches!(lines, Err(ParagraphError::NoFonts)));
+}
+
+#[test]
+fn a_size_past_32_bits_is_refused(rt: HostRuntime) {
+    let mut shaper = Letters {
+        text: "a",
+        fonts: &FONTS,
+    };
+    let options = ParagraphOptions {
+        size: Some(u32::MAX),
+        ..ParagraphOptions::new()
+    };
+    let lines = text_lines(rt.alloc(), &mut shaper, "a", &options);
+    assert!(&rt; matches!(lines, Err(ParagraphError::Size)));
 }

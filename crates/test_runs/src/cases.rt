@@ -1,17 +1,21 @@
-//! What a case of a run asks, and what is set for it, as `test_fixtures` reads them from lines of text.
+//! What a case of a run asks, and what is set for it, as `test_fixtures` reads them from lines of
+//! text.
 //!
 //! A case is a text, and what becomes of it. These are set, until they are set again:
 //!
 //! - `face`: the characters that have a glyph or the glyphs of the face, as `faces` has them.
-//! - `units`: those of the em square of a face with widths, 1000 until they are set. No other face heeds them.
+//! - `units`: those of the em square of a face with widths, 1000 until they are set. No other face
+//!   heeds them.
 //! - `settings`: what is set in the text, as `texts` has it.
-//! - `shaper`, `tables` and `step`: which ones, by the names that the fixture of the case has for them.
+//! - `shaper`, `tables` and `step`: which ones, by the names that the fixture of the case has for
+//!   them.
 //!
-//! A character is written as itself if it is one of ASCII that can be seen, and by four digits in base 16 or more:
-//! `a`, `0301`, `1F1E6`. In a text `@` isn't a character but stands before a cluster, and in the steps of `steps`
-//! that compare two texts `/` stands between them. A word may stand many times, `0323*31`, and so may two of them in
-//! turn, `0308+0301*15`. How an answer is written stands in `printing`. A line that can't be read fails its test, and so
-//! does a text without cases.
+//! A character is written as itself if it is one of ASCII that can be seen, and by four digits in
+//! base 16 or more: `a`, `0301`, `1F1E6`. In a text `@` isn't a character but stands before a
+//! cluster, and in the steps of `steps` that compare two texts `/` stands between them. A word may
+//! stand many times, `0323*31`, and so may two of them in turn, `0308+0301*15`. How an answer is
+//! written stands in `printing`. A line that can't be read fails its test, and so does a text
+//! without cases.
 
 use crate::comparing::assert_that;
 use crate::texts::{PLAINLY, TextSettings, text_settings_of};

@@ -1,10 +1,11 @@
 //! Faces, as the words of cases write them.
 //!
-//! Characters have glyphs of their own numbers, as `a 0301`; the word `every` alone gives each one its own. After
-//! `variant`, which stands before characters, as in `variant a`, there is also glyph 7 for U+0061 with U+FE00 after it.
+//! Characters have glyphs of their own numbers, as `a 0301`; the word `every` alone gives each one
+//! its own. After `variant`, which stands before characters, as in `variant a`, there is also glyph
+//! 7 for U+0061 with U+FE00 after it.
 //!
-//! A face with widths has glyphs as `a=1(600)`: a character, its glyph in base 16 and its advance, then the bearings,
-//! width and height of its box, if it has one: `0301=2(200,50,800,200,-150)`.
+//! A face with widths has glyphs as `a=1(600)`: a character, its glyph in base 16 and its advance,
+//! then the bearings, width and height of its box, if it has one: `0301=2(200,50,800,200,-150)`.
 
 use crate::cases::{Settings, character, cut, number, number_in_hex};
 use shape_buffer::buffer::GlyphId;

@@ -1,5 +1,5 @@
-//! Tests that cross the crates: texts shaped with faces, Unicode functions and shapers of the tests'
-//! own, and by the users of the layer (`users`), whose answers are worked out by hand.
+//! Tests that cross the crates: texts shaped with faces, Unicode functions and shapers of the
+//! tests' own, and by the users of the layer (`users`), whose answers are worked out by hand.
 #![tactic(auto)]
 #![allow(non_camel_case_types)]
 

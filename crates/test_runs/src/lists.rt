@@ -13,9 +13,10 @@ use shape_unicode::UnicodeDatabase;
 use std::process::Abort;
 use test_fixtures::{AbsorbingShaper, ChangingShaper, SwappingShaper};
 
-/// Faces of some characters. The shapers are `default`, those with a preference for a mode (`decomposed`, `shortest`,
-/// `composed_diacritics`, and `recomposed`, which composes again whatever the face shows), and those with hooks
-/// (`swapping`, `absorbing` and `changing`). The steps are those of `steps`.
+/// Faces of some characters. The shapers are `default`, those with a preference for a mode
+/// (`decomposed`, `shortest`, `composed_diacritics`, and `recomposed`, which composes again
+/// whatever the face shows), and those with hooks (`swapping`, `absorbing` and `changing`). The
+/// steps are those of `steps`.
 pub struct Lists;
 
 impl Fixture for Lists {

@@ -1,6 +1,6 @@
-//! Calls of a run that can't be refused take no memory, and a run over an empty text takes none at all. Of two
-//! tests that begin alike the second one makes such calls besides; the gate's script counts the growths of
-//! both, and the two numbers must be equal.
+//! Calls of a run that can't be refused take no memory, and a run over an empty text takes none at
+//! all. Of two tests that begin alike the second one makes such calls besides; the gate's script
+//! counts the growths of both, and the two numbers must be equal.
 
 use crate::cases::{Settings, UNSET};
 use crate::comparing::{assert_same, assert_that};
@@ -39,11 +39,12 @@ type Plan<'a, S> = hb_ot_shape_plan_t<'a, S, (), ()>;
 /// One by the default shaper.
 type PlainPlan<'a> = Plan<'a, hb_default_shaper_t>;
 
-/// Letters with marks above and below, digits about a slash, a bracket, Hebrew with a point, joiners, a variation
-/// selector, a soft hyphen, and a space without a glyph.
+/// Letters with marks above and below, digits about a slash, a bracket, Hebrew with a point,
+/// joiners, a variation selector, a soft hyphen, and a space without a glyph.
 const TEXT: &str = "a 0301 0323 1 2044 2 ( 05D0 05B8 200D FE00 00AD 2003 034F b 0301";
 
-/// A text that splits, with two marks in an order of their own, all of whose characters the face has.
+/// A text that splits, with two marks in an order of their own, all of whose characters the face
+/// has.
 const SPELLED: &str = "00E1 0323 a 0301";
 
 /// A face with boxes for a letter and two marks.
@@ -75,8 +76,9 @@ fn entered(rt: &(impl Abort + AllocGlobal), words: &str) -> hb_buffer_t {
     buffer
 }
 
-/// Compares all that is read of a plan by a face without tables, an engine without masks, and a shaper with both
-/// preferences for marks; and makes the calls that say something of a plan to a prover alone.
+/// Compares all that is read of a plan by a face without tables, an engine without masks, and a
+/// shaper with both preferences for marks; and makes the calls that say something of a plan to a
+/// prover alone.
 fn assert_plain(rt: &impl Abort, plan: &PlainPlan<'_>) {
     plan.masks_are_features();
     plan.positions_by_one_table();
@@ -98,8 +100,8 @@ fn assert_plain(rt: &impl Abort, plan: &PlainPlan<'_>) {
     assert_that(rt, plan.adjust_mark_positioning_when_zeroing());
 }
 
-/// What a builder of requests says once it is set to be no simple one: how many requests it has, whether it is simple,
-/// and whether it chose a script.
+/// What a builder of requests says once it is set to be no simple one: how many requests it has,
+/// whether it is simple, and whether it chose a script.
 fn without_requests(rt: &(impl Abort + AllocGlobal), face: &MapFace) -> (usize, bool, bool) {
     let mut builder = hb_ot_map_builder_t::new::<MapFace, NoLookups>(rt.alloc(), face, None, None);
     builder.set_simple(false);
@@ -118,8 +120,8 @@ fn fits_nothing(rt: &(impl Abort + AllocGlobal), plan: &PlainPlan<'_>) -> bool {
     plan.fits::<UnicodeDatabase>(&nothing)
 }
 
-/// Asks plans, a builder of requests, and whether a text meets the premises of canonical form: it misses the first of
-/// them in the default mode, and meets all in the one that decomposes fully.
+/// Asks plans, a builder of requests, and whether a text meets the premises of canonical form: it
+/// misses the first of them in the default mode, and meets all in the one that decomposes fully.
 fn ask(
     rt: &(impl Abort + AllocGlobal),
     (plain, full): (&PlainPlan<'_>, &Plan<'_, Preferring<Decomposed>>),
@@ -134,7 +136,8 @@ fn ask(
     assert_that(rt, meets_premises::<Full>(full, face, spelled));
 }
 
-/// Normalises, shapes and prepares a buffer without items, and shapes a text without any by the entry.
+/// Normalises, shapes and prepares a buffer without items, and shapes a text without any by the
+/// entry.
 fn shape_nothing(rt: &(impl Abort + AllocGlobal), plan: &PlainPlan<'_>, face: &MapFace) {
     let mut list = hb_buffer_t::new(rt.alloc());
     list.set_direction(Direction::LeftToRight);
@@ -154,9 +157,9 @@ enum Besides {
     EmptyTexts,
 }
 
-/// Makes the texts, faces and plans that each test begins with, and does what the test adds. Plans run to the right;
-/// there are two for the first face, by the default shaper and by one that decomposes fully, and one for the face that
-/// divides, by the default shaper.
+/// Makes the texts, faces and plans that each test begins with, and does what the test adds. Plans
+/// run to the right; there are two for the first face, by the default shaper and by one that
+/// decomposes fully, and one for the face that divides, by the default shaper.
 fn begin(rt: &(impl Abort + AllocGlobal), besides: Besides) {
     let (mut text, mut spelled) = (entered(rt, TEXT), entered(rt, SPELLED));
     assert_same(rt, (text.len(), spelled.len()), (16, 4));

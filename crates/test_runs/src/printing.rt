@@ -1,14 +1,15 @@
 //! How answers are printed.
 //!
-//! An item of a list is its character and its cluster: `a@0`. What an answer names is compared of all its items:
-//! clusters if it has an `@`, and if it has a `=` the glyphs that were found for characters, in base 16: `1EA4=0@0`.
-//! `+` stands after a character that continues a grapheme, if there is one in the answer, and `~` after each that
-//! is hidden.
+//! An item of a list is its character and its cluster: `a@0`. What an answer names is compared of
+//! all its items: clusters if it has an `@`, and if it has a `=` the glyphs that were found for
+//! characters, in base 16: `1EA4=0@0`. `+` stands after a character that continues a grapheme, if
+//! there is one in the answer, and `~` after each that is hidden.
 //!
-//! A glyph is printed as `test_fixtures` has it, with its advances and offsets, and with its mask if that isn't 0:
-//! `2@1(0,0,-450,112)/1`.
+//! A glyph is printed as `test_fixtures` has it, with its advances and offsets, and with its mask
+//! if that isn't 0: `2@1(0,0,-450,112)/1`.
 //!
-//! What is printed is handed over: a function that has to drop a list is slow to prove, and these do it once.
+//! What is printed is handed over: a function that has to drop a list is slow to prove, and these
+//! do it once.
 
 use crate::comparing::position_at;
 use shape_buffer::buffer::{GlyphBuffer, GlyphPosition, hb_buffer_t, hb_glyph_info_t};

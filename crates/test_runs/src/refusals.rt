@@ -1,6 +1,6 @@
-//! Runs that are refused for memory, planning included. With memory at hand each test passes; if one growth of
-//! its call is refused it says so, after a comparison of what the buffer that is handed back gives once it is filled
-//! again.
+//! Runs that are refused for memory, planning included. With memory at hand each test passes; if
+//! one growth of its call is refused it says so, after a comparison of what the buffer that is
+//! handed back gives once it is filled again.
 
 use crate::cases::check;
 use crate::lists::{Lists, Widths};

@@ -1,6 +1,6 @@
-//! The pipeline's calls, each in a function of its own without a contract. The proof of a function carries what its
-//! calls promise to its end: so the promises of one call end here, and tests make runs of many steps of these
-//! functions.
+//! The pipeline's calls, each in a function of its own without a contract. The proof of a function
+//! carries what its calls promise to its end: so the promises of one call end here, and tests make
+//! runs of many steps of these functions.
 //!
 //! A growth that is refused ends a test with `error: ` and the cause, as the gate's script expects.
 

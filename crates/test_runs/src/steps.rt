@@ -1,11 +1,11 @@
 //! What becomes of the text of a case at a step of its run, for any types of a run.
 //!
 //! - `prepare` and `normalise` give the list.
-//! - `place` gives the glyphs with their positions. `in_place` gives the glyphs and clusters that shaping leaves in a
-//!   buffer, which has to run from right to left.
+//! - `place` gives the glyphs with their positions. `in_place` gives the glyphs and clusters that
+//!   shaping leaves in a buffer, which has to run from right to left.
 //! - `refuse`, `refuse_key` and `refuse_comparing` are in `refusals::steps`.
-//! - `compare` says of two texts with a `/` between them whether they are normalised alike, and `premises` of a text
-//!   whether it meets those of canonical form: `yes` or `no`.
+//! - `compare` says of two texts with a `/` between them whether they are normalised alike, and
+//!   `premises` of a text whether it meets those of canonical form: `yes` or `no`.
 
 use crate::cases::{Case, cut};
 use crate::comparing::assert_same;
@@ -60,8 +60,8 @@ fn yes_or_no(rt: &(impl Abort + AllocGlobal), condition: bool) -> String {
     String::from_str(rt.alloc(), word).expect(rt, "error")
 }
 
-/// The list that a text is prepared as, normalised if the step is that, or whether it meets the premises of canonical
-/// form.
+/// The list that a text is prepared as, normalised if the step is that, or whether it meets the
+/// premises of canonical form.
 fn listed<T: ShapingTypes>(
     rt: &(impl Abort + AllocGlobal),
     (face, shaper): (&T::Face, &T::Shaper),
@@ -92,8 +92,8 @@ fn placed<T: ShapingTypes>(
     )
 }
 
-/// The glyphs of a text that is shaped in place from right to left, once what the run leaves of its buffer was
-/// compared: the direction, and no limit.
+/// The glyphs of a text that is shaped in place from right to left, once what the run leaves of its
+/// buffer was compared: the direction, and no limit.
 fn in_place<T: ShapingTypes>(
     rt: &(impl Abort + AllocGlobal),
     (face, shaper): (&T::Face, &T::Shaper),

@@ -51,7 +51,8 @@ fn sign(rt: &(impl Abort + AllocGlobal)) -> hb_buffer_t {
     buffer
 }
 
-/// Of 520 the tiles of 100, 50 and 100 leave 320, which the second one goes 7 times into with itself, overlapping.
+/// Of 520 the tiles of 100, 50 and 100 leave 320, which the second one goes 7 times into with
+/// itself, overlapping.
 #[test]
 fn a_sign_is_as_wide_as_its_word(rt: HostRuntime) {
     let mut buffer = sign(&rt);

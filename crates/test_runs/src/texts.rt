@@ -1,11 +1,11 @@
 //! Texts, as the words of cases write them.
 //!
-//! A character stands in the cluster that is its offset in UTF-8, if no other is written after an `@`: `1EA4@7`. The
-//! characters after it go on from there.
+//! A character stands in the cluster that is its offset in UTF-8, if no other is written after an
+//! `@`: `1EA4@7`. The characters after it go on from there.
 //!
-//! The words of the settings are a direction (`ltr`, `rtl`, `ttb`, `btt`), `by_character` for clusters of single
-//! characters, `beginning` and `no_circle` for flags of the text, and glyphs in base 16: `invisible=3` for what isn't
-//! shown, `selector=9` for selectors without a variant.
+//! The words of the settings are a direction (`ltr`, `rtl`, `ttb`, `btt`), `by_character` for
+//! clusters of single characters, `beginning` and `no_circle` for flags of the text, and glyphs in
+//! base 16: `invisible=3` for what isn't shown, `selector=9` for selectors without a variant.
 
 use crate::cases::{character, cut, number, number_in_hex};
 use shape_buffer::buffer::{
@@ -67,7 +67,8 @@ fn set_glyph(rt: &impl Abort, text_settings: &mut TextSettings, (name, glyph): (
     }
 }
 
-/// Appends the character of a word, in this cluster if the word has none. Gives the cluster after it.
+/// Appends the character of a word, in this cluster if the word has none. Gives the cluster after
+/// it.
 fn add_word(rt: &impl Abort, text: &mut UnicodeBuffer, word: &str, cluster: u32) -> u32 {
     let (c, cluster) = match word.split_once("@") {
         Some((c, at)) => (character(rt, c), number(rt, at)),

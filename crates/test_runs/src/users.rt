@@ -1,5 +1,5 @@
-//! Tests of the users of the layer, through their public calls: texts by script, ligatures, lines and their pieces, spans,
-//! plain glyphs, words, a cache of words, carets.
+//! Tests of the users of the layer, through their public calls: texts by script, ligatures, lines
+//! and their pieces, spans, plain glyphs, words, a cache of words, carets.
 
 mod breaking;
 mod carets;

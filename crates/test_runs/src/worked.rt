@@ -1,4 +1,5 @@
-//! Texts whose answers were worked out by hand from the rules, a case a line, over each fixture in one test.
+//! Texts whose answers were worked out by hand from the rules, a case a line, over each fixture in
+//! one test.
 mod emoji;
 mod lists;
 pub mod stages;

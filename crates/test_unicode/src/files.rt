@@ -1,7 +1,8 @@
 //! Lines of Unicode's test files, over any reader and writer.
 //!
-//! A line of NormalizationTest.txt, which has five columns, is answered by a line of lists ([`normalization`]), one of
-//! LineBreakTest.txt by its code points with signs ([`breaks`]); another is passed.
+//! A line of NormalizationTest.txt, which has five columns, is answered by a line of lists
+//! ([`normalization`]), one of LineBreakTest.txt by its code points with signs ([`breaks`]);
+//! another is passed.
 ghost use Rattle.std.specs.Prelude.{◌≡◌, ◌≤◌};
 
 mod breaks;
@@ -17,15 +18,15 @@ use std::str;
 /// The status of a run that came to the end of its input.
 const DONE: u8 = 0;
 
-/// The status of a run whose input couldn't be read or whose output couldn't be written, or that had no
-/// memory.
+/// The status of a run whose input couldn't be read or whose output couldn't be written, or that
+/// had no memory.
 const FAILED: u8 = 1;
 
 /// The status of a run that met a malformed line.
 const MALFORMED: u8 = 2;
 
-/// What a line is answered by, a line too, or nothing if it has neither columns nor signs before its comment. None if it
-/// is malformed.
+/// What a line is answered by, a line too, or nothing if it has neither columns nor signs before
+/// its comment. None if it is malformed.
 fn answer(alloc: Global, line: &[u8]) -> Result<Option<String>, ShapeError> {
     let Ok(line) = str::from_utf8(line) else {
         return Ok(None);

@@ -1,8 +1,8 @@
 //! Unicode's own test files taken through the library.
 //!
-//! The program answers lines of NormalizationTest.txt and LineBreakTest.txt on the standard input ([`files`]);
-//! `tests/compare.py` compares with the files. The exit status is 0 at the end of
-//! the input, 1 if a read, a write or a growth of memory failed, 2 at a malformed line.
+//! The program answers lines of NormalizationTest.txt and LineBreakTest.txt on the standard input
+//! ([`files`]); `tests/compare.py` compares with the files. The exit status is 0 at the end of the
+//! input, 1 if a read, a write or a growth of memory failed, 2 at a malformed line.
 #![tactic(auto)]
 #![allow(non_camel_case_types)]
 

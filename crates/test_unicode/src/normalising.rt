@@ -11,8 +11,8 @@ use shape_unicode::UnicodeDatabase;
 use std::alloc::Global;
 use test_fixtures::TestFace;
 
-/// A base to stand before a text, so that a mark stands past the first character whatever the text is, and all its marks
-/// are put in order. It composes with nothing.
+/// A base to stand before a text, so that a mark stands past the first character whatever the text
+/// is, and all its marks are put in order. It composes with nothing.
 const BASE: char = 'q';
 
 /// Its mark, which has the lowest ccc.
@@ -97,8 +97,8 @@ fn characters_of(alloc: Global, infos: &[hb_glyph_info_t]) -> Result<Vec<char>, 
     Ok(list)
 }
 
-/// The characters of a text, after a base with a mark, once it is prepared and normalised by a shaper.
-/// Refuses as these two do: memory, or a text that grows too long.
+/// The characters of a text, after a base with a mark, once it is prepared and normalised by a
+/// shaper. Refuses as these two do: memory, or a text that grows too long.
 pub fn normalised<S>(alloc: Global, shaper: &S, text: &[char]) -> Result<Vec<char>, ShapeError>
 where
     S: hb_ot_shaper_t<UnicodeDatabase, TestFace<'static>, NoLookups, Data = ()>,

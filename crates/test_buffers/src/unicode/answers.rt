@@ -6,7 +6,8 @@ use shape_buffer::interfaces::hb_unicode_funcs_t;
 use shape_buffer::interfaces::space_types::NOT_SPACE;
 use std::process::Abort;
 
-/// A question to Unicode functions: about a character, a script, or two characters with a `+` between them.
+/// A question to Unicode functions: about a character, a script, or two characters with a `+`
+/// between them.
 #[derive(Clone, Copy)]
 pub enum Question {
     Ccc,

@@ -1,4 +1,5 @@
-//! Functions over the whole of Unicode, as a program may write them: what they prove needs no proof file.
+//! Functions over the whole of Unicode, as a program may write them: what they prove needs no proof
+//! file.
 ghost use Rattle.std.specs.Prelude.{◌≡◌, if◌then◌else◌};
 ghost use Rattle.shape_common.specs.Unicode.{is_mark};
 ghost use Rattle.shape_unicode.specs.Meaning.{unicode_database};

@@ -1,5 +1,6 @@
-//! The answers for single characters, taken from the files of the database (UnicodeData.txt, Scripts.txt,
-//! DerivedNormalizationProps.txt) and from HarfBuzz: ccc, spaces, the ends of ranges, the directions of scripts.
+//! The answers for single characters, taken from the files of the database (UnicodeData.txt,
+//! Scripts.txt, DerivedNormalizationProps.txt) and from HarfBuzz: ccc, spaces, the ends of ranges,
+//! the directions of scripts.
 
 use crate::unicode::answers::{Question, check_answers, check_categories};
 use crate::unicode::comparing::{number, parts};
@@ -40,8 +41,8 @@ const CHANGED: &str = "
     F74 -> 131
 ";
 
-/// Pairs that compose again: Latin with one and with two marks, a sign, Greek, Cyrillic, Arabic, Indic letters,
-/// kana, Kaithi in the supplementary planes, and Hangul.
+/// Pairs that compose again: Latin with one and with two marks, a sign, Greek, Cyrillic, Arabic,
+/// Indic letters, kana, Kaithi in the supplementary planes, and Hangul.
 const SPLITS: &str = "
     C5 -> A+30A
     E9 -> e+301
@@ -92,8 +93,9 @@ const ANSWERS: [(Question, &str); 16] = [
     (Question::Ccc, CHANGED),
     (Question::Split, SPLITS),
     (Question::Composite, COMPOSITES),
-    // the whole table, and what stands beside its entries: 0 is no space, 1 to 6 and 16 are an em and its parts, 17 is
-    // 4/18 em, 18 the ordinary space, and 19, 20 and 21 are as wide as a digit, as punctuation, and narrow
+    // the whole table, and what stands beside its entries: 0 is no space, 1 to 6 and 16 are an em
+    // and its parts, 17 is 4/18 em, 18 the ordinary space, and 19, 20 and 21 are as wide as a
+    // digit, as punctuation, and narrow
     (
         Question::Space,
         "1F -> 0
@@ -116,7 +118,8 @@ const ANSWERS: [(Question, &str); 16] = [
          205F -> 17
          3000 -> 1",
     ),
-    // the ends of each range of ignorables; then what stands beside the ranges, and characters in them that fonts draw
+    // the ends of each range of ignorables; then what stands beside the ranges, and characters in
+    // them that fonts draw
     (
         Question::Ignorable,
         "AD 34F 61C 17B4 17B5 180B 180E 200B 200C 200D 200F 202A 202E 2060 2065 206F FE00 FE0F FEFF FFF0 \
@@ -235,8 +238,9 @@ const ANSWERS: [(Question, &str); 16] = [
          Arab Hebr Syrc Adlm Gara -> RightToLeft
          Hung Ital Runr Tfng -> either",
     ),
-    // singletons, whose second part is U+0000, and pairs that are excluded from composition; then letters, jamo, what stands
-    // beside the syllables, compatibility characters, and the last character
+    // singletons, whose second part is U+0000, and pairs that are excluded from composition; then
+    // letters, jamo, what stands beside the syllables, compatibility characters, and the last
+    // character
     (
         Question::Split,
         "340 -> 300+0000

@@ -1,8 +1,8 @@
 //! Comparisons of tests, and how rows of text are read.
 //!
-//! The proof of a test takes next to nothing for a text, and a good part of a second for each `assert_eq!` and for
-//! each list of its own. So rows are lines of text. A row that can't be read ends the test, as does a text without
-//! rows.
+//! The proof of a test takes next to nothing for a text, and a good part of a second for each
+//! `assert_eq!` and for each list of its own. So rows are lines of text. A row that can't be read
+//! ends the test, as does a text without rows.
 
 use std::fmt::Debug;
 use std::process::Abort;
@@ -37,7 +37,8 @@ fn numbered(word: &str) -> Option<char> {
     char::from_u32(u32::from_str_radix(word, 16).ok()?)
 }
 
-/// The character that a word names: itself, or the one of a hexadecimal number of two or more digits.
+/// The character that a word names: itself, or the one of a hexadecimal number of two or more
+/// digits.
 pub fn character(rt: &impl Abort, word: &str) -> char {
     match word.chars().next() {
         Some(c) if c.len_utf8() == word.len() => c,

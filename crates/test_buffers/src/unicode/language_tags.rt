@@ -1,5 +1,5 @@
-//! OpenType's tags of languages, beside what HarfBuzz 10.2.0 answers: each subtag of its table, each variant, each
-//! name, script and place that it knows, and subtags that it has no row of.
+//! OpenType's tags of languages, beside what HarfBuzz 10.2.0 answers: each subtag of its table,
+//! each variant, each name, script and place that it knows, and subtags that it has no row of.
 use crate::unicode::comparing::assert_row;
 use opentype_tags::language_tags;
 use shape_buffer::buffer::{Language, hb_tag_t};

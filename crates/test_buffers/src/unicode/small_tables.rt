@@ -1,5 +1,5 @@
-//! The small tables of Unicode that the program `shapeline` has, entry by entry, with the characters beside them and
-//! how many they name.
+//! The small tables of Unicode that the program `shapeline` has, entry by entry, with the
+//! characters beside them and how many they name.
 
 use crate::unicode::answers::{Question, check_answers, check_categories, count};
 use crate::unicode::comparing::assert_same;

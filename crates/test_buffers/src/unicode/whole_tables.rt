@@ -1,5 +1,6 @@
-//! Whole tables of the Unicode functions, each beside another source: names of scripts and categories as
-//! `ucd_sets` knows them, the bidirectional classes of letters, and the standard's list of mirror images.
+//! Whole tables of the Unicode functions, each beside another source: names of scripts and
+//! categories as `ucd_sets` knows them, the bidirectional classes of letters, and the standard's
+//! list of mirror images.
 
 use crate::unicode::answers::{Question, category_name, count, script_of};
 use crate::unicode::comparing::{assert_same, chars_of};
@@ -11,8 +12,8 @@ use ucd_bidi::BidiClass;
 use ucd_category::GeneralCategory;
 use ucd_sets::Set;
 
-/// Bidi_Mirroring_Glyph, as Perl 5.36 has it of Unicode 14, which has the pairs of 15: each two characters that
-/// stand side by side are images of one another.
+/// Bidi_Mirroring_Glyph, as Perl 5.36 has it of Unicode 14, which has the pairs of 15: each two
+/// characters that stand side by side are images of one another.
 const MIRROR_IMAGES: &str = "\
     ()<>[]{}«»༺༻༼༽᚛᚜‹›⁅⁆⁽⁾₍₎∈∋∉∌∊∍∕⧵∟⯾∠⦣∡⦛∢⦠∤⫮∼∽≃⋍≅≌≒≓≔≕≤≥≦≧≨≩≪≫≮≯≰≱≲≳≴≵≶≷≸≹\
     ≺≻≼≽≾≿⊀⊁⊂⊃⊄⊅⊆⊇⊈⊉⊊⊋⊏⊐⊑⊒⊘⦸⊢⊣⊦⫞⊨⫤⊩⫣⊫⫥⊰⊱⊲⊳⊴⊵⊶⊷⊸⟜⋉⋊⋋⋌⋐⋑⋖⋗⋘⋙⋚⋛⋜⋝⋞⋟⋠⋡⋢⋣⋤⋥⋦⋧⋨⋩⋪⋫\
@@ -52,8 +53,8 @@ fn nothing_else_has_an_image(rt: HostRuntime) {
     assert_same(&rt, images, MIRRORED);
 }
 
-/// The letters of a script's tag, with the capital that they begin with in lower case. None if there is no such
-/// capital.
+/// The letters of a script's tag, with the capital that they begin with in lower case. None if
+/// there is no such capital.
 fn letters_of(script: Script) -> Option<[u8; 4]> {
     let [first, second, third, fourth] = script.0.0.to_be_bytes();
     let lower = [first.to_ascii_lowercase(), second, third, fourth];
@@ -64,7 +65,8 @@ fn letters_of(script: Script) -> Option<[u8; 4]> {
     }
 }
 
-/// Asserts that a value of a property names this set. The value is given by its letters, in lower case.
+/// Asserts that a value of a property names this set. The value is given by its letters, in lower
+/// case.
 fn assert_named(rt: &impl Abort, property: &[u8], letters: &[u8], set: Set) {
     let named = ucd_sets::by_value(property, letters);
     assert_same(rt, (letters, named), (letters, Ok(set)));
@@ -130,7 +132,8 @@ fn direction_of_class(c: char) -> Option<Direction> {
     }
 }
 
-/// Compares the direction of a letter's script with its own. A script that has none goes into a list, once.
+/// Compares the direction of a letter's script with its own. A script that has none goes into a
+/// list, once.
 fn tell(rt: &impl Abort, c: char, script: Script, either_way: &mut Vec<Script>) {
     let direction = UnicodeDatabase::script_direction(script);
     match (direction, direction_of_class(c)) {

@@ -7,7 +7,10 @@ use Rattle.shape_common.specs.Unicode.{UnicodeMeaning}
 use Rattle.shape_items.specs.UnicodeProps.{is_hidden_char, with_unicode_props, with_scratch_of}
 use Rattle.shape_common.specs.declared.flags.ScratchFlags.{ScratchFlags}
 use Rattle.shape_common.specs.declared.general_category.hb_unicode_general_category_t.{hb_unicode_general_category_t}
-use Rattle.shape_common.specs.declared.general_category.hb_unicode_general_category_t.TheVariants.{UppercaseLetter, LowercaseLetter, OtherLetter, NonspacingMark, SpacingMark, EnclosingMark, DecimalNumber, OtherSymbol, SpaceSeparator, LineSeparator}
+use Rattle.shape_common.specs.declared.general_category.hb_unicode_general_category_t.TheVariants.{UppercaseLetter, LowercaseLetter, OtherLetter}
+use Rattle.shape_common.specs.declared.general_category.hb_unicode_general_category_t.TheVariants.{NonspacingMark, SpacingMark, EnclosingMark}
+use Rattle.shape_common.specs.declared.general_category.hb_unicode_general_category_t.TheVariants.{DecimalNumber, OtherSymbol, SpaceSeparator}
+use Rattle.shape_common.specs.declared.general_category.hb_unicode_general_category_t.TheVariants.{LineSeparator}
 use Rattle.shape_common.specs.declared.text_types.Direction.TheVariants.{Invalid, LeftToRight, RightToLeft, TopToBottom, BottomToTop}
 use Rattle.shape_common.specs.PlainUnicode.{plain_unicode}
 

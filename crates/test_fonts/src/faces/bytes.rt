@@ -1,4 +1,5 @@
-//! Small fonts in the base of 16: five glyphs with advances of 500, 600 and then 700, and a character map each.
+//! Small fonts in the base of 16: five glyphs with advances of 500, 600 and then 700, and a
+//! character map each.
 
 /// Format 0: U+0041 has glyph 3.
 pub const BYTES: &str = "\

@@ -1,4 +1,5 @@
-//! What tests compare with. These functions have no contract, since no later call of a test relies on what they found.
+//! What tests compare with. These functions have no contract, since no later call of a test relies
+//! on what they found.
 use opened_face::OpenedFace;
 use shape_buffer::{GlyphId, hb_font_t};
 use shape_font::FontFace;
@@ -47,7 +48,8 @@ fn opened<'a>(rt: &impl Abort, alloc: Global, bytes: &'a [u8]) -> OpenedFace<'a>
     OpenedFace::new(alloc, face).expect(rt, "memory")
 }
 
-/// Asserts that a face that was opened says of all characters, and of the first glyphs, what it said before.
+/// Asserts that a face that was opened says of all characters, and of the first glyphs, what it
+/// said before.
 pub fn assert_opens(rt: &impl Abort, alloc: Global, bytes: &[u8]) {
     let opened = opened(rt, alloc, bytes);
     let face = opened.face();

@@ -1,5 +1,5 @@
-//! Which glyphs stand in pairs of the table `kern`, and kerning by what is stored of them: over the tests' font A and V,
-//! and no others of these letters, are moved together, by 30.
+//! Which glyphs stand in pairs of the table `kern`, and kerning by what is stored of them: over the
+//! tests' font A and V, and no others of these letters, are moved together, by 30.
 use crate::rich::RICH;
 use kern_table::{KernTable, PairGlyphs};
 use opened_face::{OpenedFace, OpenedKernTable, OverOpened};
@@ -64,7 +64,8 @@ fn assert_advances<F: hb_font_t, M: hb_ot_layout_t<F>>(
     assert!(rt; (positions[0].x_advance, positions[1].x_advance) == wanted);
 }
 
-/// Asserts the advances of two letters, by the face, by the opened face, and by what is stored there.
+/// Asserts the advances of two letters, by the face, by the opened face, and by what is stored
+/// there.
 fn assert_kerned(rt: &impl Abort, alloc: Global, letters: &str, wanted: (i32, i32)) {
     let bytes = hex::decode(alloc, RICH).expect(rt, "bytes");
     let face = FontFace::from_slice(&bytes, 0).expect(rt, "a face");

@@ -1,7 +1,8 @@
 //! Lines of glyphs, and what positioning makes of them.
 //!
-//! A line is `DIRECTION GLYPH ..`, each glyph 600 long: its number, or `GLYPH:ID.COMPONENT` with the ligature that it is of. What
-//! is found is `X,Y,ADVANCE` for each glyph, the advance along the line.
+//! A line is `DIRECTION GLYPH ..`, each glyph 600 long: its number, or `GLYPH:ID.COMPONENT` with
+//! the ligature that it is of. What is found is `X,Y,ADVANCE` for each glyph, the advance along the
+//! line.
 use crate::positions::tables::{GDEF, Host, bytes_of, gpos_lookup, gpos_of};
 use layout_digests::{Digest, Digested};
 use layout_matching::firsts::Firsts;

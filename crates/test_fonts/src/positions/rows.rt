@@ -1,4 +1,5 @@
-//! Cases, by the type of the lookup. A row is `LINE -> POSITIONS`; each was worked by hand from the standard.
+//! Cases, by the type of the lookup. A row is `LINE -> POSITIONS`; each was worked by hand from the
+//! standard.
 use crate::positions::lines::positioned;
 use crate::positions::tables::Host;
 
@@ -42,7 +43,8 @@ const CASES: [(&str, &str, &str); 21] = [
         "0001 0008 0008 0032 0001 0001 0002",
         "ttb 2 3 -> 0,0,-650 0,0,-600\nltr 2 3 -> 0,0,600 0,0,600",
     ),
-    // pairs 2 and 3: the advance of the first by -50, the second to the right by 7; the lookup goes on after it
+    // pairs 2 and 3: the advance of the first by -50, the second to the right by 7; the lookup goes
+    // on after it
     (
         "2 0 ",
         "0001 0014 0004 0001 0001 000C  0001 0003 FFCE 0007  0001 0001 0002",
@@ -193,7 +195,8 @@ fn lookups_of_each_type(rt: HostRuntime) {
     }
 }
 
-/// 10,000 marks on one base, each 600 after the one before: by their way back to the base the last one is at 200 - 600 * 10000.
+/// 10,000 marks on one base, each 600 after the one before: by their way back to the base the last
+/// one is at 200 - 600 * 10000.
 #[test]
 fn many_marks_on_one_base(rt: HostRuntime) {
     let mut line = String::new(rt.alloc());

@@ -1,6 +1,6 @@
-//! The steps of a run that are never refused, each made once in the order of a run, for any types of a run. A step is one
-//! arm of a `match`: the proof of a function takes the longer the more calls that change the buffer come one after the
-//! other, and each function takes time of its own.
+//! The steps of a run that are never refused, each made once in the order of a run, for any types
+//! of a run. A step is one arm of a `match`: the proof of a function takes the longer the more
+//! calls that change the buffer come one after the other, and each function takes time of its own.
 
 use crate::comparing::{assert_same, assert_that};
 use shape_buffer::buffer::{Direction, ScratchFlags, hb_buffer_t, hb_glyph_info_t};
@@ -127,8 +127,8 @@ const LAST: [Step; 5] = [
     Step::HideIgnorables,
 ];
 
-/// Makes all steps on a text of 16 items, of which four aren't shown. Fractions are those of another plan, which has
-/// masks for them.
+/// Makes all steps on a text of 16 items, of which four aren't shown. Fractions are those of
+/// another plan, which has masks for them.
 pub fn make_all<A: Abort, T: ShapingTypes, D: ShapingTypes>(
     rt: &A,
     (plan, dividing): (&PlanOf<'_, T>, &PlanOf<'_, D>),
@@ -252,7 +252,8 @@ fn set_items(buffer: &mut hb_buffer_t) {
     buffer.set_scratch_flags(ScratchFlags(63));
 }
 
-/// Whether an item has a mask just when it is a part of a fraction: a digit, or the slash between two.
+/// Whether an item has a mask just when it is a part of a fraction: a digit, or the slash between
+/// two.
 fn is_divided(info: &hb_glyph_info_t, mask: u32) -> bool {
     let is_part = matches!(info.codepoint, '1' | '2' | '\u{2044}');
     (info.mask & mask != 0) == is_part

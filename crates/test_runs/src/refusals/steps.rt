@@ -1,5 +1,5 @@
-//! What becomes of a text whose run is refused for memory, and of the same text in the buffer that is handed back. That
-//! this buffer is cleared, and how, are clauses of the calls.
+//! What becomes of a text whose run is refused for memory, and of the same text in the buffer that
+//! is handed back. That this buffer is cleared, and how, are clauses of the calls.
 
 use crate::cases::{Case, assert_answer, cut};
 use crate::comparing::{assert_same, assert_that};
@@ -26,7 +26,8 @@ fn filled_again(rt: &impl Abort, case: Case<'_>, fault: ShapeFault) -> UnicodeBu
     text
 }
 
-/// The glyphs of a text. If its run is refused, those of the same text in the buffer that is handed back are compared.
+/// The glyphs of a text. If its run is refused, those of the same text in the buffer that is handed
+/// back are compared.
 pub fn run_again<T: ShapingTypes>(
     rt: &(impl Abort + AllocGlobal),
     by: (&T::Face, &T::Shaper),
@@ -69,7 +70,8 @@ fn key_of<T: ShapingTypes>(
     Ok(printed_key(rt, key))
 }
 
-/// The key of a text. If it is refused, that of the same text in the buffer that is handed back is compared.
+/// The key of a text. If it is refused, that of the same text in the buffer that is handed back is
+/// compared.
 pub fn key_again<T: ShapingTypes>(
     rt: &(impl Abort + AllocGlobal),
     (face, shaper): (&T::Face, &T::Shaper),
@@ -100,7 +102,8 @@ fn filled_with<U: hb_unicode_funcs_t>(
     text
 }
 
-/// The items of two lists that have to be alike: those of the first are compared with what a case wants.
+/// The items of two lists that have to be alike: those of the first are compared with what a case
+/// wants.
 fn printed_alike(
     rt: &(impl Abort + AllocGlobal),
     case: Case<'_>,
@@ -111,7 +114,8 @@ fn printed_alike(
     printed_list(rt, b, case.wanted)
 }
 
-/// The list that two spellings are normalised to. If that is refused, it is compared once both are filled again.
+/// The list that two spellings are normalised to. If that is refused, it is compared once both are
+/// filled again.
 pub fn compare_again<T: ShapingTypes>(
     rt: &(impl Abort + AllocGlobal),
     by: (&T::Face, &T::Shaper),

@@ -38,7 +38,8 @@ fn assert_line(
     assert_looks_alike(rt, whole, line.glyph_start, &again, line.text_start);
 }
 
-/// Asserts that a text has several lines of a width, each of whose pieces looks as it does in the whole.
+/// Asserts that a text has several lines of a width, each of whose pieces looks as it does in the
+/// whole.
 fn assert_lines(rt: &impl Abort, alloc: Global, how: Shaping<'_>, text: &str, width: u32) {
     let whole = glyphs_of(rt, alloc, how, text);
     let lines = lines_of(rt, alloc, &whole, text, width);
@@ -78,7 +79,8 @@ fn assert_counts(rt: &impl Abort, alloc: Global, known: &str, text: &str, counts
     assert_that(rt, (found.glyphs.len(), found.lines.len()) == counts);
 }
 
-/// A line may end before the clusters 0 and 3 of a letter with its accent and a letter after it, and not before 1.
+/// A line may end before the clusters 0 and 3 of a letter with its accent and a letter after it,
+/// and not before 1.
 fn assert_cuts(rt: &impl Abort, alloc: Global) {
     let face = face_of(rt, alloc, "e\u{301}x");
     let how = by_graphemes(&face, Shaper::Default);

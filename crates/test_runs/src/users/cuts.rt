@@ -1,8 +1,10 @@
-//! Texts cut where no glyph is unsafe to break: the parts, each shaped by itself, look as they did together.
+//! Texts cut where no glyph is unsafe to break: the parts, each shaped by itself, look as they did
+//! together.
 //!
-//! What is tried: every text of two and three characters of a few alphabets, towards all four directions, at the
-//! two levels that keep clusters in order, over a face of a few glyphs, with the default shaper, the engine with
-//! ligatures, and both script shapers. A part is shaped in the direction and script of the whole.
+//! What is tried: every text of two and three characters of a few alphabets, towards all four
+//! directions, at the two levels that keep clusters in order, over a face of a few glyphs, with the
+//! default shaper, the engine with ligatures, and both script shapers. A part is shaped in the
+//! direction and script of the whole.
 use crate::comparing::assert_that;
 use crate::users::seen::assert_looks_alike;
 use crate::users::shaping::{
@@ -12,8 +14,8 @@ use shape_pipeline::{Direction, GlyphBuffer, Script};
 use std::alloc::Global;
 use std::process::Abort;
 
-/// The number of glyphs of a part of a text, the first cluster of which is at `start`. They must look as the first or
-/// the last glyphs of the whole.
+/// The number of glyphs of a part of a text, the first cluster of which is at `start`. They must
+/// look as the first or the last glyphs of the whole.
 fn part_len(
     rt: &impl Abort,
     alloc: Global,
@@ -102,8 +104,8 @@ fn cuts_from(rt: &impl Abort, alloc: Global, how: Shaping<'_>, first: char, alph
     cuts
 }
 
-/// Asserts that texts of two and three characters of an alphabet may be cut often, over a face that has a glyph for
-/// each.
+/// Asserts that texts of two and three characters of an alphabet may be cut often, over a face that
+/// has a glyph for each.
 fn assert_cut(rt: &impl Abort, alloc: Global, shaper: Shaper, script: Script, alphabet: &str) {
     let face = face_of(rt, alloc, alphabet);
     let how = Shaping {

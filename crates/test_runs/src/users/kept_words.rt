@@ -1,5 +1,5 @@
-//! Words in a cache, under their keys. A word takes 4 bytes for each number of its key, those of its spelling, and 40 for
-//! each glyph.
+//! Words in a cache, under their keys. A word takes 4 bytes for each number of its key, those of
+//! its spelling, and 40 for each glyph.
 use crate::users::rows::{Asked, assert_rows};
 use crate::users::shaping::{face_of, planned};
 use shape_buffer::buffer::Direction;
@@ -93,9 +93,9 @@ fn print_words_over(
     print_words(rt, alloc, printed, (face, &plan), limit, words);
 }
 
-/// Asks a cache that may take so many bytes for words, as `0:qe 1:q`: the number of a plan, and a spelling. Prints for each
-/// whether it was found or is new, how many words are kept then, and their bytes; and the one that was used last, with its
-/// glyphs: ` new 1/50 found 1/50; q 1`.
+/// Asks a cache that may take so many bytes for words, as `0:qe 1:q`: the number of a plan, and a
+/// spelling. Prints for each whether it was found or is new, how many words are kept then, and
+/// their bytes; and the one that was used last, with its glyphs: ` new 1/50 found 1/50; q 1`.
 pub fn print_cached(
     rt: &impl Abort,
     alloc: Global,
@@ -108,9 +108,10 @@ pub fn print_cached(
     print_words_over(rt, alloc, printed, &face, limit, words);
 }
 
-/// U+00E9 and U+0065 U+0301 have the key 0, 65, 301: 12 bytes, 2 of the first spelling and 80 for two glyphs, which are
-/// those of the spelling that came first. Under another number it is another word. Of words of 94, 49 and 49 bytes the
-/// one that was not used for longest goes where 150 may be taken; one of 94 stays alone where 90 may be.
+/// U+00E9 and U+0065 U+0301 have the key 0, 65, 301: 12 bytes, 2 of the first spelling and 80 for
+/// two glyphs, which are those of the spelling that came first. Under another number it is another
+/// word. Of words of 94, 49 and 49 bytes the one that was not used for longest goes where 150 may
+/// be taken; one of 94 stays alone where 90 may be.
 #[test]
 fn words_are_found_and_go(rt: HostRuntime) {
     let rows = "1000 | 0:\u{E9} 0:q 0:e\u{301} -> new 1/94 new 2/143 found 2/143; \u{E9} 2 3

@@ -7,7 +7,8 @@ use std::alloc::Global;
 use std::fmt::Write;
 use std::process::Abort;
 
-/// Prints the text that the glyphs from one place up to another show, and the glyphs that show this text.
+/// Prints the text that the glyphs from one place up to another show, and the glyphs that show this
+/// text.
 fn print_shown(
     rt: &impl Abort,
     printed: &mut String,
@@ -27,9 +28,9 @@ fn print_shown(
     .expect(rt, "memory");
 }
 
-/// Prints what the glyphs from one place up to another show, as ` text 1..4, glyphs 1..3`: their text, and the glyphs
-/// that show this text. The whole is `a`, `e`, U+0301, `x` in a direction, whose graphemes begin at 0, 1 and 4 of its
-/// 5 bytes.
+/// Prints what the glyphs from one place up to another show, as ` text 1..4, glyphs 1..3`: their
+/// text, and the glyphs that show this text. The whole is `a`, `e`, U+0301, `x` in a direction,
+/// whose graphemes begin at 0, 1 and 4 of its 5 bytes.
 pub fn print_spans(
     rt: &impl Abort,
     alloc: Global,

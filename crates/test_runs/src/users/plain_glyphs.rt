@@ -19,7 +19,8 @@ use std::process::Abort;
 /// The text, whose clusters are 0, 1 and 3.
 const TEXT: &str = "e\u{301}x";
 
-/// The calls that take a plan: one says how many glyphs there are, and one of what form the characters are.
+/// The calls that take a plan: one says how many glyphs there are, and one of what form the
+/// characters are.
 #[derive(Clone, Copy)]
 enum ByPlan {
     Plain,
@@ -53,7 +54,8 @@ fn assert_three(rt: &impl Abort, glyphs: Result<GlyphBuffer, ShapeFault>, direct
     assert_that(rt, glyphs.direction() == direction && glyphs.len() == 3);
 }
 
-/// Asserts this of `shape`, whose plan is its own: it counts the glyphs, and knows the form of the characters.
+/// Asserts this of `shape`, whose plan is its own: it counts the glyphs, and knows the form of the
+/// characters.
 fn assert_by_shape(rt: &impl Abort, alloc: Global, how: Shaping<'_>) {
     let (face, shaper) = (how.face, &DEFAULT_SHAPER);
     let text = text_of(rt, alloc, how, TEXT);

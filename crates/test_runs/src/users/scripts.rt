@@ -1,5 +1,5 @@
-//! Texts by the shaper of each script, over faces that have a glyph for these characters alone. Lines are compared from the
-//! left.
+//! Texts by the shaper of each script, over faces that have a glyph for these characters alone.
+//! Lines are compared from the left.
 use crate::comparing::assert_that;
 use crate::users::rows::{Asked, assert_rows};
 use crate::users::shaping::{Shaper, by_graphemes, face_of, print_glyphs, text_of};
@@ -9,19 +9,21 @@ use shaper_choice::{Category, SCRIPT_SHAPERS, plan_by_script, served_by, shape_w
 use std::alloc::Global;
 use std::process::Abort;
 
-/// Beh, fatha, shadda, and a hamza above and below are known. A hamza stands after a fatha, and before it; a hamza below
-/// comes before one above.
+/// Beh, fatha, shadda, and a hamza above and below are known. A hamza stands after a fatha, and
+/// before it; a hamza below comes before one above.
 const ARABIC: &str = "\u{628}\u{64E}\u{651}\u{654}\u{655} | \u{628}\u{64E}\u{654} -> 2@0 4@0 1@0
     \u{628}\u{64E}\u{651}\u{654}\u{655} | \u{628}\u{654}\u{64E} -> 2@0 4@0 1@0
     \u{628}\u{64E}\u{651}\u{654}\u{655} | \u{628}\u{651}\u{654}\u{655} -> 3@0 4@0 5@0 1@0";
 
-/// A letter with its point, over a face that has a form for the two, and over one without; a meteg steps before a hiriq.
+/// A letter with its point, over a face that has a form for the two, and over one without; a meteg
+/// steps before a hiriq.
 const HEBREW: &str = "\u{5D9}\u{5B4}\u{FB1D} | \u{5D9}\u{5B4} -> 3@0
     \u{5D9}\u{5B4} | \u{5D9}\u{5B4} -> 2@0 1@0
     \u{5D0}\u{5B7}\u{5B4}\u{5BD} | \u{5D0}\u{5B7}\u{5B4}\u{5BD} -> 3@0 4@0 2@0 1@0";
 
-/// A hamza goes before a fatha, a point joins its letter, jamo make a syllable, SARA AM is taken apart; over a face with the
-/// forms of Windows at private characters, a tone mark goes to the left of an ascender; Latin text is shaped as it stands.
+/// A hamza goes before a fatha, a point joins its letter, jamo make a syllable, SARA AM is taken
+/// apart; over a face with the forms of Windows at private characters, a tone mark goes to the left
+/// of an ascender; Latin text is shaped as it stands.
 const BY_SCRIPT: &str = "\u{628}\u{64E}\u{654} | \u{628}\u{64E}\u{654} -> 2@0 3@0 1@0
     \u{5D9}\u{5B4}\u{FB1D} | \u{5D9}\u{5B4} -> 3@0
     \u{1100}\u{1161}\u{AC00} | \u{1100}\u{1161} -> 3@0

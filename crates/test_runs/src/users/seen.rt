@@ -19,8 +19,8 @@ fn seen_at(glyphs: &GlyphBuffer, place: usize, start: u32) -> Option<Seen> {
     Some((info.glyph_id, info.cluster.wrapping_add(start), placed))
 }
 
-/// Asserts that the glyphs of a whole text from a place on look as all those of a part of it, the first cluster of
-/// which is at `start`.
+/// Asserts that the glyphs of a whole text from a place on look as all those of a part of it, the
+/// first cluster of which is at `start`.
 pub fn assert_looks_alike(
     rt: &impl Abort,
     whole: &GlyphBuffer,

@@ -17,7 +17,8 @@ use std::alloc::Global;
 use std::process::Abort;
 use test_fixtures::printing::append_glyph;
 
-/// A face in which the characters of a text have glyphs, which are numbered from 1 in their order and 500 wide.
+/// A face in which the characters of a text have glyphs, which are numbered from 1 in their order
+/// and 500 wide.
 pub fn face_of(rt: &impl Abort, alloc: Global, known: &str) -> MapFace {
     let mut face = MapFace::new(alloc, 1000);
     let mut glyph: u32 = 0;
@@ -58,8 +59,8 @@ where
     .expect(rt, "memory")
 }
 
-/// Who shapes a text. The functions below take this and no type, since the proof of a generic function takes
-/// twice the time.
+/// Who shapes a text. The functions below take this and no type, since the proof of a generic
+/// function takes twice the time.
 #[derive(Clone, Copy)]
 pub enum Shaper {
     Default,
@@ -216,7 +217,8 @@ pub fn print_glyphs(
     }
 }
 
-/// Prints the glyphs of a text over a face of some characters (`face_of`), in the order of the line.
+/// Prints the glyphs of a text over a face of some characters (`face_of`), in the order of the
+/// line.
 pub fn print_shaped(
     rt: &impl Abort,
     alloc: Global,

@@ -86,8 +86,8 @@ fn assert_kept(rt: &impl Abort, alloc: Global, spellings: &str, wanted: &str) {
     assert_printed(rt, printed.as_str(), wanted);
 }
 
-/// The last letter has an accent, spelled as one character and as two, or none. The second spelling gets what was
-/// shaped for the first one.
+/// The last letter has an accent, spelled as one character and as two, or none. The second spelling
+/// gets what was shaped for the first one.
 #[test]
 fn equivalent_spellings_are_one_word(rt: HostRuntime) {
     let spellings = "q\u{301}\u{E9}
@@ -129,8 +129,8 @@ pub fn print_decided(
     printed.push_str(answer).expect(rt, "memory");
 }
 
-/// What the face's glyphs and the text leave open isn't answered: no glyph for x, a variation selector. A mark need not
-/// stand past the first character.
+/// What the face's glyphs and the text leave open isn't answered: no glyph for x, a variation
+/// selector. A mark need not stand past the first character.
 #[test]
 fn spellings_that_can_be_decided(rt: HostRuntime) {
     let rows = "q\u{301}\u{E9} | q\u{301}e\u{301} -> yes

@@ -1,8 +1,9 @@
-//! Graphemes of emoji over the whole database of Unicode, against the rules of UAX 29: pictographs after a
-//! joiner (GB11), pairs of regional indicators (GB12, GB13), and what extends the character before (GB9).
+//! Graphemes of emoji over the whole database of Unicode, against the rules of UAX 29: pictographs
+//! after a joiner (GB11), pairs of regional indicators (GB12, GB13), and what extends the character
+//! before (GB9).
 //!
-//! Shaping differs in one place: a joiner joins a pictograph to whatever stands before it, while GB11 asks for
-//! a pictograph there too.
+//! Shaping differs in one place: a joiner joins a pictograph to whatever stands before it, while
+//! GB11 asks for a pictograph there too.
 
 pub const CASES: &str = "
     step: prepare

@@ -1,4 +1,5 @@
-//! Lists that are prepared and normalised, the premises of canonical form, and whole runs with hooks that keep to no law.
+//! Lists that are prepared and normalised, the premises of canonical form, and whole runs with
+//! hooks that keep to no law.
 
 /// What the test goes over.
 pub const CASES: [&str; 5] = [PREPARED, NORMALISED, LONG_RUNS, PREMISES, RUNS];
@@ -88,8 +89,8 @@ const NORMALISED: &str = "
     FB2C 0323 / 05E9 05BC 05C1 0323 -> yes
 ";
 
-/// Marks after others of a greater ccc: in runs too long to be put in order, and when a hook has exchanged them. All
-/// marks since the starter keep a mark from it, and not the last one alone.
+/// Marks after others of a greater ccc: in runs too long to be put in order, and when a hook has
+/// exchanged them. All marks since the starter keep a mark from it, and not the last one alone.
 const LONG_RUNS: &str = "
     step: normalise
     shaper: recomposed

@@ -1,4 +1,5 @@
-//! Texts shaped by an engine with stages of substitution, over a face whose every character has the glyph of its own number.
+//! Texts shaped by an engine with stages of substitution, over a face whose every character has the
+//! glyph of its own number.
 
 use crate::cases::{Case, Fixture};
 use crate::runs::glyphs_of;
@@ -46,7 +47,8 @@ const LETTERS: [Stage; 4] = [
     }),
 ];
 
-/// In place of 1 and 2 their numerators, 0x101 and 0x102, and denominators, 0x201 and 0x202; in place of the slash 0x300.
+/// In place of 1 and 2 their numerators, 0x101 and 0x102, and denominators, 0x201 and 0x202; in
+/// place of the slash 0x300.
 const FRACTIONS: [Stage; 5] = [
     Stage::Single(Single {
         feature: 0x20,
@@ -104,10 +106,11 @@ fn face_named(rt: &impl Abort, name: &str) -> TestFace<'static> {
     }
 }
 
-/// Faces by name: `letters`, `fractions`, `pause` with a pause after the first stage, `morx`, whose table deletes x, and
-/// those that double each a: three times (`eightfold`), `fourteen` and `fifteen` times. The shaper is `default`, or
-/// `doubling`, whose pause doubles the numbers of glyphs. The step `length` gives how many glyphs there are, or why
-/// the run was refused and what it left; the others are those of `steps`.
+/// Faces by name: `letters`, `fractions`, `pause` with a pause after the first stage, `morx`, whose
+/// table deletes x, and those that double each a: three times (`eightfold`), `fourteen` and
+/// `fifteen` times. The shaper is `default`, or `doubling`, whose pause doubles the numbers of
+/// glyphs. The step `length` gives how many glyphs there are, or why the run was refused and what
+/// it left; the others are those of `steps`.
 pub struct Stages;
 
 impl Fixture for Stages {

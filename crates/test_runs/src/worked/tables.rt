@@ -34,8 +34,8 @@ const GLYPHS: [KnownGlyph; 3] = [
     },
 ];
 
-/// A face of these glyphs with the tables that words name, of which `GPOS` adds 1 to each advance, `kerx` 10 and
-/// `kern` 100.
+/// A face of these glyphs with the tables that words name, of which `GPOS` adds 1 to each advance,
+/// `kerx` 10 and `kern` 100.
 fn tabled(tables: &str) -> TestFace<'static> {
     TestFace {
         known: &GLYPHS,
@@ -54,8 +54,9 @@ fn tabled(tables: &str) -> TestFace<'static> {
     }
 }
 
-/// Shapers that are `default`, let marks hang where their boxes say (`hanging`), or zero them before tables (`early`)
-/// or after (`late`). The tables are some of `gsub`, `gpos`, `morx`, `kerx` and `kern`. The steps are those of `steps`.
+/// Shapers that are `default`, let marks hang where their boxes say (`hanging`), or zero them
+/// before tables (`early`) or after (`late`). The tables are some of `gsub`, `gpos`, `morx`, `kerx`
+/// and `kern`. The steps are those of `steps`.
 pub struct Tables;
 
 impl Fixture for Tables {

@@ -67,7 +67,8 @@ const PLACED: &str = "
     a 0301 -> 1@0(600,0,0,0) 2@0(0,0,-450,4145)
 ";
 
-/// The types of spaces that are a part of the em square, across and down the page, at the least one.
+/// The types of spaces that are a part of the em square, across and down the page, at the least
+/// one.
 const LEAST_EM: &str = "
     step: place
     face: 0020=3(7)

@@ -1,5 +1,5 @@
-//! A line of LineBreakTest.txt: its code points with `÷` where a line may end and `×` where none does. A line without a code
-//! point gives none.
+//! A line of LineBreakTest.txt: its code points with `÷` where a line may end and `×` where none
+//! does. A line without a code point gives none.
 
 use line_breaks::{LineBreaks, line_breaks};
 use std::alloc::{AllocError, Global};

@@ -1,5 +1,5 @@
-//! A line of NormalizationTest.txt: each of its five columns is normalised in mode 1, then in mode 3, after a base with a mark
-//! and under a face that has every glyph.
+//! A line of NormalizationTest.txt: each of its five columns is normalised in mode 1, then in mode
+//! 3, after a base with a mark and under a face that has every glyph.
 
 use crate::normalising::normalised;
 use shape_buffer::buffer::ShapeError;
@@ -14,8 +14,8 @@ fn character(word: &str) -> Option<char> {
     char::from_u32(u32::from_str_radix(word, 16).ok()?)
 }
 
-/// The characters that a column names by numbers with one space between them, or none if a word names
-/// no character. Refuses if memory is refused.
+/// The characters that a column names by numbers with one space between them, or none if a word
+/// names no character. Refuses if memory is refused.
 fn text_of(alloc: Global, column: &str) -> Result<Option<Vec<char>>, ShapeError> {
     let mut text = Vec::new(alloc);
     for word in column.split(' ') {
@@ -38,9 +38,9 @@ fn append_list(answer: &mut String, list: &[char]) -> Result<(), AllocError> {
     answer.push(';')
 }
 
-/// The lists of the first five columns, by the two modes that split fully: 1, which composes nothing, and 3,
-/// which composes again. They stand in one line, each with a semicolon after it. None if there are
-/// fewer columns or one names no character. Refuses if memory is refused.
+/// The lists of the first five columns, by the two modes that split fully: 1, which composes
+/// nothing, and 3, which composes again. They stand in one line, each with a semicolon after it.
+/// None if there are fewer columns or one names no character. Refuses if memory is refused.
 pub fn lists_of(alloc: Global, columns: &str) -> Result<Option<String>, ShapeError> {
     let splitting = Preferring::<Decomposed>::new();
     let composing = Preferring::<ComposedDiacriticsNoShortCircuit>::new();
