@@ -19,12 +19,13 @@ void *__real_malloc(size_t);
 void *__real_realloc(void *, size_t);
 void __real_free(void *);
 
-static long held, refuse_in = -1; /* (no block is refused while there are threads) */
+static long held, taken, refuse_in = -1; /* (no block is refused while there are threads) */
 
 static void
 count_blocks(long more)
 {
   __atomic_add_fetch(&held, more, __ATOMIC_SEQ_CST);
+  if (more > 0) __atomic_add_fetch(&taken, more, __ATOMIC_SEQ_CST);
 }
 
 static int
@@ -366,6 +367,34 @@ kept_fonts(void)
   IS("all is freed", held == 0);
 }
 
+/* More plans than a font keeps: each text has the glyphs that it has without any, a plan is made once while it is kept, and
+ * what is kept doesn't grow for ever. */
+static void
+kept_plans(void)
+{
+  luthgarn_font font = {0};
+  long most = 0;
+  const uint8_t *text = (const uint8_t *) "AVATAR";
+  IS("a font", luthgarn_font_new(whole_font, whole_size, 0, &font) == LUTHGARN_DONE);
+  for (uint32_t k = 0; k < 100; k++) {
+    luthgarn_feature feature = {0x6B65726E, k & 1, 0, 2 + k};
+    luthgarn_run run = run_of(0, 6), again = run, other = run;
+    luthgarn_glyph wanted[6], glyphs[6];
+    luthgarn_outcome w = luthgarn_shape(whole_font, whole_size, 0, &feature, 1, text, 6, &other, 1, wanted, 6);
+    long start = taken;
+    luthgarn_outcome o = luthgarn_shape_font(&font, &feature, 1, text, 6, &run, 1, glyphs, 6);
+    IS("glyphs by a new plan", w.glyphs == 6 && o.glyphs == 6 && !memcmp(glyphs, wanted, sizeof glyphs));
+    long first = taken - start, before = held;
+    o = luthgarn_shape_font(&font, &feature, 1, text, 6, &again, 1, glyphs, 6);
+    IS("glyphs by a kept plan", o.glyphs == 6 && !memcmp(glyphs, wanted, sizeof glyphs));
+    IS("a plan that is made once", taken - start - first < first && held == before);
+    if (k < 32) most = held;
+    IS("plans without end", held <= most);
+  }
+  luthgarn_font_free(&font);
+  IS("all is freed", held == 0);
+}
+
 /* Each block of a font refused in turn: it stays as it was. */
 static void
 refused_fonts(void)
@@ -437,19 +466,27 @@ threads(void)
   IS("all is freed", held == 0);
 }
 
-/* A language's name of at most 64 bytes is written whole, and a longer one leaves the run. */
+/* A language's name of at most 64 bytes is written whole, and of a longer one the subtags that fit. */
 static void
 names_of_languages(void)
 {
-  luthgarn_run run = run_of(0, 2), same = run;
-  char name[66];
+  static const uint8_t zeros[64];
+  luthgarn_run run = run_of(0, 2);
+  char name[80];
   memset(name, 'a', sizeof name);
   IS("a name", luthgarn_set_language(&run, (const uint8_t *) "sr", 2) == LUTHGARN_DONE);
   IS("its bytes", !memcmp(run.language, "sr\0", 3) && run.language[63] == 0 && run.end == 2 && run.glyphs == 0xAAAA);
   IS("the longest", luthgarn_set_language(&run, (const uint8_t *) name, 64) == LUTHGARN_DONE && !memcmp(run.language, name, 64));
-  same = run;
-  IS("a longer one", luthgarn_set_language(&run, (const uint8_t *) name, 65) == LUTHGARN_TEXT);
-  IS("it leaves the run", !memcmp(&run, &same, sizeof run));
+  IS("a longer one", luthgarn_set_language(&run, (const uint8_t *) name, 65) == LUTHGARN_DONE && !memcmp(run.language, zeros, 64));
+  memcpy(name, "fa-x-", 5);
+  luthgarn_set_language(&run, (const uint8_t *) name, 80);
+  IS("a language and no more", !memcmp(run.language, "fa", 2) && !memcmp(run.language + 2, zeros, 62) && run.end == 2);
+  name[60] = '_';
+  luthgarn_set_language(&run, (const uint8_t *) name, 80);
+  IS("what fits", !memcmp(run.language, name, 60) && !memcmp(run.language + 60, zeros, 4));
+  name[60] = 'a', name[64] = '-';
+  luthgarn_set_language(&run, (const uint8_t *) name, 80);
+  IS("all that fits", !memcmp(run.language, name, 64));
   IS("none", luthgarn_set_language(&run, NULL, 0) == LUTHGARN_DONE && run.language[0] == 0 && run.language[63] == 0);
 }
 
@@ -598,6 +635,7 @@ main(int argc, char **argv)
   refusals_of_others();
   empty_arrays();
   kept_fonts();
+  kept_plans();
   names_of_languages();
   texts_in_utf16();
   refused_blocks();

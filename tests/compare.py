@@ -8,8 +8,8 @@ models print, and libraries with Unicode's test files (Debian's package `unicode
 Status 0: no difference. 1: there are some, which are shown. 77: something is not installed.
 """
 from checks import (
-    bidi, cuts, hovering, items, line_breaks, normalising, normalization, options, outlines, paragraphs,
-    random_fonts, scripts, suite, syllables, texts, traces,
+    bidi, bitmaps, cuts, hovering, items, line_breaks, normalising, normalization, options, outlines,
+    paragraphs, random_fonts, scripts, suite, syllables, texts, traces, variations,
 )
 from checks.command import run_kind
 
@@ -21,6 +21,8 @@ KINDS = {
     "traces": traces,
     "hovering": hovering,
     "outlines": outlines,
+    "variations": variations,
+    "bitmaps": bitmaps,
     "suite": suite,
     "options": options,
     "fonts": random_fonts,

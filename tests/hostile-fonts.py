@@ -6,7 +6,7 @@
 
 Status 0: each run ended as it should. 1: some did not. 77: something is not installed.
 """
-from checks import bombs, broken_bytes, broken_tables, cff, search
+from checks import bombs, broken_bytes, broken_tables, cff, search, variable_bytes
 from checks.command import run_kind
 
 KINDS = {
@@ -15,6 +15,7 @@ KINDS = {
     "tables": broken_tables,
     "bytes": broken_bytes,
     "cff": cff,
+    "variable": variable_bytes,
 }
 
 if __name__ == "__main__":

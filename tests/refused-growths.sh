@@ -1,17 +1,20 @@
 #!/bin/sh
 # Runs the tests of the buffer's calls, of cutting lines, of whole runs, also with stages of substitution that grow, and
-# of kerning, then the built program on its stored input and on those of `growths`. Each is run with the first growth
-# of memory refused, then the second, and so on until a run has no such growth. Between them it counts the growths of
-# calls that take no memory: the buffer's, the steps of a run that can't be refused, runs over an empty text, and lines
-# of no glyphs.
+# of kerning, then the built programs: `shapeline` on its stored input and on those of `growths`, and `fill_paragraph` on
+# lines of both directions in two fonts, written and drawn. Each is run with the first growth of memory refused, then the
+# second, and so on until a run has no such growth. Between them it counts the growths of calls that take no memory: the
+# buffer's, the steps of a run that can't be refused, runs over an empty text, and lines of no glyphs.
 #
 # A run of a test must pass, or say that a call was `refused` (after its own comparisons of what that call left), or
-# that what the test itself takes could not grow (`AllocError`, `AllocFailed`, `OutOfMemory`, `Memory`). A run of the
-# program must end in one of three ways:
+# that what the test itself takes could not grow (`AllocError`, `AllocFailed`, `OutOfMemory`, `Memory`). A run of
+# `shapeline` must end in one of three ways:
 #
 #   the whole answer, status 0;
 #   the same with `refused 1` in place of what answers one line, status 0;
 #   the answers of the first lines, then `error: input`, status 1.
+#
+# A run of `fill_paragraph` must write the whole answer, status 0 (a list can grow later than where it asked at once for
+# all that it may need), or nothing but the error `out of memory`, status 1.
 cd "$(dirname "$0")/.." || exit 1
 program=crates/shapeline/out/shapeline
 
@@ -34,7 +37,12 @@ refuse_test() {
     [ -x "$tests" ] || (cd "crates/$1" && rt test > /dev/null) || return 1
     n=1 refused=0
     while [ "$n" -le 1000 ]; do
-        answer=$(COUNTED_GROWTHS="$work/count" REFUSED_GROWTH=$n LD_PRELOAD="$work/refuse.so" "$tests" "$2" 2>&1)
+        # The shell says `Aborted` of a test that fails, which is meant here: so it says that to nobody.
+        answer=$(
+            exec 2> /dev/null
+            COUNTED_GROWTHS="$work/count" REFUSED_GROWTH=$n LD_PRELOAD="$work/refuse.so" "$tests" "$2" 2>&1
+            exit $?
+        )
         status=$?
         case "$status $answer" in
             "0 "*)
@@ -139,3 +147,36 @@ refuse_all crates/shapeline/stdin crates/shapeline/stdout || exit 1
 for input in tests/growths/*.in; do
     refuse_all "$input" "${input%.in}.out" || exit 1
 done
+
+paragraph=$PWD/crates/fill_paragraph/out/fill_paragraph
+[ -x "$paragraph" ] || (cd crates/fill_paragraph && rt run > /dev/null) || exit 1
+
+# Runs `fill_paragraph` with each growth refused in turn, until a run has no such growth.
+refuse_paragraph() {
+    "$paragraph" "$@" > "$work/whole" || return 1
+    n=1 refused=0
+    while [ "$n" -le 5000 ]; do
+        COUNTED_GROWTHS="$work/count" REFUSED_GROWTH=$n LD_PRELOAD="$work/refuse.so" "$paragraph" "$@" \
+            > "$work/answer" 2> "$work/said"
+        status=$?
+        if [ "$status" -eq 1 ] && [ ! -s "$work/answer" ] && grep -q '^error: .*out of memory$' "$work/said"; then
+            refused=$((refused + 1))
+        elif [ "$status" -ne 0 ] || ! cmp -s "$work/answer" "$work/whole"; then
+            echo "fill_paragraph, growth $n refused: status $status and this answer:"
+            cat "$work/answer" "$work/said"
+            return 1
+        elif [ "$(cat "$work/count")" -lt "$n" ]; then
+            echo "refused growths: $refused of fill_paragraph's $((n - 1)) ended it, growth $n isn't reached"
+            [ "$refused" -gt 0 ]
+            return
+        fi
+        n=$((n + 1))
+    done
+    echo "fill_paragraph: no run had no such growth"
+    return 1
+}
+
+fonts="crates/fontshape/data/tiny.ttf crates/fill_paragraph/data/tall.ttf"
+text=$(printf 'A\342\227\214B \327\220 A\nA')
+refuse_paragraph $fonts --width=1500 --carets --text="$text" || exit 1
+refuse_paragraph $fonts --width=1500 --svg --text="$text" || exit 1

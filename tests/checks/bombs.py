@@ -6,7 +6,8 @@ more than 200 MB. The bombs are lookups that
 apply themselves, substitutions that grow, parts of tables that are shared, kerning of 65,535
 parts, origins and names that are searched for, long names. Those that use up what a run may ask for take
 longer, in step with the text (docs/SAFE_AND_TOTAL.md): they stand in SPENT, and run over a fifth
-of it. Texts that are hard to cut into syllables, or to put in order, are those of `syllable_bombs`.
+of it. Texts that are hard to cut into syllables, or to put in order, are those of `syllable_bombs`; fonts
+whose metrics take many steps at coordinates are those of `varied_bombs`.
 
 The worst fonts of earlier searches are named in tests/hostile/worst.txt (`search`).
 """
@@ -22,6 +23,7 @@ from checks.hostile_runs import LENGTH, SECONDS, Runs, add_run_options, need_all
 from checks.mutated import load_bases, mutated_font
 from checks.programs import TESTS
 from checks.syllable_bombs import TEXTS, syllable_bomb
+from checks.varied_bombs import VARIED, varied_bomb
 
 WORST = TESTS / "hostile" / "worst.txt"
 # the gate's machine may be slower than that of the figures, and busy
@@ -315,6 +317,10 @@ def take_syllables(runs, name, length):
     runs.take(name, *syllable_bomb(name, length))
 
 
+def take_varied(runs, name, length):
+    runs.take(name, *varied_bomb(name, length))
+
+
 def take_worst(runs):
     """The worst fonts of earlier searches."""
     bases = load_bases()
@@ -326,7 +332,7 @@ def take_worst(runs):
 
 
 def add_options(parser):
-    parser.add_argument("--bomb", metavar="NAME", choices=[*BOMBS, *TEXTS],
+    parser.add_argument("--bomb", metavar="NAME", choices=[*BOMBS, *TEXTS, *VARIED],
                         help="one bomb alone, over the whole text")
     parser.add_argument("--write", metavar="FILE", help="writes the font of that bomb")
     add_run_options(parser)
@@ -338,15 +344,20 @@ def run(args):
         if args.bomb:
             if args.write:
                 data = (bomb_font(*BOMBS[args.bomb]) if args.bomb in BOMBS
-                        else syllable_bomb(args.bomb, LENGTH)[0])
+                        else syllable_bomb(args.bomb, LENGTH)[0] if args.bomb in TEXTS
+                        else varied_bomb(args.bomb, LENGTH)[0])
                 with open(args.write, "wb") as file:
                     file.write(data)
-            (take_bomb if args.bomb in BOMBS else take_syllables)(runs, args.bomb, LENGTH)
+            take = (take_bomb if args.bomb in BOMBS else take_syllables if args.bomb in TEXTS
+                    else take_varied)
+            take(runs, args.bomb, LENGTH)
         else:
             for name in BOMBS:
                 take_bomb(runs, name, LENGTH // 5 if name in SPENT else LENGTH)
             for name in TEXTS:
                 take_syllables(runs, name, LENGTH)
+            for name in VARIED:
+                take_varied(runs, name, LENGTH)
             take_worst(runs)
         runs.print_counts()
         if args.keep:

@@ -1,7 +1,8 @@
 """What a pointer on a page of `fontshape --html` shows, beside what `fontshape` prints.
 
 Ten texts in five scripts, one that runs down, and one over a font whose glyphs have names of
-HTML. A copy of each page has a script at its end that puts a pointer on each glyph and on each
+HTML. Of each text the page with `--trace` steps through the lines of its trace, by the button and by
+keys. A copy of each page has a script at its end that puts a pointer on each glyph and on each
 band of the text, and notes what the page shows; Chromium runs it without a window. From what is
 shown of the glyphs their line is written: it must be the line that `fontshape --show-flags`
 prints. The text that is marked with a glyph must be that of its cluster, and the glyphs that
@@ -36,6 +37,30 @@ NAMES = ["<b>", "</th></tr></table><script>document.title='broken'</script>", "\
          "&amp;"]
 
 FLAGS = {"unsafe to break": 1, "unsafe to concat": 2, "safe to insert tatweel": 4}
+
+STEPS = """<script>
+addEventListener('load', () => {
+  const found = Array.from(document.querySelectorAll('.steps'), steps => {
+    const seen = () => Array.from(steps.querySelectorAll('li:not([hidden])'), it => it.textContent);
+    const press = key => steps.dispatchEvent(new KeyboardEvent('keydown', { key, bubbles: true }));
+    const [back, on] = steps.querySelectorAll('button'), count = steps.querySelectorAll('li').length;
+    const forward = [], backward = [];
+    for (let k = 0; k < count; k++) { forward.push(seen()); on.click(); }
+    const last = seen();
+    press('Home');
+    const first = seen();
+    press('End');
+    for (let k = 0; k < count; k++) { backward.push(seen()); k % 2 ? back.click() : press('ArrowLeft'); }
+    const marked = Array.from(steps.querySelectorAll('li'), it => it.querySelectorAll('.new').length);
+    return { forward, backward, first, last, marked, place: steps.querySelector('b').textContent };
+  });
+  const result = document.createElement('pre');
+  result.id = 'found';
+  result.textContent = JSON.stringify({ title: document.title, found });
+  document.body.append(result);
+});
+</script>
+"""
 
 SCRIPT = """<script>
 addEventListener('load', () => {
@@ -74,10 +99,10 @@ def save_named(path):
     builder.font.save(path)
 
 
-def hovered(page, folder):
-    """What Chromium finds on a page by a pointer: the title, and for each line what is shown."""
+def hovered(page, folder, script=SCRIPT):
+    """What Chromium finds on a page by a script: the title, and for each line what is shown."""
     copy = Path(folder) / "page.html"
-    copy.write_text(page + SCRIPT)
+    copy.write_text(page + script)
     words = [CHROMIUM, "--headless", "--no-sandbox", "--disable-gpu",
              f"--user-data-dir={folder}/user", "--virtual-time-budget=5000", "--dump-dom",
              copy.as_uri()]
@@ -148,6 +173,37 @@ def compare(args, font, text, options, folder):
     return not found
 
 
+def step_faults(lines, found):
+    """What is wrong with the steps of a line, whose trace has these lines. The page writes a step without its tab
+    and without the word before the list."""
+    wanted = [line.replace("\tbuffer: [", "").removesuffix("]") for line in lines]
+    if [[line] for line in wanted] != found["forward"]:
+        return [f"the button steps through {found['forward']}"]
+    if found["backward"] != found["forward"][::-1]:
+        return [f"back it steps through {found['backward']}"]
+    if found["first"] != [wanted[0]] or found["last"] != [wanted[-1]]:
+        return [f"Home and the last step show {found['first']} and {found['last']}"]
+    marked = [count for line, count in zip(lines, found["marked"]) if " start " in line]
+    if found["place"] != f"step 1 of {len(wanted)}" or any(marked):
+        return [f"at {found['place']} {found['marked']} are marked"]
+    return []
+
+
+def compare_steps(args, font, text, options, folder):
+    """Whether the page of a text steps through its trace."""
+    words = [args.program, font, "--text=" + text, *options, "--trace", "--html=-"]
+    done = subprocess.run(words, capture_output=True, timeout=60)
+    lines = done.stderr.decode().splitlines()
+    result = hovered(done.stdout.decode(), folder, STEPS)
+    if result is None or len(result["found"]) != 1:
+        found = ["Chromium found no steps"]
+    else:
+        found = step_faults(lines, result["found"][0])
+    if found:
+        print(f"{font} {text!r}", *lines, *found, sep="\n  ")
+    return not found
+
+
 def add_options(parser):
     parser.add_argument("--program", default=str(FONTSHAPE))
 
@@ -166,5 +222,7 @@ def run(args):
         cases += [(DEJAVU, "AVA", ["--direction=ttb"]), (DEJAVU, "AV", ["--font-size=1000"]),
                   (named, "ABCD", [])]
         right = [compare(args, *case, folder) for case in cases]
-    print(f"pages: {sum(right)} of {len(right)} show on hovering what fontshape prints")
-    return all(right)
+        stepped = [compare_steps(args, *case, folder) for case in cases]
+    print(f"pages: {sum(right)} of {len(right)} show on hovering what fontshape prints, "
+          f"{sum(stepped)} of {len(stepped)} step through its trace")
+    return all(right) and all(stepped)

@@ -53,6 +53,7 @@ TEXTS = {
     "Khmer: a row of coengs": ("khmr", row(COENG)),
     "Khmer: a row of letters and coengs": ("khmr", row(KHMER_KA + COENG)),
     "Khmer: RO below a row of letters": ("khmr", row(COENG + KHMER_RO + KHMER_E)),
+    "Khmer: ROs below a letter": ("khmr", lambda n: KHMER_KA + (COENG + KHMER_RO) * (n // 2)),
     "Khmer: signs after joiners": ("khmr", lambda n: KHMER_KA + (ZWJ + "\u17c6") * (n // 2)),
     "Myanmar: joiners after a letter": ("mymr", led(MYANMAR_KA, ZWJ)),
     "Myanmar: a row of letters and viramas": ("mymr", row(MYANMAR_KA + VIRAMA)),
