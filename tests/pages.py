@@ -1,13 +1,13 @@
 #!/usr/bin/env python3
-"""Checks the pages that list what the sources have, and lists public items and must-fail edits.
+"""Checks the pages that list what the sources have, and lists public items and wrong bodies.
 
-    tests/pages.py                     ends with status 1 if a must-fail edit doesn't say what it
+    tests/pages.py                     ends with status 1 if a wrong body doesn't say what it
                                        stands for, if docs/SAFE_AND_TOTAL.md lacks a public function
                                        that requires something, if an option of fontshape is in its
                                        manual or README no more, or if a wrong rule of tests/rules
-                                       can't be planted
-    tests/pages.py --edits [CRATE ..]  prints the must-fail edits of these crates, or of all, and
-                                       what each stands for
+                                       or a wrong body of tests/wrong-bodies can't be planted
+    tests/pages.py --edits [CRATE ..]  prints the wrong bodies of these crates, or of all, in the
+                                       gate or at night, and what each stands for
     tests/pages.py --index [CRATE ..]  prints the public items of these libraries, or of all, lowest
                                        crate first
 
@@ -207,11 +207,17 @@ def page(wanted):
     return "\n".join(lines).rstrip("\n") + "\n"
 
 
+def crate_of(edit):
+    """The crate of a wrong body."""
+    return edit.relative_to(ROOT).parts[1 if edit.parent.name == "must-fail" else 2]
+
+
 def edits(wanted=()):
-    """The must-fail edits of the crates that are wanted, or of all: crate, name, and what the edit
-    stands for, empty if it doesn't say so."""
-    for file in sorted(ROOT.glob("crates/*/must-fail/*.edit")):
-        crate = file.parent.parent.name
+    """The wrong bodies of the crates that are wanted, or of all, in the gate or at night: crate,
+    name, and what the body stands for, empty if it doesn't say so."""
+    files = [*ROOT.glob("crates/*/must-fail/*.edit"), *ROOT.glob("tests/wrong-bodies/*/*.edit")]
+    for file in sorted(files, key=lambda it: (crate_of(it), it.stem)):
+        crate = crate_of(file)
         if not wanted or crate in wanted:
             said = re.match(r"stands for: (.+)\n", file.read_text())
             yield crate, file.stem, said[1] if said else ""
@@ -307,21 +313,31 @@ def lacking_conditions():
                 yield f"{'::'.join((crate,) + path)}::{name}: {asked}"
 
 
+def is_stale(plant, root):
+    """Whether an old text of these edits doesn't stand exactly once in its file."""
+    texts = {}
+    for line in plant.read_text().splitlines():
+        key, _, value = line.partition(": ")
+        if key == "file":
+            file = value
+            texts.setdefault(file, (root / file).read_text())
+        elif key == "old":
+            old = value
+            if texts[file].count(old) != 1:
+                return True
+        elif key == "new":
+            texts[file] = texts[file].replace(old, value)
+    return False
+
+
 def stale_plants():
-    """The wrong rules whose old texts don't stand exactly once in their files."""
+    """The wrong rules and the wrong bodies of the night that can't be planted."""
     for plant in sorted(ROOT.glob("tests/rules/*.plant")):
-        texts = {}
-        for line in plant.read_text().splitlines():
-            key, _, value = line.partition(": ")
-            if key == "file":
-                file = value
-                texts.setdefault(file, (ROOT / file).read_text())
-            elif key == "old":
-                old = value
-                if texts[file].count(old) != 1:
-                    yield plant.stem
-            elif key == "new":
-                texts[file] = texts[file].replace(old, value)
+        if is_stale(plant, ROOT):
+            yield f"tests/rules/{plant.name}"
+    for body in sorted(ROOT.glob("tests/wrong-bodies/*/*.edit")):
+        if is_stale(body, ROOT / "crates" / body.parent.name):
+            yield f"tests/wrong-bodies/{body.parent.name}/{body.name}"
 
 
 def lacking_options():
@@ -336,11 +352,11 @@ def lacking_options():
 
 def check():
     """What is stale, a line each."""
-    stale = [f"crates/{crate}/must-fail/{name}.edit begins with no line 'stands for: ..'"
+    stale = [f"{name}.edit of {crate} begins with no line 'stands for: ..'"
              for crate, name, said in edits() if not said]
     stale += [f"docs/SAFE_AND_TOTAL.md lacks {line}" for line in lacking_conditions()]
     stale += lacking_options()
-    stale += [f"tests/rules/{name}.plant: its old text doesn't stand once" for name in stale_plants()]
+    stale += [f"{file}: its old text doesn't stand once" for file in stale_plants()]
     return stale
 
 
