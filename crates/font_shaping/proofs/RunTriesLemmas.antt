@@ -25,7 +25,8 @@ use Rattle.opentype_layout.proofs.CallLemmas.{stage-pays, position-pays, never-r
 use Rattle.opentype_layout.specs.Engine.{opentype_lookups}
 use Rattle.opentype_layout.specs.Tries.{Call, stage_call, position_call, other_call, made_by, tries_by, Pays, EachPays, NeverRaises}
 use Rattle.opentype_layout.specs.declared.face.OpenTypeFace.{OpenTypeFace}
-use Rattle.font_shaping.specs.RunTries.{calls_of, stage_calls, lookup_calls, substitute_calls, place_calls, position_calls, run_calls, HooksNeverRaise, TriesWithin}
+use Rattle.font_shaping.specs.RunTries.{calls_of, stage_calls, lookup_calls, substitute_calls, place_calls, position_calls, run_calls, before_lookups, before_placing}
+use Rattle.font_shaping.specs.RunTries.{HooksNeverRaise, NeverRaisesBy, TriesWithin, TriesNoMore}
 
 -- ---- calls that make what steps make
 
@@ -118,6 +119,80 @@ calls m f run target is =
     (others (finish_steps run)))
     (normalized run.rules b))
 
+-- ---- what they try
+
+tries-append : (cs ds : List Call) (b : Buffer) → tries_by (cs ++ ds) b ≡ tries_by cs b + tries_by ds (made_by cs b)
+tries-append [] ds b = omega arith
+tries-append (c ∷ cs) ds b = let later = tries-append cs ds (c.makes b) in omega (arith, later)
+
+pub others-try_none : (ss : List Step) (b : Buffer) → tries_by (calls_of ss) b ≡ 0
+others-try_none [] b = refl
+others-try_none (s ∷ ss) b = let later = others-try_none ss (s.makes b) in omega (arith, later)
+
+-- steps that try nothing, and then calls
+tries-after : (ss : List Step) (ds : List Call) (b : Buffer) → tries_by (calls_of ss ++ ds) b ≡ tries_by ds (run_steps ss b)
+tries-after ss ds b =
+    let both = tries-append (calls_of ss) ds b in
+    let none = others-try_none ss b in
+    let same = ap (tries_by ds) (others ss b) in
+    omega (arith, both, none, same)
+
+-- calls, and then steps that try nothing
+tries-before : (cs : List Call) (ss : List Step) (b : Buffer) → tries_by (cs ++ calls_of ss) b ≡ tries_by cs b
+tries-before cs ss b =
+    let both = tries-append cs (calls_of ss) b in
+    let none = others-try_none ss (made_by cs b) in
+    omega (arith, both, none)
+
+substitutes-try : (m : OtMap) (f : OpenTypeFace) (run : Run) (b : Buffer)
+    → tries_by (substitute_calls m f run) b ≡ tries_by (lookup_calls m f run) (run_steps (glyph_steps run) (recategorize_step run.decisions b))
+substitutes-try m f run b =
+    let last = step_if (run.decisions.apply_morx && run.decisions.apply_gpos) run.lookups.aat_remove_deleted in
+    let looked = lookup_calls m f run ++ (other_call last ∷ []) in
+    let c = recategorize_step run.decisions b in
+    let d = run_steps (glyph_steps run) c in
+    let first : tries_by (substitute_calls m f run) b ≡ 0 + tries_by looked d = ap (λ n. 0 + n) (tries-after (glyph_steps run) looked c) in
+    let alone : tries_by looked d ≡ tries_by (lookup_calls m f run) d = tries-before (lookup_calls m f run) (step last ∷ []) d in
+    omega (arith, first, alone)
+
+positions-try : (m : OtMap) (f : OpenTypeFace) (run : Run) (b : Buffer)
+    → tries_by (position_calls m f run) b ≡ tries_by (place_calls m f run) (spaces_step run.face (run_steps (advance_steps run) b))
+positions-try m f run b =
+    let marks = marks_step run.unicode run.face run.direction run.script run.decisions in
+    let tables = place_calls m f run ++ calls_of (close_steps run) in
+    let placing = tables ++ (other_call marks ∷ []) in
+    let c = run_steps (advance_steps run) b in
+    let d = spaces_step run.face c in
+    let first : tries_by (position_calls m f run) b ≡ 0 + tries_by placing d
+    = tries-after (advance_steps run) (other_call (spaces_step run.face) ∷ placing) b in
+    let without_marks : tries_by placing d ≡ tries_by tables d = tries-before tables (step marks ∷ []) d in
+    let alone : tries_by tables d ≡ tries_by (place_calls m f run) d = tries-before (place_calls m f run) (close_steps run) d in
+    omega (arith, first, without_marks, alone)
+
+-- a run tries what its stages and its positioning try
+pub lookups-try : (m : OtMap) (f : OpenTypeFace) (run : Run) (target : Direction) → run.lookups ≡ opentype_lookups m f → (b : Buffer)
+    → tries_by (run_calls m f run target) b
+    ≡ tries_by (lookup_calls m f run) (before_lookups run target b) + tries_by (place_calls m f run) (before_placing run target b)
+lookups-try m f run target is b =
+    let glyphs = calls_of (mask_steps run) ++ substitute_calls m f run in
+    let placing = position_calls m f run ++ calls_of (finish_steps run) in
+    let c = normalized run.rules (run_steps (prepare_steps run target) b) in
+    let d = run_steps (mask_steps run) c in
+    let e = run_steps (substitute_pre_steps run) d in
+    let first : tries_by (run_calls m f run target) b ≡ 0 + tries_by (glyphs ++ placing) c
+    = tries-after (prepare_steps run target) (other_call (normalized run.rules) ∷ (glyphs ++ placing)) b in
+    let both : tries_by (glyphs ++ placing) c ≡ tries_by glyphs c + tries_by placing (made_by glyphs c) = tries-append glyphs placing c in
+    let masked : tries_by glyphs c ≡ tries_by (substitute_calls m f run) d = tries-after (mask_steps run) (substitute_calls m f run) c in
+    let stages_try : tries_by (substitute_calls m f run) d ≡ tries_by (lookup_calls m f run) (before_lookups run target b)
+    = substitutes-try m f run d in
+    let made : made_by glyphs c ≡ e =
+    made-append (calls_of (mask_steps run)) (substitute_calls m f run) c ∙ (ap (made_by (substitute_calls m f run)) (others (mask_steps run) c)
+    ∙ substitutes m f run is d) in
+    let there : tries_by placing (made_by glyphs c) ≡ tries_by placing e = ap (tries_by placing) made in
+    let unfinished : tries_by placing e ≡ tries_by (position_calls m f run) e = tries-before (position_calls m f run) (finish_steps run) e in
+    let tables : tries_by (position_calls m f run) e ≡ tries_by (place_calls m f run) (before_placing run target b) = positions-try m f run e in
+    omega (arith, first, both, masked, stages_try, there, unfinished, tables)
+
 -- ---- calls that pay
 
 -- what a run does besides its lookups doesn't raise what they may ask for
@@ -139,7 +214,7 @@ pub record OthersNeverRaise (run : Run) (target : Direction) : Type 0 where
 other-pays : (g : Buffer → Buffer) → NeverRaises g → Pays (other_call g)
 other-pays g never b = let less : (g b).max_ops ≤ b.max_ops = never b in omega (arith, less)
 
-if-never : (t : Bool) (g : Buffer → Buffer) → NeverRaises g → NeverRaises (step_if t g)
+pub if-never : (t : Bool) (g : Buffer → Buffer) → NeverRaises g → NeverRaises (step_if t g)
 if-never true g never b = never b
 if-never false g never b = omega arith
 
@@ -247,6 +322,16 @@ run-tries m f run is never = record {
   tries = λ target text.
       subst (λ (c : Buffer). tries_by (run_calls m f run target) (entered text) + c.max_ops ≤ run_ops (length text.items))
       (calls m f run target is (entered text)) (in-turn (run_calls m f run target) (run-pays m f run target is (never target)) (entered text));
+}
+
+-- a run by lookups over a face, if no hook raises what is left
+pub no_more : (f : OpenTypeFace) (run : Run)
+    → ((m : OtMap) → run.lookups ≡ opentype_lookups m f → HooksNeverRaise run → TriesWithin m f run)
+    → NeverRaisesBy opentype_lookups f run → TriesNoMore f run
+no_more f run within never = record {
+  map = never.map;
+  lookups = never.lookups;
+  within = λ m is. within m is never.hooks;
 }
 
 -- ---- hooks that do nothing

@@ -1,3 +1,4 @@
 pub mod EachShaper
 pub mod Strings
 pub mod RunTries
+pub mod Worked

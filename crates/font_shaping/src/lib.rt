@@ -7,6 +7,7 @@
 #![tactic(auto)]
 #![allow(non_camel_case_types)]
 
+mod each_hook;
 mod each_shaper;
 pub mod kept_plans;
 pub mod laws;

@@ -11,8 +11,9 @@ ghost use Rattle.shape_pipeline.specs.Headline.{HasFlagsByCluster};
 ghost use Rattle.shape_pipeline.specs.Order.{ComesInOrder};
 ghost use Rattle.shaper_choice.specs.Choice.{category_for, preserves_equivalence};
 ghost use Rattle.shaper_choice.specs.Promises.{IsShapedBy};
+ghost use Rattle.font_shaping.specs.RunTries.{TriesNoMore};
 
-use crate::laws::script_runs_preserve;
+use crate::laws::{script_runs_preserve, script_runs_try_no_more_than_they_may};
 use opentype_layout::{OpenTypeFace, OpenTypeLayout};
 use shape_pipeline::laws::glyphs_can_be_cut;
 use shape_pipeline::{Feature, GlyphBuffer, ShapeFault, UnicodeBuffer, hb_unicode_funcs_t};
@@ -27,7 +28,7 @@ use std::alloc::Global;
 /// which is equivalent to the text if its script has no shaper of its own or that of Myanmar or
 /// Zawgyi, or if that preserves equivalence. Refuses with `Length` if a step would leave a list
 /// past the run's limit, and with `Memory` if a growth was refused; the fault holds the cleared
-/// buffer.
+/// buffer. No font makes the lookups of the run try more than the length of the text lets them.
 pub fn shape_with_font<'a, U: hb_unicode_funcs_t>(
     alloc: Global,
     face: &OpenTypeFace<'a>,
@@ -50,8 +51,12 @@ pub fn shape_with_font<'a, U: hb_unicode_funcs_t>(
     ensures cut { IsMonotoneLevel text.cluster_level → IsNonDecreasing (clusters text.items)
         → (text_end : ℕ) → All (λ item. item.cluster < text_end) text.items
         → IfOk result (λ glyphs. CanCut glyphs text_end) }
+    ensures tries { TriesNoMore face.now
+        (⟦<by_script as ScriptRuns<U, OpenTypeFace<'a>, OpenTypeLayout>>⟧.text_run
+        face.now features.now text) }
 {
     script_runs_preserve::<U>();
+    script_runs_try_no_more_than_they_may::<U>();
     glyphs_can_be_cut();
     shape_by_script::<U, OpenTypeFace, OpenTypeLayout>(alloc, face, features, text)
 }

@@ -2,12 +2,14 @@
 ghost use Rattle.std.specs.Prelude.{◌≡◌, ◌≤◌, ◌^◌, ◌⊎◌, ◌↔◌, length, Err, IfOk, IfErr, MatchResult};
 ghost use Rattle.shape_items.specs.Buffer.{new_buffer};
 ghost use Rattle.shape_lines.specs.CanCut.{CanCut};
-ghost use Rattle.opentype_layout.specs.Fonts.{units_of};
+ghost use Rattle.opentype_layout.specs.Fonts.{units_of, IsFaceOf};
+ghost use Rattle.opentype_layout.specs.declared.face.OpenTypeFace.{OpenTypeFace as Face};
 ghost use Rattle.shape_pipeline.specs.GlyphsOf.{AreGlyphsOf, TextPasses};
-ghost use Rattle.shape_pipeline.specs.Strings.{AreGlyphsOfString};
+ghost use Rattle.shape_pipeline.specs.Strings.{AreGlyphsOfString, string_text};
+ghost use Rattle.font_shaping.specs.RunTries.{TriesNoMore};
 ghost use Rattle.font_shaping.specs.Strings.{WithFaceOf, WithTextOf};
 
-use crate::laws::script_runs_preserve;
+use crate::laws::{script_runs_preserve, script_runs_try_no_more_than_they_may};
 use crate::shaping::shape_with_font;
 use opentype_layout::{OpenTypeFace, OpenTypeLayout};
 use shape_pipeline::strings::{strings_keep_promises, text_of_str};
@@ -49,7 +51,8 @@ impl FontError {
 /// concat, and a string of at most 256 characters has at most 16384 glyphs, a longer one at most 64
 /// for each. Refuses with `Length` a string of 2^32 bytes and more, or one of which a step would
 /// leave a list past the run's limit, and with `Memory` if a growth was refused; a new buffer comes
-/// back then.
+/// back then. No font makes the lookups of the run try more than the number of characters lets
+/// them.
 pub fn shape_str<'a, U: hb_unicode_funcs_t>(
     alloc: Global,
     face: &OpenTypeFace<'a>,
@@ -68,8 +71,12 @@ pub fn shape_str<'a, U: hb_unicode_funcs_t>(
     ensures of_string { IfOk result (AreGlyphsOfString U.unicode string.now) }
     ensures cut { IfOk result (λ glyphs. CanCut glyphs (length string.now)) }
     ensures refused { IfErr result (λ fault. fault.buffer ≡ new_buffer) }
+    ensures tries { TriesNoMore face.now
+        (⟦<by_script as ScriptRuns<U, OpenTypeFace<'a>, OpenTypeLayout>>⟧.text_run
+        face.now features.now (string_text string.now)) }
 {
     script_runs_preserve::<U>();
+    script_runs_try_no_more_than_they_may::<U>();
     strings_keep_promises();
     match text_of_str(alloc, string) {
         Ok(text) => shape_with_font::<U>(alloc, face, features, text),
@@ -80,7 +87,8 @@ pub fn shape_str<'a, U: hb_unicode_funcs_t>(
 /// The glyphs of a string with the bytes of a font file, of the font with this number in a
 /// collection: those that [`shape_str`] returns over the face of these bytes. For any bytes and any
 /// string the call returns, and what it returns is so; `Length` comes when it would come there, and
-/// `NoFont` exactly if the bytes have no such font.
+/// `NoFont` exactly if the bytes have no such font. No bytes make the lookups of the run try more
+/// than the number of characters lets them.
 pub fn shape_with_bytes<U: hb_unicode_funcs_t>(
     alloc: Global,
     bytes: &[u8],
@@ -101,7 +109,11 @@ pub fn shape_with_bytes<U: hb_unicode_funcs_t>(
         (error ≡ FontError.Length) ⊎ (error ≡ FontError.NoFont)) }
     ensures of_string { IfOk result (AreGlyphsOfString U.unicode string.now) }
     ensures cut { IfOk result (λ glyphs. CanCut glyphs (length string.now)) }
+    ensures tries { (face : Face) → IsFaceOf bytes.now index face → TriesNoMore face
+        (⟦<by_script as ScriptRuns<U, OpenTypeFace<'static>, OpenTypeLayout>>⟧.text_run
+        face features.now (string_text string.now)) }
 {
+    script_runs_try_no_more_than_they_may::<U>();
     match OpenTypeFace::from_slice(bytes, index) {
         Some(face) => match shape_str::<U>(alloc, &face, features, string) {
             Ok(glyphs) => Ok(glyphs),

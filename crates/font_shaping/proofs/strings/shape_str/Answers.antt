@@ -2,7 +2,7 @@ use Rattle.std.proofs.Common.{◌∙◌, inr, subst}
 use Rattle.std.specs.Prelude.{IfOk}
 use Rattle.std.proofs.lemmas.Result.{IfOk-weaker, IfErr-weaker}
 use Rattle.shape_common.specs.Unicode.{UnicodeMeaning}
-use Rattle.shape_pipeline.specs.Strings.{AreGlyphsOfString}
+use Rattle.shape_pipeline.specs.Strings.{AreGlyphsOfString, string_text}
 use Rattle.font_shaping.proofs.CutLemmas.{can-cut}
 use Rattle.font_shaping.proofs.strings.shape_str.Goals as goal
 
@@ -40,3 +40,7 @@ returns-in-Ok-clause-cut g c =
     (λ glyphs are. can-cut (c.strings_keep_promises.ensures.glyphs _ c.args.string.now text glyphs c.in-Ok.ensures.ok are preserves
     preserves_flags))
     c.shape_with_font.ensures.shaped.ok
+
+pub returns-in-Ok-clause-tries : goal.returns-in-Ok-clause-tries
+returns-in-Ok-clause-tries g c =
+    c.script_runs_try_no_more_than_they_may.ensures c.args.face.now c.args.features.now (string_text c.args.string.now)

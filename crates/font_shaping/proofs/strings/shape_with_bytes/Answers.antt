@@ -1,4 +1,5 @@
 use Rattle.std.proofs.Common.{inl, inr}
+use Rattle.shape_pipeline.specs.Strings.{string_text}
 use Rattle.font_shaping.proofs.strings.shape_with_bytes.Goals as goal
 
 pub returns-in-Err-clause-length : goal.returns-in-Err-clause-length
@@ -7,3 +8,7 @@ returns-in-Err-clause-length g c = λ is.
       | inl many ↦ inl many
       | inr passes ↦ inr (c.in-Some.face, c.in-Some.ensures.face, passes)
     ]
+
+pub returns-in-Ok-clause-tries : goal.returns-in-Ok-clause-tries
+returns-in-Ok-clause-tries g c = λ face of_bytes.
+    c.script_runs_try_no_more_than_they_may.ensures face c.args.features.now (string_text c.args.string.now)

@@ -1,0 +1,15 @@
+use Rattle.script_shapers.specs.HebrewPoints.{points_reordered}
+use Rattle.font_shaping.proofs.Hooks.GivenLemmas.{unchanged}
+use Rattle.font_shaping.proofs.Hooks.ScriptLemmas.{same-points}
+use Rattle.font_shaping.proofs.SameWorkLemmas.{same-less}
+use Rattle.font_shaping.proofs.each_hook.hebrew_runs_never_raise.Goals as goal
+
+pub returns : goal.returns
+returns g c = λ plan face.
+    c.given_hooks_never_raise.ensures plan face (λ shaper. record {
+      preprocess = unchanged;
+      setup_masks = unchanged;
+      pause = λ n. unchanged;
+      postprocess = unchanged;
+      reorder = λ b start end. same-less b (points_reordered b start end) (same-points b start end);
+    })
