@@ -2,7 +2,9 @@
 use Rattle.std.proofs.Common.{◌≡◌, true, false, List, refl, arith}
 use Rattle.std.specs.Char.Utf16.{utf16_chars}
 use Rattle.std.specs.Str.{chars}
+use Rattle.shape_font.specs.Directory.{bytes_of}
 use Rattle.c_runs.specs.Worked.Runs.{TextsWorked, UnitsWorked, NamesWorked, GlyphsWorked, WorkedRuns}
+use Rattle.c_runs.specs.Worked.Wishes.{WishesWorked}
 use Rattle.c_runs.specs.declared.plain.luthgarn_glyph.{luthgarn_glyph}
 use Rattle.c_runs.specs.declared.plain.luthgarn_run.{luthgarn_run}
 
@@ -33,7 +35,35 @@ units = record {
 }
 
 names : NamesWorked
-names = record { whole = refl; subtags = refl; all_room = refl; underscore = refl; single = refl; no_subtag = refl }
+names = record {
+  whole = refl;
+  subtags = refl;
+  all_room = refl;
+  underscore = refl;
+  single = refl;
+  no_subtag = refl;
+  hyphens = refl;
+  last = refl;
+  at_the_place = refl;
+  before_it = refl;
+  not_the_first = refl;
+  past_the_name = refl;
+  letter_removed = refl;
+  two_letters_stay = refl;
+  first_stays = refl;
+}
+
+wishes : WishesWorked
+unfolding bytes_of
+wishes = record {
+  wish = refl;
+  nothing_wished = λ _. refl;
+  no_font = refl;
+  room = record { count_is = refl; fits = λ _. (refl, refl); else_same = λ is. absurd (omega (arith, is)) };
+  all_room = record { count_is = refl; fits = λ _. (refl, refl); else_same = λ is. absurd (omega (arith, is)) };
+  no_room = record { count_is = refl; fits = λ is. absurd (omega (arith, is)); else_same = λ _. (refl, refl) };
+  none = record { count_is = refl; fits = λ _. (refl, refl); else_same = λ is. absurd (omega (arith, is)) };
+}
 
 glyphs_of_two : (glyphs : luthgarn_run → List luthgarn_glyph) (g h i : luthgarn_glyph) → GlyphsWorked glyphs g h i
 glyphs_of_two glyphs g h i = record {
@@ -43,4 +73,4 @@ glyphs_of_two glyphs g h i = record {
 }
 
 pub worked_runs : WorkedRuns
-worked_runs = record { texts = texts; units = units; names = names; glyphs = glyphs_of_two }
+worked_runs = record { texts = texts; units = units; names = names; wishes = wishes; glyphs = glyphs_of_two }

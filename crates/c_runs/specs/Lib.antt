@@ -1,4 +1,5 @@
 pub mod Glyphs
+pub mod Instances
 pub mod Languages
 pub mod Numbers
 pub mod Opened

@@ -1,13 +1,19 @@
 -- Fonts that are kept.
-use Rattle.std.specs.Prelude.{◌≡◌, ◌≤◌, ◌<◌, ◌++◌, ℕ, List, [], Option, Some, None, length, drop}
+use Rattle.std.specs.Prelude.{◌≡◌, ◌≤◌, ◌<◌, ◌++◌, ℕ, ℤ, List, [], Option, Some, None, length, drop}
 use Rattle.opentype_layout.specs.Fonts.{IsFaceOf}
 use Rattle.opentype_layout.specs.declared.face.OpenTypeFace.{OpenTypeFace}
 use Rattle.shape_font.specs.Face.{name_of_glyph}
+use Rattle.c_runs.specs.Instances.{IsFaceAt}
 
 -- what is kept is the face of these bytes
 abbrev pub IsOpened : List ℕ → ℕ → Option OpenTypeFace → Type 0
 IsOpened bytes index None = ⊥
 IsOpened bytes index (Some face) = IsFaceOf bytes index face
+
+-- or the face at these coordinates
+abbrev pub IsOpenedAt : List ℕ → ℕ → List ℤ → Option OpenTypeFace → Type 0
+IsOpenedAt bytes index coordinates None = ⊥
+IsOpenedAt bytes index coordinates (Some face) = IsFaceAt bytes index coordinates face
 
 -- the units of the em square, 0 of no font
 abbrev pub units_kept : Option OpenTypeFace → ℕ

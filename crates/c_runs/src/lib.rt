@@ -4,13 +4,14 @@
 //! A call reads slices, writes into slices, and returns. [`plain`] has the structs that cross,
 //! [`texts`] makes a text of a run, [`shaper`] shapes it by one of the [`plans`] that the runs of a
 //! call share, [`written`] writes its glyphs, [`runs`] goes over the runs, [`fonts`] opens a font,
-//! [`kept`] is one that stays open, which C has behind a [`handle`], and [`refusal`] has the
-//! reasons that come back as numbers.
+//! [`instances`] says at which coordinates, [`kept`] is one that stays open, which C has behind a
+//! [`handle`], and [`refusal`] has the reasons that come back as numbers.
 #![tactic(auto)]
 #![allow(non_camel_case_types)]
 
 pub mod fonts;
 pub mod handle;
+pub mod instances;
 pub mod kept;
 mod parts;
 pub mod plain;

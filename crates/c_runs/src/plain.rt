@@ -21,6 +21,14 @@ pub struct luthgarn_feature {
     pub end: u32,
 }
 
+/// A wish for an axis of a variable font: its tag, and the value, in the units of users.
+#[repr(C)]
+#[derive(Clone, Copy)]
+pub struct luthgarn_variation {
+    pub tag: u32,
+    pub value: f32,
+}
+
 /// A run: the characters from `start` up to `end`, bytes of the text, and how they are to be
 /// shaped. The characters from `before` up to `start` and from `end` up to `after` stand beside it,
 /// and are looked at alone. `glyphs` is written: how many glyphs there are up to the end of this

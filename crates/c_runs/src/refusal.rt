@@ -24,7 +24,7 @@ pub enum Refusal {
     /// The places of a run aren't in order or not in the text, or its direction or level has no
     /// such number.
     Run,
-    /// The array of glyphs has no room for those of the run.
+    /// An array has no room: that of glyphs for those of the run, or that of coordinates for all.
     Room,
 }
 

@@ -8,6 +8,7 @@ use Rattle.shape_items.specs.Items.{new_item}
 use Rattle.c_runs.specs.Glyphs.{glyph_of, joined, counted}
 use Rattle.c_runs.specs.Languages.{fitting, is_hyphen, last_hyphen, without_single}
 use Rattle.c_runs.specs.Texts.{Utf8, Utf16, IsPlaced, part_of, text_of_run}
+use Rattle.c_runs.specs.Worked.Wishes.{WishesWorked}
 use Rattle.c_runs.specs.declared.plain.luthgarn_glyph.{luthgarn_glyph}
 use Rattle.c_runs.specs.declared.plain.luthgarn_run.{luthgarn_run}
 
@@ -98,4 +99,5 @@ pub record WorkedRuns : Type 0 where
   pub texts : TextsWorked
   pub units : UnitsWorked
   pub names : NamesWorked
+  pub wishes : WishesWorked
   pub glyphs : (glyphs : luthgarn_run → List luthgarn_glyph) (g h i : luthgarn_glyph) → GlyphsWorked glyphs g h i

@@ -1,4 +1,4 @@
-use Rattle.std.proofs.Common.{◌∙◌, ◌++◌, ◌-◌, List, ℕ, length, replicate, ap, arith}
+use Rattle.std.proofs.Common.{◌∙◌, ◌++◌, List, ℕ, length, ap, arith}
 use Rattle.std.proofs.lemmas.List.{drop-replicate}
 use Rattle.c_runs.specs.Texts.{filled_up}
 use Rattle.c_runs.proofs.texts.language_bytes.Goals as goal

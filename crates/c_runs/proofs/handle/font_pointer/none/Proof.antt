@@ -23,9 +23,9 @@ use contract.Monad.{Fun}
 use contract.Running.{tables, tables_of}
 use sound.WpLaws.{WpFn-mono}
 use types.Kit.{Item, ‵, raw, ◌⊛◌, ◌$◌, ◌∵◌, !, qed, by, move, drop, use1, join, split, fsplit, fjoin, fpack, feq_i, suffices, done}
-use types.Part.{whole, sub, agg}
-use types.Run.{lit, stop, fld, no_more, and_then, of_opd, returns, enter}
-use types.ByLocal.{alloc_all, pass_all, free_all, look_at, get, get_in, sets}
+use types.Part.{agg}
+use types.Run.{lit, no_more, and_then, returns, enter}
+use types.ByLocal.{alloc_all, pass_all, free_all, look_at, get, sets}
 use denote.Exit.{yes}
 use denote.Signature.{type_at}
 use denote.Steps.{nothing}
@@ -33,8 +33,6 @@ use denote.Triple.Spec.{triple_of}
 use denote.Triple.Table.{entered}
 use denote.Triple.Walked.{says, Stays, stay_dropped, walk_of, ends_at, Goes-dropped, walk_Meets}
 use Rattle.std.proofs.alloc.Calls.{α, handle_tells}
-use Rattle.std.proofs.BoxSteps.Form.{D, B, word, box_typed}
-use Rattle.std.proofs.BoxSteps.Steps.{box_out, box_in}
 use Rattle.c_runs.proofs.AsBox.{E, FromAlloc as From}
 use Rattle.c_runs.specs.contracts.handle.font_pointer.none as F
 use Rattle.c_runs.specs.contracts.handle.font_pointer.none.Key.{name as #self}
