@@ -4,17 +4,20 @@
  * A call reads arrays of the caller's, writes into arrays of the caller's, and returns. It frees the memory that it takes
  * by malloc before it returns, but for what a `luthgarn_font` keeps up to `luthgarn_font_free`. Nothing is global.
  *
- * A font and a text may hold any bytes: a hostile one changes which glyphs come out, or is refused.
+ * A font and a text may hold any bytes, and coordinates any numbers: a hostile one changes which glyphs come out, or is
+ * refused.
  *
  * What the caller owes, which nothing checks:
  *   - A pointer and its count name as many elements, which the call may read, and write where they aren't const. With
- *     count 0 the pointer isn't read, and features, text, runs, glyphs and a name may be NULL. (The library itself takes no
- *     NULL: the functions of this header put another pointer in its place. Who calls the library
+ *     count 0 the pointer isn't read, and features, text, runs, glyphs, wishes, coordinates and a name may be NULL. (The
+ *     library itself takes no NULL: the functions of this header put another pointer in its place. Who calls the library
  *     without this header does the same.)
- *   - What a call writes (`font`, `copy`, `runs`, `glyphs`, `feature`) overlaps nothing else that the call is given.
+ *   - What a call writes (`font`, `copy`, `runs`, `glyphs`, `feature`, and `coordinates` and `count` of luthgarn_coordinates)
+ *     overlaps nothing else that the call is given.
  *   - A `luthgarn_font` begins as zeros, and is written by these calls alone. It may be moved in memory; of two copies one
  *     is used.
- *   - The bytes of a font stay where and as they are until the last font that was opened of them, or shares it, is freed.
+ *   - The bytes of a font stay where and as they are until the last font that was opened of them, or shares it, is freed;
+ *     and so do the coordinates that luthgarn_font_new_at was given.
  *   - While a call runs, no other thread writes what it reads, or touches what it writes: a `luthgarn_font` is for one
  *     thread at a time. Each further thread gets one of its own, by `luthgarn_font_share`, with plans of its own; such
  *     fonts are used and freed at the same time. Calls that share nothing of this kind may run at the same time.
@@ -42,7 +45,7 @@ enum {
   LUTHGARN_FONT = 3,   /* the bytes have no font with this number; or no font is kept */
   LUTHGARN_TEXT = 4,   /* the text of a run, or what stands beside it, isn't UTF-8; a text is no feature */
   LUTHGARN_RUN = 5,    /* a run's places aren't in order or not in the text, or it has no such direction or level */
-  LUTHGARN_ROOM = 6    /* the array of glyphs is too short */
+  LUTHGARN_ROOM = 6    /* the array of glyphs, or that of coordinates, is too short */
 };
 
 /* A code in words. */
@@ -50,7 +53,7 @@ static inline const char *
 luthgarn_error_name(uint32_t code)
 {
   static const char *const names[] = {
-    "done", "no memory", "too many glyphs", "no such font", "not UTF-8, or no feature", "no such run", "no room for glyphs"};
+    "done", "no memory", "too many glyphs", "no such font", "not UTF-8, or no feature", "no such run", "no room in an array"};
   return code <= LUTHGARN_ROOM ? names[code] : "no such code";
 }
 
@@ -75,6 +78,16 @@ enum { LUTHGARN_UNSAFE_TO_BREAK = 1, LUTHGARN_UNSAFE_TO_CONCAT = 2, LUTHGARN_SAF
 typedef struct {
   uint32_t tag, value, start, end;
 } luthgarn_feature;
+
+/* A tag of four letters as a number: LUTHGARN_TAG('w', 'g', 'h', 't') is 0x77676874. */
+#define LUTHGARN_TAG(a, b, c, d) \
+  ((uint32_t) (uint8_t) (a) << 24 | (uint32_t) (uint8_t) (b) << 16 | (uint32_t) (uint8_t) (c) << 8 | (uint8_t) (d))
+
+/* What is wished of an axis of a variable font: its tag and a value, as `wght` 700. */
+typedef struct {
+  uint32_t tag;
+  float value;
+} luthgarn_variation;
 
 /* A run of the text: the units from `start` up to `end`, of one direction, script and language. The units of a text in
  * UTF-8 are its bytes. Those from `before` up to `start`, and from `end` up to `after`, are looked at (five characters at
@@ -156,6 +169,21 @@ luthgarn_outcome luthgarn_shape_utf16(const uint8_t *font, size_t font_size, uin
 /* Opens the font with this number in the file (0, if it isn't a collection), in time in step with its tables. Returns
  * LUTHGARN_DONE, and `font` keeps it, in place of what it kept; else LUTHGARN_FONT or LUTHGARN_MEMORY, and leaves `font`. */
 uint32_t luthgarn_font_new(const uint8_t *bytes, size_t size, uint32_t index, luthgarn_font *font);
+
+/* Writes the coordinates of a variable font at which wishes are met, by its tables `fvar` and `avar`: one for each axis, in
+ * units of 1/16384. An axis without a wish is at its default, a value past an axis's end at that end, and of several wishes
+ * for one axis the last counts; a wish for an axis that the font lacks says nothing. `count` becomes how many there are: 0 if
+ * nothing is wished, or the font has no axes. Returns LUTHGARN_DONE; or LUTHGARN_ROOM, if there are more than `room`, and
+ * leaves `coordinates`; or LUTHGARN_MEMORY, and leaves `count`, too. */
+uint32_t luthgarn_coordinates(const uint8_t *bytes, size_t size, uint32_t index,
+                              const luthgarn_variation *wishes, size_t wish_count,
+                              int32_t *coordinates, size_t room, size_t *count);
+
+/* As luthgarn_font_new, at coordinates as luthgarn_coordinates writes them; none are the default instance. Advances, kerning,
+ * places of marks and the choice of lookups are those of the font there. It stays there, and so do those that share it: for
+ * other coordinates open one more. Advances that vary take at most 2^24 steps of the opening. */
+uint32_t luthgarn_font_new_at(const uint8_t *bytes, size_t size, uint32_t index,
+                              const int32_t *coordinates, size_t coordinate_count, luthgarn_font *font);
 
 /* Makes `copy` keep the same font, in place of what it kept. Both share what was opened, each has its plans, and each is
  * freed by itself.
@@ -252,6 +280,22 @@ luthgarn_font_glyph_name_some(luthgarn_font *font, uint32_t glyph, uint8_t *name
 }
 
 static inline uint32_t
+luthgarn_coordinates_some(const uint8_t *bytes, size_t size, uint32_t index,
+                          const luthgarn_variation *wishes, size_t wish_count,
+                          int32_t *coordinates, size_t room, size_t *count)
+{
+  return luthgarn_coordinates(bytes, size, index, LUTHGARN_SOME(const luthgarn_variation, wishes), wish_count,
+                              LUTHGARN_SOME(int32_t, coordinates), room, count);
+}
+
+static inline uint32_t
+luthgarn_font_new_at_some(const uint8_t *bytes, size_t size, uint32_t index,
+                          const int32_t *coordinates, size_t coordinate_count, luthgarn_font *font)
+{
+  return luthgarn_font_new_at(bytes, size, index, LUTHGARN_SOME(const int32_t, coordinates), coordinate_count, font);
+}
+
+static inline uint32_t
 luthgarn_parse_feature_some(const uint8_t *text, size_t size, luthgarn_feature *feature)
 {
   return luthgarn_parse_feature(LUTHGARN_SOME(const uint8_t, text), size, feature);
@@ -281,6 +325,8 @@ luthgarn_set_language_some(luthgarn_run *run, const uint8_t *name, size_t size)
 #define luthgarn_shape_utf16 luthgarn_shape_utf16_some
 #define luthgarn_shape_font_utf16 luthgarn_shape_font_utf16_some
 #define luthgarn_font_glyph_name luthgarn_font_glyph_name_some
+#define luthgarn_coordinates luthgarn_coordinates_some
+#define luthgarn_font_new_at luthgarn_font_new_at_some
 #define luthgarn_parse_feature luthgarn_parse_feature_some
 #define luthgarn_parse_direction luthgarn_parse_direction_some
 #define luthgarn_parse_script luthgarn_parse_script_some

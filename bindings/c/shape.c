@@ -1,7 +1,7 @@
 /* Shapes each line of standard input with a font file, all in one call, and writes the glyphs as
  * `hb-shape --no-glyph-names` does: number, cluster, offset, advance.
  *
- *   shape FONT [-f FEATURE].. [-d DIRECTION] [-s SCRIPT] [-l LANGUAGE] < TEXT */
+ *   shape FONT [-f FEATURE].. [-v AXIS=VALUE].. [-d DIRECTION] [-s SCRIPT] [-l LANGUAGE] < TEXT */
 #include "luthgarn.h"
 
 #include <stdio.h>
@@ -37,6 +37,14 @@ slurp(FILE *file, size_t *size)
   }
   if (ferror(file)) fail("a file can't be read");
   return bytes;
+}
+
+/* What is wished of an axis of a variable font, as "wght=700". */
+static luthgarn_variation
+wish_of(const char *word)
+{
+  if (strlen(word) < 6 || word[4] != '=') fail("an axis has four letters, as wght=700");
+  return (luthgarn_variation) {LUTHGARN_TAG(word[0], word[1], word[2], word[3]), strtof(word + 5, NULL)};
 }
 
 /* A run for each line, like the first one but for its places. */
@@ -99,9 +107,12 @@ int
 main(int argc, char **argv)
 {
   luthgarn_feature features[64];
-  size_t feature_count = 0, font_size, text_size, run_count;
+  luthgarn_variation wishes[64];
+  int32_t coordinates[64];
+  size_t feature_count = 0, wish_count = 0, axis_count, font_size, text_size, run_count;
   luthgarn_run like = {0};
-  if (argc < 2 || argc % 2) fail("usage: shape FONT [-f FEATURE].. [-d DIRECTION] [-s SCRIPT] [-l LANGUAGE] < TEXT");
+  if (argc < 2 || argc % 2)
+    fail("usage: shape FONT [-f FEATURE].. [-v AXIS=VALUE].. [-d DIRECTION] [-s SCRIPT] [-l LANGUAGE] < TEXT");
   for (int k = 2; k < argc; k += 2) {
     const uint8_t *word = (const uint8_t *) argv[k + 1];
     size_t size = strlen(argv[k + 1]);
@@ -109,6 +120,10 @@ main(int argc, char **argv)
     case 'f':
       if (feature_count == 64 || luthgarn_parse_feature(word, size, features + feature_count)) fail("no such feature");
       feature_count++;
+      break;
+    case 'v':
+      if (wish_count == 64) fail("too many axes");
+      wishes[wish_count++] = wish_of(argv[k + 1]);
       break;
     case 'd':
       like.direction = luthgarn_parse_direction(word, size);
@@ -126,7 +141,8 @@ main(int argc, char **argv)
   uint8_t *bytes = slurp(file, &font_size);
   fclose(file);
   luthgarn_font font = {0};
-  uint32_t code = luthgarn_font_new(bytes, font_size, 0, &font);
+  uint32_t code = luthgarn_coordinates(bytes, font_size, 0, wishes, wish_count, coordinates, 64, &axis_count);
+  if (code == LUTHGARN_DONE) code = luthgarn_font_new_at(bytes, font_size, 0, coordinates, axis_count, &font);
   if (code != LUTHGARN_DONE) fail(luthgarn_error_name(code));
   uint8_t *text = slurp(stdin, &text_size);
   luthgarn_run *runs = lines_of(text, text_size, like, &run_count);

@@ -1,14 +1,14 @@
 //! Fonts that are kept between calls.
-ghost use Rattle.std.specs.Prelude.{◌≡◌, ◌↔◌, ◌≤◌, Some, None, length, map, IfOk, IfErr};
+ghost use Rattle.std.specs.Prelude.{◌≡◌, ◌↔◌, ◌≤◌, Some, None, [], length, map, IfOk, IfErr};
 ghost use Rattle.opentype_layout.specs.Fonts.{units_of};
 ghost use Rattle.c_runs.specs.Numbers.{feature_of_c};
-ghost use Rattle.c_runs.specs.Opened.{IsNamed, IsOpened, name_kept, units_kept};
+ghost use Rattle.c_runs.specs.Opened.{IsNamed, IsOpened, IsOpenedAt, name_kept, units_kept};
 ghost use Rattle.c_runs.specs.Outcomes.{IsUntouched, ServesBy};
 ghost use Rattle.c_runs.specs.Texts;
 ghost use Rattle.c_runs.specs.Texts.{Utf8, Utf16};
 ghost use Rattle.opentype_layout.specs.declared.face.OpenTypeFace.{OpenTypeFace as AnyFace};
 
-use c_runs::fonts::face_of;
+use c_runs::fonts::face_at;
 use c_runs::handle::luthgarn_font;
 use c_runs::kept::KeptFont;
 use c_runs::plain::{luthgarn_feature, luthgarn_glyph, luthgarn_outcome, luthgarn_run};
@@ -59,7 +59,25 @@ pub extern "C" fn luthgarn_font_new(
     ensures opened { result ≡ 0 → IsOpened bytes.now index font.new.kept.face }
     ensures refused { (result ≡ 0 → ⊥) → font.new.kept.face ≡ font.old.kept.face }
 {
-    let Some(face) = face_of(bytes, index) else {
+    luthgarn_font_new_at(alloc, bytes, index, &[], font)
+}
+
+/// As `luthgarn_font_new`, at coordinates, as `luthgarn_coordinates` writes them; none are the
+/// default instance. They have to stay as they are for as long as the bytes do.
+#[unsafe(no_mangle)]
+pub extern "C" fn luthgarn_font_new_at(
+    alloc: Global,
+    bytes: &'static [u8],
+    index: u32,
+    coordinates: &'static [i32],
+    font: &mut luthgarn_font,
+) -> u32
+    ensures none { (result ≡ 3) ↔ (units_of bytes.now index ≡ 0) }
+    ensures opened { result ≡ 0 → IsOpenedAt bytes.now index coordinates.now font.new.kept.face }
+    ensures plain { result ≡ 0 → coordinates.now ≡ [] → IsOpened bytes.now index font.new.kept.face }
+    ensures refused { (result ≡ 0 → ⊥) → font.new.kept.face ≡ font.old.kept.face }
+{
+    let Some(face) = face_at(bytes, index, coordinates) else {
         return Refusal::Font.code();
     };
     match opened(alloc, face) {

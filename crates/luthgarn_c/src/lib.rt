@@ -6,6 +6,7 @@
 #![tactic(auto)]
 #![allow(non_camel_case_types)]
 
+mod instances;
 mod kept;
 
 ghost use Rattle.std.specs.Prelude.{◌≡◌, ◌↔◌, ◌≤◌, ◌<◌, Some, None, length, map};
