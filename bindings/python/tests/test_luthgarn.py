@@ -117,3 +117,22 @@ def test_threads_share_a_font(font):
     for thread in threads:
         thread.join()
     assert found == [wanted] * 8
+
+
+INTER = Path("/usr/share/fonts/truetype/inter-vf/Inter-roman.var.ttf")
+
+
+def test_axes_that_a_font_lacks(font):
+    """DejaVu Sans isn't variable."""
+    same = luthgarn.Font.open(DEJAVU, variations={"wght": 700})
+    assert luthgarn.shape(same, "AVATAR") == luthgarn.shape(font, "AVATAR")
+    with pytest.raises(luthgarn.UnknownName):
+        luthgarn.Font.open(DEJAVU, variations={"weight": 700})
+
+
+@pytest.mark.skipif(not INTER.exists(), reason="no Inter (Debian's fonts-inter-variable)")
+def test_a_variable_font():
+    """hb-shape --no-glyph-names --variations=wght=700: [2=0+1852|453=1+1834|2=2+2106]"""
+    bold, regular = (luthgarn.Font.open(INTER, variations=wished) for wished in ({"wght": 700}, None))
+    assert advances(luthgarn.shape(bold, "AVA")) == [1852, 1834, 2106]
+    assert advances(luthgarn.shape(regular, "AVA")) == [1712, 1728, 1904]

@@ -1,5 +1,5 @@
 //! A font that is opened once, for any number of threads.
-use crate::native::{self, DONE};
+use crate::native::{self, Variation, DONE, ROOM};
 use crate::Error;
 use std::borrow::Cow;
 use std::fmt;
@@ -13,6 +13,7 @@ pub struct Font<'a> {
     units_per_em: u32,
     // (the library reads these for as long as a font is kept)
     _bytes: Cow<'a, [u8]>,
+    _coordinates: Vec<i32>,
 }
 
 // SAFETY: what the library keeps belongs to no thread, and each of these fonts is used by one call at a time, behind a lock or
@@ -25,6 +26,28 @@ fn locked<T>(lock: &Mutex<T>) -> MutexGuard<'_, T> {
     lock.lock().unwrap_or_else(PoisonError::into_inner)
 }
 
+/// The coordinates of a font at values of its axes.
+fn coordinates_of(bytes: &[u8], index: u32, axes: &[([u8; 4], f32)]) -> Result<Vec<i32>, Error> {
+    let wishes: Vec<Variation> =
+        axes.iter().map(|&(tag, value)| Variation { tag: u32::from_be_bytes(tag), value }).collect();
+    let mut there = vec![0; 64];
+    loop {
+        let mut count = 0;
+        // SAFETY: pointers and counts are those of `bytes`, `wishes` and `there`, of which `there` and `count` are ours alone.
+        let code = unsafe {
+            let (room, first) = (there.len(), there.as_mut_ptr());
+            let (wish, wish_count) = (wishes.as_ptr(), wishes.len());
+            native::luthgarn_coordinates(bytes.as_ptr(), bytes.len(), index, wish, wish_count, first, room, &mut count)
+        };
+        there.resize(count, 0);
+        match code {
+            DONE => return Ok(there),
+            ROOM => {}
+            code => return Err(Error::of(code)),
+        }
+    }
+}
+
 impl<'a> Font<'a> {
     /// The font with this number: 0, if the file isn't a collection. The bytes are borrowed, or handed over.
     ///
@@ -34,16 +57,40 @@ impl<'a> Font<'a> {
     /// assert_eq!(Font::new(b"no font".to_vec(), 0).err(), Some(Error::Font));
     /// ```
     pub fn new(bytes: impl Into<Cow<'a, [u8]>>, index: u32) -> Result<Font<'a>, Error> {
+        Font::at(bytes, index, &[])
+    }
+
+    /// The font with this number at values of its axes, by their tags. An axis that isn't named is at its default, of several
+    /// values for one axis the last counts, and a value for an axis that the font lacks says nothing. Other values are another
+    /// font.
+    ///
+    /// ```no_run
+    /// let bytes = std::fs::read("Inter.var.ttf")?;
+    /// let bold = luthgarn::Font::at(&bytes, 0, &[(*b"wght", 700.0)])?;
+    /// let glyphs = luthgarn::Buffer::new("AVA").shape(&bold)?;
+    /// # Ok::<(), Box<dyn std::error::Error>>(())
+    /// ```
+    ///
+    /// ```
+    /// use luthgarn::{Error, Font};
+    /// assert_eq!(Font::at(&b"no font"[..], 0, &[(*b"wght", 700.0)]).err(), Some(Error::Font));
+    /// ```
+    pub fn at(bytes: impl Into<Cow<'a, [u8]>>, index: u32, axes: &[([u8; 4], f32)]) -> Result<Font<'a>, Error> {
         let bytes = bytes.into();
+        let coordinates = coordinates_of(&bytes, index, axes)?;
         let mut opened = native::Font::NONE;
-        // SAFETY: the pointer and the count are those of `bytes`, which don't change or move while the font is kept.
-        let code = unsafe { native::luthgarn_font_new(bytes.as_ptr(), bytes.len(), index, &mut opened) };
+        // SAFETY: pointers and counts are those of `bytes` and `coordinates`, which don't change or move while the font is kept.
+        let code = unsafe {
+            let (there, count) = (coordinates.as_ptr(), coordinates.len());
+            native::luthgarn_font_new_at(bytes.as_ptr(), bytes.len(), index, there, count, &mut opened)
+        };
         if code != DONE {
             return Err(Error::of(code));
         }
         // SAFETY: `opened` is a kept font, borrowed by us alone.
         let units_per_em = unsafe { native::luthgarn_font_units_per_em(&mut opened) };
-        Ok(Font { opened: Mutex::new(opened), free: Mutex::new(Vec::new()), units_per_em, _bytes: bytes })
+        let (opened, free) = (Mutex::new(opened), Mutex::new(Vec::new()));
+        Ok(Font { opened, free, units_per_em, _bytes: bytes, _coordinates: coordinates })
     }
 
     /// How many units the em square has.

@@ -11,6 +11,13 @@ pub struct Feature {
 
 #[repr(C)]
 #[derive(Clone, Copy)]
+pub struct Variation {
+    pub tag: u32,
+    pub value: f32,
+}
+
+#[repr(C)]
+#[derive(Clone, Copy)]
 pub struct Run {
     pub before: u32,
     pub start: u32,
@@ -95,7 +102,24 @@ extern "C" {
     pub fn luthgarn_parse_script(text: *const u8, size: usize) -> u32;
     pub fn luthgarn_set_language(run: *mut Run, name: *const u8, size: usize) -> u32;
     pub fn luthgarn_version() -> u32;
-    pub fn luthgarn_font_new(bytes: *const u8, size: usize, index: u32, font: *mut Font) -> u32;
+    pub fn luthgarn_coordinates(
+        bytes: *const u8,
+        size: usize,
+        index: u32,
+        wishes: *const Variation,
+        wish_count: usize,
+        coordinates: *mut i32,
+        room: usize,
+        count: *mut usize,
+    ) -> u32;
+    pub fn luthgarn_font_new_at(
+        bytes: *const u8,
+        size: usize,
+        index: u32,
+        coordinates: *const i32,
+        coordinate_count: usize,
+        font: *mut Font,
+    ) -> u32;
     pub fn luthgarn_font_share(font: *mut Font, copy: *mut Font) -> u32;
     pub fn luthgarn_font_free(font: *mut Font);
     pub fn luthgarn_font_units_per_em(font: *mut Font) -> u32;

@@ -25,3 +25,16 @@ fn a_language_may_be_of_any_length() {
         assert!(Buffer::new("").language(&"a".repeat(length)).is_ok());
     }
 }
+
+#[test]
+fn axes_that_a_font_lacks_say_nothing() {
+    let Ok(bytes) = std::fs::read(DEJAVU) else {
+        return;
+    };
+    let advances = |font: &Font| -> Vec<i32> {
+        Buffer::new("AVATAR").shape(font).expect("glyphs").iter().map(|g| g.x_advance).collect()
+    };
+    let plain = Font::new(bytes.as_slice(), 0).expect("a font");
+    let bold = Font::at(bytes.as_slice(), 0, &[(*b"wght", 700.0)]).expect("a font");
+    assert_eq!(advances(&plain), advances(&bold));
+}

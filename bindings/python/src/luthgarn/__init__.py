@@ -28,6 +28,8 @@ __all__ = [
 # a feature's value, or values for spans of clusters, as in uharfbuzz
 Value = Union[int, bool, Iterable[Tuple[int, int, Union[int, bool]]]]
 Features = Union[Mapping[str, Value], Iterable[str], None]
+# values of axes by their tags
+Variations = Optional[Mapping[str, float]]
 
 
 class ShapingError(Exception):
@@ -59,7 +61,7 @@ class BadFeature(ShapingError, ValueError):
 
 
 class UnknownName(ShapingError, ValueError):
-    """No direction or script has this name."""
+    """No direction or script has this name, or a tag of an axis hasn't four letters."""
 
 
 REFUSED = {
@@ -192,15 +194,27 @@ class Face:
         return _native.LIBRARY.luthgarn_units_per_em(self.data, len(self.data), self.index)
 
 
+def wishes_of(variations: Variations) -> List[_native.Variation]:
+    """Values of axes as the library has them."""
+    found = []
+    for tag, value in (variations or {}).items():
+        letters = tag.encode()
+        if len(letters) != 4:
+            raise UnknownName(f"a tag has four letters: {tag!r}")
+        found.append(_native.Variation(int.from_bytes(letters, "big"), value))
+    return found
+
+
 class Font:
-    """A font of a file, opened once: of a `Face`, or of bytes and the number of a font in them.
+    """A font of a file, opened once: of a `Face`, or of bytes and the number of a font in them. A variable font is at the
+    values of axes that `variations` has, as `{"wght": 700}`, and of the others at their defaults; other values are another font.
 
     Any number of threads may shape with it at the same time.
     """
 
-    def __init__(self, data: Union[Face, bytes], index: int = 0) -> None:
+    def __init__(self, data: Union[Face, bytes], index: int = 0, *, variations: Variations = None) -> None:
         self.face = data if isinstance(data, Face) else Face(data, index)
-        self._kept = _native.Kept(self.face.data, self.face.index)
+        self._kept = _native.Kept(self.face.data, self.face.index, wishes_of(variations))
         if self._kept.code != _native.DONE:
             kind, said = REFUSED[self._kept.code]
             raise kind(said)
@@ -208,10 +222,10 @@ class Font:
         weakref.finalize(self, self._kept.close)
 
     @classmethod
-    def open(cls, path, index: int = 0) -> "Font":
+    def open(cls, path, index: int = 0, *, variations: Variations = None) -> "Font":
         """The font of a file."""
         with open(path, "rb") as file:
-            return cls(file.read(), index)
+            return cls(file.read(), index, variations=variations)
 
     @property
     def units_per_em(self) -> int:

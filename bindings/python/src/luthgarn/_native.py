@@ -26,6 +26,10 @@ class Glyph(ctypes.Structure):
     _fields_ += [(name, ctypes.c_int32) for name in ("x_advance", "y_advance", "x_offset", "y_offset")]
 
 
+class Variation(ctypes.Structure):
+    _fields_ = [("tag", ctypes.c_uint32), ("value", ctypes.c_float)]
+
+
 class Outcome(ctypes.Structure):
     _fields_ = [("code", ctypes.c_uint32)] + [(name, ctypes.c_size_t) for name in ("runs", "glyphs", "needed")]
 
@@ -36,6 +40,7 @@ class Font(ctypes.Structure):
 
 BYTES = [ctypes.c_char_p, ctypes.c_size_t]
 KEPT = ctypes.POINTER(Font)
+COORDINATES = ctypes.POINTER(ctypes.c_int32)
 DECLARED = {
     "version": ([], ctypes.c_uint32),
     "units_per_em": (BYTES + [ctypes.c_uint32], ctypes.c_uint32),
@@ -43,7 +48,9 @@ DECLARED = {
     "parse_direction": (BYTES, ctypes.c_uint32),
     "parse_script": (BYTES, ctypes.c_uint32),
     "set_language": ([ctypes.POINTER(Run)] + BYTES, ctypes.c_uint32),
-    "font_new": (BYTES + [ctypes.c_uint32, KEPT], ctypes.c_uint32),
+    "coordinates": (BYTES + [ctypes.c_uint32, ctypes.POINTER(Variation), ctypes.c_size_t, COORDINATES, ctypes.c_size_t,
+                             ctypes.POINTER(ctypes.c_size_t)], ctypes.c_uint32),
+    "font_new_at": (BYTES + [ctypes.c_uint32, COORDINATES, ctypes.c_size_t, KEPT], ctypes.c_uint32),
     "font_share": ([KEPT, KEPT], ctypes.c_uint32),
     "font_free": ([KEPT], None),
     "font_units_per_em": ([KEPT], ctypes.c_uint32),
@@ -77,6 +84,18 @@ def load():
 LIBRARY = load()
 
 
+def coordinates_of(data, index, wishes):
+    """The code of the call, the coordinates of a font where these wishes are met, and how many there are."""
+    given = (Variation * max(1, len(wishes)))(*wishes)
+    room, count = 64, ctypes.c_size_t()
+    while True:
+        there = (ctypes.c_int32 * room)()
+        code = LIBRARY.luthgarn_coordinates(data, len(data), index, given, len(wishes), there, room, ctypes.byref(count))
+        if code != ROOM:
+            return code, (ctypes.c_int32 * max(1, count.value))(*there[:count.value]), count.value
+        room = count.value
+
+
 class Kept:
     """A font that the library keeps, opened once, for any number of threads.
 
@@ -84,10 +103,13 @@ class Kept:
     one made that shares what was opened, and gives it back. `code` says whether the font was opened.
     """
 
-    def __init__(self, data, index):
-        self.data = data  # (the library reads it for as long as a font is kept)
+    def __init__(self, data, index, wishes):
         self.opened = Font()
-        self.code = LIBRARY.luthgarn_font_new(data, len(data), index, ctypes.byref(self.opened))
+        # (the library reads these for as long as a font is kept)
+        self.data = data
+        self.code, self.there, count = coordinates_of(data, index, wishes)
+        if self.code == DONE:
+            self.code = LIBRARY.luthgarn_font_new_at(data, len(data), index, self.there, count, ctypes.byref(self.opened))
         self.lock = threading.Lock()
         self.free = []
         self.made = []
