@@ -1,8 +1,9 @@
 #!/usr/bin/env python3
 """Compares bindings/ with the program `fontshape`: the example in C, the package for Python, installed by pip into a folder
 of its own, and the example of the crate for Rust if there is a cargo, on a hundred lines over the DejaVu and Noto fonts that
-are installed, Latin, Greek, Hebrew, Arabic, Thai and Hangul, with features, directions, scripts and languages. The example in
-C runs under valgrind, if that is installed; the tests of the package run if pytest is, those of the crate with cargo.
+are installed, Latin, Greek, Hebrew, Arabic, Thai and Hangul, with features, directions, scripts and languages, and, if there
+is a fontTools, over a variable font at places of its axis. The example in C runs under valgrind, if that is installed; the
+tests of the package run if pytest is, those of the crate with cargo.
 
 Then `calls.c` calls each function of luthgarn.h with right and wrong inputs, with each block of memory refused in turn, and
 `--calls N` (10000) times at random, with a stack of 1 MiB; and 200 times under valgrind.
@@ -39,6 +40,7 @@ WORDS = {
     "Arabic": ["السَّلام", "عليكم", "لا", "كتاب", "ۓ", "ب\u200dب", "١٢٣"],
     "Thai": ["น้ำ", "กำ", "ที่", "ภาษา"],
     "Hangul": ["한국어", "각", "각", "〮가"],
+    "Weights": ["A", "AAA", "AVA"],
 }
 # a font, the words of its lines, options as the examples take them
 KINDS = [
@@ -57,7 +59,10 @@ KINDS = [
     (NOTO % "SansArabic", "Arabic", ["-f", "-rlig"]),
     (NOTO % "SansThai", "Thai", []),
     (DEJAVU, "Latin", ["-d", "ttb"]),
+    (DEJAVU, "Latin", ["-v", "wght=700"]),
 ]
+# of a variable font: at its default, on the way, before and where another glyph comes, and past both ends
+WEIGHTS = [[], ["-v", "wght=525"], ["-v", "wght=649"], ["-v", "wdth=80", "-v", "wght=650"], ["-v", "wght=1000"], ["-v", "wght=1"]]
 
 
 def skip(why):
@@ -137,17 +142,18 @@ def lines_of(rng, script, count):
     return ["  ".join(rng.choice(words + WORDS["Latin"][:3]) for _ in range(rng.randint(1, 6))).replace("  ", " ") for _ in range(count)]
 
 
-def compare(programs, rng):
+def compare(programs, rng, variable):
     count = 0
-    options = {"-f": "--features=", "-d": "--direction=", "-s": "--script=", "-l": "--language="}
-    for font, script, asked in KINDS:
+    options = {"-f": "--features=", "-v": "--variations=", "-d": "--direction=", "-s": "--script=", "-l": "--language="}
+    for font, script, asked in KINDS + [(font, "Weights", asked) for font in variable for asked in WEIGHTS]:
         if not os.path.exists(font):
             continue
         lines = lines_of(rng, script, 10)
         text = ("\n".join(lines) + "\n").encode()
-        features = [word for option, word in zip(asked[::2], asked[1::2]) if option == "-f"]
-        words = [options[option] + word for option, word in zip(asked[::2], asked[1::2]) if option != "-f"]
-        words += ["--features=" + ",".join(features)] if features else []
+        given = {}
+        for option, word in zip(asked[::2], asked[1::2]):
+            given.setdefault(option, []).append(word)
+        words = [options[option] + ",".join(found) for option, found in given.items()]
         for name, program in programs.items():
             # (clusters count characters in Python, bytes in the others)
             form = ["--no-glyph-names"] + ["--utf8-clusters"] * (name != "Python")
@@ -162,10 +168,36 @@ def compare(programs, rng):
     print("bindings: %d lines, the same from fontshape and %s" % (count, ", ".join(programs)))
 
 
+def variable_font(work):
+    """A file, if there is a fontTools: a font whose A is 600 wide, and 100 wider at its greatest weight, 900. From the middle of
+    the axis on, 650, another glyph stands for it, which is 200 wider still."""
+    if not importlib.util.find_spec("fontTools"):
+        print("bindings: variable fonts are left out: there is no fontTools")
+        return []
+    from fontTools.fontBuilder import FontBuilder
+    from fontTools.ttLib.tables._g_l_y_f import Glyph
+    from fontTools.ttLib.tables.TupleVariation import TupleVariation
+    path, names = os.path.join(work, "variable.ttf"), [".notdef", "A", "A.bold"]
+    builder = FontBuilder(1000, isTTF=True)
+    builder.setupGlyphOrder(names)
+    builder.setupCharacterMap({0x41: "A"})
+    builder.setupGlyf({name: Glyph() for name in names})
+    builder.setupHorizontalMetrics({name: (800 if name == "A.bold" else 600, 0) for name in names})
+    builder.setupHorizontalHeader(ascent=800, descent=-200)
+    builder.setupNameTable({})
+    builder.setupFvar([("wght", 100, 400, 900, "Weight")], [])
+    # (the second of the four points for metrics is the right one)
+    builder.setupGvar({name: [TupleVariation({"wght": (0, 1, 1)}, [(0, 0), (100, 0), (0, 0), (0, 0)])] for name in names[1:]})
+    builder.addFeatureVariations([([{"wght": (0.5, 1)}], {"A": "A.bold"})])
+    builder.setupPost(keepGlyphNames=False)
+    builder.save(path)
+    return [path]
+
+
 def refusals(programs):
     """Wrong words: each program says why it stops, and writes no glyphs."""
     for name, program in programs.items():
-        for words in ([DEJAVU, "-f", "===="], [os.path.join(HERE, "bindings.py")], [DEJAVU, "-d", "sideways"]):
+        for words in ([DEJAVU, "-f", "===="], [DEJAVU, "-v", "weight=700"], [os.path.join(HERE, "bindings.py")], [DEJAVU, "-d", "sideways"]):
             done = subprocess.run(program + words, input=b"a\n", stdout=subprocess.PIPE, stderr=subprocess.PIPE)
             if done.returncode in (0, 9) or done.returncode < 0 or done.stdout or not done.stderr:
                 sys.exit("bindings: %s on %s: status %d" % (name, words, done.returncode))
@@ -184,13 +216,15 @@ def main():
         skip("there is no DejaVu Sans")
     with tempfile.TemporaryDirectory() as work:
         programs = build(work, given.over_ci)
-        compare(programs, random.Random(given.seed))
+        variable = variable_font(work)
+        compare(programs, random.Random(given.seed), variable)
         refusals(programs)
         calls = os.path.join(work, "calls")
         little = lambda: resource.setrlimit(resource.RLIMIT_STACK, (STACK, STACK))
-        sys.stdout.write(run([calls, DEJAVU, str(given.calls), str(given.seed)], before=little).decode())
+        sys.stdout.write(run([calls, DEJAVU, str(given.calls), str(given.seed)] + variable, before=little).decode())
         if shutil.which("valgrind"):
-            sys.stdout.write("under valgrind " + run(VALGRIND + [calls, DEJAVU, "200", str(given.seed + 1)]).decode().splitlines()[-1] + "\n")
+            words = VALGRIND + [calls, DEJAVU, "200", str(given.seed + 1)] + variable
+            sys.stdout.write("under valgrind " + run(words).decode().splitlines()[-1] + "\n")
 
 
 if __name__ == "__main__":

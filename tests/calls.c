@@ -1,11 +1,12 @@
 /* Calls each function of luthgarn.h with right and wrong inputs, and then at random.
  *
- *   calls FONT CALLS [SEED]
+ *   calls FONT CALLS [SEED [VARIABLE]]
  *
  * Every array that a call is given ends where a page begins that can't be read, so that an element past its end ends the
  * program by a signal. Memory that the library takes is counted: each call has to give all of it back, but for what fonts
  * that are kept have. Every third call is refused one of its blocks. A font that is kept has to give what `luthgarn_shape`
- * gives, and four threads share one. The program is linked with --wrap for malloc, realloc and free. */
+ * gives, and four threads share one. VARIABLE is the font of bindings.py whose A gets wider with its weight, and is another
+ * glyph from the middle of the axis on. The program is linked with --wrap for malloc, realloc and free. */
 #include "../bindings/c/luthgarn.h"
 
 #define _GNU_SOURCE
@@ -95,6 +96,21 @@ fenced(struct room room, const void *from, size_t size)
   if (size > room.size) wrong("too large for its room", size);
   if (from) memcpy(room.end - size, from, size);
   return room.end - size;
+}
+
+/* The bytes of a file, which end where their room does. No block is held for them. */
+static uint8_t *
+slurp(const char *path, size_t *size)
+{
+  FILE *file = fopen(path, "rb");
+  if (!file || fseek(file, 0, SEEK_END)) wrong("no font file", 0);
+  *size = (size_t) ftell(file);
+  rewind(file);
+  uint8_t *bytes = room_for(*size).end - *size;
+  if (fread(bytes, 1, *size, file) != *size) wrong("no font file", 1);
+  fclose(file);
+  held = 0;
+  return bytes;
 }
 
 static struct room font_room, text_room, unit_room, feature_room, run_room, glyph_room, name_room;
@@ -612,17 +628,87 @@ refused_blocks(void)
   wrong("no call is whole", 1000);
 }
 
+/* How wide an A of a kept font is, shaped twice, so that the second time a plan is found. */
+static int32_t
+wide(luthgarn_font *font)
+{
+  luthgarn_glyph glyphs[2];
+  for (size_t k = 0; k < 2; k++) {
+    luthgarn_run run = run_of(0, 1);
+    luthgarn_outcome o = luthgarn_shape_font(font, NULL, 0, (const uint8_t *) "A", 1, &run, 1, glyphs + k, 1);
+    IS("an A", o.code == LUTHGARN_DONE && o.glyphs == 1 && !memcmp(glyphs, glyphs + k, sizeof *glyphs));
+  }
+  return glyphs[0].x_advance;
+}
+
+/* Opens a font at coordinates in place of what `font` keeps. How wide its A is, and that of a font that shares it. */
+static int32_t
+wide_at(const uint8_t *bytes, size_t size, const int32_t *there, size_t count, luthgarn_font *font)
+{
+  luthgarn_font copy = {0};
+  IS("a font at coordinates", luthgarn_font_new_at(bytes, size, 0, there, count, font) == LUTHGARN_DONE && font->is_open);
+  IS("a font that shares it", luthgarn_font_share(font, &copy) == LUTHGARN_DONE && wide(font) == wide(&copy));
+  luthgarn_font_free(&copy);
+  return wide(font);
+}
+
+/* The coordinates of a weight. */
+static const int32_t *
+weighing(const uint8_t *bytes, size_t size, float weight, struct room room)
+{
+  const luthgarn_variation wish = {LUTHGARN_TAG('w', 'g', 'h', 't'), weight};
+  int32_t *there = fenced(room, NULL, 4);
+  size_t count = 9;
+  IS("a weight", luthgarn_coordinates(bytes, size, 0, &wish, 1, there, 1, &count) == LUTHGARN_DONE && count == 1);
+  return there;
+}
+
+/* Coordinates, with room and without, refused, and of fonts that have none; and a font opened at them. */
+static void
+variable_fonts(const char *path)
+{
+  size_t size, count = 9;
+  uint8_t *bytes = slurp(path, &size);
+  struct room room = room_for(8);
+  int32_t *there = fenced(room, NULL, 4);
+  luthgarn_variation wishes[2] = {{LUTHGARN_TAG('w', 'g', 'h', 't'), 900}, {LUTHGARN_TAG('w', 'd', 't', 'h'), 50}};
+  there[0] = 7;
+  IS("nothing wished", luthgarn_coordinates(bytes, size, 0, NULL, 0, there, 1, &count) == LUTHGARN_DONE && count == 0);
+  IS("no room", luthgarn_coordinates(bytes, size, 0, wishes, 2, NULL, 0, &count) == LUTHGARN_ROOM && count == 1);
+  IS("no axes", luthgarn_coordinates(whole_font, whole_size, 0, wishes, 2, there, 1, &count) == LUTHGARN_DONE && count == 0);
+  IS("nothing written", there[0] == 7);
+  for (long n = 0, code = LUTHGARN_MEMORY; code == LUTHGARN_MEMORY; n++) {
+    count = 9;
+    refuse_in = n;
+    code = luthgarn_coordinates(bytes, size, 0, wishes, 2, there, 1, &count);
+    refuse_in = -1;
+    IS("a refused block", code == LUTHGARN_MEMORY ? count == 9 && there[0] == 7 : n > 0 && count == 1 && there[0] == 16384);
+    IS("all is freed", held == 0);
+  }
+  luthgarn_font font = {0}, other = {0};
+  IS("no font", luthgarn_font_new_at(bytes, 11, 0, there, 1, &font) == LUTHGARN_FONT && !font.is_open);
+  IS("at the greatest weight", wide_at(bytes, size, there, 1, &other) == 900);
+  IS("no font, and another stays", luthgarn_font_new_at(bytes, 11, 0, NULL, 0, &other) == LUTHGARN_FONT && wide(&other) == 900);
+  IS("at the default", wide_at(bytes, size, NULL, 0, &font) == 600);
+  IS("on the way", wide_at(bytes, size, weighing(bytes, size, 525, room_for(8)), 1, &font) == 625);
+  IS("where another glyph comes", wide_at(bytes, size, weighing(bytes, size, 650, room_for(8)), 1, &font) == 850);
+  IS("before that", wide_at(bytes, size, weighing(bytes, size, 649, room_for(8)), 1, &font) == 650);
+  IS("past the axis", wide_at(bytes, size, weighing(bytes, size, 2000, room_for(8)), 1, &font) == 900);
+  IS("below the default", wide_at(bytes, size, weighing(bytes, size, 100, room_for(8)), 1, &font) == 600);
+  IS("the other stays where it is", wide(&other) == 900);
+  IS("opened without", luthgarn_font_new(bytes, size, 0, &other) == LUTHGARN_DONE && wide(&other) == 600);
+  IS("without axes", wide_at(whole_font, whole_size, there, 1, &font) == wide_at(whole_font, whole_size, NULL, 0, &other));
+  luthgarn_font_free(&font);
+  luthgarn_font_free(&other);
+  IS("all is freed", held == 0);
+  printf("calls: a font at six places of its axis\n");
+}
+
 int
 main(int argc, char **argv)
 {
-  FILE *file = argc > 2 ? fopen(argv[1], "rb") : NULL;
-  if (!file || fseek(file, 0, SEEK_END)) wrong("no font file", 0);
-  whole_size = (size_t) ftell(file);
-  rewind(file);
-  whole_font = room_for(whole_size).end - whole_size;
-  if (fread(whole_font, 1, whole_size, file) != whole_size) wrong("no font file", 1);
-  fclose(file);
-  held = 0;
+  if (argc < 3) wrong("no font file", 0);
+  whole_font = slurp(argv[1], &whole_size);
   if (argc > 3) state = strtoull(argv[3], NULL, 10);
   font_room = room_for(whole_size);
   text_room = room_for(256);
@@ -641,6 +727,7 @@ main(int argc, char **argv)
   refused_blocks();
   refused_fonts();
   threads();
+  if (argc > 4) variable_fonts(argv[4]);
   size_t calls = strtoull(argv[2], NULL, 10);
   for (size_t k = 0; k < calls; k++) random_call(k);
   for (size_t k = 0; k < calls; k++) utf16_call(k);
