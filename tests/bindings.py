@@ -24,7 +24,7 @@ import sys
 import tempfile
 
 from checks.archive import ARCHIVE, build_archive
-from checks.programs import FONTSHAPE, build as build_program
+from checks.programs import DEBIAN_PYTHON, FONTSHAPE, build as build_program
 
 HERE = os.path.dirname(os.path.abspath(__file__))
 BINDINGS = os.path.join(HERE, "..", "bindings")
@@ -70,9 +70,9 @@ def skip(why):
     sys.exit(77)
 
 
-def run(words, text=b"", status=0, before=None):
+def run(words, text=b"", status=0, before=None, folder=None):
     """What a program writes."""
-    done = subprocess.run(words, input=text, stdout=subprocess.PIPE, stderr=subprocess.PIPE, timeout=600, preexec_fn=before)
+    done = subprocess.run(words, input=text, stdout=subprocess.PIPE, stderr=subprocess.PIPE, timeout=600, preexec_fn=before, cwd=folder)
     if done.returncode != status:
         sys.exit("bindings: status %d of %s\n%s" % (done.returncode, " ".join(words), done.stderr.decode(errors="replace")))
     return done.stdout
@@ -169,15 +169,23 @@ def compare(programs, rng, variable):
 
 
 def variable_font(work):
-    """A file, if there is a fontTools: a font whose A is 600 wide, and 100 wider at its greatest weight, 900. From the middle of
-    the axis on, 650, another glyph stands for it, which is 200 wider still."""
-    if not importlib.util.find_spec("fontTools"):
-        print("bindings: variable fonts are left out: there is no fontTools")
-        return []
+    """A file, if this Python or Debian's has fontTools."""
+    path = os.path.join(work, "variable.ttf")
+    for python in (sys.executable, DEBIAN_PYTHON):
+        if os.path.exists(python) and not subprocess.run([python, "-c", "import fontTools"], stderr=subprocess.DEVNULL).returncode:
+            run([python, "-B", "-c", "import sys, bindings; bindings.write_variable_font(sys.argv[1])", path], folder=HERE)
+            return [path]
+    print("bindings: variable fonts are left out: there is no fontTools")
+    return []
+
+
+def write_variable_font(path):
+    """Writes a font whose A is 600 wide, and 100 wider at its greatest weight, 900. From the middle of the axis on, 650, another
+    glyph stands for it, which is 200 wider still."""
     from fontTools.fontBuilder import FontBuilder
     from fontTools.ttLib.tables._g_l_y_f import Glyph
     from fontTools.ttLib.tables.TupleVariation import TupleVariation
-    path, names = os.path.join(work, "variable.ttf"), [".notdef", "A", "A.bold"]
+    names = [".notdef", "A", "A.bold"]
     builder = FontBuilder(1000, isTTF=True)
     builder.setupGlyphOrder(names)
     builder.setupCharacterMap({0x41: "A"})
@@ -191,7 +199,6 @@ def variable_font(work):
     builder.addFeatureVariations([([{"wght": (0.5, 1)}], {"A": "A.bold"})])
     builder.setupPost(keepGlyphNames=False)
     builder.save(path)
-    return [path]
 
 
 def refusals(programs):
