@@ -10,6 +10,7 @@ use Rattle.glyf_points.specs.declared.simple.GlyphPoint.{GlyphPoint}
 use Rattle.glyph_outlines.specs.declared.frame.Frame.{Frame}
 use Rattle.glyph_outlines.specs.declared.frame.Point.{Point}
 use Rattle.glyph_outlines.specs.declared.frame.OutlinePoint.{OutlinePoint}
+use Rattle.glyph_outlines.specs.declared.varied.VariedPoint.{VariedPoint}
 
 -- 0, 1, 2 and 16384, as their bits
 abbrev pub nought : Float
@@ -70,8 +71,26 @@ origin_of c = let by = offset c.placement in (if c.is_offset_scaled then moved (
 abbrev pub frame_of : Component → Frame
 frame_of c = record (turned c) { x = (origin_of c).x; y = (origin_of c).y }
 
+-- the same of a component that variations move so far
+abbrev pub origin_by : Component → Point → Point
+origin_by c by = if c.is_offset_scaled then moved (turned c) by.x by.y true else by
+
+abbrev pub frame_by : Component → Point → Frame
+frame_by c by = record (turned c) { x = (origin_by c by).x; y = (origin_by c by).y }
+
+-- the frame that moves along the line
+abbrev pub along : Float → Frame
+along dx = record still { x = dx }
+
 abbrev pub placed : Frame → GlyphPoint → OutlinePoint
 placed f p = record { point = moved f (of_int binary64 p.x) (of_int binary64 p.y) p.on; ends = p.ends }
+
+-- a point at coordinates, as numbers of binary64, which has all those of binary32
+abbrev pub point_of : VariedPoint → Point
+point_of p = record { x = p.x; y = p.y; on = p.on }
+
+abbrev pub placed_at : Frame → VariedPoint → OutlinePoint
+placed_at f p = record { point = moved f p.x p.y p.on; ends = p.ends }
 
 abbrev pub shifted : Float → Float → OutlinePoint → OutlinePoint
 shifted dx dy p = record p { point = record p.point { x = add binary64 p.point.x dx; y = add binary64 p.point.y dy } }

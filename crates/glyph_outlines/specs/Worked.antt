@@ -1,3 +1,4 @@
 pub mod Contours
 pub mod Frames
 pub mod Places
+pub mod Varied

@@ -2,6 +2,7 @@
 ghost use Rattle.std.specs.Prelude.{◌≡◌};
 ghost use Rattle.glyph_outlines.specs.Frames;
 
+use crate::varied::VariedPoint;
 use glyf_points::{Component, GlyphPoint, Placement};
 
 /// Where a component of a glyph stands: what its points are multiplied by, and moved by.
@@ -66,6 +67,19 @@ fn offset(placement: Placement) -> Point
     }
 }
 
+impl VariedPoint {
+    /// The same in binary64.
+    fn point(&self) -> Point
+        ensures { result ≡ Frames.point_of self.now }
+    {
+        Point {
+            x: f64::from(self.x),
+            y: f64::from(self.y),
+            on: self.on,
+        }
+    }
+}
+
 impl OutlinePoint {
     /// The point, moved.
     pub fn moved(&self, dx: f64, dy: f64) -> OutlinePoint
@@ -97,9 +111,26 @@ impl Frame {
         }
     }
 
+    /// The frame that moves along the line.
+    pub fn along(dx: f64) -> Frame
+        ensures { result ≡ Frames.along dx }
+    {
+        Frame {
+            x: dx,
+            ..Frame::still()
+        }
+    }
+
     /// The frame of a component in the glyph that it is part of.
     pub fn of(component: &Component) -> Frame
         ensures { result ≡ Frames.frame_of component.now }
+    {
+        Frame::by(component, offset(component.placement))
+    }
+
+    /// The same of a component that is moved so far.
+    fn by(component: &Component, offset: Point) -> Frame
+        ensures { result ≡ Frames.frame_by component.now offset }
     {
         let turned = Frame {
             xx: fraction(component.matrix.xx),
@@ -109,7 +140,6 @@ impl Frame {
             x: 0.0,
             y: 0.0,
         };
-        let offset = offset(component.placement);
         let origin = if component.is_offset_scaled {
             turned.moved(offset.x, offset.y, true)
         } else {
@@ -120,6 +150,13 @@ impl Frame {
             y: origin.y,
             ..turned
         }
+    }
+
+    /// The frame of a component whose variations move it so far.
+    pub fn varied(component: &Component, offset: VariedPoint) -> Frame
+        ensures { result ≡ Frames.frame_by component.now (Frames.point_of offset) }
+    {
+        Frame::by(component, offset.point())
     }
 
     /// Where a place comes to stand.
@@ -136,6 +173,16 @@ impl Frame {
     /// Where a point of a glyph comes to stand.
     pub fn placed(&self, point: GlyphPoint) -> OutlinePoint
         ensures { result ≡ Frames.placed self.now point }
+    {
+        OutlinePoint {
+            point: self.moved(f64::from(point.x), f64::from(point.y), point.on),
+            ends: point.ends,
+        }
+    }
+
+    /// Where a point of a glyph at coordinates comes to stand.
+    pub fn placed_at(&self, point: VariedPoint) -> OutlinePoint
+        ensures { result ≡ Frames.placed_at self.now point }
     {
         OutlinePoint {
             point: self.moved(f64::from(point.x), f64::from(point.y), point.on),

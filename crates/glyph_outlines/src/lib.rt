@@ -12,6 +12,7 @@ mod frame;
 pub mod outlines;
 mod parts;
 pub mod segments;
+mod varied;
 pub mod worked;
 
 pub use frame::Point;
