@@ -8,6 +8,7 @@ use crate::size::Scale;
 use crate::written::Font;
 use glyph_outlines::Outlines;
 use glyph_pictures::{Page, Picture, ShapedLine};
+use shape_font::FontFace;
 use shape_pipeline::{GlyphBuffer, ShapeError, hb_font_t};
 use shape_text_forms::NoNames;
 use std::alloc::{AllocError, Global};
@@ -26,21 +27,25 @@ pub struct Drawn<'a> {
     canvas: Canvas,
 }
 
-/// What lines are to be drawn on, none if they are written. Refuses to draw a font without
-/// outlines.
+/// What lines are to be drawn on, with outlines at the coordinates of a face; none if they are
+/// written. Refuses to draw a font without outlines.
 pub fn begin_drawing<'a>(
     alloc: Global,
     options: &Options,
     bytes: &'a [u8],
-    units_per_em: u16,
+    face: &FontFace<'a>,
 ) -> Result<Option<Drawn<'a>>, Failure> {
+    let units_per_em = face.units_per_em();
     let canvas = match options.format() {
         Format::Svg => Canvas::Svg(Picture::new(alloc, units_per_em)),
         Format::Html => Canvas::Html(Page::new(alloc, units_per_em, options.typed())?),
         Format::Text | Format::Json => return Ok(None),
     };
     match Outlines::from_slice(bytes, options.face_index()) {
-        Some(outlines) => Ok(Some(Drawn { outlines, canvas })),
+        Some(outlines) => Ok(Some(Drawn {
+            outlines: outlines.at(face.coordinates()),
+            canvas,
+        })),
         None => Err(Failure::file(
             alloc,
             options.font(),

@@ -283,11 +283,11 @@ fn run_to<W: Write + Drop>(
     if options.lists_axes() {
         return list_axes(alloc, options, bytes, output);
     }
-    let drawn = begin_drawing(alloc, options, bytes, face.units_per_em())?;
-    warn_of_boxes(rt, options, bytes)?;
     let coordinates = coordinates_of(alloc, bytes, index, &options.wanted())?;
-    warn_of_unvaried(rt, options, bytes, coordinates.as_slice())?;
     let face = face.at(coordinates.as_slice());
+    let drawn = begin_drawing(alloc, options, bytes, &face)?;
+    warn_of_boxes(rt, options, bytes)?;
+    warn_of_unvaried(rt, options, bytes, coordinates.as_slice())?;
     match opened(alloc, options, face) {
         Ok(opened) => run_over(rt, options, face, opened.as_ref(), drawn, output),
         Err(_) => Err(Failure::Memory),

@@ -54,6 +54,8 @@ const VORG: u32 = 0x564F_5247;
 
 const GVAR: u32 = 0x6776_6172;
 
+const GLYF: u32 = 0x676C_7966;
+
 const GPOS: u32 = 0x4750_4F53;
 
 /// What is not varied that is asked for: its names, with commas between them.
@@ -67,7 +69,7 @@ fn unvaried(alloc: Global, options: &Options, font: &Directory<'_>) -> Result<St
             "advances (it has no table HVAR or gvar)",
         ),
         (boxes && !points, "boxes"),
-        (options.draws(), "outlines"),
+        (options.draws() && !(points && font.has(GLYF)), "outlines"),
         (
             upright && !font.has(VVAR) && !points,
             "vertical advances (it has no table VVAR or gvar)",
