@@ -29,7 +29,8 @@ PROGRAM = program_of("shapeline")
 FILL_PARAGRAPH = program_of("fill_paragraph")
 # the programs of folders, and of tests/sessions
 PROGRAMS = {"sessions": PROGRAM, "fontshape": FONTSHAPE, "fill_paragraph": FILL_PARAGRAPH}
-GIVEN = ("tall.ttf", "two.ttc", "flat.ttf", "axes.ttf", "heavy.ttf", "drawn.otf", "lines")
+GIVEN = ("tall.ttf", "two.ttc", "flat.ttf", "axes.ttf", "heavy.ttf", "varied.ttf", "drawn.otf",
+         "lines")
 FILES = [CRATES / "fontshape/data/tiny.ttf", *(TESTS / "fontshape" / name for name in GIVEN)]
 
 # How long a run may take, in seconds.

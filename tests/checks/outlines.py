@@ -4,15 +4,19 @@ Of each font up to 200 characters are drawn, each in a line of its own. fontTool
 `glyf`, puts those of components together, and draws charstrings; lines and curves of the second
 degree are made of points here. A font that is made here has components that are placed by points,
 scaled, turned and nested. Each segment is compared with its kind, its start and its points, in
-tenths of a unit; a contour may begin anywhere.
+tenths of a unit; a contour may begin anywhere. Of variable fonts that are made here each glyph is
+drawn at a random place, to within a tenth.
 """
 import glob
 import math
+import random
 import re
 import subprocess
 import tempfile
 
 from checks.programs import FONTSHAPE, need_fontshape
+from checks.variable_fonts import AXES, variable_font
+from checks.varied_outlines import contours_at, coordinates_of
 
 PATTERNS = "/usr/share/fonts/**/*.ttf", "/usr/share/fonts/**/*.otf"
 LINE_ENDS = 0x85, 0x2028, 0x2029
@@ -50,6 +54,12 @@ def steps_of_glyf(table, name):
     return steps
 
 
+def steps_at(font, name, place):
+    """The steps of a glyph of `glyf` at a place of a variable font, in the units of users."""
+    contours = contours_at(font, name, coordinates_of(font, place))
+    return [step for contour in contours for step in of_points(contour)]
+
+
 def steps_of_charstring(glyphs, name):
     from fontTools.pens.recordingPen import RecordingPen
     pen = RecordingPen()
@@ -82,6 +92,20 @@ def segments_of(steps):
     return sorted(found)
 
 
+def are_near(ours, theirs):
+    """Whether segments are the same, but for a tenth in any of their numbers."""
+    left = list(theirs)
+    for segment in ours:
+        for other in left:
+            if segment[0] == other[0] and all(
+                    abs(a - b) <= 1 for p, q in zip(segment[1:], other[1:]) for a, b in zip(p, q)):
+                left.remove(other)
+                break
+        else:
+            return False
+    return not left
+
+
 def characters_of(font, count):
     """Some characters of a font that end no line and are spelled by themselves."""
     found = [c for c in sorted(font.getBestCmap() or {})
@@ -89,17 +113,19 @@ def characters_of(font, count):
     return found[::max(1, len(found) // count)][:count]
 
 
-def drawn(program, path, characters):
+def drawn(program, path, characters, place):
     """What the program draws of each: the glyphs of each line with their paths."""
     text = "".join(chr(c) + "\n" for c in characters).encode()
     options = ["--svg", "--preserve-default-ignorables"]
+    if place:
+        options.append("--variations=" + ",".join(f"{tag}={n}" for tag, n in place.items()))
     done = subprocess.run([program, *options, path], input=text, capture_output=True, timeout=120)
     pictures = done.stdout.decode(errors="replace").split('<g class="line"')[1:]
     return [re.findall('<path class="glyph" data-glyph="([0-9]+)"[^>]* d="([^"]*)"', picture)
             for picture in pictures]
 
 
-def compare_font(args, path, counts):
+def compare_font(args, path, counts, place=None):
     from fontTools.ttLib import TTFont
     try:
         font = TTFont(path, lazy=True)
@@ -107,7 +133,7 @@ def compare_font(args, path, counts):
         cmap, glyf, glyphs = font.getBestCmap(), font.get("glyf"), font.getGlyphSet()
     except Exception:  # fontTools stops at what is malformed by any of its errors
         return
-    pictures = drawn(args.program, path, characters)
+    pictures = drawn(args.program, path, characters, place)
     if not characters or len(pictures) != len(characters):
         return
     counts["fonts"] += 1
@@ -116,13 +142,14 @@ def compare_font(args, path, counts):
         if [int(glyph) for glyph, _ in glyphs_drawn] != [font.getGlyphID(name)]:
             continue  # blank, or not the glyph of the character
         try:
-            theirs = segments_of(steps_of_glyf(glyf, name) if glyf is not None
+            theirs = segments_of(steps_at(font, name, place) if place
+                                 else steps_of_glyf(glyf, name) if glyf is not None
                                  else steps_of_charstring(glyphs, name))
         except Exception:  # likewise
             continue
         ours = segments_of(steps_of_path(glyphs_drawn[0][1]))
         counts["glyphs"] += 1
-        if ours != theirs:
+        if not (are_near(ours, theirs) if place else ours == theirs):
             counts["differ"] += 1
             if counts["differ"] <= args.examples:
                 print(f"{path} U+{character:04X} {name}\n"
@@ -182,8 +209,20 @@ def save_parts(path):
     builder.font.save(path)
 
 
+def compare_variable(args, counts):
+    """Compares fonts that vary, each at a random place."""
+    for seed in range(args.variable):
+        chance = random.Random(f"place {seed}")
+        place = {tag: round(chance.uniform(low, high), 2) for tag, low, _, high in AXES}
+        with tempfile.NamedTemporaryFile(suffix=".ttf") as made:
+            made.write(variable_font(seed))
+            made.flush()
+            compare_font(args, made.name, counts, place)
+
+
 def add_options(parser):
     parser.add_argument("--fonts", type=int, default=200)
+    parser.add_argument("--variable", type=int, default=40, help="so many made fonts that vary")
     parser.add_argument("--glyphs", type=int, default=200, help="the most glyphs of a font")
     parser.add_argument("--examples", type=int, default=10)
     parser.add_argument("--program", default=str(FONTSHAPE))
@@ -196,6 +235,7 @@ def run(args):
     with tempfile.NamedTemporaryFile(suffix=".ttf") as made:
         save_parts(made.name)
         compare_font(args, made.name, counts)
+    compare_variable(args, counts)
     for path in paths[::max(1, len(paths) // args.fonts)][:args.fonts]:
         compare_font(args, path, counts)
     print(f"{counts['glyphs']} glyphs of {counts['fonts']} fonts drawn: {counts['differ']} differ "

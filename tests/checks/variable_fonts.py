@@ -201,3 +201,37 @@ def variable_font(seed):
         set_lines(chance, builder.font)
     addOpenTypeFeaturesFromString(builder.font, features(chance))
     return bytes_of(builder.font)
+
+
+def boxes():
+    """The bytes of `tests/fontshape/varied.ttf`: a box, and one that is made of it."""
+    from fontTools.fontBuilder import FontBuilder
+    from fontTools.pens.ttGlyphPen import TTGlyphPen
+    from fontTools.ttLib.tables._g_l_y_f import Glyph
+    from fontTools.ttLib.tables.TupleVariation import TupleVariation
+    glyphs = {".notdef": Glyph()}
+    pen = TTGlyphPen(glyphs)
+    pen.moveTo((50, 0))
+    for place in (450, 0), (450, 700), (50, 700):
+        pen.lineTo(place)
+    pen.closePath()
+    glyphs["A"] = pen.glyph()
+    pen = TTGlyphPen(glyphs)
+    pen.addComponent("A", (1, 0, 0, 1, 100, 0))
+    glyphs["B"] = pen.glyph()
+    builder = FontBuilder(1000, isTTF=True)
+    builder.setupGlyphOrder(list(glyphs))
+    builder.setupCharacterMap({0x41: "A", 0x42: "B"})
+    builder.setupGlyf(glyphs)
+    builder.setupHorizontalMetrics({".notdef": (500, 0), "A": (500, 50), "B": (600, 150)})
+    builder.setupHorizontalHeader(ascent=800, descent=-200)
+    builder.setupNameTable({"familyName": "Varied", "styleName": "Regular"})
+    builder.setupOS2()
+    builder.setupPost()
+    builder.setupFvar([("wght", 400, 400, 900, "wght")], [])
+    greatest = {"wght": (0, 1, 1)}
+    corners = [(-20, 0), None, (100, 50), None]
+    builder.setupGvar({
+        "A": [TupleVariation(greatest, [*corners, (-10, 0), (110, 0), None, None])],
+        "B": [TupleVariation(greatest, [(40, 20), None, None, None, None])]})
+    return bytes_of(builder.font)
