@@ -1,11 +1,12 @@
 -- rows that speak of any face
 use Rattle.std.proofs.Common.{refl}
 use Rattle.shape_font.specs.Bytes.{i16_of}
+use Rattle.shape_font.specs.LinesAt.{ascent_of, descent_of}
 use Rattle.paragraph.specs.Worked.{WorkedFaces}
 
 pub worked_faces : WorkedFaces
-unfolding i16_of
+unfolding i16_of ascent_of descent_of
 worked_faces = record {
-  plain = λ face units os2 hhea. rw (units, os2, hhea) refl;
-  designed = λ face units os2 hhea. rw (units, os2, hhea) refl;
+  plain = λ face none units os2 hhea. rw (none, units, os2, hhea) refl;
+  designed = λ face none units os2. rw (none, units, os2) refl;
 }
