@@ -1,7 +1,7 @@
 """Fonts made by hand that are small and ask for much work, and the worst of earlier searches.
 
 Each runs with a text of 10,000 characters, one with three quarters as many: no run ends by a
-signal, takes more than ten seconds of processor time (the gate's machine may be slow and busy), or
+signal, takes more than twenty seconds of processor time (the gate's machine may be slow and busy), or
 more than 200 MB. The bombs are lookups that
 apply themselves, substitutions that grow, parts of tables that are shared, kerning of 65,535
 parts, origins and names that are searched for, long names. Those that use up what a run may ask for take
@@ -27,7 +27,7 @@ from checks.varied_bombs import VARIED, varied_bomb
 
 WORST = TESTS / "hostile" / "worst.txt"
 # the gate's machine may be slower than that of the figures, and busy
-GATE_SECONDS = 5 * SECONDS
+GATE_SECONDS = 10 * SECONDS
 LETTERS = range(0x61, 0x7B)
 MARKS = range(0x300, 0x310)
 ZWNJ, ZWJ, ALEF = 0x200C, 0x200D, 0x627

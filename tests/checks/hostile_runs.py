@@ -16,7 +16,7 @@ KEPT = "# seed and number of a mutated font, how much text, what the font was cu
        "seconds and megabytes\n"
 
 
-def limit_run(seconds=20):
+def limit_run(seconds=40):
     """Limits what a run may take."""
     os.nice(10)
     resource.setrlimit(resource.RLIMIT_CPU, (seconds, seconds))

@@ -14,7 +14,7 @@ import re
 import subprocess
 import tempfile
 
-from checks.programs import FONTSHAPE, need_fontshape
+from checks.programs import FONTSHAPE, need_fonttools, need_fontshape
 from checks.variable_fonts import AXES, variable_font
 from checks.varied_outlines import contours_at, coordinates_of
 
@@ -229,6 +229,7 @@ def add_options(parser):
 
 
 def run(args):
+    need_fonttools()
     need_fontshape(args.program)
     paths = sorted({path for pattern in PATTERNS for path in glob.glob(pattern, recursive=True)})
     counts = {"fonts": 0, "glyphs": 0, "differ": 0}
