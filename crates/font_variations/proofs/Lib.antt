@@ -1,4 +1,5 @@
 pub mod ProductLemmas
 pub mod SegmentLemmas
 pub mod PartLemmas
+pub mod DefaultLemmas
 pub mod LineLemmas

@@ -1,11 +1,12 @@
--- scalars lie within 0 and 1, and what they are at the default instance
+-- scalars lie within 0 and 1
 use Prim.Native.Nat.{zero}
-use Rattle.std.proofs.Common.{◌≡◌, ℕ, suc, ℤ, pos, negsuc, ◌<◌, ◌≤◌, ◌+◌, ◌*◌, ◌^◌, ◌≤ℤ◌, ◌<ℤ◌, ◌-ℤ◌, Bool, true, false, cond, [], nat_lt, refl, sym, ap, subst, ◌∙◌, arith}
-use Rattle.std.specs.Prelude.{◌≢◌, ◌&&◌, ◌||◌, T, int_lt, int_le}
+use Rattle.std.proofs.Common.{◌≡◌, ℕ, suc, ℤ, pos, negsuc, ◌<◌, ◌≤◌, ◌+◌, ◌*◌, ◌^◌, ◌≤ℤ◌, ◌<ℤ◌, ◌-ℤ◌, Bool, true, false, cond, List, length, nat_lt, refl, sym, subst, ◌∙◌, arith}
+use Rattle.std.specs.Prelude.{◌&&◌, ◌||◌, T, int_lt, int_le, slice_index}
 use Rattle.std.specs.Float.{Float, binary32, nan, inf, fin}
 use Rattle.std.specs.Ordering.{int_eq}
 use Rattle.std.proofs.lemmas.Bool.Decides.{nat_tests}
 use Rattle.std.proofs.lemmas.Int.{ints}
+use Rattle.std.proofs.lemmas.List.{get_or_past}
 use lib.Count.{count_trailing_zeros}
 use lib.Dec.{ltb, eqb, ltb→lt, eqb→eq}
 use lib.Ieee.{up, down, low, round, size, span, climb, units, odd, of_int, div, mul, le, lt, eq, of_bits, of_fields}
@@ -18,9 +19,9 @@ use lib.Ieee.Scale.{finite, grid, round_val, round_under}
 use mathlib.Core.Bool.{true≢false}
 use native.Mathlib.Nat.{mul-one, mul-pos, mul_right_comm, mul-le-mul, mul-le-mul_right, le_trans, le_of_eq}
 use Rattle.font_bytes.specs.Bytes.{u16_of, i16_of}
-use Rattle.font_variations.specs.Laws.{IsPart, AxesAtDefault, RegionsAtDefault}
-use Rattle.font_variations.specs.Regions.{axis_scalar, is_whole, product_from, region_at, region_scalar}
-use Rattle.font_variations.specs.Tents.{nothing, whole, ratio, slope, tent}
+use Rattle.font_variations.specs.Laws.{IsPart, AreBytes, AxesArePart, RegionsArePart}
+use Rattle.font_variations.specs.Regions.{axis_scalar, coordinate_of, is_whole, product_from, region_at, region_scalar}
+use Rattle.font_variations.specs.Tents.{nothing, whole, ratio, is_malformed, slope, tent}
 
 -- ---- a fraction of at most 1, rounded
 
@@ -157,51 +158,68 @@ slope_part x start peak end coordinate is low high rises falls =
         let above : start <ℤ coordinate = grind (arith, ints) in
         within above (int_le end coordinate) refl
 
--- ---- at the default
-
-equal_to_zero : (n : ℤ) → int_eq (pos 0) n ≡ int_eq n (pos 0)
-equal_to_zero (pos n) = grind (arith, nat_tests)
-equal_to_zero (negsuc n) = refl
-
-or_same : (x y : Bool) → y ≡ x → (x || y) ≡ x
-or_same true y e = refl
-or_same false y e = e
-
-pub axes_at_default : AxesAtDefault
+pub tent_part : AxesArePart
 unfolding tent
-axes_at_default start peak end = rw (or_same (int_eq peak (pos 0)) (int_eq (pos 0) peak) (equal_to_zero peak)) refl
-
--- a product in which one scalar is 0
-
-another : (p : ℕ → Float) (i k : ℕ) → eq (p k) nothing ≡ true → eq (p i) nothing ≡ false → i ≢ k
-another p i k h t e = true≢false (sym h ∙ ap (λ (j : ℕ). eq (p j) nothing) (sym e) ∙ t)
-
-later : (i k : ℕ) → i ≤ k → i ≢ k → suc i ≤ k
-later i k l d = omega (arith, l, d)
-
-pub product_with_none : (p : ℕ → Float) (n i k : ℕ) (x : Float) → i ≤ k → k < i + n → eq (p k) nothing ≡ true → product_from p n i x ≡ nothing
-product_with_none p zero i k x from_i before h = absurd (omega (arith, from_i, before))
-product_with_none p (suc n) i k x from_i before h =
-    let P : Bool → Type 0 = λ t. eq (p i) nothing ≡ t → cond t nothing (product_from p n (suc i) (mul binary32 x (p i))) ≡ nothing in
-    let cases : P (eq (p i) nothing) = elim (eq (p i) nothing) as P [
-      | true ↦ λ t. refl
-      | false ↦ λ t. product_with_none p n (suc i) k (mul binary32 x (p i)) (later i k from_i (another p i k h t)) (omega (arith, before)) h
-    ] in
-    cases refl
-
-nothing_is_none : eq nothing nothing ≡ true
-unfolding eq of_bits of_fields odd count_trailing_zeros
-nothing_is_none = refl
-
-pub regions_at_default : RegionsAtDefault
-unfolding region_scalar axis_scalar
-regions_at_default t list region axis within elsewhere =
-    let at = region_at t list region in
-    let p : ℕ → Float = axis_scalar t [] at in
-    let there : p axis ≡ nothing = axes_at_default (i16_of t (at + 6 * axis)) (i16_of t (at + 6 * axis + 2)) (i16_of t (at + 6 * axis + 4)) ∙ ap (λ b. cond b whole nothing) elsewhere in
-    let none : eq (p axis) nothing ≡ true = ap (λ x. eq x nothing) there ∙ nothing_is_none in
-    rw (product_with_none p (u16_of t list) 0 axis whole (omega arith) (omega (arith, within)) none) (same (is_whole t list && nat_lt region (u16_of t (list + 2))))
+tent_part start peak end coordinate low high = tested (int_eq peak (pos 0) || int_eq coordinate peak) (int_eq coordinate (pos 0)) (is_malformed start peak end) refl
   where
-    same : (b : Bool) → cond b nothing nothing ≡ nothing
-    same true = refl
-    same false = refl
+    tested : (a b c : Bool) → is_malformed start peak end ≡ c → IsPart (cond a whole (cond b nothing (cond c whole (slope start peak end coordinate))))
+    tested true b c t = whole_part
+    tested false true c t = nothing_part
+    tested false false true t = whole_part
+    tested false false false t =
+        slope_part (slope start peak end coordinate) start peak end coordinate refl low high (grind (arith, ints)) (grind (arith, ints))
+
+-- ---- regions of a table of bytes
+
+pub byte_small : (t : List ℕ) (at : ℕ) → AreBytes t → slice_index t at < 256
+byte_small t at bytes = tested (nat_lt at (length t)) refl
+  where
+    tested : (b : Bool) → nat_lt at (length t) ≡ b → slice_index t at < 256
+    tested true h = bytes at 0 (grind (arith, nat_tests))
+    tested false h =
+        let past : length t ≤ at = grind (arith, nat_tests) in
+        subst (λ (n : ℕ). n < 256) (sym (get_or_past t at 0 past)) (omega arith)
+
+pub u16_small : (t : List ℕ) (at : ℕ) → AreBytes t → u16_of t at < 65536
+u16_small t at bytes =
+    let first = byte_small t at bytes in
+    let second = byte_small t (at + 1) bytes in
+    omega (arith, first, second)
+
+signed_low : (n : ℕ) (b : Bool) → nat_lt n 32768 ≡ b → negsuc 32767 ≤ℤ cond b (pos n) (pos n -ℤ pos 65536)
+signed_low n true t = omega (arith, ints)
+signed_low n false t = let high : 32768 ≤ n = grind (arith, nat_tests) in omega (arith, ints, high)
+
+signed_high : (n : ℕ) (b : Bool) → n < 65536 → nat_lt n 32768 ≡ b → cond b (pos n) (pos n -ℤ pos 65536) ≤ℤ pos 32767
+signed_high n true h t = let low : n < 32768 = grind (arith, nat_tests) in omega (arith, ints, low)
+signed_high n false h t = omega (arith, ints, h)
+
+pub i16_low : (t : List ℕ) (at : ℕ) → negsuc 32767 ≤ℤ i16_of t at
+unfolding i16_of
+i16_low t at = signed_low (u16_of t at) (nat_lt (u16_of t at) 32768) refl
+
+pub i16_high : (t : List ℕ) (at : ℕ) → AreBytes t → i16_of t at ≤ℤ pos 32767
+unfolding i16_of
+i16_high t at bytes = signed_high (u16_of t at) (nat_lt (u16_of t at) 32768) (u16_small t at bytes) refl
+
+product_part : (p : ℕ → Float) → ((i : ℕ) → IsPart (p i)) → (n i : ℕ) (x : Float) → IsPart x → IsPart (product_from p n i x)
+product_part p each zero i x h = h
+product_part p each (suc n) i x h = elim (eq (p i) nothing) as (λ b. IsPart (cond b nothing (product_from p n (suc i) (mul binary32 x (p i))))) [
+  | true ↦ nothing_part
+  | false ↦ product_part p each n (suc i) (mul binary32 x (p i)) (mul_part x (p i) h (each i))
+]
+
+pub regions_part : RegionsArePart
+unfolding region_scalar axis_scalar
+regions_part t list region coordinates bytes = tested (is_whole t list && nat_lt region (u16_of t (list + 2)))
+  where
+    at : ℕ
+    at = region_at t list region
+
+    each : (axis : ℕ) → IsPart (axis_scalar t coordinates at axis)
+    each axis = tent_part (i16_of t (at + 6 * axis)) (i16_of t (at + 6 * axis + 2)) (i16_of t (at + 6 * axis + 4)) (coordinate_of coordinates axis)
+        (i16_low t (at + 6 * axis)) (i16_high t (at + 6 * axis + 4) bytes)
+
+    tested : (b : Bool) → IsPart (cond b (product_from (axis_scalar t coordinates at) (u16_of t list) 0 whole) nothing)
+    tested true = product_part (axis_scalar t coordinates at) each (u16_of t list) 0 whole whole_part
+    tested false = nothing_part

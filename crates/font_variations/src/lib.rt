@@ -6,8 +6,8 @@
 //! Variation Store, over the scalars of `regions` and `tents`, and [`index_maps`] says which delta
 //! set an item has. [`metrics`] reads `HVAR` and `VVAR`, [`lines`] `MVAR`. Numbers are those of
 //! binary32, in the order in which HarfBuzz computes them, so that what comes out is the same to
-//! the last unit. Any bytes and any coordinates are taken. [`laws`] has what holds at the default
-//! instance, [`worked`] the definitions computed by hand.
+//! the last unit. Any bytes and any coordinates are taken. [`laws`] has what holds of scalars, and
+//! at the default instance, [`worked`] the definitions computed by hand.
 #![tactic(auto)]
 
 pub mod axes;
