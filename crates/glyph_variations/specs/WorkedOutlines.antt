@@ -5,8 +5,8 @@ use lib.Count.{count_trailing_zeros}
 use lib.Ieee.{round, size, span, climb, units, odd, of_bits, of_fields, of_int, div, mul, add, sub, sum, eq, lt}
 use Rattle.font_bytes.specs.Bytes.{i8_of, i16_of, i32_of}
 use Rattle.glyf_points.specs.declared.simple.GlyphPoint.{GlyphPoint}
-use Rattle.glyph_variations.specs.Inferred.{inferred, last_touched, first_touched, before, after, spread, all_spread}
-use Rattle.glyph_variations.specs.Outline.{listed_of, flushed, all_added, outline_moved}
+use Rattle.glyph_variations.specs.Inferred.{inferred, last_touched, first_touched, before, after, spread, contours, contour_step, all_spread}
+use Rattle.glyph_variations.specs.Outline.{listed_of, flush_step, flushed, all_added, begun_point, outline_moved}
 use Rattle.glyph_variations.specs.Tuples.{ratio64, part_of, scalar_of}
 use Rattle.glyph_variations.specs.Worked.{at}
 use Rattle.glyph_variations.specs.declared.inferred.Listed.{Listed}
@@ -90,6 +90,12 @@ pub record WorkedContours : Type 0 where
       ≡ waiting (pos 0 ∷ pos 0 ∷ pos 0 ∷ pos 0 ∷ pos 0 ∷ pos 0 ∷ pos 9 ∷ [])
   -- upwards all stand at 0, so that two that move apart leave the others
   pub upwards : all_spread points true five none ≡ none
+  -- a point that ends no contour leaves all as it is; one that does spreads its own contour, and the next one begins after it
+  pub within_a_contour : contour_step points false five 3 (contours 0 none) ≡ contours 0 none
+  pub at_its_end : contour_step points false five 4 (contours 0 none)
+      ≡ contours 5 (waiting (pos 10 ∷ pos 0 ∷ pos 20 ∷ pos 0 ∷ pos 30 ∷ pos 0 ∷ pos 0 ∷ []))
+  pub at_the_end_of_the_second : contour_step points false (no ∷ by (pos 10) ∷ no ∷ by (pos 30) ∷ no ∷ by (pos 9) ∷ no ∷ []) 6 (contours 5 none)
+      ≡ contours 7 (waiting (pos 0 ∷ pos 0 ∷ pos 0 ∷ pos 0 ∷ pos 0 ∷ pos 0 ∷ pos 9 ∷ []))
   pub a_part : spread points false (contour 0 3) five none ≡ waiting (pos 10 ∷ pos 0 ∷ pos 10 ∷ pos 0 ∷ pos 0 ∷ pos 0 ∷ pos 0 ∷ [])
 
 -- a glyph of three points
@@ -119,6 +125,16 @@ pub record WorkedOutlines : Type 0 where
       ≡ moving (pos 7) (pos 6) ∷ moving (pos 7) (pos 7) ∷ moving (pos 7) (pos 8) ∷ []
   pub flushed_first : flushed (by (pos 3) ∷ no ∷ []) (moving (pos 7) (pos 5) ∷ moving (pos 8) (pos 6) ∷ [])
       ≡ moving (pos 12) (pos 3) ∷ moving (pos 14) (pos 0) ∷ []
+  -- one point after the other: 5 goes to the first, and 3 waits; 6 goes to the second, for which nothing is listed; there is no third
+  pub first_flushed : flush_step (by (pos 3) ∷ no ∷ []) 0 (moving (pos 7) (pos 5) ∷ moving (pos 8) (pos 6) ∷ [])
+      ≡ moving (pos 12) (pos 3) ∷ moving (pos 8) (pos 6) ∷ []
+  pub second_flushed : flush_step (by (pos 3) ∷ no ∷ []) 1 (moving (pos 7) (pos 5) ∷ moving (pos 8) (pos 6) ∷ [])
+      ≡ moving (pos 7) (pos 5) ∷ moving (pos 14) (pos 0) ∷ []
+  pub no_third : flush_step (by (pos 3) ∷ no ∷ by (pos 4) ∷ []) 2 (moving (pos 7) (pos 5) ∷ moving (pos 8) (pos 6) ∷ [])
+      ≡ moving (pos 7) (pos 5) ∷ moving (pos 8) (pos 6) ∷ []
+  -- a point begins where it stands in the default instance, along the line or up, and nothing waits
+  pub begun_along_the_line : begun_point false (record { x = pos 100; y = negsuc 19; on = false; ends = true }) ≡ moving (pos 100) (pos 0)
+  pub begun_upwards : begun_point true (record { x = pos 100; y = negsuc 19; on = false; ends = true }) ≡ moving (negsuc 19) (pos 0)
   pub listed_twice : listed_of (1 ∷ 1 ∷ 0 ∷ 1 ∷ 10 ∷ 20 ∷ []) (record { at = 0; count = 2; deltas = 3 }) 3 (whole (pos 1)) 2
       ≡ no ∷ by (pos 30) ∷ []
   pub past_the_points : listed_of (0 ∷ 9 ∷ 0 ∷ 10 ∷ []) (record { at = 0; count = 1; deltas = 2 }) 2 (whole (pos 1)) 2 ≡ no ∷ no ∷ []
@@ -161,6 +177,9 @@ worked_contours = record {
   two_contours = refl;
   one_touched = refl;
   upwards = refl;
+  within_a_contour = refl;
+  at_its_end = refl;
+  at_the_end_of_the_second = refl;
   a_part = refl;
 }
 
@@ -177,6 +196,11 @@ worked_outlines = record {
   on_the_other_side = refl;
   all_of_three = refl;
   flushed_first = refl;
+  first_flushed = refl;
+  second_flushed = refl;
+  no_third = refl;
+  begun_along_the_line = refl;
+  begun_upwards = refl;
   listed_twice = refl;
   past_the_points = refl;
 }
