@@ -19,7 +19,7 @@ use Rattle.glyph_variations.specs.declared.sums.Moving.{Moving}
 use Rattle.shape_common.specs.declared.face.hb_glyph_extents_t.{hb_glyph_extents_t}
 use Rattle.shape_font.specs.Bytes.{u16_of}
 use Rattle.shape_font.specs.PlacesAt.{no_place, no_frame, frame_of, shifted, through, part_at, widened, extents_by}
-use Rattle.shape_font.specs.PointsAt.{outline_of, has_place, point_at, left_point, metrics_glyph}
+use Rattle.shape_font.specs.PointsAt.{outline_of, has_place, left_of, moved_left, metrics_glyph}
 use Rattle.shape_font.specs.declared.face.FontFace.{FontFace}
 use Rattle.shape_font.specs.declared.placed.Bounds.{Bounds}
 use Rattle.shape_font.specs.declared.placed.Part.{Part}
@@ -156,8 +156,11 @@ unfoldable pub most_parts : ℕ
 most_parts = 128
 
 -- all is moved so that the left point for metrics comes to stand at 0
+abbrev pub left_by : FontFace → ℕ → List ℕ → Option Float
+left_by f glyph t = moved_left (stored_of f.gvar.now f.glyph_count glyph f.coordinates.now) t (left_of f glyph t)
+
 unfoldable pub left_at : FontFace → ℕ → Option Float
-left_at f glyph = option_and_then (λ t. option_map (λ own. point_at f glyph own (left_point f glyph t)) (point_count t)) (outline_of f glyph)
+left_at f glyph = option_and_then (λ t. left_by f glyph t) (outline_of f glyph)
 
 abbrev pub shift_of : FontFace → ℕ → Place
 shift_of f glyph = record { x = sub binary32 nothing (unwrap_or (left_at f (metrics_glyph f glyph)) nothing); y = nothing }

@@ -1,12 +1,12 @@
 -- Metrics of glyphs at coordinates by `gvar` (OpenType, "gvar", "Phantom points"). A glyph has four points for its metrics: left, right,
 -- top and bottom, numbers 0 to 3. Each comes to stand at its place in the default instance, plus the sum of scalar times delta.
-use Rattle.std.specs.Prelude.{ℕ, ℤ, List, [], Bool, Option, Some, None, pos, ◌+◌, ◌*◌, ◌+ℤ◌, ◌-ℤ◌, ◌&&◌, nat_le, nat_lt, length, if◌then◌else◌}
+use Rattle.std.specs.Prelude.{ℕ, ℤ, List, [], Bool, false, Option, Some, None, pos, ◌+◌, ◌*◌, ◌+ℤ◌, ◌-ℤ◌, ◌&&◌, nat_le, nat_lt, length, if◌then◌else◌}
 use Rattle.std.specs.Prelude.{slice_range, int_lt}
 use Rattle.std.specs.Option.{option_map, option_map_or, option_and_then, unwrap_or}
 use Rattle.std.specs.Float.{Float, binary32}
 use lib.Ieee.{of_int, sub}
 use Rattle.font_variations.specs.Deltas.{rounded}
-use Rattle.glyph_variations.specs.Glyph.{stored_of}
+use Rattle.glyph_variations.specs.Glyph.{Stored, stored_of}
 use Rattle.glyph_variations.specs.MetricPoints.{point_count, metrics_component}
 use Rattle.glyph_variations.specs.Sums.{moved_to}
 use Rattle.glyph_variations.specs.Times.{times}
@@ -44,8 +44,16 @@ abbrev pub between : FontFace → ℕ → ℕ → MetricPoint → MetricPoint �
 between f glyph own near far = rounded (sub binary32 (point_at f glyph own far) (point_at f glyph own near))
 
 -- left and right in the default instance: the outline stands at the left bearing
+abbrev pub left_in : List ℕ → ℕ → ℕ → List ℕ → ℤ
+left_in hmtx count glyph t = option_map_or (λ bearing. i16_of t 2 -ℤ bearing) (bearing_of hmtx count glyph) (pos 0)
+
 abbrev pub left_of : FontFace → ℕ → List ℕ → ℤ
-left_of f glyph t = option_map_or (λ bearing. i16_of t 2 -ℤ bearing) (bearing_of f.hmtx.now f.h_count glyph) (pos 0)
+left_of f glyph t = left_in f.hmtx.now f.h_count glyph t
+
+-- where variations move the left point of an outline, which comes first of the four after its own
+unfoldable pub moved_left : Stored → List ℕ → ℤ → Option Float
+moved_left g t left = option_map (λ own. moved_to g (record { point = own; count = own + 4; vertical = false }) (of_int binary32 left))
+    (point_count t)
 
 abbrev pub left_point : FontFace → ℕ → List ℕ → MetricPoint
 left_point f glyph t = record { number = 0; place = left_of f glyph t }

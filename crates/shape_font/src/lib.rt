@@ -5,8 +5,8 @@
 //! one line says what each one means; no table is copied, and no memory is taken. [`bytes`] reads
 //! numbers, [`directory`] finds tables, [`resource_fork`] the fonts of Apple's suitcases, [`cmap`]
 //! glyphs of characters, by a page of [`font_pages`] in fonts from before Unicode, [`metrics`]
-//! advances and boxes, and [`face`] puts them together. [`worked`] has the definitions computed on
-//! bytes that were read by hand.
+//! advances and boxes, [`moved`] points at coordinates, and [`face`] puts them together. [`worked`]
+//! has the definitions computed on bytes that were read by hand.
 #![tactic(auto)]
 #![allow(non_camel_case_types)]
 
@@ -20,6 +20,7 @@ pub mod font_pages;
 pub mod instance;
 pub mod laws;
 pub mod metrics;
+pub mod moved;
 pub mod names;
 mod placed;
 pub mod resource_fork;

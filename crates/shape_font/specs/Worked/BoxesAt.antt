@@ -23,7 +23,7 @@ use Rattle.shape_font.specs.BoxesAt
 use Rattle.shape_font.specs.Face.{outlined_extents, is_default, drawn_there}
 use Rattle.shape_font.specs.Metrics.{no_box}
 use Rattle.shape_font.specs.PlacesAt.{placed, frame_of, through, widened, bounded, no_frame}
-use Rattle.shape_font.specs.PointsAt.{point_at, metrics_glyph}
+use Rattle.shape_font.specs.PointsAt.{point_at, moved_left, metrics_glyph}
 use Rattle.shape_font.specs.Worked.Glyphs.{words}
 use Rattle.shape_font.specs.declared.face.FontFace.{FontFace}
 use Rattle.shape_font.specs.declared.placed.Bounds.{Bounds}
@@ -160,7 +160,7 @@ worked_places = record {
 
 pub worked_boxes : WorkedBoxes
 unfolding BoxesAt.box_at BoxesAt.moved_of BoxesAt.places_of BoxesAt.bounds_with BoxesAt.with_parts BoxesAt.most_parts BoxesAt.left_at
-    few_components through widened bounded point_at metrics_glyph moved_to outline_moved listed_of flushed all_added all_spread spread inferred
+    few_components through widened bounded point_at moved_left metrics_glyph moved_to outline_moved listed_of flushed all_added all_spread spread inferred
     scalar_of part_of ratio64 round_to_format rounded ◌+ʷ◌ ◌-ʷ◌ int_wrap i16_of round_with numbers.i8_of numbers.i16_of numbers.i32_of
     div mul add sub sum eq lt to_signed of_int round size span climb units odd count_trailing_zeros of_bits of_fields
 worked_boxes = record {

@@ -8,8 +8,8 @@ ghost use Rattle.std.specs.Option.{option_map};
 ghost use Rattle.shape_font.specs.BoxesAt;
 
 use super::FontFace;
-use super::metric_points::MetricPoint;
 use crate::bytes::u16_at;
+use crate::moved::{coordinate, left, left_at, offset};
 use crate::placed::{Bounds, Frame, Part, Place, extents, part_at, shifted, through, widened};
 use arrayvec::ArrayVec;
 use glyf_points::bounded::{MOST_COMPONENTS, MOST_POINTS, few_components, few_points};
@@ -56,17 +56,6 @@ fn most_parts() -> usize
     MOST_PARTS
 }
 
-/// A coordinate with what waits to be added to it.
-fn coordinate(moving: &[Moving], i: usize) -> f32
-    ensures { result ≡ BoxesAt.coordinate moving.now i }
-{
-    if i < moving.len() {
-        moving[i].position + moving[i].pending
-    } else {
-        0.0 + 0.0
-    }
-}
-
 /// Where so many points stand.
 #[tactic(auto, using(glyph_variations::proofs::TimesLemmas::steps_next), unfolding(crate::specs::BoxesAt::places_of))]
 fn places(across: &[Moving], upwards: &[Moving], count: usize) -> ArrayVec<Place, MOST_POINTS>
@@ -91,23 +80,6 @@ fn place_at(places: &[Place], i: usize) -> Place
         places[i]
     } else {
         Place { x: 0.0, y: 0.0 }
-    }
-}
-
-/// How far a component is moved in the default instance, as a point; one that is placed by points
-/// isn't.
-fn offset(component: &Component) -> GlyphPoint
-    ensures { result ≡ BoxesAt.offset_of component.now }
-{
-    let (x, y) = match component.placement {
-        Placement::Moved(x, y) => (x, y),
-        Placement::OnPoint(_, _) => (0, 0),
-    };
-    GlyphPoint {
-        x,
-        y,
-        on: true,
-        ends: true,
     }
 }
 
@@ -334,18 +306,22 @@ impl<'a> FontFace<'a> {
         }
     }
 
-    /// Where the left point for metrics stands at the coordinates.
+    /// Where the left point for metrics of a glyph with these bytes stands at the coordinates.
+    fn left_by(&self, glyph: u32, outline: &[u8]) -> Option<f32>
+        ensures { result ≡ BoxesAt.left_by self.now glyph outline.now }
+    {
+        let variations = GlyphVariations::of(self.gvar, self.glyph_count, glyph, self.coordinates);
+        let left = left(self.hmtx, self.h_count, glyph, outline);
+        left_at(&variations, outline, left)
+    }
+
+    /// The same of a glyph, if its outline is there.
     #[tactic(auto, unfolding(crate::specs::BoxesAt::left_at))]
     fn left_at(&self, glyph: u32) -> Option<f32>
         ensures { result ≡ BoxesAt.left_at self.now glyph }
     {
         let outline = self.outline(glyph)?;
-        let own = point_count(outline)?;
-        let left = MetricPoint {
-            number: 0,
-            place: self.left(glyph, outline),
-        };
-        Some(self.point_at(glyph, own, left))
+        self.left_by(glyph, outline)
     }
 
     /// How far all points of a glyph are moved.

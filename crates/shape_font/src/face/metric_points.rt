@@ -11,6 +11,7 @@ ghost use Rattle.shape_font.specs.PointsAt;
 use super::FontFace;
 use crate::bytes::i16_at;
 use crate::metrics;
+use crate::moved::left;
 use font_variations::deltas::rounded;
 use glyph_variations::glyph::GlyphVariations;
 use glyph_variations::metric_points::{metrics_component, point_count};
@@ -114,19 +115,7 @@ impl<'a> FontFace<'a> {
         rounded(self.point_at(glyph, own, far) - self.point_at(glyph, own, near))
     }
 
-    /// Where the left point stands in the default instance.
-    pub(super) fn left(&self, glyph: u32, outline: &[u8]) -> i32
-        ensures value { result ≡ PointsAt.left_of self.now glyph outline.now }
-        ensures low { negsuc 65535 ≤ℤ result }
-        ensures high { result ≤ℤ pos 65535 }
-    {
-        match metrics::bearing(self.hmtx, self.h_count, glyph) {
-            Some(bearing) => i16_at(outline, 2) - bearing,
-            None => 0,
-        }
-    }
-
-    /// Where the top one stands.
+    /// Where the top point stands in the default instance.
     fn top(&self, glyph: u32, outline: &[u8]) -> i32
         ensures value { result ≡ PointsAt.top_of self.now glyph outline.now }
         ensures low { negsuc 65535 ≤ℤ result }
@@ -151,7 +140,7 @@ impl<'a> FontFace<'a> {
     {
         let outline = self.outline(glyph)?;
         let own = point_count(outline)?;
-        let place = self.left(glyph, outline);
+        let place = left(self.hmtx, self.h_count, glyph, outline);
         let left = MetricPoint { number: 0, place };
         let advance = i32::from(metrics::advance(self.hmtx, self.h_count, glyph));
         let right = MetricPoint {
