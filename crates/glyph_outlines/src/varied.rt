@@ -5,11 +5,12 @@ ghost use Rattle.glyph_variations.specs.Glyph.{stored};
 ghost use Rattle.shape_font.specs.BoxesAt;
 ghost use Rattle.glyph_outlines.specs.Varied;
 
-use glyf_points::{Component, GlyphPoint, Placement};
+use glyf_points::{Component, GlyphPoint};
 use glyph_variations::glyph::GlyphVariations;
 use glyph_variations::inferred::Listed;
 use glyph_variations::outline::OutlineAxis;
 use glyph_variations::sums::Moving;
+use shape_font::moved::{coordinate, offset};
 use std::alloc::{AllocError, Global};
 
 /// A point of a glyph at coordinates, in units of the font, y upwards, or the offset of a
@@ -27,17 +28,6 @@ pub struct VariedPoint {
 pub struct VariedPoints {
     pub points: Vec<VariedPoint>,
     pub left: u32,
-}
-
-/// A coordinate with what waits to be added to it.
-fn coordinate(moving: &[Moving], i: usize) -> f32
-    ensures { result ≡ BoxesAt.coordinate moving.now i }
-{
-    if i < moving.len() {
-        moving[i].position + moving[i].pending
-    } else {
-        0.0 + 0.0
-    }
 }
 
 /// The points, each where it has come to stand.
@@ -110,23 +100,6 @@ pub fn varied(
     );
     let points = joined(alloc, points, across.as_slice(), upwards.as_slice())?;
     Ok(VariedPoints { points, left })
-}
-
-/// How far a component is moved in the default instance, as a point; one that is placed by points
-/// isn't.
-fn offset(component: &Component) -> GlyphPoint
-    ensures { result ≡ BoxesAt.offset_of component.now }
-{
-    let (x, y) = match component.placement {
-        Placement::Moved(x, y) => (x, y),
-        Placement::OnPoint(_, _) => (0, 0),
-    };
-    GlyphPoint {
-        x,
-        y,
-        on: true,
-        ends: true,
-    }
 }
 
 /// How far components are moved in the default instance, as points.

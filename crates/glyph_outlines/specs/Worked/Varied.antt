@@ -13,6 +13,7 @@ use Rattle.glyph_variations.specs.Sums.{moved_to}
 use Rattle.glyph_variations.specs.Tuples.{ratio64, part_of, scalar_of}
 use Rattle.glyph_variations.specs.Worked.{at}
 use Rattle.shape_font.specs.Bytes.{i16_of}
+use Rattle.shape_font.specs.PointsAt.{moved_left}
 use Rattle.shape_font.specs.Worked.Glyphs.{words}
 use Rattle.glyph_outlines.specs.Frames.{still, along, frame_by, point_of, placed_at}
 use Rattle.glyph_outlines.specs.Lefts.{metrics_step, metrics_glyph, left_at, frame_at}
@@ -102,7 +103,7 @@ worked_varied = record {
 }
 
 pub worked_lefts : WorkedLefts
-unfolding metrics_glyph left_at moved_to scalar_of part_of ratio64 round_to_format round_with i16_of numbers.i8_of numbers.i16_of numbers.i32_of
+unfolding metrics_glyph left_at moved_left moved_to scalar_of part_of ratio64 round_to_format round_with i16_of numbers.i8_of numbers.i16_of numbers.i32_of
     div mul add sub sum eq of_int round size span climb units odd count_trailing_zeros of_bits of_fields
 worked_lefts = record {
   of_a_component = λ o is. rw is refl;

@@ -1,16 +1,13 @@
 //! Where the left point for the metrics of a glyph stands at coordinates (OpenType, "gvar",
 //! "Phantom points"): what is drawn begins there.
-ghost use Rattle.std.specs.Prelude.{◌≡◌, ◌≤ℤ◌, pos, negsuc};
+ghost use Rattle.std.specs.Prelude.{◌≡◌};
 ghost use Rattle.glyph_variations.specs.Times.{times};
 ghost use Rattle.glyph_outlines.specs.Lefts;
 
 use super::Outlines;
 use glyph_variations::glyph::GlyphVariations;
-use glyph_variations::metric_points::{metrics_component, point_count};
-use glyph_variations::sums::{Target, moved_to};
-use shape_font::bytes::i16_at;
-use shape_font::metrics::bearing;
-use std::num::nearest_i32_to_f32;
+use glyph_variations::metric_points::metrics_component;
+use shape_font::moved::{left, left_at};
 
 /// How often the metrics of a glyph are those of a component at most.
 const MOST_STEPS: u32 = 8;
@@ -38,31 +35,15 @@ impl<'a> Outlines<'a> {
         there
     }
 
-    /// Where the left point stands in the default instance.
-    fn left(&self, glyph: u16) -> i32
-        ensures { result ≡ Lefts.left_of self.now glyph }
-    {
-        match bearing(self.hmtx, self.h_count, u32::from(glyph)) {
-            Some(bearing) => i16_at(self.bytes(glyph), 2) - bearing,
-            None => 0,
-        }
-    }
-
-    /// Where it stands at the coordinates; at 0 if the outline isn't whole.
+    /// Where the left point stands at the coordinates; at 0 if the outline isn't whole.
     #[tactic(auto, unfolding(crate::specs::Lefts::left_at))]
     pub(super) fn left_at(&self, glyph: u16) -> f32
         ensures { result ≡ Lefts.left_at self.now glyph }
     {
-        let Some(own) = point_count(self.bytes(glyph)) else {
-            return 0.0;
-        };
+        let outline = self.bytes(glyph);
         let number = u32::from(glyph);
         let variations = GlyphVariations::of(self.gvar, self.glyph_count, number, self.coordinates);
-        let target = Target {
-            point: own,
-            count: own + 4,
-            vertical: false,
-        };
-        moved_to(&variations, &target, nearest_i32_to_f32(self.left(glyph)))
+        let left = left(self.hmtx, self.h_count, number, outline);
+        left_at(&variations, outline, left).unwrap_or(0.0)
     }
 }
