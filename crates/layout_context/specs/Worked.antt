@@ -9,3 +9,4 @@ pub mod Marks
 pub mod Formats
 pub mod Reversals
 pub mod Around
+pub mod Steps

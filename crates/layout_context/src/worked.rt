@@ -11,6 +11,7 @@ ghost use Rattle.layout_context.specs.Worked.Marks.{WorkedVainLigatures, WorkedV
 ghost use Rattle.layout_context.specs.Worked.Meeting.{WorkedMeeting};
 ghost use Rattle.layout_context.specs.Worked.Places.{WorkedPlaces};
 ghost use Rattle.layout_context.specs.Worked.Reversals.{WorkedReversals};
+ghost use Rattle.layout_context.specs.Worked.Steps.{WorkedSteps, WorkedStages};
 ghost use Rattle.layout_context.specs.Worked.Tries.{WorkedTries};
 
 /// Where the glyphs of a rule stand after a nested lookup that changed how many items there are,
@@ -94,4 +95,11 @@ pub fn labels_meet_worked_cases()
 /// Which items of a list a lookup with a digest meets.
 pub fn digests_meet_worked_cases()
     ensures { WorkedMeeting }
+{}
+
+/// Steps of lookups and of the records of rules, what each costs, and stages where nothing is
+/// counted.
+pub fn steps_meet_worked_cases()
+    ensures steps { WorkedSteps }
+    ensures stages { WorkedStages }
 {}

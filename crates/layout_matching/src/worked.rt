@@ -7,7 +7,7 @@ ghost use Rattle.layout_matching.specs.Worked.Sought.{WorkedSought};
 ghost use Rattle.layout_matching.specs.Worked.Tries.{WorkedTries};
 ghost use Rattle.layout_matching.specs.Worked.Work.{WorkedWork};
 ghost use Rattle.layout_matching.specs.Worked.Would.{WorkedWould};
-ghost use Rattle.layout_matching.specs.Worked.Tried.{WorkedTried, WorkedLets};
+ghost use Rattle.layout_matching.specs.Worked.Tried.{WorkedAhead, WorkedLets, WorkedTried};
 
 /// Rules of context: a NULL ClassDef has all glyphs in class 0, and a rule that leads past the end
 /// of the table matches nothing.
@@ -64,4 +64,5 @@ pub fn searches_meet_worked_cases()
 pub fn reaches_meet_worked_cases()
     ensures tried { WorkedTried }
     ensures lets { WorkedLets }
+    ensures ahead { WorkedAhead }
 {}

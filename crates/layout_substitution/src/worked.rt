@@ -2,7 +2,7 @@
 ghost use Rattle.layout_substitution.specs.Worked.{WorkedLigatures, WorkedPasts, WorkedBeginnings, WorkedCounts, WorkedDeletions};
 ghost use Rattle.layout_substitution.specs.Worked.{WorkedMergings, WorkedLigating};
 ghost use Rattle.layout_substitution.specs.Worked.Lists.{WorkedLists};
-ghost use Rattle.layout_substitution.specs.Worked.Made.{WorkedMade};
+ghost use Rattle.layout_substitution.specs.Worked.Made.{WorkedMade, WorkedNumbers};
 ghost use Rattle.layout_substitution.specs.Worked.Would.{WorkedWould};
 
 /// Ligatures: their components, and one that leads past the end of the table.
@@ -47,6 +47,12 @@ pub fn would_meets_worked_cases()
 /// type 1 puts in place of one.
 pub fn replaced_items_meet_worked_cases()
     ensures { WorkedMade }
+{}
+
+/// How parts and components are numbered, which component a mark on a ligature stands on then, and
+/// after which subtables the next one is tried.
+pub fn numbers_meet_worked_cases()
+    ensures { WorkedNumbers }
 {}
 
 /// The list that a ligature makes: its glyphs, and which component each mark stands on.

@@ -1,2 +1,3 @@
 pub mod Fonts
 pub mod Engine
+pub mod Tries

@@ -77,6 +77,9 @@ pub record WorkedClasses : Type 0 where
   pub of_the_other_line : is_read (class_table 30 34) 4 false ≡ false
   -- class 0 would be the first value of the row, -35
   pub past_the_room : value_of cut_off 4 3 8 ≡ pos 0
+  -- one right glyph is stated; what follows would be a class
+  pub past_the_count : value_of (0 ∷ 0 ∷ 0 ∷ 1 ∷ 0 ∷ 0 ∷ 0 ∷ 38 ∷ 2 ∷ 1 ∷ 0 ∷ 4 ∷ 0 ∷ 14 ∷ 0 ∷ 22 ∷ 0 ∷ 30
+      ∷ 0 ∷ 2 ∷ 0 ∷ 2 ∷ 0 ∷ 30 ∷ 0 ∷ 34 ∷ 0 ∷ 2 ∷ 0 ∷ 1 ∷ 0 ∷ 0 ∷ 0 ∷ 2 ∷ 0 ∷ 0 ∷ 0xFF ∷ 0xCE ∷ 0xFF ∷ 0xDD ∷ 0 ∷ 7 ∷ []) 4 3 3 ≡ pos 0
   pub first_of_the_array : value_of one_value 4 2 3 ≡ negsuc 49
 
 pub worked_classes : WorkedClasses
@@ -98,6 +101,7 @@ worked_classes = record {
   of_this_line = refl;
   of_the_other_line = refl;
   past_the_room = refl;
+  past_the_count = refl;
   first_of_the_array = refl;
 }
 
@@ -114,6 +118,7 @@ pub record WorkedValues : Type 0 where
   pub not_across_it : is_read (table 1 5) 4 true ≡ false
   pub not_in_the_other_line : is_read (table 1 1) 4 false ≡ false
   pub vertical : is_read (table 1 0) 4 false ≡ true
+  pub not_in_a_horizontal_line : is_read (table 1 0) 4 true ≡ false
   pub other_format : is_read (0 ∷ 0 ∷ 0 ∷ 1 ∷ 0 ∷ 0 ∷ 0 ∷ 14 ∷ 3 ∷ 1 ∷ []) 4 true ≡ false
   pub subtables : subtable_count_of (table 3 1) ≡ 3
   pub other_version : subtable_count_of (0 ∷ 2 ∷ 0 ∷ 0 ∷ 0 ∷ 0 ∷ 0 ∷ 1 ∷ []) ≡ 0
@@ -147,6 +152,7 @@ worked_values = record {
   not_across_it = refl;
   not_in_the_other_line = refl;
   vertical = refl;
+  not_in_a_horizontal_line = refl;
   other_format = refl;
   subtables = refl;
   other_version = refl;

@@ -4,10 +4,11 @@ use Rattle.std.proofs.Common.{lit<, arith}
 use Rattle.shape_font.specs.Worked.Glyphs.{words}
 use Rattle.layout_tables.specs.declared.lookups.LookupSubtable.{LookupSubtable}
 use Rattle.layout_matching.specs.declared.firsts.First.{First}
-use Rattle.layout_digests.specs.Coverages.{listed_count, range_count}
-use Rattle.layout_matching.specs.Firsts.{has_bit, may_begin}
-use Rattle.layout_digests.specs.Digests.{has}
-use Rattle.layout_digests.specs.Lookups.{begins_at, extension_kind, is_chained_kind, is_context_kind, AreDigests, IsDigest}
+use Rattle.layout_digests.specs.Coverages.{listed_count, range_count, HasListed, HasRanges, HasCovered}
+use Rattle.layout_matching.specs.Firsts.{has_bit, may_begin, no_first}
+use Rattle.layout_digests.specs.Digests.{has, HasBits, KeepsBits, HasGlyphs, IsWithin}
+use Rattle.layout_digests.specs.Lookups.{begins_at, extension_kind, is_chained_kind, is_context_kind, AreDigests, IsDigest, no_digest}
+use Rattle.layout_digests.specs.Stored.{HoldsFirsts}
 use Rattle.layout_digests.specs.declared.digest.Digest.{Digest}
 
 -- of the glyph 4660: its bits are 52, 26 (of 2330), 13 (of 1165), 35 (of 291), 8 (of 72) and 9
@@ -133,4 +134,48 @@ worked_firsts = record {
   no_room_for_a_range = refl;
   none = λ index less. absurd (omega (arith, less));
   of_the_lookup = λ d is. is 0 (lit< tt) (at 1 8) 5 refl refl;
+}
+
+-- ---- what isn't said of a set that lacks something
+
+-- `GSUB` with the lookup at 14
+abbrev pub one_lookup : List ℕ
+one_lookup = words (1 ∷ 0 ∷ 0 ∷ 0 ∷ 10 ∷ 1 ∷ 4 ∷ []) ++ single
+
+-- the words of all glyphs
+abbrev pub all_firsts : First
+all_firsts = record { fine = 0xFFFFFFFFFFFFFFFF; middle = 0xFFFFFFFFFFFFFFFF; coarse = 0xFFFFFFFFFFFFFFFF }
+
+pub record WorkedLacks : Type 0 where
+  -- 7 has bits 0 to 2, and 14 has bits 1 to 3
+  pub last_bit : HasBits 7 0 3 → ⊥
+  pub first_bit : HasBits 14 0 3 → ⊥
+  pub bit_lost : KeepsBits 5 4 → ⊥
+  -- neither of the glyphs beside it was put in
+  pub glyph_before : HasGlyphs of_one 4659 4660 → ⊥
+  pub glyph_behind : HasGlyphs of_one 4660 4661 → ⊥
+  pub glyph_lost : IsWithin of_one no_digest → ⊥
+  pub last_of_a_list : HasListed (words (1 ∷ 2 ∷ 4660 ∷ 4661 ∷ [])) 0 of_one 2 → ⊥
+  pub end_of_a_range : HasRanges (words (2 ∷ 1 ∷ 4660 ∷ 4661 ∷ 0 ∷ [])) 0 of_one 1 → ⊥
+  pub covered : HasCovered (words (1 ∷ 1 ∷ 4661 ∷ [])) 0 of_one → ⊥
+  pub of_the_last_lookup : AreDigests one_lookup false (no_digest ∷ []) → ⊥
+  pub of_the_subtable : HoldsFirsts single false 0 (no_first ∷ []) 0 1 → ⊥
+  -- the words of its one subtable are the second ones
+  pub of_another_subtable : HoldsFirsts single false 0 (all_firsts ∷ no_first ∷ []) 1 1 → ⊥
+
+pub worked_lacks : WorkedLacks
+unfolding has has_bit
+worked_lacks = record {
+  last_bit = λ bits. let wrong : false ≡ true = bits 3 (omega arith) (omega arith) in cc;
+  first_bit = λ bits. let wrong : false ≡ true = bits 0 (omega arith) (omega arith) in cc;
+  bit_lost = λ keeps. let wrong : false ≡ true = keeps 0 refl in cc;
+  glyph_before = λ all. let wrong : false ≡ true = all 4659 (omega arith) (omega arith) in cc;
+  glyph_behind = λ all. let wrong : false ≡ true = all 4661 (omega arith) (omega arith) in cc;
+  glyph_lost = λ within. let wrong : false ≡ true = within 4660 refl in cc;
+  last_of_a_list = λ all. let wrong : false ≡ true = all 1 (lit< tt) in cc;
+  end_of_a_range = λ all. let wrong : false ≡ true = all 0 (lit< tt) 4661 (omega arith) (omega arith) in cc;
+  covered = λ all. let wrong : false ≡ true = all 4661 refl in cc;
+  of_the_last_lookup = λ are. let wrong : false ≡ true = are 0 (lit< tt) 14 refl 0 (lit< tt) (at 1 22) 5 refl refl in cc;
+  of_the_subtable = λ holds. let wrong : true ≡ false = holds 0 5 (lit< tt) refl (at 1 8) refl in cc;
+  of_another_subtable = λ holds. let wrong : true ≡ false = holds 0 5 (lit< tt) refl (at 1 8) refl in cc;
 }

@@ -130,6 +130,7 @@ pub record WorkedAllotment : Type 0 where
   pub per_syllable : map (λ f. f.per_syllable) (allotted_of (set_to LIGA 65 true 1 1 0 ∷ [])).features ≡ true ∷ []
   pub required_in_its_stage : (allotted requires_liga no_table (set_to LIGA 0 false 1 0 2 ∷ [])).required_stage ≡ 2
   pub required_unasked : (allotted requires_liga no_table (set_to KERN 0 false 1 0 2 ∷ [])).required_stage ≡ 0
+  pub required_before_it : (allotted requires_liga no_table (set_to 0x7A7A7A7A 0 true 1 0 2 ∷ [])).required_stage ≡ 0
   pub required_switched_off : (allotted requires_liga no_table (set_to LIGA 1 true 0 0 2 ∷ [])).required_stage ≡ 0
   pub searched_in_gpos : map (λ f. f.gpos) (allotted no_table lists_liga (set_to KERN 17 true 1 1 0 ∷ [])).features ≡ Some 0 ∷ []
   -- `GSUB` lists it, so that it isn't searched for in `GPOS`
@@ -161,6 +162,7 @@ worked_allotment = record {
   per_syllable = refl;
   required_in_its_stage = refl;
   required_unasked = refl;
+  required_before_it = refl;
   required_switched_off = refl;
   searched_in_gpos = refl;
   listed_in_one_table = refl;

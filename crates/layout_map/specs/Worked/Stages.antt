@@ -62,6 +62,10 @@ pub record WorkedLookups : Type 0 where
       ≡ true ∷ []
   pub gpos_has_one_stage : gpos_lookups (at_system 52) (record (kern_1 3) { gpos = Some 0 } ∷ []) ≡ on 5 16 ∷ []
   pub required_of_gpos : gpos_lookups (at_system 62) [] ≡ on 5 (2 ^ 31) ∷ []
+  -- each table by its own index of the feature
+  pub of_gpos_alone : gpos_lookups (at_system 52) (record (with_bits KERN None 0 0 1) { gpos = Some 0 } ∷ []) ≡ on 5 16 ∷ []
+  pub of_gsub_alone : gpos_lookups (at_system 52) (record (kern_1 0) { gpos = None } ∷ []) ≡ []
+  pub required_in_no_other_stage : gsub_lookups (at_system 62) [] 0 1 ≡ []
 
 pub worked_lookups : WorkedLookups
 worked_lookups = record {
@@ -81,6 +85,9 @@ worked_lookups = record {
   in_syllables = refl;
   gpos_has_one_stage = refl;
   required_of_gpos = refl;
+  of_gpos_alone = refl;
+  of_gsub_alone = refl;
+  required_in_no_other_stage = refl;
 }
 
 -- `kern` before a pause with the number 7, `liga` after it
@@ -97,6 +104,10 @@ tag n = record { 0 = n }
 pub record WorkedStages : Type 0 where
   pub first_stage : lookups_of two_stages 0 ≡ on 5 16 ∷ []
   pub second_stage : lookups_of two_stages 1 ≡ on 3 32 ∷ on 5 32 ∷ []
+  pub third_stage : lookups_of (record {
+    lookups = on 1 16 ∷ on 2 16 ∷ on 3 16 ∷ [];
+    stages = record { end = 1; pause = None } ∷ record { end = 2; pause = None } ∷ record { end = 3; pause = None } ∷ [];
+  }) 2 ≡ on 3 16 ∷ []
   pub past_the_last : lookups_of two_stages 2 ≡ []
   pub after_the_first : pause_of two_stages 0 ≡ Some 7
   pub after_the_last : pause_of two_stages 1 ≡ None
@@ -107,6 +118,7 @@ pub worked_stages : WorkedStages
 worked_stages = record {
   first_stage = refl;
   second_stage = refl;
+  third_stage = refl;
   past_the_last = refl;
   after_the_first = refl;
   after_the_last = refl;
@@ -132,6 +144,7 @@ pub record WorkedMap : Type 0 where
   pub second_stage : lookups_of whole.gsub 1 ≡ on 3 96 ∷ on 5 96 ∷ []
   pub needs_fallback : needs_fallback_of whole 10 ≡ true
   pub needs_none : needs_fallback_of whole LIGA ≡ false
+  pub not_asked_for : needs_fallback_of whole 30 ≡ false
   pub before_the_pause : stage_of whole KERN ≡ Some 0
   pub after_the_pause : stage_of whole LIGA ≡ Some 1
   pub of_a_fallback : stage_of whole 10 ≡ Some 1
@@ -155,6 +168,7 @@ worked_map = record {
   second_stage = refl;
   needs_fallback = refl;
   needs_none = refl;
+  not_asked_for = refl;
   before_the_pause = refl;
   after_the_pause = refl;
   of_a_fallback = refl;

@@ -2,7 +2,8 @@
 use Rattle.std.specs.Prelude.{◌≡◌, ℕ, List, [], ◌∷◌, Some, true, false, refl}
 use Rattle.shape_font.specs.Worked.Glyphs.{words}
 use Rattle.shape_items.specs.Items.{Item}
-use Rattle.layout_matching.specs.Work.{searches, passing_work, passed_after, passed_before, lookup_charged}
+use Rattle.layout_matching.specs.Skipping.{is_mark_left_out}
+use Rattle.layout_matching.specs.Work.{searches, passing_work, passed_after, passed_before, lookup_charged, IsBeside}
 use Rattle.layout_matching.specs.Worked.Work.{shared_ligatures, shared_rules, one_rule, two_subtables, over_marks, of_positions, plain, a_mark, a_zwj, a_zwnj}
 use Rattle.layout_matching.specs.declared.lookup.Lookup.{Lookup}
 
@@ -94,6 +95,22 @@ pub record WorkedPassing : Type 0 where
   pub the_set : (l : Lookup) → passing_work (by_set l) false a_mark ≡ 8
   pub no_set_of_a_letter : (l : Lookup) → passing_work (by_set l) false a_zwj ≡ 1
   pub two_lists : (l : Lookup) → l.gdef.now ≡ set_of_seven → passing_work (by_set l) true a_seven ≡ 15
+  -- a set takes the place of a class (flags 0x0110): a mark of the set is seen, whatever its class, and no other mark is
+  pub set_and_class : (l : Lookup) → l.gdef.now ≡ set_of_seven → is_mark_left_out (record (by_set l) { flags = 0x110 }) a_seven ≡ false
+  pub class_without_the_set : (l : Lookup) → l.gdef.now ≡ set_of_seven → is_mark_left_out (record (by_set l) { flags = 0x110 })
+      (record a_mark { properties = record a_mark.properties { mark_attachment_class = 1 } }) ≡ true
+  -- to the next glyph over one mark, and to the one before over two; a rule that looks for none passes over nothing
+  pub beside_after : (l : Lookup) → IsBeside (over_marks l) false (plain 6 ∷ a_mark ∷ a_mark ∷ plain 5 ∷ a_mark ∷ plain 6 ∷ []) 3
+      (record { before = 0; after = 1; passed = 1 })
+  pub beside_before : (l : Lookup) → IsBeside (over_marks l) false (plain 6 ∷ a_mark ∷ a_mark ∷ plain 5 ∷ a_mark ∷ plain 6 ∷ []) 3
+      (record { before = 1; after = 0; passed = 2 })
+  pub beside_both : (l : Lookup) → IsBeside (over_marks l) false (plain 6 ∷ a_mark ∷ a_mark ∷ plain 5 ∷ a_mark ∷ plain 6 ∷ []) 3
+      (record { before = 1; after = 1; passed = 3 })
+  pub beside_nothing : (l : Lookup) → IsBeside (over_marks l) false (a_mark ∷ plain 5 ∷ a_mark ∷ []) 1
+      (record { before = 0; after = 0; passed = 0 })
+  -- ZWJ is searched for in a list
+  pub beside_in_a_list : (l : Lookup) → IsBeside (over_marks l) true (plain 5 ∷ a_zwj ∷ plain 6 ∷ []) 0
+      (record { before = 0; after = 1; passed = 8 })
 
 pub worked_passing : WorkedPassing
 worked_passing = record {
@@ -126,4 +143,11 @@ worked_passing = record {
   the_set = λ l. refl;
   no_set_of_a_letter = λ l. refl;
   two_lists = λ l g. rw g refl;
+  set_and_class = λ l g. rw g refl;
+  class_without_the_set = λ l g. rw g refl;
+  beside_after = λ l. refl;
+  beside_before = λ l. refl;
+  beside_both = λ l. refl;
+  beside_nothing = λ l. refl;
+  beside_in_a_list = λ l. refl;
 }

@@ -1,10 +1,10 @@
 -- How far sets of rules look, computed by hand on tables of 16-bit words.
-use Rattle.std.specs.Prelude.{◌≡◌, ℕ, List, [], ◌∷◌, Bool, true, false, refl}
+use Rattle.std.specs.Prelude.{◌≡◌, ℕ, List, [], ◌∷◌, Bool, Option, Some, None, true, false, refl}
 use Rattle.shape_font.specs.Worked.Glyphs.{words}
 use Rattle.shape_items.specs.Items.{Item}
 use Rattle.layout_matching.specs.Rules.{plain_rule, chained}
-use Rattle.layout_matching.specs.Tried.{set_reach, lets_next, lets_second}
-use Rattle.layout_matching.specs.Worked.Work.{over_marks, plain, a_mark}
+use Rattle.layout_matching.specs.Tried.{set_reach, lets_next, lets_second, ahead_of, foreseen, large_reach}
+use Rattle.layout_matching.specs.Worked.Work.{over_marks, plain, a_mark, a_zwj}
 use Rattle.layout_matching.specs.declared.lookup.Lookup.{Lookup}
 use Rattle.layout_matching.specs.declared.rules.Rule.{Rule}
 use Rattle.layout_matching.specs.declared.rules.Test.TheVariants.{Glyph}
@@ -114,4 +114,56 @@ worked_lets = record {
   not_its_third = refl;
   any_next = refl;
   any_second = refl;
+}
+
+-- ---- the two glyphs after a place
+
+abbrev pub Ahead : List Item → ℕ → Option ℕ → Type 0
+Ahead items next second = (l : Lookup) → ahead_of (joining l) items 0 next ≡ record { next = next; second = second }
+
+-- where the rule of 5, 6 and 7 is seen to end that one of the two doesn't let stand
+abbrev pub Foresees : List Item → Option ℕ → Option ℕ → Type 0
+Foresees items second end = (l : Lookup) → l.table.now ≡ words (3 ∷ 0 ∷ 6 ∷ 7 ∷ [])
+    → foreseen (joining l) items (record { next = 1; second = second }) three ≡ end
+
+-- over a set of rules of a kind, whose next glyph is at place 1
+abbrev pub LooksLarge : ℕ → List ℕ → List Item → ℕ → Bool → Type 0
+LooksLarge kind table items to matched = (l : Lookup) → l.table.now ≡ table
+    → large_reach (joining l) items (record { at = 0; is_steady = true }) (record { kind = kind; start = 0 }) 2 1
+    ≡ record { from = 0; to = to; matched = matched }
+
+pub record WorkedAhead : Type 0 where
+  pub second : Ahead (plain 5 ∷ plain 6 ∷ plain 7 ∷ []) 1 (Some 2)
+  pub over_a_mark : Ahead (plain 5 ∷ plain 6 ∷ a_mark ∷ plain 7 ∷ []) 1 (Some 3)
+  pub no_second : Ahead (plain 5 ∷ plain 6 ∷ []) 1 None
+  -- ZWJ may be passed over: it says nothing
+  pub joiner_second : Ahead (plain 5 ∷ plain 6 ∷ a_zwj ∷ plain 7 ∷ []) 1 None
+  pub lets_both : Foresees (plain 5 ∷ plain 6 ∷ plain 7 ∷ []) (Some 2) None
+  pub not_the_next : Foresees (plain 5 ∷ plain 9 ∷ plain 7 ∷ []) (Some 2) (Some 2)
+  pub not_the_second : Foresees (plain 5 ∷ plain 6 ∷ plain 9 ∷ []) (Some 2) (Some 3)
+  pub not_a_later_second : Foresees (plain 5 ∷ plain 6 ∷ a_mark ∷ plain 9 ∷ []) (Some 3) (Some 4)
+  pub no_second_asked : Foresees (plain 5 ∷ plain 6 ∷ plain 9 ∷ []) None None
+  -- what was asked is marked, unless a rule matches
+  pub next_of_plain_rules : LooksLarge 5 (plain_set 5) (plain 5 ∷ plain 4 ∷ plain 9 ∷ []) 2 false
+  pub second_of_plain_rules : LooksLarge 5 (plain_set 5) (plain 5 ∷ plain 6 ∷ plain 9 ∷ []) 3 false
+  pub match_of_plain_rules : LooksLarge 5 (plain_set 5) (plain 5 ∷ plain 9 ∷ []) 0 true
+  pub match_after_a_refused_one : LooksLarge 5 (plain_set 5) (plain 5 ∷ plain 9 ∷ plain 9 ∷ []) 0 true
+  pub chained_rules : LooksLarge 6 (chain_set 5 with_4) (plain 5 ∷ plain 7 ∷ []) 2 false
+
+pub worked_ahead : WorkedAhead
+worked_ahead = record {
+  second = λ l. refl;
+  over_a_mark = λ l. refl;
+  no_second = λ l. refl;
+  joiner_second = λ l. refl;
+  lets_both = λ l t. rw t refl;
+  not_the_next = λ l t. rw t refl;
+  not_the_second = λ l t. rw t refl;
+  not_a_later_second = λ l t. rw t refl;
+  no_second_asked = λ l t. rw t refl;
+  next_of_plain_rules = λ l t. rw t refl;
+  second_of_plain_rules = λ l t. rw t refl;
+  match_of_plain_rules = λ l t. rw t refl;
+  match_after_a_refused_one = λ l t. rw t refl;
+  chained_rules = λ l t. rw t refl;
 }

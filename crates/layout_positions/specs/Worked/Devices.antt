@@ -123,6 +123,8 @@ pub record WorkedDevices : Type 0 where
   pub advance_across_does_not : has_effect true (by_devices (record no_devices { y_advance = true })) ≡ false
   pub down_the_line : has_effect false (by_devices (record no_devices { y_advance = true })) ≡ true
   pub anchor_varied : (l : Lookup) → anchor_at (at_coordinates anchor l) 0 ≡ record { x = pos 1; y = pos 122 }
+  -- offsets count from the anchor
+  pub anchor_after_two_bytes : (l : Lookup) → anchor_at (at_coordinates (0 ∷ 7 ∷ anchor) l) 2 ≡ record { x = pos 1; y = pos 122 }
   pub anchor_at_the_default : (l : Lookup) → anchor_at (varying anchor (gdef 1 3 18) [] l) 0 ≡ record { x = pos 100; y = negsuc 4 }
   pub anchor_along_x_alone : (l : Lookup) → anchor_at (at_coordinates x_alone l) 0 ≡ record { x = pos 1; y = negsuc 4 }
   pub anchor_of_pixels : (l : Lookup) → anchor_at (at_coordinates hinted l) 0 ≡ record { x = pos 100; y = negsuc 4 }
@@ -168,6 +170,7 @@ worked_devices = record {
   advance_across_does_not = refl;
   down_the_line = refl;
   anchor_varied = λ _. refl;
+  anchor_after_two_bytes = λ _. refl;
   anchor_at_the_default = λ _. refl;
   anchor_along_x_alone = λ _. refl;
   anchor_of_pixels = λ _. refl;

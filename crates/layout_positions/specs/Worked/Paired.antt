@@ -1,7 +1,8 @@
 -- What lookups of pairs have for two glyphs, computed by hand.
-use Rattle.std.specs.Prelude.{◌≡◌, ℤ, pos, negsuc, [], ◌∷◌, Some, None, true, false, refl}
+use Rattle.std.specs.Prelude.{◌≡◌, ℤ, pos, negsuc, [], ◌∷◌, Option, Some, None, true, false, refl}
 use Rattle.std.specs.Int.{int_wrap}
 use Rattle.std.specs.Int.Count.{ones}
+use Rattle.std.proofs.Common.{ap}
 use Rattle.shape_common.specs.Wrapping.{◌+ʷ◌, ◌-ʷ◌}
 use Rattle.shape_common.specs.declared.text_types.Direction.TheVariants.{LeftToRight}
 use Rattle.shape_font.specs.Bytes.{i16_of}
@@ -9,10 +10,13 @@ use Rattle.shape_font.specs.Worked.Glyphs.{words}
 use Rattle.shape_items.specs.Buffer.{Buffer}
 use Rattle.layout_matching.specs.declared.lookup.Lookup.{Lookup}
 use Rattle.layout_positions.specs.Lookups.{unapplied}
-use Rattle.layout_positions.specs.Paired.{pair_in, found_put, placed_as, AreBeside, untried, HasFor, IsKnownPair}
+use Rattle.layout_positions.specs.Paired.{pair_in, found_put, placed_as, AreBeside, untried, HasAt, HasFor, IsKnownPair}
+use Rattle.layout_positions.specs.Subtables.{Trial, trial_of, trial_step}
 use Rattle.layout_positions.specs.Values.{no_devices}
 use Rattle.layout_positions.specs.Worked.Lines.{over, base, ignorable, line, advances}
+use Rattle.layout_positions.specs.Walk.{none_seen}
 use Rattle.layout_positions.specs.Worked.Pairs.{IsLookup, pairs_one, pairs_two}
+use Rattle.layout_positions.specs.Worked.Walk.{one_subtable}
 use Rattle.layout_positions.specs.declared.bases.BaseSeen.{BaseSeen}
 use Rattle.layout_positions.specs.declared.paired.FoundPair.{FoundPair}
 use Rattle.layout_positions.specs.declared.paired.KnownPair.{KnownPair}
@@ -35,6 +39,18 @@ two = line LeftToRight (base 2 0 ∷ base 3 1 ∷ [])
 abbrev nothing : KnownPair
 nothing = record { left = 2; right = 3; advance = pos 0; is_sought = true; is_found = false; listed = false }
 
+-- a lookup with the subtable of pairs alone, which sees every glyph
+abbrev lookup_of_pairs : Lookup → Lookup
+lookup_of_pairs l = record (over (one_subtable 2 pairs_one) l) {
+  place = 0;
+  flags = 0;
+  mask = 16;
+  auto_zwj = true;
+  auto_zwnj = true;
+  per_syllable = false;
+  positioning = true;
+}
+
 pub record WorkedPaired : Type 0 where
   pub listed : (l : Lookup) → pair_in (over pairs_one l) 0 2 3 ≡ Some (by_first (negsuc 49))
   pub second_not_listed : (l : Lookup) → pair_in (over pairs_one l) 0 2 4 ≡ None
@@ -53,6 +69,10 @@ pub record WorkedPaired : Type 0 where
   -- 64 asks for what is unsafe to concat
   pub asked : (l : Lookup) → AreBeside l 2 3 (record two { flags = record { 0 = 64 } }) 0 1 → ⊥
   pub before_the_fourth : (seen : BaseSeen) → untried two seen 7 3 ≡ record { buffer = two; next = None; seen = seen; left = 7; subtable = 3 }
+  -- what subtable 0 has for 2 and 3 is what it makes of them, and it has something
+  pub at_its_subtable : (l : Lookup) (found : Option FoundPair) (seen : BaseSeen) → HasAt l 2 3 0 found → AreBeside l 2 3 two 0 1
+      → trial_step l 0 (untried two seen 7 0) ≡ trial_of (untried two seen 7 0) (placed_as seen 7 (found_put 0 1 two found))
+  pub not_nothing : (l : Lookup) → HasAt (lookup_of_pairs l) 2 3 0 None → ⊥
   pub of_its_glyphs : (l : Lookup) → IsKnownPair l (record nothing { is_found = true; listed = true; advance = negsuc 49 })
       → HasFor l 2 3 (Some (by_first (negsuc 49)))
   pub of_classes : (l : Lookup) → IsKnownPair l (record nothing { is_found = true; advance = pos 4 }) → HasFor l 2 3 (Some (by_classes (pos 4)))
@@ -77,6 +97,9 @@ worked_paired = record {
   other_glyph = λ l there. let no = there.right_is in cc;
   asked = λ l there. let no = there.unasked in cc;
   before_the_fourth = λ _. refl;
+  at_its_subtable = λ l found seen has beside. has two 0 1 seen 7 beside;
+  not_nothing = λ l has. let made = has two 0 1 none_seen 7 (record { unasked = refl; left_is = refl; next = refl; right_is = refl }) in
+      let next : Some 1 ≡ None = ap (λ (t : Trial). t.next) made in cc;
   of_its_glyphs = λ l known. known refl;
   of_classes = λ l known. known refl;
   none_for_them = λ l known. known refl;

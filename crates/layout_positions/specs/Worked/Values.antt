@@ -22,6 +22,8 @@ numbers = 0 ∷ 10 ∷ 0xFF ∷ 0xEC ∷ 0 ∷ 30 ∷ 0xFF ∷ 0xD8 ∷ []
 pub record WorkedValues : Type 0 where
   -- two bytes for each bit, whatever it is of: 0x10 to 0x80 are offsets of devices
   pub sizes : (value_size 0 ∷ value_size 4 ∷ value_size 0xF ∷ value_size 0xFF ∷ value_size 0x50 ∷ []) ≡ 0 ∷ 2 ∷ 8 ∷ 16 ∷ 4 ∷ []
+  -- reserved bits as well, as HarfBuzz counts them
+  pub reserved : value_size 0x101 ≡ 4
   pub nothing : (l : Lookup) → value_at (over numbers l) 0 0 0 ≡ adjustment (pos 0) (pos 0) (pos 0) (pos 0)
   pub all : (l : Lookup) → value_at (over numbers l) 15 0 0 ≡ adjustment (pos 10) (negsuc 19) (pos 30) (negsuc 39)
   pub advance_alone : (l : Lookup) → value_at (over numbers l) 4 0 0 ≡ adjustment (pos 0) (pos 0) (pos 10) (pos 0)
@@ -51,6 +53,7 @@ pub worked_values : WorkedValues
 unfolding i16_of ◌+ʷ◌ ◌-ʷ◌ int_wrap ones
 worked_values = record {
   sizes = refl;
+  reserved = refl;
   nothing = λ _. refl;
   all = λ _. refl;
   advance_alone = λ _. refl;

@@ -10,10 +10,11 @@ use Rattle.shape_items.specs.Buffer.{Buffer}
 use Rattle.shape_items.specs.Items.{Item}
 use Rattle.layout_matching.specs.declared.lookup.Lookup.{Lookup}
 use Rattle.layout_positions.specs.Attachment.{MOST_LINKS}
+use Rattle.layout_positions.specs.Marks.{mark_position}
 use Rattle.layout_positions.specs.Nested.{LEVELS, nested_placed}
 use Rattle.layout_positions.specs.Subtables.{Placing}
 use Rattle.layout_positions.specs.Uncovered.{subtable_lists}
-use Rattle.layout_positions.specs.Walk.{Budgeted, none_seen, budgeted, settled_up, positioned, unattached}
+use Rattle.layout_positions.specs.Walk.{Budgeted, none_seen, budgeted, settled_up, positioned, tried, unattached}
 use Rattle.layout_positions.specs.Worked.Lines.{base, mark, component_of, line, advances, offsets, chains, masks}
 use Rattle.layout_positions.specs.Worked.Cursive.{joins, joins_by, followed}
 use Rattle.layout_positions.specs.Worked.Marks.{on_bases}
@@ -85,6 +86,8 @@ pub record WorkedBounds : Type 0 where
   -- a lookup of the plan and 64 levels below it
   pub levels : LEVELS ≡ 65
   pub links : MOST_LINKS ≡ 64
+  -- a mark is attached as one
+  pub as_a_mark : (mark_position 1 0 (record { x = pos 0; y = pos 0 }) (record { x = pos 0; y = pos 0 }) zero_position).attach_type ≡ 1
   -- what the stages have left, and what the lookups leave
   pub begun : (b : Buffer) → (budgeted b).left ≡ b.max_ops
   pub ended : (s : Budgeted) → settled_up s ≡ record s.buffer { max_ops = s.left }
@@ -94,6 +97,7 @@ pub worked_bounds : WorkedBounds
 worked_bounds = record {
   levels = refl;
   links = refl;
+  as_a_mark = refl;
   begun = λ b. refl;
   ended = λ s. refl;
   none_is_attached_at_first = refl;
@@ -162,6 +166,9 @@ pub record WorkedWalk : Type 0 where
   pub each_is_named : Over each_in_context 0 16 (λ l. (named l 124).left ≡ 4)
   pub none_there_is_named : Over past_context 0 16 (λ l. (named l 10).left ≡ 10)
   pub none_may_be_named : Over in_context 0 16 (λ l. offsets (named l 0).buffer ≡ still ∷ still ∷ [])
+  -- where too little is left for a rule, nothing is
+  pub too_little_for_a_rule : Over in_context 0 16 (λ l.
+      (tried l (record { buffer = line LeftToRight (base 2 0 ∷ base 2 1 ∷ []); at = 0; seen = none_seen; left = 5 })).left ≡ 0)
   pub too_little_is_left : Over in_context 0 16 (λ l. offsets (named l 63).buffer ≡ still ∷ still ∷ [])
   pub nothing_is_left_then : Over in_context 0 16 (λ l. (named l 63).left ≡ 0)
   pub just_enough_is_left : Over in_context 0 16 (λ l. offsets (named l 64).buffer ≡ still ∷ (pos 10, pos 0) ∷ [])
@@ -205,6 +212,7 @@ worked_walk = record {
   each_is_named = λ l. refl;
   none_there_is_named = λ l. refl;
   none_may_be_named = λ l. refl;
+  too_little_for_a_rule = λ l. refl;
   too_little_is_left = λ l. refl;
   nothing_is_left_then = λ l. refl;
   just_enough_is_left = λ l. refl;

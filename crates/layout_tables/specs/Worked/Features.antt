@@ -3,8 +3,8 @@ use Prim.Native.Nat.{zero}
 use Rattle.std.specs.Prelude.{◌≡◌, ℕ, suc, pos, negsuc, List, [], ◌∷◌, ◌++◌, Some, None, true, false, map, refl}
 use Rattle.shape_font.specs.Bytes.{i16_of}
 use Rattle.shape_font.specs.Worked.Glyphs.{words}
-use Rattle.layout_tables.specs.Features.{tag_place, may_hold, feature_count_of, feature_tag_of, required_feature_of, feature_index_of, any_feature_of}
-use Rattle.layout_tables.specs.Features.{feature_of, feature_lookup_count_of, feature_lookup_of}
+use Rattle.layout_tables.specs.Features.{tag_place, may_hold, feature_count_of, feature_tag_of, required_feature_of, feature_index_of}
+use Rattle.layout_tables.specs.Features.{listed_tag_of, any_feature_of, feature_of, feature_lookup_count_of, feature_lookup_of}
 use Rattle.layout_tables.specs.Features.{KeepsTags, HoldsListed, HasOnlyFirst, HasOnlyListed}
 use Rattle.layout_tables.specs.Variations.{condition_holds, set_holds, substitution_of, varied_feature_of}
 
@@ -56,6 +56,10 @@ pub record WorkedFeatureLists : Type 0 where
   pub listed_third : feature_index_of (two_features ++ words (0 ∷ 65535 ∷ 3 ∷ 0 ∷ 0 ∷ 1 ∷ [])) 60 LIGA ≡ Some 1
   pub listed_last : feature_index_of (two_features ++ words (0 ∷ 65535 ∷ 9 ∷ 1 ∷ [])) 60 LIGA ≡ Some 1
   pub past_the_end_of_the_list : feature_index_of (two_features ++ words (0 ∷ 65535 ∷ 9 ∷ 1 ∷ [])) 60 KERN ≡ None
+  -- one byte is no index: it isn't feature 0
+  pub index_cut_off : feature_index_of (two_features ++ words (0 ∷ 65535 ∷ 1 ∷ []) ++ 0 ∷ []) 60 KERN ≡ None
+  pub tag_of_the_first : listed_tag_of two_features 38 0 ≡ LIGA
+  pub tag_of_the_second : listed_tag_of two_features 38 1 ≡ KERN
   pub first_of_two : feature_index_of same_tags 24 KERN ≡ Some 1
   pub first_of_all : any_feature_of same_tags KERN ≡ Some 0
   pub of_all : any_feature_of two_features LIGA ≡ Some 1
@@ -112,6 +116,9 @@ worked_feature_lists = record {
   listed_third = refl;
   listed_last = refl;
   past_the_end_of_the_list = refl;
+  index_cut_off = refl;
+  tag_of_the_first = refl;
+  tag_of_the_second = refl;
   first_of_two = refl;
   first_of_all = refl;
   of_all = refl;
@@ -224,6 +231,13 @@ pub record WorkedVariations : Type 0 where
   pub null_substitute : varied_feature_of (varied 1 1) (Some 84) 0 ≡ None
   pub not_substituted : varied_feature_of
       (words (1 ∷ 1 ∷ 0 ∷ 14 ∷ 0 ∷ 0 ∷ 0 ∷ 1 ∷ 0x6B65 ∷ 0x726E ∷ 8 ∷ 1 ∷ 0 ∷ 1 ∷ 9 ∷ [])) (Some 22) 0 ≡ Some 22
+  -- the sets of both records are that at 50, which fails
+  pub neither_record : substitution_of (header 1 ++ words (1 ∷ 0 ∷ 0 ∷ 2 ∷ 0 ∷ 24 ∷ 0 ∷ 38 ∷ 0 ∷ 24 ∷ 0 ∷ 38
+      ∷ 1 ∷ 0 ∷ 6 ∷ 1 ∷ 0 ∷ 1 ∷ 1 ∷ 1 ∷ 0 ∷ 0 ∷ [])) [] ≡ None
+  -- the second of two records, of features 7 and 3
+  pub of_the_second_record : varied_feature_of (words (1 ∷ 0 ∷ 2 ∷ 7 ∷ 0 ∷ 400 ∷ 3 ∷ 0 ∷ 300 ∷ [])) (Some 0) 3 ≡ Some 300
+  -- a record takes 6 bytes
+  pub record_cut_off : varied_feature_of (words (1 ∷ 0 ∷ 0 ∷ 0 ∷ 1 ∷ 0 ∷ 1 ∷ 7 ∷ 0 ∷ []) ++ 5 ∷ []) (Some 8) 7 ≡ None
   pub without_variations : varied_feature_of two_features None 1 ≡ Some 30
 
 pub worked_variations : WorkedVariations
@@ -244,5 +258,8 @@ worked_variations = record {
   second_substitute = refl;
   null_substitute = refl;
   not_substituted = refl;
+  neither_record = refl;
+  of_the_second_record = refl;
+  record_cut_off = refl;
   without_variations = refl;
 }

@@ -32,6 +32,7 @@ pub record WorkedCoverage : Type 0 where
   -- there is no room for a whole glyph, or for a whole range
   pub no_room : coverage_index (words (1 ∷ 4 ∷ []) ++ 0 ∷ []) 0 0 ≡ None
   pub no_room_for_a_range : coverage_index (words (2 ∷ 4 ∷ 5 ∷ 9 ∷ []) ++ 0 ∷ []) 0 7 ≡ None
+  pub index_cut_off : coverage_index (words (2 ∷ 1 ∷ 5 ∷ 9 ∷ []) ++ 0 ∷ []) 0 7 ≡ None
   pub within_the_second_range : coverage_index (words (2 ∷ 2 ∷ 5 ∷ 6 ∷ 0 ∷ 9 ∷ 11 ∷ 2 ∷ [])) 0 10 ≡ Some 3
   pub greatest_glyph : coverage_index (words (1 ∷ 1 ∷ 0xFFFF ∷ [])) 0 0xFFFF ≡ Some 0
   pub format_0 : coverage_index (words (0 ∷ 1 ∷ 10 ∷ 10 ∷ 0 ∷ [])) 0 10 ≡ None
@@ -56,6 +57,7 @@ worked_coverage = record {
   no_table = refl;
   no_room = refl;
   no_room_for_a_range = refl;
+  index_cut_off = refl;
   within_the_second_range = refl;
   greatest_glyph = refl;
   format_0 = refl;
@@ -82,6 +84,9 @@ pub record WorkedClasses : Type 0 where
   pub second_range : class_of two_class_ranges 0 20 ≡ 8
   pub other_format : class_of (words (3 ∷ 1 ∷ 10 ∷ 12 ∷ 7 ∷ [])) 0 10 ≡ 0
   pub format_0 : class_of (words (0 ∷ 10 ∷ 1 ∷ 4 ∷ [])) 0 10 ≡ 0
+  pub ranges_of_format_0 : class_of (words (0 ∷ 1 ∷ 10 ∷ 12 ∷ 7 ∷ [])) 0 10 ≡ 0
+  -- one byte is no class
+  pub class_cut_off : class_of (words (1 ∷ 10 ∷ 2 ∷ 4 ∷ []) ++ 5 ∷ []) 0 11 ≡ 0
   pub no_table : class_of [] 0 0 ≡ 0
 
 pub worked_classes : WorkedClasses
@@ -96,6 +101,8 @@ worked_classes = record {
   second_range = refl;
   other_format = refl;
   format_0 = refl;
+  ranges_of_format_0 = refl;
+  class_cut_off = refl;
   no_table = refl;
 }
 

@@ -184,6 +184,11 @@ pub record WorkedJoiningFlags : Type 0 where
   -- a text without a letter that joins on has nothing to mark before what follows it
   pub none_before_context : flags concat (between [] (0x621 ∷ []) (0x628 ∷ [])) ≡ 0 ∷ []
   pub alef_before_context : flags concat (between [] (0x627 ∷ 0x621 ∷ []) (0x628 ∷ [])) ≡ 2 ∷ 0 ∷ []
+  -- only the last letter would join to what follows
+  pub last_before_context : flags 0 (between [] (0x627 ∷ 0x628 ∷ []) (0x628 ∷ [])) ≡ 0 ∷ 0 ∷ []
+  -- an alaph that joins to a beth before the text has another form before a beth; one that joins to nothing hasn't
+  pub after_context : flags 0 (between (0x712 ∷ []) (0x710 ∷ 0x712 ∷ []) []) ≡ 0 ∷ 3 ∷ []
+  pub after_no_context : flags 0 (text (0x710 ∷ 0x712 ∷ [])) ≡ 0 ∷ 0 ∷ []
 
 pub worked_flags : WorkedJoiningFlags
 unfolding joining_type joining_group value_in joining_type_rows joining_group_rows
@@ -207,4 +212,7 @@ worked_flags = record {
   may_change = refl;
   none_before_context = refl;
   alef_before_context = refl;
+  last_before_context = refl;
+  after_context = refl;
+  after_no_context = refl;
 }
