@@ -8,6 +8,7 @@ ghost use Rattle.layout_matching.specs.Sifted as Sifting;
 ghost use Rattle.layout_matching.specs.Skipping.{nth};
 ghost use Rattle.layout_matching.specs.Work;
 ghost use Rattle.layout_matching.specs.declared.ligatures.Charge.{Charge as ChargeOf};
+ghost use Rattle.layout_matching.specs.declared.ligatures.Part.{Part as PartOf};
 ghost use Rattle.layout_matching.specs.declared.ligatures.Sifted.{Sifted as SiftedOf};
 
 use crate::found::number_in;
@@ -18,8 +19,8 @@ use crate::nearest::ends_searches;
 use crate::passing::is_free_beside;
 use crate::rules::{Test, row_of, rule_at, rules};
 use crate::seeking::{Seek, fits};
-use crate::sets::{part_counted, passed_charged, set_passed};
-use crate::tally::{Tally, beside};
+use crate::sets::{part_counts, passed_charged, set_passed};
+use crate::tally::{Tally, beside, counted, null_counted};
 use crate::work::begun_charged;
 use layout_buffer::ItemList;
 use layout_tables::lookups::LookupSubtable;
@@ -32,6 +33,13 @@ use shape_font::bytes::{records, u16_at};
 pub struct Sifted {
     pub count: Tally,
     pub first: u32,
+}
+
+/// A ligature of a set: what is counted with it, and whether the glyph after the place refuses it.
+#[derive(Clone, Copy)]
+struct Part {
+    count: Tally,
+    is_out: bool,
 }
 
 /// What is left after a subtable of ligatures, the set for the glyph at the place, and the number
@@ -82,16 +90,40 @@ pub fn begins_with_another(table: &[u8], second: Glance, ligature: usize) -> boo
     1 < u16_at(table, ligature + 2) && refuses(table, ligature + 4, second)
 }
 
-/// Whether the glyph after the place refuses ligature `r` of a set.
+/// Ligature `r` of a set, counted with those before it, and whether the glyph after the place
+/// refuses it. Its place and its components are read once for both.
+#[tactic(auto, using(crate::proofs::TallyLemmas::part_counted_by))]
 #[inline(always)]
-fn is_out(table: &[u8], second: Glance, set: usize, r: u32) -> bool
+fn part_sifted(
+    lookup: &Lookup<'_>,
+    subtable: LookupSubtable,
+    second: Glance,
+    set: usize,
+    r: u32,
+    count: Tally,
+) -> Option<Part>
+    requires near { subtable.start < 2 ^ 35 }
     requires set { set < 2 ^ 36 }
     requires few { r < 2 ^ 16 }
-    ensures { result ≡ Sifting.is_out table.now second set r }
+    ensures count { option_map (λ (p : PartOf). p.count) result
+        ≡ Work.part_counted lookup.now subtable set r count }
+    ensures out { IfSome result (λ p. p.is_out ≡ Sifting.is_out lookup.now.table.now second set r) }
 {
-    match rule_at(table, set, r) {
-        Some(ligature) => begins_with_another(table, second, ligature),
-        None => true,
+    let Some(ligature) = rule_at(lookup.table, set, r) else {
+        return match null_counted(count) {
+            Some(count) => Some(Part {
+                count,
+                is_out: true,
+            }),
+            None => None,
+        };
+    };
+    match counted(part_counts(lookup, subtable, ligature), count) {
+        Some(count) => Some(Part {
+            count,
+            is_out: begins_with_another(lookup.table, second, ligature),
+        }),
+        None => None,
     }
 }
 
@@ -122,11 +154,11 @@ fn sift(
     let mut count = beside(left);
     let mut first = many;
     for r in 0..many {
-        match part_counted(lookup, subtable, set, r, count) {
-            Some(more) => count = more,
-            None => return None,
-        }
-        if first == many && !is_out(lookup.table, second, set, r) {
+        let Some(part) = part_sifted(lookup, subtable, second, set, r, count) else {
+            return None;
+        };
+        count = part.count;
+        if first == many && !part.is_out {
             first = r;
         }
     }

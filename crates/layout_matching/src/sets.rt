@@ -120,7 +120,7 @@ pub(crate) fn rule_charged(
 
 /// The counts of the rule, or of the ligature, at a place of the table.
 #[inline(always)]
-fn part_counts(lookup: &Lookup<'_>, subtable: LookupSubtable, place: usize) -> Counts
+pub(crate) fn part_counts(lookup: &Lookup<'_>, subtable: LookupSubtable, place: usize) -> Counts
     requires { place < 2 ^ 37 }
     ensures { result ≡ Work.part_counts lookup.now subtable place }
 {
@@ -134,7 +134,7 @@ fn part_counts(lookup: &Lookup<'_>, subtable: LookupSubtable, place: usize) -> C
 /// Number `r` of the rules, or ligatures, at `set`.
 #[tactic(auto, using(crate::proofs::TallyLemmas::part_counted_by))]
 #[inline(always)]
-pub(crate) fn part_counted(
+fn part_counted(
     lookup: &Lookup<'_>,
     subtable: LookupSubtable,
     set: usize,
