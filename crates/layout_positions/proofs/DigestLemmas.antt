@@ -95,26 +95,13 @@ unpaid left work none some = grind (arith, nat_tests, none, some)
 none-less : (left work : ℕ) → left ≡ 0 → left ≡ left - work
 none-less left work none = omega (arith, none)
 
-pub spent_on : (ds : List Digested) (k : ℕ) (here made : Budgeted) (count : ℕ) → k < length ds
-    → count ≡ length here.buffer.items → here.left ≡ 0 → 0 < count
-    → fold lookup_applied here (lookups_in (drop k ds)) ≡ made → fold lookup_applied here (lookups_in (drop (k + 1) ds)) ≡ made
-spent_on ds k here made count more same none filled before = by_rest (drop k ds) refl
-  where
-    by_first : (x : Digested) → fold lookup_applied here (lookups_in (drop (k + 1) ds)) ≡ made
-    by_first x =
-        let l = (slice_index_or ds k x).lookup in
-        let after = walk_charged here l in
-        let some = walk_costs l (length here.buffer.items) (omega (arith, same, filled)) in
-        applied_on ds k x here here made more before
-        (ap (λ n. record here { left = n }) (none-less here.left (walk_work l (length here.buffer.items)) none)
-        ∙ sym (ap (λ t. if t then after else gone_over after l) (unpaid here.left (walk_work l (length here.buffer.items)) none some)))
-
-    by_rest : (rest : List Digested) → drop k ds ≡ rest → fold lookup_applied here (lookups_in (drop (k + 1) ds)) ≡ made
-    by_rest [] e =
-        let long : length (drop k ds) ≡ length ds - k = length-drop k ds in
-        let gone : length (drop k ds) ≡ 0 = ap length e in
-        absurd (omega (arith, more, long, gone))
-    by_rest (x ∷ rest) e = by_first x
+pub spent : (l : Lookup) (here : Budgeted) (count : ℕ) → count ≡ length here.buffer.items → here.left ≡ 0 → 0 < count
+    → here ≡ lookup_applied here l
+spent l here count same none filled =
+    let after = walk_charged here l in
+    let some = walk_costs l (length here.buffer.items) (omega (arith, same, filled)) in
+    ap (λ n. record here { left = n }) (none-less here.left (walk_work l (length here.buffer.items)) none)
+    ∙ sym (ap (λ t. if t then after else gone_over after l) (unpaid here.left (walk_work l (length here.buffer.items)) none some))
 
 -- in an empty list nothing is done, whatever the lookup is
 digest-idle : (d : Digested) (here : Budgeted) (run : Digest) → IsDigested d → HoldsGlyphs run here.buffer.items
@@ -138,21 +125,12 @@ digest-idle d here run said held apart = by_length (nat_eq (length here.buffer.i
       glyphs = λ i inside. (out_at i inside).unlisted;
     })
 
-pub charged_next : (ds : List Digested) (k : ℕ) (x : Digested) (b : Buffer) (left next count : ℕ)
-    → next ≡ left - walk_work (slice_index_or ds k x).lookup count → count ≡ length b.items
-    → record { buffer = b; left = next } ≡ walk_charged (record { buffer = b; left = left }) (slice_index_or ds k x).lookup
-charged_next ds k x b left next count is same =
-    let l = (slice_index_or ds k x).lookup in
-    ap (λ n. record { buffer = b; left = n }) (is ∙ ap (λ n. left - walk_work l n) same)
-
-pub passed_over : (ds : List Digested) (k : ℕ) (x : Digested) (here next made : Budgeted) (run : Digest) → k < length ds
-    → IsDigested (slice_index_or ds k x) → HoldsGlyphs run here.buffer.items
-    → ((g : ℕ) → has run g ≡ true → has (slice_index_or ds k x).digest g ≡ false)
-    → next ≡ walk_charged here (slice_index_or ds k x).lookup
-    → fold lookup_applied here (lookups_in (drop k ds)) ≡ made
-    → fold lookup_applied next (lookups_in (drop (k + 1) ds)) ≡ made
-passed_over ds k x here next made run more said held apart is before =
-    applied_on ds k x here next made more before (is ∙ sym (digest-idle (slice_index_or ds k x) here run said held apart))
+pub passed_over : (d : Digested) (b : Buffer) (left next count : ℕ) (run : Digest) → IsDigested d → HoldsGlyphs run b.items
+    → ((g : ℕ) → has run g ≡ true → has d.digest g ≡ false) → next ≡ left - walk_work d.lookup count → count ≡ length b.items
+    → record { buffer = b; left = next } ≡ lookup_applied (record { buffer = b; left = left }) d.lookup
+passed_over d b left next count run said held apart is same =
+    ap (λ n. record { buffer = b; left = n }) (is ∙ ap (λ n. left - walk_work d.lookup n) same)
+    ∙ sym (digest-idle d (record { buffer = b; left = left }) run said held apart)
 
 -- the set of all glyphs serves any lookup
 pub every_said : (d : Digested) → d.lookup.place < 2 ^ 17 → ((glyph : ℕ) → has d.digest glyph ≡ true) → d.firsts.count ≡ 0 → IsDigested d

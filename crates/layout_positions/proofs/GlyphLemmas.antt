@@ -5,9 +5,9 @@ use Rattle.std.proofs.lemmas.List.{length-map}
 use Rattle.shape_items.specs.Buffer.{Buffer}
 use Rattle.shape_items.specs.Items.{Item, new_item}
 use Rattle.layout_matching.specs.Skipping.{nth}
+use Rattle.layout_matching.specs.declared.lookup.Lookup.{Lookup}
 use Rattle.layout_digests.specs.Digests.{has}
 use Rattle.layout_digests.specs.declared.digest.Digest.{Digest}
-use Rattle.layout_digests.specs.declared.digested.Digested.{Digested}
 use Rattle.layout_positions.specs.Digested.{HoldsGlyphs}
 use Rattle.layout_positions.specs.Walk.{Budgeted, lookup_applied}
 use Rattle.layout_positions.proofs.KeyLemmas.{SameKeys, keys-applied}
@@ -35,9 +35,8 @@ held-same b c run same held i inside =
     (held i (subst (λ n. i < n) (length_by_keys glyph_of c.items b.items same) inside))
 
 -- so a set that holds the glyphs of a list holds them after each lookup
-pub held_applied : (ds : List Digested) (k : ℕ) (x : Digested) (here next : Budgeted) (run : Digest)
-    → next ≡ lookup_applied here (slice_index_or ds k x).lookup → HoldsGlyphs run here.buffer.items → HoldsGlyphs run next.buffer.items
-held_applied ds k x here next run is held =
-    let l = (slice_index_or ds k x).lookup in
+pub held_applied : (l : Lookup) (here next : Budgeted) (run : Digest) → next ≡ lookup_applied here l → HoldsGlyphs run here.buffer.items
+    → HoldsGlyphs run next.buffer.items
+held_applied l here next run is held =
     subst (λ (s : Budgeted). HoldsGlyphs run s.buffer.items) (sym is)
     (held-same here.buffer (lookup_applied here l).buffer run (keys-applied glyph_of (λ x m. refl) l here) held)

@@ -351,7 +351,7 @@ fn is_spent(count: usize, left: usize) -> bool
 
 /// A digest that holds the glyphs of a list.
 #[tactic(auto, using(crate::proofs::DigestLemmas::one_held))]
-fn run_digest(items: &[hb_glyph_info_t]) -> Digest
+pub fn run_digest(items: &[hb_glyph_info_t]) -> Digest
     ensures { HoldsGlyphs result items.now }
 {
     let mut all = Digest::new();
@@ -361,27 +361,44 @@ fn run_digest(items: &[hb_glyph_info_t]) -> Digest
     all
 }
 
-/// Goes over a buffer with each lookup, and returns what is left; all of them share one bound. A
-/// lookup whose digest shares no glyph with the buffer is passed over.
-#[tactic(auto, using(crate::proofs::DigestLemmas::applied_on, crate::proofs::DigestLemmas::passed_over, crate::proofs::GlyphLemmas::held_applied))]
+/// Goes over a buffer with a lookup, and returns what is left. A lookup whose digest shares no glyph
+/// with that of the buffer is charged for its walk, and passed over. The digest of the buffer serves
+/// the next lookup, too: none changes which glyphs there are.
+#[tactic(auto, using(crate::proofs::DigestLemmas::spent, crate::proofs::DigestLemmas::passed_over, crate::proofs::GlyphLemmas::held_applied))]
+#[inline(never)]
+pub fn apply_within(
+    named: &Digested<'_>,
+    run: &Digest,
+    buffer: &mut hb_buffer_t,
+    left: usize,
+) -> usize
+    requires said { IsDigested named.now }
+    requires run { HoldsGlyphs run.now buffer.old.items }
+    ensures made { record { buffer = buffer.new; left = result }
+        ≡ Walk.lookup_applied (record { buffer = buffer.old; left = left }) named.now.lookup }
+    ensures run { HoldsGlyphs run.now buffer.new.items }
+{
+    let count = buffer.len();
+    if is_spent(count, left) {
+        return left;
+    }
+    if !run.may_share(&named.digest) {
+        return charge_walk(&named.lookup, count, left);
+    }
+    apply_over(named, buffer, left)
+}
+
+/// Goes over a buffer with each lookup, and returns what is left; all of them share one bound.
+#[tactic(auto, using(crate::proofs::DigestLemmas::applied_on))]
 fn apply_each(lookups: &[Digested<'_>], buffer: &mut hb_buffer_t) -> usize
     requires { All IsDigested lookups.now }
     ensures { record { buffer = buffer.new; left = result }
         ≡ fold Walk.lookup_applied (Walk.budgeted buffer.old) (lookups_in lookups.now) }
 {
     let mut left = buffer.max_ops();
-    // No lookup changes which glyphs there are.
     let run = run_digest(buffer.infos());
     for named in lookups {
-        let count = buffer.len();
-        if is_spent(count, left) {
-            continue;
-        }
-        if !run.may_share(&named.digest) {
-            left = charge_walk(&named.lookup, count, left);
-            continue;
-        }
-        left = apply_over(named, buffer, left);
+        left = apply_within(named, &run, buffer, left);
     }
     left
 }

@@ -29,7 +29,7 @@ substitutes-one d said = record {
 pub substitutes : (ds : List Digested) → All (IsSaid false) ds → All substitution.IsDigested ds
 substitutes ds all = λ k x inside. substitutes-one (slice_index_or ds k x) (all k x inside)
 
-positions-one : (d : Digested) → IsSaid true d → positions.IsDigested d
+pub positions-one : (d : Digested) → IsSaid true d → positions.IsDigested d
 positions-one d said = record {
   near = said.near;
   out = λ glyph none. record {
@@ -39,6 +39,3 @@ positions-one d said = record {
   };
   firsts = said.firsts;
 }
-
-pub positioning : (ds : List Digested) → All (IsSaid true) ds → All positions.IsDigested ds
-positioning ds all = λ k x inside. positions-one (slice_index_or ds k x) (all k x inside)

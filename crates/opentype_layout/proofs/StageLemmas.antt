@@ -61,7 +61,7 @@ from_first t acc (m ∷ ms) =
 first_lookup : (t : LookupTables) (m : LookupMap) (ms : List LookupMap) → lookups_of t (m ∷ ms) ≡ after (lookup_of t m) (lookups_of t ms)
 first_lookup t m ms = from_first t (with_lookup t [] m) ms ∙ with_one t m [] (lookups_of t ms)
 
-next_lookup : (t : LookupTables) (maps : List LookupMap) (k : ℕ) (x : LookupMap) → k < length maps
+pub next_lookup : (t : LookupTables) (maps : List LookupMap) (k : ℕ) (x : LookupMap) → k < length maps
     → lookups_of t (drop k maps) ≡ after (lookup_of t (slice_index_or maps k x)) (lookups_of t (drop (k + 1) maps))
 next_lookup t maps k x more =
     ap (lookups_of t) (drop_more maps k x more) ∙ first_lookup t (slice_index_or maps k x) (drop (k + 1) maps)
@@ -89,7 +89,7 @@ pub one_past : (t : LookupTables) (maps : List LookupMap) (k : ℕ) (x : LookupM
 one_past t maps k x b spot more past =
     ap (λ ls. is_past (made_by ls b spot)) (next_lookup t maps k x more) ∙ past (lookups_of t (drop (k + 1) maps))
 
-none_left : {X : Type 0} (xs : List X) (n : ℕ) → length xs ≤ n → drop n xs ≡ []
+pub none_left : {X : Type 0} (xs : List X) (n : ℕ) → length xs ≤ n → drop n xs ≡ []
 none_left [] zero over = refl
 none_left [] (suc n) over = refl
 none_left (x ∷ xs) zero over = absurd (omega (arith, over))

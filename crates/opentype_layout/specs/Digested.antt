@@ -1,6 +1,5 @@
 -- lookups with digests that hold the glyphs that they may begin at, and the face that stores these
-use Rattle.std.specs.Prelude.{◌≡◌, ℕ, Bool, true, false, List, ◌<◌, ◌^◌, map}
-use Rattle.layout_matching.specs.declared.lookup.Lookup.{Lookup}
+use Rattle.std.specs.Prelude.{◌≡◌, ℕ, Bool, true, false, List, ◌<◌, ◌^◌}
 use Rattle.layout_matching.specs.Firsts.{AreFirsts}
 use Rattle.layout_digests.specs.Lookups.{IsDigest}
 use Rattle.layout_digests.specs.Stored.{AreStored}
@@ -16,9 +15,6 @@ pub record IsSaid (positioning : Bool) (d : Digested) : Type 0 where
   pub kind : d.lookup.positioning ≡ positioning
   pub digest : IsDigest d.lookup.table.now positioning d.lookup.place d.digest
   pub firsts : AreFirsts d.lookup d.firsts
-
-abbrev pub lookups_in : List Digested → List Lookup
-lookups_in = map (λ (d : Digested). d.lookup)
 
 -- what is stored of the lookups of a table
 abbrev pub AreStoredOf : List ℕ → Bool → StoredLookups → Type 0

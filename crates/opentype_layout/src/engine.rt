@@ -1,17 +1,19 @@
 //! The engine.
-ghost use Rattle.std.specs.Prelude.{◌≡◌, true, IsOk, MatchResult};
+ghost use Rattle.std.specs.Prelude.{◌≡◌, fold, true, IsOk, MatchResult};
 ghost use Rattle.shape_buffer.specs.Outcome.{IsWithinLimit, Made, Outcome, step};
 ghost use Rattle.layout_digests.specs.Stored.{AreStored};
+ghost use Rattle.layout_positions.specs.Walk.{budgeted, lookup_applied};
 ghost use Rattle.layout_map.specs.Map.{OtMap, map_meaning};
 ghost use Rattle.opentype_layout.specs.declared.face.OpenTypeFace.{OpenTypeFace as Face};
 ghost use Rattle.opentype_layout.specs.Engine;
+ghost use Rattle.opentype_layout.specs.Lookups.{lookups_of};
 ghost use Rattle.opentype_layout.specs.EngineLaws.{opentype_lookups-lawful};
 ghost use Rattle.layout_map.proofs.LawfulLemmas.{map_meaning-lawful};
 
 use crate::chosen::{chosen_for, script_in};
 use crate::classes::{GlyphClasses, begin_glyphs};
 use crate::face::OpenTypeFace;
-use crate::lookups::{LookupTables, Stored, lookups};
+use crate::lookups::{LookupTables, Stored, digested, list_of};
 use crate::stage::substitute_by;
 use crate::would::feature_would;
 use kern_table::tables::{kern_table, subtable_count};
@@ -67,28 +69,46 @@ pub(crate) fn gpos_tables<'a>(face: &OpenTypeFace<'a>) -> LookupTables<'a>
     }
 }
 
-/// Applies the lookups of positioning, with what is stored of the table's.
-#[tactic(auto, using(crate::proofs::DigestLemmas::positioning), unfolding(crate::specs::Engine::positioned_by))]
-pub(crate) fn position_by(
-    alloc: Global,
+/// Goes over a buffer with each lookup of positioning, with what is stored of the table's, and
+/// returns what is left. Each is made ready where it is its turn.
+#[tactic(auto, using(crate::proofs::PositionLemmas::placed_on, crate::proofs::PositionLemmas::placed_over))]
+fn apply_each(
     tables: LookupTables<'_>,
     stored: Stored<'_>,
     maps: &[LookupMap],
     buffer: &mut hb_buffer_t,
-) -> Result<(), ShapeError>
-    requires within { IsWithinLimit buffer.old }
+) -> usize
     requires kind { tables.positioning ≡ true }
     requires stored { AreStored tables.table.now true stored.firsts.now stored.lookups.now }
-    ensures { Outcome (step (Engine.positioned_by tables.entry maps.now)) buffer.old buffer.new
-        result }
+    ensures { record { buffer = buffer.new; left = result }
+        ≡ fold lookup_applied (budgeted buffer.old) (lookups_of tables.entry maps.now) }
 {
-    match lookups(alloc, tables, stored, maps) {
-        Ok(lookups) => {
-            walk::position(lookups.as_slice(), buffer);
-            Ok(())
+    let list = list_of(tables.table);
+    let run = walk::run_digest(buffer.infos());
+    let mut left = buffer.max_ops();
+    for map in maps {
+        match digested(tables, list, stored, map) {
+            Some(named) => left = walk::apply_within(&named, &run, buffer, left),
+            None => continue,
         }
-        Err(_) => Err(ShapeError::Memory),
     }
+    left
+}
+
+/// Applies the lookups of positioning, with what is stored of the table's.
+#[tactic(auto, unfolding(crate::specs::Engine::positioned_by))]
+pub(crate) fn position_by(
+    tables: LookupTables<'_>,
+    stored: Stored<'_>,
+    maps: &[LookupMap],
+    buffer: &mut hb_buffer_t,
+)
+    requires kind { tables.positioning ≡ true }
+    requires stored { AreStored tables.table.now true stored.firsts.now stored.lookups.now }
+    ensures { Made (Engine.positioned_by tables.entry maps.now) buffer.old buffer.new }
+{
+    let left = apply_each(tables, stored, maps, buffer);
+    buffer.set_max_ops(left);
 }
 
 /// Compiles the requests of a plan for the scripts that it has chosen. Refuses with `Memory` alone,
@@ -255,21 +275,17 @@ impl<'a> hb_ot_layout_t<OpenTypeFace<'a>> for OpenTypeLayout {
     }
 
     fn position(
-        alloc: Global,
+        _alloc: Global,
         map: &hb_ot_map_t,
         face: &OpenTypeFace<'a>,
         buffer: &mut hb_buffer_t,
     ) -> Result<(), ShapeError> {
-        position_by(
-            alloc,
-            gpos_tables(face),
-            Stored {
-                lookups: &[],
-                firsts: &[],
-            },
-            map.gpos_lookups(),
-            buffer,
-        )
+        let none = Stored {
+            lookups: &[],
+            firsts: &[],
+        };
+        position_by(gpos_tables(face), none, map.gpos_lookups(), buffer);
+        Ok(())
     }
 
     fn position_finish_advances(_face: &OpenTypeFace<'a>, _buffer: &mut hb_buffer_t) {}

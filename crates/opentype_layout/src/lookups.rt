@@ -1,10 +1,10 @@
 //! The lookups of a plan, ready to be applied.
-ghost use Rattle.std.specs.Prelude.{◌≡◌, ◌<◌, ◌^◌, All, IfOk, OnOk, IsOkUnless};
+ghost use Rattle.std.specs.Prelude.{◌≡◌, ◌<◌, ◌^◌};
 ghost use Rattle.std.specs.Option.{IfSome, option_map};
 ghost use Rattle.layout_digests.specs.Stored.{AreStored, IsHead, IsStoredAt};
 ghost use Rattle.layout_digests.specs.declared.stored.Head.{Head as HeadOf};
 ghost use Rattle.layout_digests.specs.declared.digested.Digested.{Digested as DigestedLookup};
-ghost use Rattle.opentype_layout.specs.Digested.{IsSaid, lookups_in};
+ghost use Rattle.opentype_layout.specs.Digested.{IsSaid};
 ghost use Rattle.layout_tables.specs.Lookups.{lookup_of};
 ghost use Rattle.opentype_layout.specs.Lookups;
 
@@ -15,8 +15,6 @@ use layout_matching::firsts::{First, Firsts};
 use layout_matching::lookup::Lookup;
 use layout_tables::lookups::lookup_count;
 use layout_tables::offsets::{header_offset, offset16};
-use shape_buffer::ShapeError;
-use std::alloc::Global;
 
 /// The tables that lookups read: `GSUB`, or `GPOS` if `positioning`, and `GDEF`; and the
 /// coordinates of the font, with what devices of `GPOS` may cost there.
@@ -175,52 +173,4 @@ pub(crate) fn digested<'a>(
             count: known.count,
         },
     })
-}
-
-/// Appends a lookup with the use that a plan makes of it, if the table has it. Refuses with
-/// `Memory` if a growth was refused.
-fn append<'a>(
-    lookups: &mut Vec<Digested<'a>>,
-    tables: LookupTables<'a>,
-    list: LookupList,
-    stored: Stored<'a>,
-    map: &LookupMap,
-) -> Result<(), ShapeError>
-    requires list { Lookups.IsListOf tables.table.now list }
-    requires near { IfSome list.place (λ list. list < 2 ^ 16) }
-    requires stored { AreStored tables.table.now tables.positioning stored.firsts.now
-        stored.lookups.now }
-    requires said { All (IsSaid tables.positioning) lookups.old.items }
-    ensures ok { OnOk result (lookups_in lookups.new.items
-        ≡ Lookups.with_lookup tables.entry (lookups_in lookups.old.items) map.now) }
-    ensures said { OnOk result (All (IsSaid tables.entry.positioning) lookups.new.items) }
-    ensures memory { IsOkUnless result ShapeError.Memory }
-{
-    if let Some(lookup) = digested(tables, list, stored, map) {
-        lookups.push(lookup)?;
-    }
-    Ok(())
-}
-
-/// The lookups of a stage, each with a digest of the glyphs that it may begin at. Refuses with
-/// `Memory` if a growth was refused.
-pub fn lookups<'a>(
-    alloc: Global,
-    tables: LookupTables<'a>,
-    stored: Stored<'a>,
-    maps: &[LookupMap],
-) -> Result<Vec<Digested<'a>>, ShapeError>
-    requires { AreStored tables.table.now tables.positioning stored.firsts.now
-        stored.lookups.now }
-    ensures ok { IfOk result (λ lookups. lookups_in lookups.items
-        ≡ Lookups.lookups_of tables.entry maps.now) }
-    ensures said { IfOk result (λ lookups. All (IsSaid tables.entry.positioning) lookups.items) }
-    ensures memory { IsOkUnless result ShapeError.Memory }
-{
-    let mut lookups = Vec::with_capacity(alloc, maps.len())?;
-    let list = list_of(tables.table);
-    for map in maps {
-        append(&mut lookups, tables, list, stored, map)?;
-    }
-    Ok(lookups)
 }

@@ -168,18 +168,14 @@ impl<'a> hb_ot_layout_t<OpenedOpenTypeFace<'a>> for OpenTypeLayout {
     }
 
     fn position(
-        alloc: Global,
+        _alloc: Global,
         map: &hb_ot_map_t,
         face: &OpenedOpenTypeFace<'a>,
         buffer: &mut hb_buffer_t,
     ) -> Result<(), ShapeError> {
-        position_by(
-            alloc,
-            gpos_tables(face.face()),
-            face.stored_gpos(),
-            map.gpos_lookups(),
-            buffer,
-        )
+        let tables = gpos_tables(face.face());
+        position_by(tables, face.stored_gpos(), map.gpos_lookups(), buffer);
+        Ok(())
     }
 
     fn position_finish_advances(_face: &OpenedOpenTypeFace<'a>, _buffer: &mut hb_buffer_t) {}

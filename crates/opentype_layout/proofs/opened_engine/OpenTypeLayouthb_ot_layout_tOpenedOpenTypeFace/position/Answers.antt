@@ -6,6 +6,6 @@ use Rattle.opentype_layout.proofs.opened_engine.OpenTypeLayouthb_ot_layout_tOpen
 
 pub position_by-requires-clause-stored : goal.position_by-requires-clause-stored
 position_by-requires-clause-stored c =
-    let same : c.gpos_tables.result.table.now ≡ c.args.face.now.gpos.now =
-    ap (λ (t : LookupTables). t.table.now) c.gpos_tables.ensures ∙ ap (λ (f : OpenTypeFace). f.gpos.now) c.face.ensures in
+    let same : c.gpos_tables-tables.result.table.now ≡ c.args.face.now.gpos.now =
+    ap (λ (t : LookupTables). t.table.now) c.gpos_tables-tables.ensures ∙ ap (λ (f : OpenTypeFace). f.gpos.now) c.face.ensures in
     subst (λ t. AreStored t true c.stored_gpos.result.firsts.now c.stored_gpos.result.lookups.now) (sym same) c.stored_gpos.ensures
