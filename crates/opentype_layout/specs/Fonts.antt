@@ -1,7 +1,9 @@
 -- What the bytes of a font file are as a face.
 use Rattle.std.specs.Prelude.{◌≡◌, ℕ, List, [], nat_lt}
+use Rattle.std.specs.Option.{option_map}
 use Rattle.opentype_layout.specs.declared.face.OpenTypeFace.{OpenTypeFace}
 use Rattle.shape_font.specs.Bytes.{u16_of}
+use Rattle.shape_font.specs.Cff.{chosen_layout, chosen_table}
 use Rattle.shape_font.specs.Directory.{bytes_of, has_table}
 use Rattle.shape_font.specs.FontPages.{font_page_of}
 use Rattle.shape_font.specs.Metrics.{long_metrics}
@@ -41,8 +43,15 @@ pub record IsFontOf (bytes : List ℕ) (index : ℕ) (font : FontFace) : Type 0 
   pub gdef : font.gdef.now ≡ bytes_of bytes index 0x47444546
   pub gsub : font.gsub.now ≡ bytes_of bytes index 0x47535542
   pub gpos : font.gpos.now ≡ bytes_of bytes index 0x47504F53
+  pub cff_layout : option_map (λ cff. cff.layout) font.cff ≡ chosen_layout bytes index (u16_of (bytes_of bytes index 0x6D617870) 4)
+  pub cff_table : option_map (λ cff. cff.table.now) font.cff ≡ chosen_table bytes index (u16_of (bytes_of bytes index 0x6D617870) 4)
+  pub sbix : font.bitmaps.sbix.now ≡ bytes_of bytes index 0x73626978
+  pub cblc : font.bitmaps.cblc.now ≡ bytes_of bytes index 0x43424C43
+  pub cbdt : font.bitmaps.cbdt.now ≡ bytes_of bytes index 0x43424454
   pub hvar : font.hvar.now ≡ bytes_of bytes index 0x48564152
   pub vvar : font.vvar.now ≡ bytes_of bytes index 0x56564152
+  pub gvar : font.gvar.now ≡ bytes_of bytes index 0x67766172
+  pub mvar : font.mvar.now ≡ bytes_of bytes index 0x4D564152
   pub coordinates : font.coordinates.now ≡ []
 
 -- a face is that of a font with its three tables of layout, at the default instance
