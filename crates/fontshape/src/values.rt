@@ -9,8 +9,9 @@ use crate::unicodes::text_of_numbers;
 use clap::ArgMatches;
 use font_variations::coordinates::Variation;
 use shape_pipeline::{BufferClusterLevel, BufferFlags, Direction, Feature, GlyphId, Script};
-use shape_text_forms::feature::tag_value;
-use shape_text_forms::{direction_from_string, feature_from_string, script_from_string};
+use shape_text_forms::{
+    direction_from_string, feature_from_string, script_from_string, variation_from_string,
+};
 use std::alloc::{AllocError, Global};
 
 /// Options that ask something of a run.
@@ -157,20 +158,6 @@ pub fn features(alloc: Global, matches: &ArgMatches) -> Result<Vec<Feature>, Fai
     Ok(features)
 }
 
-/// A value for an axis, as `wght=700`: a tag of one to four bytes, and a number.
-fn wish_from_string(text: &str) -> Option<Variation> {
-    let (name, number) = text.split_once('=')?;
-    if name.is_empty() || 4 < name.len() {
-        return None;
-    }
-    let value: f32 = fast_float::parse(number.as_bytes()).ok()?;
-    if !value.is_finite() {
-        return None;
-    }
-    let tag = tag_value(name.as_bytes()).0;
-    Some(Variation { tag, value })
-}
-
 /// The values for axes of a list, with commas or spaces between them; nothing stands between two.
 pub fn wishes(alloc: Global, matches: &ArgMatches) -> Result<Vec<Variation>, Failure> {
     let mut wishes = Vec::new(alloc);
@@ -179,7 +166,7 @@ pub fn wishes(alloc: Global, matches: &ArgMatches) -> Result<Vec<Variation>, Fai
         if text.is_empty() {
             continue;
         }
-        match wish_from_string(text) {
+        match variation_from_string(text) {
             Some(wish) => {
                 if wishes.push(wish).is_err() {
                     return Err(Failure::Memory);

@@ -1,5 +1,6 @@
 pub mod Scan
 pub mod Feature
+pub mod Variation
 pub mod Names
 pub mod Serialize
 pub mod Worked

@@ -1,4 +1,5 @@
 pub mod Features
+pub mod Variations
 pub mod Texts
 pub mod Json
 pub mod Starts

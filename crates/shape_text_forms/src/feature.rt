@@ -84,7 +84,7 @@ fn quoted_tag(quote: u8, text: &[u8]) -> Option<(hb_tag_t, &[u8])>
 }
 
 /// A tag, between quotes or plain, and the text after it.
-fn tag(text: &[u8]) -> Option<(hb_tag_t, &[u8])>
+pub(crate) fn tag(text: &[u8]) -> Option<(hb_tag_t, &[u8])>
     ensures { option_map (λ r. (r.0.0, r.1.now)) result ≡ tag_of text.now }
 {
     let front = skip_spaces(text);
