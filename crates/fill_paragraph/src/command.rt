@@ -13,7 +13,7 @@ reaches above and below its baseline; then its runs from left to right, each wit
 number of its font, its level, where it begins, and its glyphs as hb-shape writes them. A picture has at most
 16 megabytes: glyphs that would follow are left out.
 
-Of a collection the first font is taken, of a variable font its default.
+Of a collection the first font is taken.
 
 Status 1: a file can't be read or written, or is no font, or memory ran out. Status 2: the arguments.
 Status 3: the text was refused.";
@@ -34,7 +34,7 @@ enum Takes {
 #[derive(Clone, Copy)]
 struct Choice(&'static str, Option<&'static str>, Takes, &'static str);
 
-static CHOICES: [Choice; 10] = [
+static CHOICES: [Choice; 11] = [
     Choice("text", None, Takes::Word("TEXT"), "The text"),
     Choice(
         "text-file",
@@ -71,6 +71,12 @@ static CHOICES: [Choice; 10] = [
         None,
         Takes::Word("LIST"),
         "Features such as kern=0,-liga,aalt[3:5]=2, for bytes of the text",
+    ),
+    Choice(
+        "variations",
+        None,
+        Takes::Word("LIST"),
+        "Values for axes of the fonts that have them, such as wght=700,wdth=80",
     ),
     Choice(
         "carets",

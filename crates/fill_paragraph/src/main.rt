@@ -20,6 +20,8 @@ use crate::picture::picture;
 use crate::written::written;
 use opentype_layout::{OpenTypeFace, OpenedOpenTypeFace};
 use paragraph::{TextLine, paragraph};
+use shape_font::FontFace;
+use shape_font::instance::coordinates_of;
 use std::alloc::Global;
 use std::env::{Env, FillError};
 use std::io::{Read, Write};
@@ -31,15 +33,24 @@ const INPUT: &str = "standard input";
 
 const OUTPUT: &str = "standard output";
 
-/// The bytes of the font files.
-fn read_fonts(rt: &HostRuntime, options: &Options) -> Result<Vec<Vec<u8>>, Failure> {
+/// A font file: its bytes, and the coordinates that are asked for, as its tables normalize them.
+#[derive(Drop)]
+struct FontFile {
+    bytes: Vec<u8>,
+    coordinates: Vec<i32>,
+}
+
+/// The font files.
+fn read_fonts(rt: &HostRuntime, options: &Options) -> Result<Vec<FontFile>, Failure> {
     let alloc = rt.alloc();
     let mut files = Vec::new(alloc);
     for name in options.fonts() {
-        match fs::read(rt, name.as_str()) {
-            Ok(bytes) => files.push(bytes)?,
+        let bytes = match fs::read(rt, name.as_str()) {
+            Ok(bytes) => bytes,
             Err(error) => return Err(Failure::io(alloc, name.as_str(), error)),
-        }
+        };
+        let coordinates = coordinates_of(alloc, &bytes, 0, &options.wanted())?;
+        files.push(FontFile { bytes, coordinates })?;
     }
     Ok(files)
 }
@@ -48,14 +59,15 @@ fn read_fonts(rt: &HostRuntime, options: &Options) -> Result<Vec<Vec<u8>>, Failu
 fn opened<'a>(
     alloc: Global,
     options: &Options,
-    files: &'a [Vec<u8>],
+    files: &'a [FontFile],
 ) -> Result<Vec<OpenedOpenTypeFace<'a>>, Failure> {
     let mut fonts = Vec::new(alloc);
-    for (name, bytes) in options.fonts().iter().zip(files) {
-        match OpenTypeFace::from_slice(bytes, 0) {
-            Some(face) => fonts.push(OpenedOpenTypeFace::new(alloc, face)?)?,
-            None => return Err(Failure::no_font(alloc, name.as_str(), bytes)),
-        }
+    for (name, file) in options.fonts().iter().zip(files) {
+        let Some(font) = FontFace::from_slice(&file.bytes, 0) else {
+            return Err(Failure::no_font(alloc, name.as_str(), &file.bytes));
+        };
+        let face = OpenTypeFace::new(font.at(file.coordinates.as_slice()));
+        fonts.push(OpenedOpenTypeFace::new(alloc, face)?)?;
     }
     Ok(fonts)
 }
@@ -96,7 +108,7 @@ fn text_of(rt: &HostRuntime, options: &Options) -> Result<String, Failure> {
 fn shown(
     alloc: Global,
     options: &Options,
-    files: &[Vec<u8>],
+    files: &[FontFile],
     fonts: &[OpenedOpenTypeFace<'_>],
     text: &str,
     lines: &[TextLine],

@@ -1,9 +1,10 @@
 //! What the arguments ask for.
 use crate::failure::Failure;
 use clap::ArgMatches;
+use font_variations::coordinates::{Variation, Wanted};
 use paragraph::{Direction, ParagraphOptions};
 use shape_buffer::buffer::Feature;
-use shape_text_forms::feature_from_string;
+use shape_text_forms::{feature_from_string, variation_from_string};
 use std::alloc::{AllocError, Global};
 
 /// What the arguments ask for.
@@ -17,6 +18,7 @@ pub struct Options {
     size: Option<u32>,
     language: Option<String>,
     features: Vec<Feature>,
+    variations: Vec<Variation>,
     svg: bool,
     carets: bool,
     output: Option<String>,
@@ -69,6 +71,27 @@ fn features(alloc: Global, matches: &ArgMatches) -> Result<Vec<Feature>, Failure
     Ok(features)
 }
 
+/// The values for axes of a list, with commas or spaces between them.
+fn variations(alloc: Global, matches: &ArgMatches) -> Result<Vec<Variation>, Failure> {
+    let mut variations = Vec::new(alloc);
+    let list = matches.get_str("variations").unwrap_or("");
+    for text in list.split([',', ' ']) {
+        if text.is_empty() {
+            continue;
+        }
+        match variation_from_string(text) {
+            Some(variation) => variations.push(variation)?,
+            None => return Err(Failure::value(
+                alloc,
+                "variations",
+                text,
+                "values for axes such as wght=700,wdth=80",
+            )),
+        }
+    }
+    Ok(variations)
+}
+
 /// A word that may be there.
 fn word_of(word: &Option<String>) -> Option<&str> {
     match word {
@@ -89,6 +112,7 @@ impl Options {
             size: matches.get_one::<u32>("size"),
             language: word(alloc, matches, "language")?,
             features: features(alloc, matches)?,
+            variations: variations(alloc, matches)?,
             svg: matches.get_flag("svg"),
             carets: matches.get_flag("carets"),
             output: word(alloc, matches, "output-file")?,
@@ -118,6 +142,14 @@ impl Options {
     /// How many units the em square of each font has, none for as many as that of the first.
     pub fn size(&self) -> Option<u32> {
         self.size
+    }
+
+    /// What is asked for along the axes of each font that has them.
+    pub fn wanted(&self) -> Wanted<'_> {
+        Wanted {
+            instance: None,
+            wishes: self.variations.as_slice(),
+        }
     }
 
     /// Whether the lines are drawn.

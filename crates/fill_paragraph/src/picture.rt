@@ -4,6 +4,7 @@
 //! [`page`](crate::page) says where the lines stand. Numbers are written in tenths of a unit, y
 //! downwards. A picture is made of at most [`MOST_POINTS`] points and those of one glyph, and has
 //! at most [`MOST_BYTES`] bytes and those of one glyph: glyphs that would follow are left out.
+use crate::FontFile;
 use crate::failure::Failure;
 use crate::options::Options;
 use crate::page::{Page, Pen};
@@ -79,14 +80,18 @@ fn need_outlines(
 /// The fonts of a list for an em square of this size.
 fn drawn_fonts<'a>(
     alloc: Global,
-    files: &'a [Vec<u8>],
+    files: &'a [FontFile],
     fonts: &[OpenedOpenTypeFace<'_>],
     size: u32,
 ) -> Result<Vec<DrawnFont<'a>>, AllocError> {
     let mut drawn = Vec::new(alloc);
-    for (bytes, font) in files.iter().zip(fonts) {
+    for (file, font) in files.iter().zip(fonts) {
+        let outlines = match Outlines::from_slice(&file.bytes, 0) {
+            Some(outlines) => Some(outlines.at(file.coordinates.as_slice())),
+            None => None,
+        };
         drawn.push(DrawnFont {
-            outlines: Outlines::from_slice(bytes, 0),
+            outlines,
             scale: f64::from(size) / f64::from(font.units_per_em()),
         })?;
     }
@@ -245,7 +250,7 @@ impl Canvas {
 pub fn picture(
     alloc: Global,
     options: &Options,
-    files: &[Vec<u8>],
+    files: &[FontFile],
     fonts: &[OpenedOpenTypeFace<'_>],
     lines: &[TextLine],
 ) -> Result<String, Failure> {
