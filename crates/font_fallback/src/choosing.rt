@@ -5,8 +5,8 @@ ghost use Rattle.font_fallback.specs.Choice.{AreTries, has_by, HasFonts, found_i
 
 use crate::spans::{Span, spans};
 use std::alloc::{AllocError, AllocFailed, Global};
-use std::fmt;
-use std::fmt::{Display, Formatter};
+use std::fmt::Display;
+use thiserror::Error;
 
 /// A font as it was tried on a text.
 #[derive(Drop)]
@@ -28,13 +28,17 @@ pub struct Chosen<T> {
 }
 
 /// Why no fonts are chosen.
-#[derive(Drop, Debug)]
+#[derive(Drop, Debug, Error)]
+#[error_bound(E: Display)]
 pub enum FallbackError<E> {
     /// The list has no fonts.
+    #[error("the list of fonts is empty")]
     NoFonts,
     /// A growth of memory was refused.
+    #[error("out of memory")]
     Memory,
     /// A font couldn't be tried, for this reason.
+    #[error("{0}")]
     Refused(E),
 }
 
@@ -57,16 +61,6 @@ impl<T: Drop, E> From<AllocFailed<T>> for FallbackError<E> {
 
     fn from(_error: AllocFailed<T>) -> FallbackError<E> {
         FallbackError::Memory
-    }
-}
-
-impl<E: Display> Display for FallbackError<E> {
-    fn fmt<W: fmt::Write>(&self, f: &mut Formatter<W>) -> fmt::Result {
-        match self {
-            FallbackError::NoFonts => write!(f, "the list of fonts is empty"),
-            FallbackError::Memory => write!(f, "out of memory"),
-            FallbackError::Refused(error) => write!(f, "{error}"),
-        }
     }
 }
 

@@ -5,9 +5,7 @@ use bidi::Direction;
 use font_fallback::FallbackError;
 use shape_buffer::buffer::{Feature, ShapeError};
 use std::alloc::{AllocError, AllocFailed};
-use std::error::Error;
-use std::fmt;
-use std::fmt::{Display, Formatter};
+use thiserror::Error;
 
 /// How a paragraph is laid out. By default its lines end where they must alone, its direction is
 /// that of its first strong character, and a unit is one of the first font.
@@ -43,36 +41,25 @@ impl ParagraphOptions<'_> {
 }
 
 /// Why a text is not laid out.
-#[derive(Clone, Copy, PartialEq, Eq, Debug)]
+#[derive(Clone, Copy, PartialEq, Eq, Debug, Error)]
 pub enum ParagraphError {
     /// The list of fonts is empty.
+    #[error("the list of fonts is empty")]
     NoFonts,
     /// The text has 2^32 bytes and more, or a part of it makes more glyphs than a run may.
+    #[error("the text is too long, or its glyphs would be too many")]
     Length,
     /// A growth of memory was refused.
+    #[error("out of memory")]
     Memory,
     /// In this size a number of a font, or of its glyphs, has more than 32 bits.
+    #[error("the size is too large for the fonts")]
     Size,
     /// A font's lookups left glyphs out of the order of the text, so that they can't be cut into
     /// lines.
+    #[error("glyphs are out of the order of the text")]
     Uncut,
 }
-
-impl Display for ParagraphError {
-    fn fmt<W: fmt::Write>(&self, f: &mut Formatter<W>) -> fmt::Result {
-        match self {
-            ParagraphError::NoFonts => write!(f, "the list of fonts is empty"),
-            ParagraphError::Length => {
-                write!(f, "the text is too long, or its glyphs would be too many")
-            }
-            ParagraphError::Memory => write!(f, "out of memory"),
-            ParagraphError::Size => write!(f, "the size is too large for the fonts"),
-            ParagraphError::Uncut => write!(f, "glyphs are out of the order of the text"),
-        }
-    }
-}
-
-impl Error for ParagraphError {}
 
 impl From<AllocError> for ParagraphError {
     fn from(_error: AllocError) -> ParagraphError {
