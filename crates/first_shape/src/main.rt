@@ -2,9 +2,7 @@
 //! its advance.
 #![tactic(auto)]
 
-use font_shaping::shape_with_bytes;
-use shape_pipeline::GlyphBuffer;
-use shape_unicode::UnicodeDatabase;
+use font_shaping::{GlyphBuffer, UnicodeDatabase, shape_with_bytes};
 use std::process::ExitCode;
 use std::{fs, io};
 

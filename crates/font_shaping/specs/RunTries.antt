@@ -1,4 +1,5 @@
--- What the steps of a run over a font try, one after the other.
+-- What the steps of a run over a font try, one after the other: subtables, rules and ligatures of `GSUB` and `GPOS`. `kern` draws on the
+-- same count, part by part, and tries none of these.
 use Prim.Native.Nat.{zero}
 use Rattle.std.specs.Prelude.{◌≡◌, ◌+◌, ◌≤◌, ℕ, suc, List, [], ◌∷◌, ◌++◌, ◌&&◌, Some, length, map, if◌then◌else◌}
 use Rattle.shape_items.specs.Buffer.{Buffer, run_ops}

@@ -1,14 +1,18 @@
--- What the lookups of a run try, by hand: each stage before its pause, and positioning after what comes before it.
-use Rattle.std.specs.Prelude.{◌≡◌, ◌+◌, [], ◌∷◌, true, false}
+-- What the lookups of a run try, by hand: each stage before its pause, and positioning after what comes before it. And which text and
+-- which face a clause speaks of.
+use Rattle.std.specs.Prelude.{◌≡◌, ◌+◌, ℕ, List, [], ◌∷◌, length, true, false}
 use Rattle.shape_items.specs.Buffer.{Buffer}
 use Rattle.shape_buffer.specs.Outcome.{step}
+use Rattle.shape_font.specs.Directory.{bytes_of}
 use Rattle.shape_glyphs.specs.Substitution.{paused}
 use Rattle.shape_glyphs.specs.Zeroing.{zeroed_early}
+use Rattle.shape_pipeline.specs.Strings.{string_text}
 use Rattle.shape_plan.specs.Run.{Run}
 use Rattle.layout_map.specs.Map.{OtMap}
 use Rattle.opentype_layout.specs.Tries.{stage_call, position_call, made_by, tries_by}
 use Rattle.opentype_layout.specs.declared.face.OpenTypeFace.{OpenTypeFace}
 use Rattle.font_shaping.specs.RunTries.{IsWithin, calls_of, stage_calls, lookup_calls, place_calls, position_calls}
+use Rattle.font_shaping.specs.Strings.{WithTextOf, WithFaceOf}
 
 pub record WorkedTries (m : OtMap) (f : OpenTypeFace) (run : Run) (b : Buffer) : Type 0 where
   pub no_steps : made_by (calls_of []) b ≡ b
@@ -29,3 +33,17 @@ pub record WorkedTries (m : OtMap) (f : OpenTypeFace) (run : Run) (b : Buffer) :
   pub all_tried : IsWithin 2662400 0 65
   pub some_left : IsWithin 62400 2600000 65
   pub one_too_many : IsWithin 62401 2600000 65 → ⊥
+
+pub record WorkedStrings : Type 0 where
+  -- a fact of `WithTextOf` is one of the string's own text, and one of `WithFaceOf` one of the face of these bytes
+  pub of_its_text : (bytes : List ℕ) (n : ℕ) → WithTextOf bytes (λ text. length text.items ≡ n) → length (string_text bytes).items ≡ n
+  pub of_its_face : (bytes : List ℕ) (index : ℕ) (gsub : List ℕ) → WithFaceOf bytes index (λ face. face.gsub.now ≡ gsub)
+      → bytes_of bytes index 0x47535542 ≡ gsub
+  pub at_the_default : (bytes : List ℕ) (index n : ℕ) → WithFaceOf bytes index (λ face. face.device_work ≡ n) → n ≡ 0
+
+pub worked_strings : WorkedStrings
+worked_strings = record {
+  of_its_text = λ bytes n with_text. let is = with_text.1 in let so = with_text.2 in cc;
+  of_its_face = λ bytes index gsub with_face. let is = with_face.1.gsub in let so = with_face.2 in cc;
+  at_the_default = λ bytes index n with_face. let is = with_face.1.device_work in let so = with_face.2 in cc;
+}

@@ -19,7 +19,7 @@ ghost use Rattle.shape_plan.specs.Run.{Run};
 ghost use Rattle.font_shaping.specs.RunTries.{lookup_calls, place_calls, run_calls};
 ghost use Rattle.font_shaping.specs.RunTries.{before_lookups, before_placing};
 ghost use Rattle.font_shaping.specs.RunTries.{HooksNeverRaise, TriesNoMore, TriesWithin};
-ghost use Rattle.font_shaping.specs.Worked.{WorkedTries};
+ghost use Rattle.font_shaping.specs.Worked.{WorkedStrings, WorkedTries};
 ghost use Rattle.shaper_choice.specs.declared.plans.ScriptPlan.{ScriptPlan as AnyPlan};
 ghost use Rattle.shape_plan.specs.declared.ot_shaper.shapers.hb_default_shaper_t.{hb_default_shaper_t as DefaultShaper};
 
@@ -124,4 +124,9 @@ pub fn script_runs_try_no_more_than_they_may<'a, U: hb_unicode_funcs_t>()
 /// What stages and positioning try, in runs of none, one and two stages, and the bound on it.
 pub fn tries_meet_worked_cases()
     ensures { (map : Map) (face : Face) (run : Run) (b : Buffer) → WorkedTries map face run b }
+{}
+
+/// What clauses say of the text of a string, and of the face of a font's bytes, holds of these.
+pub fn strings_meet_worked_cases()
+    ensures { WorkedStrings }
 {}

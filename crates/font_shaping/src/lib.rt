@@ -14,5 +14,17 @@ pub mod laws;
 pub mod shaping;
 pub mod strings;
 
+// What a caller of these names: faces, texts and their settings, plans that are kept.
+pub use opentype_layout::{OpenTypeFace, OpenTypeLayout, OpenedOpenTypeFace};
+pub use shape_pipeline::strings::text_of_str;
+pub use shape_pipeline::{
+    BufferClusterLevel, BufferFlags, Direction, Feature, GlyphBuffer, GlyphId, GlyphInfo,
+    GlyphPosition, Language, Script, ShapeError, ShapeFault, UnicodeBuffer, hb_font_t, hb_tag_t,
+    hb_unicode_funcs_t,
+};
+pub use shape_unicode::UnicodeDatabase;
+pub use shaper_choice::{
+    SCRIPT_SHAPERS, ScriptPlan, plan_by_script, shape_by_script, shape_with_script_plan,
+};
 pub use shaping::shape_with_font;
 pub use strings::{FontError, shape_str, shape_with_bytes};

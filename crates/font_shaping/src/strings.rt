@@ -2,7 +2,7 @@
 ghost use Rattle.std.specs.Prelude.{◌≡◌, ◌≤◌, ◌^◌, ◌⊎◌, ◌↔◌, length, Err, IfOk, IfErr, MatchResult};
 ghost use Rattle.shape_items.specs.Buffer.{new_buffer};
 ghost use Rattle.shape_lines.specs.CanCut.{CanCut};
-ghost use Rattle.opentype_layout.specs.Fonts.{units_of, IsFaceOf};
+ghost use Rattle.opentype_layout.specs.Fonts.{units_of};
 ghost use Rattle.opentype_layout.specs.declared.face.OpenTypeFace.{OpenTypeFace as Face};
 ghost use Rattle.shape_pipeline.specs.GlyphsOf.{AreGlyphsOf, TextPasses};
 ghost use Rattle.shape_pipeline.specs.Strings.{AreGlyphsOfString, string_text};
@@ -18,15 +18,19 @@ use shape_pipeline::{
 };
 use shaper_choice::choice::{ScriptRuns, by_script};
 use std::alloc::Global;
+use thiserror::Error;
 
 /// Why a string was not shaped with the bytes of a font file.
-#[derive(Clone, Copy, PartialEq, Eq, Debug)]
+#[derive(Clone, Copy, PartialEq, Eq, Debug, Error)]
 pub enum FontError {
     /// The bytes have no font with this number, or its em square is empty.
+    #[error("the bytes have no font with this number, or its em square is empty")]
     NoFont,
     /// A step would have left a list past the run's limit, or the string has 2^32 bytes and more.
+    #[error("the text is too long, or its glyphs would be too many")]
     Length,
     /// A growth of memory was refused.
+    #[error("out of memory")]
     Memory,
 }
 
@@ -109,7 +113,7 @@ pub fn shape_with_bytes<U: hb_unicode_funcs_t>(
         (error ≡ FontError.Length) ⊎ (error ≡ FontError.NoFont)) }
     ensures of_string { IfOk result (AreGlyphsOfString U.unicode string.now) }
     ensures cut { IfOk result (λ glyphs. CanCut glyphs (length string.now)) }
-    ensures tries { (face : Face) → IsFaceOf bytes.now index face → TriesNoMore face
+    ensures tries { (face : Face) → TriesNoMore face
         (⟦<by_script as ScriptRuns<U, OpenTypeFace<'static>, OpenTypeLayout>>⟧.text_run
         face features.now (string_text string.now)) }
 {

@@ -10,5 +10,5 @@ returns-in-Err-clause-length g c = λ is.
     ]
 
 pub returns-in-Ok-clause-tries : goal.returns-in-Ok-clause-tries
-returns-in-Ok-clause-tries g c = λ face of_bytes.
+returns-in-Ok-clause-tries g c = λ face.
     c.script_runs_try_no_more_than_they_may.ensures face c.args.features.now (string_text c.args.string.now)
