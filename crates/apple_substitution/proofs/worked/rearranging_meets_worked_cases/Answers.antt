@@ -1,0 +1,8 @@
+use Rattle.apple_substitution.specs.Worked.Rearranging.{worked_verbs, worked_spans}
+use Rattle.apple_substitution.proofs.worked.rearranging_meets_worked_cases.Goals as goal
+
+pub returns-clause-verbs : goal.returns-clause-verbs
+returns-clause-verbs c = worked_verbs
+
+pub returns-clause-spans : goal.returns-clause-spans
+returns-clause-spans c = worked_spans

@@ -1,0 +1,34 @@
+-- Edits of a list at a place; past the end nothing changes.
+use Rattle.std.specs.Prelude.{ℕ, List, [], ◌∷◌, ◌+◌, ◌-◌, ◌&&◌, Bool, length, nat_le, nat_lt, slice_index_or, slice_set, if◌then◌else◌}
+use Rattle.shape_items.specs.Buffer.{Buffer, limit_of}
+use Rattle.shape_items.specs.BufferClusters.{merge_clusters, unsafe_to_break}
+use Rattle.shape_items.specs.Items.{Item, new_item}
+
+-- the item at a place, a new one past the end
+abbrev pub item_at : Buffer → ℕ → Item
+item_at b i = slice_index_or b.items i (new_item 0 0)
+
+-- another item at a place
+abbrev pub put_at : ℕ → Item → Buffer → Buffer
+put_at i item b = if nat_lt i (length b.items) then record b { items = slice_set b.items i item } else b
+
+-- other items from a place on
+abbrev pub written : ℕ → List Item → Buffer → Buffer
+written at [] b = b
+written at (x ∷ xs) b = written (at + 1) xs (put_at at x b)
+
+-- the clusters of a span merged
+abbrev pub merged : ℕ → ℕ → Buffer → Buffer
+merged start end b = if nat_le start end && nat_le end (length b.items) then merge_clusters start end b else b
+
+-- a span marked unsafe to break
+abbrev pub broken : ℕ → ℕ → Buffer → Buffer
+broken start end b = if nat_le start end && nat_le end (length b.items) then unsafe_to_break start end b else b
+
+-- more items than the run may have
+abbrev pub is_past : Buffer → Bool
+is_past b = nat_lt (limit_of b) (length b.items)
+
+-- what lookups may still ask for, less what this cost
+abbrev pub charged : ℕ → Buffer → Buffer
+charged work b = record b { max_ops = b.max_ops - work }

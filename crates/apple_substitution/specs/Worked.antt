@@ -1,0 +1,4 @@
+-- Walks of a driver, ranges, and subtables, computed by hand.
+pub mod Driving
+pub mod Replacing
+pub mod Rearranging

@@ -1,0 +1,20 @@
+//! Substitution by Apple's tables.
+//!
+//! [`driver`] drives an extended state table over a list of glyphs; what its entries do is a kind
+//! of subtable's, a [`Subtable`]: [`rearrangement`] moves glyphs of a span. [`noncontextual`] replaces
+//! each glyph by itself, with the class that [`glyphs`] gives. [`ranges`] says where features have a
+//! subtable on. Any bytes are taken, and a walk ends for each: what it may cost is charged to the
+//! buffer. [`worked`] has the definitions computed by hand.
+#![tactic(auto)]
+#![allow(non_camel_case_types)]
+
+pub mod driver;
+mod edits;
+pub mod glyphs;
+pub mod noncontextual;
+pub mod ranges;
+pub mod rearrangement;
+pub mod worked;
+
+pub use driver::{Machine, Subtable};
+pub use ranges::{FlagRange, Ranges};

@@ -1,0 +1,22 @@
+//! The definitions, computed by hand.
+ghost use Rattle.apple_substitution.specs.Worked.Driving.{WorkedDrives, WorkedBreaks, WorkedCharges};
+ghost use Rattle.apple_substitution.specs.Worked.Replacing.{WorkedReplacing};
+ghost use Rattle.apple_substitution.specs.Worked.Rearranging.{WorkedVerbs, WorkedSpans};
+
+/// Walks of a driver, where they leave a text unsafe to break, and what they cost.
+pub fn drives_meet_worked_cases()
+    ensures drives { WorkedDrives }
+    ensures breaks { WorkedBreaks }
+    ensures charges { WorkedCharges }
+{}
+
+/// Glyphs that noncontextual subtables replace.
+pub fn replacing_meets_worked_cases()
+    ensures { WorkedReplacing }
+{}
+
+/// The verbs of rearrangement, and the spans that entries mark.
+pub fn rearranging_meets_worked_cases()
+    ensures verbs { WorkedVerbs }
+    ensures spans { WorkedSpans }
+{}
