@@ -41,7 +41,7 @@ def parts(plant):
 stands_on = {}
 for line in (here / "crates.txt").read_text().splitlines():
     name, _, rest = line.partition(":")
-    if not name.startswith("#"):
+    if name.strip() and not name.startswith("#"):
         stands_on[name.split()[0]] = rest.split()
 
 def below(crate):
