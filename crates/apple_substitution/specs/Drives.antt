@@ -6,6 +6,7 @@ use Rattle.std.specs.Prelude.{ℕ, suc, Bool, true, false, ◌+◌, ◌-◌, ◌
 use Rattle.shape_items.specs.Buffer.{Buffer, most_countable}
 use Rattle.apple_tables.specs.States.{class_of, entry_of}
 use Rattle.apple_tables.specs.declared.states.Entry.{Entry}
+use Rattle.apple_tables.specs.declared.states.TheConstants.{END_OF_TEXT, START_OF_TEXT}
 use Rattle.apple_substitution.specs.Driver.{Spot, Actions, Rules}
 use Rattle.apple_substitution.specs.Edits.{item_at, broken, charged, is_past}
 use Rattle.apple_substitution.specs.Ranges.{STEP_WORK, is_on, shares, walk_work}
@@ -18,13 +19,6 @@ pub record Drive (T : Type 0) : Type 0 where
   pub buffer : Buffer
   pub memory : T
   pub walk : Walk
-
--- the class of the end of a text, and the state in which one begins
-abbrev pub END_OF_TEXT : ℕ
-END_OF_TEXT = 0
-
-abbrev pub START_OF_TEXT : ℕ
-START_OF_TEXT = 0
 
 -- ---- the entry of a glyph
 

@@ -2,18 +2,21 @@
 //!
 //! At each glyph the state and the class of the glyph lead to an entry, which says what is done
 //! there, which state is next, and whether the next glyph is looked at then or the same one again.
-//! What is done is the kind of subtable's, a [`Subtable`].
+//! What is done is the kind of subtable's, a [`Subtable`]. [`breaking`](crate::breaking) says where a
+//! text may be broken.
 ghost use Rattle.std.specs.Prelude.{◌≡◌, ◌<◌, ◌≤◌, ◌^◌, true, length, false, OnOk, IfOk, IsErrOf};
 ghost use Rattle.apple_substitution.specs.Drives;
 ghost use Rattle.apple_substitution.specs.Edits;
 ghost use Rattle.apple_substitution.specs.Edits.{is_past};
+ghost use Rattle.apple_substitution.specs.Ranges.{STEP_WORK};
 ghost use Rattle.std.specs.Prelude.{if◌then◌else◌};
 ghost use Rattle.shape_buffer.specs.declared.buffer.error.ShapeError.TheVariants.{Length};
 
+use crate::breaking::mark;
 use crate::edits;
-use crate::edits::{break_span, charge, item, next_place};
+use crate::edits::{charge, item, next_place};
 use crate::ranges::{Ranges, STEP_WORK, walk_work};
-use apple_tables::states::{END_OF_TEXT, START_OF_TEXT};
+use apple_tables::states::END_OF_TEXT;
 use apple_tables::{Entry, StateTable};
 use layout_buffer::GapBuffer;
 use shape_buffer::ShapeError;
@@ -117,95 +120,10 @@ fn met_at(machine: &Machine<'_>, walk: Walk, buffer: &GapBuffer) -> Met
 }
 
 /// Whether an entry has the same glyph looked at again.
-fn stays(entry: &Entry) -> bool
+pub(crate) fn stays(entry: &Entry) -> bool
     ensures { result ≡ Drives.stays entry.now }
 {
     entry.flags & 0x4000 != 0
-}
-
-/// Whether two entries lead to the same state and to the same glyph.
-fn leads_alike(one: &Entry, other: &Entry) -> bool
-    ensures { result ≡ Drives.leads_alike one.now other.now }
-{
-    if one.next != other.next {
-        return false;
-    }
-    if stays(one) {
-        stays(other)
-    } else {
-        !stays(other)
-    }
-}
-
-/// Whether a text that begins with the glyph does nothing there, and leads to the same.
-fn is_as_first<S: Subtable>(
-    machine: &Machine<'_>,
-    subtable: &S,
-    memory: &S::Memory,
-    met: &Met,
-) -> bool
-    requires start { machine.now.states.start < 2 ^ 35 }
-    requires size { machine.now.states.entry_size ≤ 8 }
-    ensures { result ≡ Drives.is_as_first (Drives.rules_of machine.now) (S.actions subtable.now) memory.now met.now }
-{
-    let first = machine.states.entry(START_OF_TEXT, met.class);
-    !subtable.is_actionable(met.ends, memory, &first) && leads_alike(&met.entry, &first)
-}
-
-/// Whether the text before a glyph doesn't count.
-fn is_apart<S: Subtable>(machine: &Machine<'_>, subtable: &S, memory: &S::Memory, met: &Met) -> bool
-    requires start { machine.now.states.start < 2 ^ 35 }
-    requires size { machine.now.states.entry_size ≤ 8 }
-    ensures { result ≡ Drives.is_apart (Drives.rules_of machine.now) (S.actions subtable.now) memory.now met.now }
-{
-    u32::from(met.state) == START_OF_TEXT
-        || stays(&met.entry) && met.entry.next == START_OF_TEXT
-        || is_as_first(machine, subtable, memory, met)
-}
-
-/// Whether a break before the glyph changes nothing: nothing is done at the glyph, the text before
-/// it doesn't count, and nothing would be done at the end of a text there. See
-/// <https://github.com/harfbuzz/harfbuzz/issues/2860>.
-fn is_safe_to_break<S: Subtable>(
-    machine: &Machine<'_>,
-    subtable: &S,
-    memory: &S::Memory,
-    met: &Met,
-) -> bool
-    requires start { machine.now.states.start < 2 ^ 35 }
-    requires size { machine.now.states.entry_size ≤ 8 }
-    requires near { met.now.entry.at < 2 ^ 37 }
-    ensures { result
-        ≡ Drives.is_safe_to_break (Drives.rules_of machine.now) (S.actions subtable.now) memory.now met.now }
-{
-    if subtable.is_actionable(met.ends, memory, &met.entry) {
-        return false;
-    }
-    let last = machine.states.entry(u32::from(met.state), END_OF_TEXT);
-    is_apart(machine, subtable, memory, met) && !subtable.is_actionable(met.ends, memory, &last)
-}
-
-/// Marks a glyph and the one before it unsafe to break, if a break between them changes something.
-fn mark<S: Subtable>(
-    machine: &Machine<'_>,
-    subtable: &S,
-    memory: &S::Memory,
-    at: usize,
-    met: &Met,
-    buffer: &mut GapBuffer,
-)
-    requires start { machine.now.states.start < 2 ^ 35 }
-    requires size { machine.now.states.entry_size ≤ 8 }
-    requires near { met.now.entry.at < 2 ^ 37 }
-    requires inside { met.now.ends ≡ false → at < length buffer.old.items }
-    ensures { buffer.new
-        ≡ Drives.marked (Drives.rules_of machine.now) (S.actions subtable.now) memory.now at met.now buffer.old }
-{
-    if at == 0 || met.ends || is_safe_to_break(machine, subtable, memory, met) {
-        return;
-    }
-    let count = buffer.len();
-    break_span(buffer, at - 1, next_place(count, at));
 }
 
 /// Whether the same glyph is looked at again: if an entry says so, and if what is left suffices for
@@ -220,7 +138,7 @@ fn looks_again(entry: &Entry, walk: Walk, buffer: &GapBuffer) -> bool
 fn advance(entry: &Entry, buffer: &mut GapBuffer, walk: Walk) -> Walk
     ensures walk { result ≡ Drives.advanced_walk entry.now walk buffer.old }
     ensures charged { buffer.new ≡ (if Drives.looks_again entry.now walk buffer.old
-        then Edits.charged 16 buffer.old else buffer.old) }
+        then Edits.charged STEP_WORK buffer.old else buffer.old) }
 {
     let mut walk = walk;
     let count = buffer.len();

@@ -8,12 +8,15 @@
 #![tactic(auto)]
 #![allow(non_camel_case_types)]
 
+mod breaking;
 pub mod driver;
 mod edits;
 pub mod glyphs;
 pub mod noncontextual;
 pub mod ranges;
 pub mod rearrangement;
+#[cfg(test)]
+mod tests;
 pub mod worked;
 
 pub use driver::{Machine, Subtable};
