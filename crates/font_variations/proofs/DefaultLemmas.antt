@@ -221,16 +221,20 @@ part_is_zero t coordinates at start column bytes default h =
     let none = regions_at_default t (u32_of t 2) (u16_of t (at + 6 + 2 * column)) coordinates default h in
     subst (λ (x : Float). IsZero (mul binary32 x (of_int binary32 d))) (sym none) (nothing_times (of_int binary32 d) (int_finite d few.0 few.1))
 
+chosen_where : {A : Type 0} (b : Bool) (x y : A) → (b ≡ true → x ≡ y) → cond b x y ≡ y
+chosen_where true x y e = e refl
+chosen_where false x y e = refl
+
 pub deltas_at_default : DeltasAtDefault
 unfolding delta_of
 deltas_at_default t index coordinates bytes default elsewhere =
     let at = data_at t (index / 65536) in
     let row = index % 65536 in
     let start = row_at t at row in
-    chosen (has_data t (index / 65536)) (row_delta t coordinates at row) nothing
-    (chosen (nat_lt row (u16_of t at) && are_rows t at) (sum_of t coordinates at start (column_count t at)) nothing
+    chosen_where (has_data t (index / 65536)) (row_delta t coordinates at row) nothing
+    (λ there. chosen (nat_lt row (u16_of t at) && are_rows t at) (sum_of t coordinates at start (column_count t at)) nothing
     (sum_of_nothing (part_of t coordinates at start) (column_count t at) 0 nothing refl
-    (λ k from_first before. part_is_zero t coordinates at start k bytes default (elsewhere k (omega (arith, before))))))
+    (λ k from_first before. part_is_zero t coordinates at start k bytes default (elsewhere there k (omega (arith, before))))))
 
 pub few_deltas_at_default : FewDeltasAtDefault
 few_deltas_at_default most t index coordinates bytes default elsewhere =

@@ -3,3 +3,4 @@ pub mod SegmentLemmas
 pub mod PartLemmas
 pub mod DefaultLemmas
 pub mod LineLemmas
+pub mod LawRows

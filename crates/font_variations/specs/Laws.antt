@@ -6,7 +6,7 @@ use Rattle.std.specs.Ordering.{int_eq}
 use Rattle.std.specs.Float.{Float, nan, inf, fin}
 use lib.Ieee.{up, down}
 use Rattle.font_bytes.specs.Bytes.{u16_of, u32_of, i16_of}
-use Rattle.font_variations.specs.Deltas.{column_count, data_at, delta_of, delta_within}
+use Rattle.font_variations.specs.Deltas.{column_count, data_at, delta_of, delta_within, has_data}
 use Rattle.font_variations.specs.IndexMaps.{mapped}
 use Rattle.font_variations.specs.Metrics.{advance_delta, bearing_delta, origin_delta}
 use Rattle.font_variations.specs.Parts.{part_at}
@@ -54,10 +54,10 @@ abbrev pub RegionsAtDefault : Type 0
 RegionsAtDefault = (t : List ℕ) (list region : ℕ) (coordinates : List ℤ) → AreDefault coordinates → IsElsewhere t list region
     → region_scalar t list coordinates region ≡ nothing
 
--- each column of the delta set with this index is for such a region
+-- each column of the delta set with this index is for such a region; without data there is no column
 abbrev pub AreElsewhere : List ℕ → ℕ → Type 0
 AreElsewhere t index = let at = data_at t (index / 65536) in
-    (column : ℕ) → column < column_count t at → IsElsewhere t (u32_of t 2) (u16_of t (at + 6 + 2 * column))
+    has_data t (index / 65536) ≡ true → (column : ℕ) → column < column_count t at → IsElsewhere t (u32_of t 2) (u16_of t (at + 6 + 2 * column))
 
 -- then the delta is exactly 0
 abbrev pub DeltasAtDefault : Type 0

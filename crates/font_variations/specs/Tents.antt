@@ -29,8 +29,8 @@ slope start peak end coordinate =
     else (if int_lt coordinate peak then ratio (coordinate -ℤ start) (peak -ℤ start)
     else ratio (end -ℤ coordinate) (end -ℤ peak)))
 
--- An axis with its peak at 0 doesn't take part, and one at its peak takes part wholly. At 0 no other one takes part. A
--- malformed one is as if it had its peak at 0.
+-- An axis with its peak at 0 is left out, at whatever coordinate: its scalar is 1. So is that of an axis at its peak. At 0 the scalar
+-- of any other one is 0, even of a malformed one, which is left out at other coordinates alone.
 unfoldable pub tent : ℤ → ℤ → ℤ → ℤ → Float
 tent start peak end coordinate =
     if int_eq peak (pos 0) || int_eq coordinate peak then whole

@@ -1,3 +1,4 @@
 pub mod Scalars
 pub mod Deltas
 pub mod Coordinates
+pub mod Laws
