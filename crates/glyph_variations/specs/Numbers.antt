@@ -19,6 +19,10 @@ abbrev pub with_run : List ℕ → PointNumbers → PointNumbers
 with_run t s = let control = slice_index t s.at in
     (if nat_eq s.left 0 then record { at = s.at + 1; left = control % 128 + 1; wide = nat_le 128 control; number = s.number } else s)
 
+-- how many bytes a number has in a run
+abbrev pub size_of : Bool → ℕ
+size_of wide = if wide then 2 else 1
+
 -- each number is said by how much it is greater than the one before
 abbrev pub with_number : List ℕ → PointNumbers → PointNumbers
 with_number t s = if s.wide then record s { at = s.at + 2; left = s.left - 1; number = s.number + u16_of t s.at }

@@ -1,6 +1,7 @@
 //! Packed point numbers: which points of a glyph a tuple moves.
-ghost use Rattle.std.specs.Prelude.{◌≡◌, ◌<◌, ◌≤◌, ◌+◌, ◌^◌};
+ghost use Rattle.std.specs.Prelude.{◌≡◌, ◌<◌, ◌≤◌, ◌+◌, ◌*◌, ◌^◌};
 ghost use Rattle.glyph_variations.specs.Numbers;
+ghost use Rattle.glyph_variations.specs.Sums;
 
 use font_bytes::bytes::{u8_at, u16_at};
 
@@ -105,4 +106,35 @@ impl PointNumbers {
     {
         self.with_run(bytes).with_number(bytes)
     }
+}
+
+/// How many bytes so many numbers of a run have.
+fn run_size(wide: bool, count: u8) -> usize
+    ensures value { result ≡ Numbers.size_of wide * count }
+    ensures near { result ≤ 2 * count }
+{
+    if wide {
+        2 * usize::from(count)
+    } else {
+        usize::from(count)
+    }
+}
+
+/// Where the numbers end whose count stands at `at`: by whole runs, since only their lengths
+/// matter.
+#[tactic(auto, using(crate::proofs::RunLemmas::run_end))]
+pub(crate) fn numbers_end(bytes: &[u8], at: usize) -> usize
+    requires { at < 2 ^ 32 }
+    ensures value { result ≡ Sums.numbers_end bytes.now at }
+    ensures near { result ≤ at + 131072 }
+{
+    let mut end = after_count(bytes, at);
+    let mut to_go = count(bytes, at);
+    while 0 < to_go {
+        let run = PointNumbers::begin(end).with_run(bytes);
+        let some = to_go.min(u16::from(run.left));
+        end = run.at + run_size(run.wide, some as u8);
+        to_go -= some;
+    }
+    end
 }

@@ -97,16 +97,39 @@ impl PackedDeltas {
         self.with_run(bytes).with_value(bytes)
     }
 
-    /// So many more are read.
-    #[tactic(auto, using(crate::proofs::TimesLemmas::times_step))]
+    /// So many more of a run are read, at once.
+    #[tactic(auto, using(crate::proofs::SkipLemmas::of_a_run, crate::proofs::SkipLemmas::run_fits))]
+    fn skip(self, bytes: &[u8], count: u8) -> PackedDeltas
+        requires at { self.at < 2 ^ 39 }
+        requires some { 0 < count }
+        requires few { count ≤ self.left }
+        ensures value { result ≡ times (Packed.next_delta bytes.now) count self }
+        ensures near { result.at ≤ self.at + 4 * count }
+    {
+        let size = size_of(self.kind);
+        let last = self.at + size * (usize::from(count) - 1);
+        PackedDeltas {
+            at: last + size,
+            left: self.left - count,
+            kind: self.kind,
+            value: value_at(bytes, self.kind, last),
+        }
+    }
+
+    /// So many more are read, run by run.
+    #[tactic(auto, using(crate::proofs::SkipLemmas::run_read))]
     pub(crate) fn after(self, bytes: &[u8], count: u32) -> PackedDeltas
         requires { self.at < 2 ^ 36 }
         ensures value { result ≡ times (Packed.next_delta bytes.now) count self }
         ensures near { result.at ≤ self.at + 5 * count }
     {
         let mut deltas = self;
-        for _i in 0..count {
-            deltas = deltas.next(bytes);
+        let mut to_go = count;
+        while 0 < to_go {
+            let run = deltas.with_run(bytes);
+            let some = to_go.min(u32::from(run.left));
+            deltas = run.skip(bytes, some as u8);
+            to_go -= some;
         }
         deltas
     }

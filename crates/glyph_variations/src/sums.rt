@@ -7,7 +7,7 @@ ghost use Rattle.glyph_variations.specs.Times.{times};
 ghost use Rattle.font_bytes.specs.Bytes.{u16_of};
 
 use crate::glyph::GlyphVariations;
-use crate::numbers::{PointNumbers, after_count, count};
+use crate::numbers::{PointNumbers, after_count, count, numbers_end};
 use crate::packed::PackedDeltas;
 use crate::tuples::{has_points, header_size, scalar};
 use font_bytes::bytes::u16_at;
@@ -59,20 +59,6 @@ pub(crate) struct TupleWalk {
     pub left: u32,
     pub ended: bool,
     pub moving: Moving,
-}
-
-/// Where the numbers end whose count stands at `at`.
-#[tactic(auto, using(crate::proofs::TimesLemmas::times_step))]
-fn numbers_end(bytes: &[u8], at: usize) -> usize
-    requires { at < 2 ^ 32 }
-    ensures value { result ≡ Sums.numbers_end bytes.now at }
-    ensures near { result ≤ at + 131072 }
-{
-    let mut numbers = PointNumbers::begin(after_count(bytes, at));
-    for _i in 0..count(bytes, at) {
-        numbers = numbers.next(bytes);
-    }
-    numbers.at
 }
 
 /// Whether tuples share points.
@@ -185,7 +171,7 @@ impl Reading {
 }
 
 /// The sum of the deltas that a tuple lists for a point, scaled; they begin at `at`.
-#[tactic(auto, using(crate::proofs::TimesLemmas::times_step))]
+#[tactic(auto, using(crate::proofs::TimesLemmas::times_step, crate::proofs::SkipLemmas::listed_early))]
 fn listed_sum(bytes: &[u8], points: &TuplePoints, at: usize, point: u32, scalar: f32) -> f32
     requires place { points.now.at < 2 ^ 34 }
     requires few { points.now.count < 2 ^ 15 }
@@ -198,6 +184,10 @@ fn listed_sum(bytes: &[u8], points: &TuplePoints, at: usize, point: u32, scalar:
         sum: 0.0,
     };
     for _i in 0..points.count {
+        // numbers never decrease: after a greater one the point isn't listed again
+        if (point as usize) < reading.numbers.number {
+            return reading.sum;
+        }
         reading = reading.next(bytes, point, scalar);
     }
     reading.sum
