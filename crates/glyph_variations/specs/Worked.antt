@@ -11,7 +11,7 @@ use Rattle.glyph_variations.specs.Packed as packed
 use Rattle.glyph_variations.specs.Glyph.{Stored, data_of, shared_of, is_read}
 use Rattle.glyph_variations.specs.MetricPoints.{point_count, metrics_component}
 use Rattle.glyph_variations.specs.Tuples.{ratio64, part_of, scalar_of}
-use Rattle.glyph_variations.specs.Sums.{moved_to, is_whole, begun_at, first_place, tuple_step}
+use Rattle.glyph_variations.specs.Sums.{numbers_end, moved_to, is_whole, begun_at, first_place, tuple_step}
 
 -- the standard's example: 10, -105, 0, -58, eight zeros, 4130, -1228
 abbrev deltas : List ℕ
@@ -34,6 +34,14 @@ for_one = 0 ∷ 1 ∷ 0 ∷ 10 ∷ 0 ∷ 7 ∷ 0xA0 ∷ 0 ∷ 0x40 ∷ 0 ∷ 1 �
 -- the same by points that tuples share
 abbrev by_shared_points : List ℕ
 by_shared_points = 0x80 ∷ 1 ∷ 0 ∷ 10 ∷ 0 ∷ 4 ∷ 0x80 ∷ 0 ∷ 0x40 ∷ 0 ∷ 1 ∷ 0 ∷ 2 ∷ 0 ∷ 10 ∷ 0 ∷ 20 ∷ []
+
+-- points 1, 2, 2 and 5: 1, 2, 4 and 8; upwards 16, 32, 64 and 127
+abbrev for_four : List ℕ
+for_four = 0 ∷ 1 ∷ 0 ∷ 10 ∷ 0 ∷ 16 ∷ 0xA0 ∷ 0 ∷ 0x40 ∷ 0 ∷ 4 ∷ 3 ∷ 1 ∷ 1 ∷ 0 ∷ 3 ∷ 3 ∷ 1 ∷ 2 ∷ 4 ∷ 8 ∷ 3 ∷ 16 ∷ 32 ∷ 64 ∷ 127 ∷ []
+
+-- the first run of deltas has eight, of which four are read; upwards a run begins after them, whose length stands where 16 does
+abbrev by_one_run : List ℕ
+by_one_run = 0 ∷ 1 ∷ 0 ∷ 10 ∷ 0 ∷ 15 ∷ 0xA0 ∷ 0 ∷ 0x40 ∷ 0 ∷ 4 ∷ 3 ∷ 1 ∷ 1 ∷ 0 ∷ 3 ∷ 7 ∷ 1 ∷ 2 ∷ 4 ∷ 8 ∷ 16 ∷ 32 ∷ 64 ∷ 127 ∷ []
 
 -- a tuple for all of three points: 1, 2, 3 and 4, 5, 6
 abbrev for_all : List ℕ
@@ -84,6 +92,10 @@ pub record WorkedGlyphs : Type 0 where
   pub first_number : number 1 ≡ 5
   pub second_number : number 2 ≡ 12
   pub third_number : number 3 ≡ 512
+  pub narrow : numbers.size_of false ≡ 1
+  pub wide : numbers.size_of true ≡ 2
+  -- behind a run of two narrow numbers and one of a wide one
+  pub end_of_numbers : numbers_end points 0 ≡ 7
   pub stored : data_of table 2 1 ≡ 9 ∷ 8 ∷ 7 ∷ 6 ∷ []
   pub stored_for_the_first : data_of table 2 0 ≡ []
   pub past_the_glyphs : data_of table 2 2 ≡ []
@@ -103,6 +115,13 @@ pub record WorkedGlyphs : Type 0 where
       ≡ fin false 15 (pos 3)
   pub of_another_point : moved_to (at for_one (pos 8192)) (record { point = 3; count = 6; vertical = false }) hundred
       ≡ fin false 25 (pos 2)
+  -- a point that is listed twice moves by both deltas
+  pub listed_twice : moved_to (at for_four (pos 16384)) (record { point = 2; count = 6; vertical = false }) hundred ≡ fin false 53 (pos 1)
+  pub listed_last : moved_to (at for_four (pos 16384)) (record { point = 5; count = 6; vertical = false }) hundred ≡ fin false 27 (pos 2)
+  pub between_those_listed : moved_to (at for_four (pos 16384)) (record { point = 4; count = 6; vertical = false }) hundred ≡ fin false 25 (pos 2)
+  pub listed_twice_down : moved_to (at for_four (pos 16384)) (record { point = 2; count = 6; vertical = true }) hundred ≡ fin false 49 (pos 2)
+  pub in_the_midst_of_a_run : moved_to (at by_one_run (pos 16384)) (record { point = 2; count = 6; vertical = true }) hundred
+      ≡ fin false 291 (pos 0)
   pub of_shared_points :
       moved_to (at by_shared_points (pos 8192)) (record { point = 2; count = 6; vertical = false }) hundred ≡ fin false 105 (pos 0)
   pub of_all_points : moved_to (at for_all (pos 16384)) (record { point = 2; count = 3; vertical = false }) hundred
@@ -138,6 +157,9 @@ worked_glyphs = record {
   first_number = refl;
   second_number = refl;
   third_number = refl;
+  narrow = refl;
+  wide = refl;
+  end_of_numbers = refl;
   stored = refl;
   stored_for_the_first = refl;
   past_the_glyphs = refl;
@@ -153,6 +175,11 @@ worked_glyphs = record {
   of_one_point = refl;
   down_the_page = refl;
   of_another_point = refl;
+  listed_twice = refl;
+  listed_last = refl;
+  between_those_listed = refl;
+  listed_twice_down = refl;
+  in_the_midst_of_a_run = refl;
   of_shared_points = refl;
   of_all_points = refl;
   of_all_down = refl;
