@@ -7,6 +7,7 @@ use lib.Ieee.{round, size, span, climb, units, odd, of_bits, of_fields, of_int, 
 use Rattle.cff_tables.specs.declared.font.CffFont.{CffFont}
 use Rattle.font_bytes.specs.Bytes as numbers
 use Rattle.font_variations.specs.Deltas.{rounded}
+use Rattle.font_variations.specs.Tents.{nothing}
 use Rattle.font_variations.specs.Worked.Deltas.{there}
 use Rattle.glyf_points.specs.Bounded.{few_components}
 use Rattle.glyf_points.specs.declared.composite.Component.{Component}
@@ -16,6 +17,7 @@ use Rattle.glyph_variations.specs.Inferred.{inferred, spread, all_spread}
 use Rattle.glyph_variations.specs.Outline.{outline_moved, listed_of, flushed, all_added}
 use Rattle.glyph_variations.specs.Sums.{moved_to}
 use Rattle.glyph_variations.specs.Tuples.{ratio64, part_of, scalar_of}
+use Rattle.glyph_variations.specs.declared.sums.Moving.{Moving}
 use Rattle.shape_common.specs.Wrapping.{◌+ʷ◌, ◌-ʷ◌}
 use Rattle.shape_common.specs.declared.face.hb_glyph_extents_t.{hb_glyph_extents_t}
 use Rattle.shape_font.specs.Bytes.{i16_of}
@@ -36,6 +38,10 @@ place x y = record { x = of_int binary32 x; y = of_int binary32 y }
 -- x becomes 2 x - y, and y becomes 3 x + y / 2
 abbrev slanted : Matrix
 slanted = record { xx = pos 32768; xy = pos 49152; yx = negsuc 16383; yy = pos 8192 }
+
+-- at 9, with -2 to be added
+abbrev waiting : Moving
+waiting = record { position = of_int binary32 (pos 9); pending = of_int binary32 (negsuc 1) }
 
 abbrev component : Component
 component = record { glyph = 5; placement = Moved (pos 7) (pos 8); matrix = slanted; is_offset_scaled = false; has_metrics = false }
@@ -128,6 +134,9 @@ pub record WorkedBoxes : Type 0 where
   pub no_place : (f : FontFace) → box_of (record (drawn f [] 2) { loca = record f.loca { now = words (0 ∷ []) } }) 0 ≡ None
   pub no_outline : (f : FontFace) → box_of (record (drawn f [] 2) { loca = record f.loca { now = words (0 ∷ 0 ∷ 0 ∷ []) } }) 0 ≡ Some no_box
   pub cut_off : (f : FontFace) → box_of (record (drawn f [] 2) { loca = record f.loca { now = words (0 ∷ 10 ∷ 19 ∷ []) } }) 0 ≡ None
+  -- what waits is added; past the last point there is nothing
+  pub last_coordinate : BoxesAt.coordinate (waiting ∷ []) 0 ≡ of_int binary32 (pos 7)
+  pub past_the_last : BoxesAt.coordinate (waiting ∷ []) 1 ≡ nothing
   pub too_much_read : (g : BoxesAt.Gathered) → BoxesAt.with_points 0 (record { places = []; left = 0 }) g ≡ None
   pub too_deep : BoxesAt.is_too_large (record { parts = part 8 0 ∷ []; left = 9; shift = place (pos 0) (pos 0); bounds = None }) 0 [] 1 ≡ true
   pub deep : BoxesAt.is_too_large (record { parts = part 7 0 ∷ []; left = 9; shift = place (pos 0) (pos 0); bounds = None }) 0 [] 127 ≡ false
@@ -175,6 +184,8 @@ worked_boxes = record {
   no_place = λ _. refl;
   no_outline = λ _. refl;
   cut_off = λ _. refl;
+  last_coordinate = refl;
+  past_the_last = refl;
   too_much_read = λ _. refl;
   too_deep = refl;
   deep = refl;

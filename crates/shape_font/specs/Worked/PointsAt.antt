@@ -1,12 +1,13 @@
 -- What a face returns at coordinates by `gvar`, which moves a point of its one glyph, half of the way.
 use Rattle.std.specs.Prelude.{◌≡◌, ℕ, List, pos, negsuc, [], ◌∷◌, None, Some, true, false, refl}
-use Rattle.std.specs.Float.{round_to_format, round_with}
+use Rattle.std.specs.Float.{binary32, round_to_format, round_with}
 use Rattle.std.specs.Int.{int_wrap}
 use lib.Count.{count_trailing_zeros}
 use lib.Ieee.{round, size, span, climb, units, odd, of_bits, of_fields, of_int, div, mul, add, sub, sum, eq, to_signed}
 use Rattle.font_bytes.specs.Bytes as numbers
 use Rattle.font_variations.specs.Deltas.{rounded}
 use Rattle.font_variations.specs.Worked.Deltas.{there}
+use Rattle.glyph_variations.specs.Glyph.{stored_of}
 use Rattle.glyph_variations.specs.Sums.{moved_to}
 use Rattle.glyph_variations.specs.Tuples.{ratio64, part_of, scalar_of}
 use Rattle.shape_common.specs.Wrapping.{◌+ʷ◌, neg_w}
@@ -14,7 +15,7 @@ use Rattle.shape_font.specs.Bytes.{i16_of}
 use Rattle.shape_font.specs.Face.{width_there, width_in, depth_there, depth_in, origin_above, h_advance_of, v_advance_of, v_origin_of}
 use Rattle.shape_font.specs.Metrics.{as_short}
 use Rattle.shape_font.specs.PointsAt.{point_at, metrics_glyph, width_of, depth_of, height_of}
-use Rattle.shape_font.specs.PointsAt.{outline_from, has_place, left_point, right_point, top_point, bottom_point, or_default}
+use Rattle.shape_font.specs.PointsAt.{outline_from, has_place, left_in, moved_left, left_point, right_point, top_point, bottom_point, or_default}
 use Rattle.shape_font.specs.Worked.Glyphs.{words}
 use Rattle.shape_font.specs.declared.face.FontFace.{FontFace}
 
@@ -114,13 +115,19 @@ pub record WorkedPointPlaces : Type 0 where
   -- without bearings the left point is 0, and the top one that of the outline
   pub left_without_a_bearing : (f : FontFace) → left_point (bare f) 0 outline ≡ record { number = 0; place = pos 0 }
   pub top_without_a_bearing : (f : FontFace) → top_point (bare f) 0 outline ≡ record { number = 2; place = pos 700 }
+  pub left_of_the_outline : left_in (words (500 ∷ 50 ∷ [])) 1 0 outline ≡ pos 20
+  pub left_without_one : left_in (words (500 ∷ [])) 1 0 outline ≡ pos 0
+  -- half of 100 past 20; none for an outline whose numbers of contours are cut off
+  pub left_moved : moved_left (stored_of (moving 0) 1 0 there) [] (pos 20) ≡ Some (of_int binary32 (pos 70))
+  pub left_cut_off : moved_left (stored_of (moving 0) 1 0 there) outline (pos 20) ≡ None
   pub there : or_default (Some (pos 1)) 500 ≡ pos 1
   pub not_above_0 : or_default (Some (pos 0)) 500 ≡ pos 500
   pub below_0 : or_default (Some (negsuc 0)) 500 ≡ pos 500
   pub not_there : or_default None 500 ≡ pos 500
 
 pub worked_point_places : WorkedPointPlaces
-unfolding i16_of
+unfolding moved_left moved_to scalar_of part_of ratio64 round_to_format round_with i16_of numbers.i8_of numbers.i16_of numbers.i32_of
+    div mul add sub sum eq of_int round size span climb units odd count_trailing_zeros of_bits of_fields
 worked_point_places = record {
   first_outline = refl;
   from_its_place = refl;
@@ -136,6 +143,10 @@ worked_point_places = record {
   lower_end = λ _. refl;
   left_without_a_bearing = λ _. refl;
   top_without_a_bearing = λ _. refl;
+  left_of_the_outline = refl;
+  left_without_one = refl;
+  left_moved = refl;
+  left_cut_off = refl;
   there = refl;
   not_above_0 = refl;
   below_0 = refl;
