@@ -3,3 +3,4 @@ mod LookupLemmas
 mod StoredLemmas
 pub mod TriedLemmas
 mod WordLemmas
+mod LigatureSetLemmas

@@ -5,18 +5,11 @@ use Rattle.std.proofs.lemmas.Nat.{pow_pos, pow-add}
 use Rattle.std.proofs.lemmas.Nat.Bits.{bit_at_and, bit_at_or, bit_at-zero, bit_at-pow_same, bit_at_ones, bit_at_mask_inside, bit_at-lt}
 use Rattle.std.specs.Int.{bit_at}
 use Rattle.layout_digests.specs.declared.digest.Digest.{Digest}
-use Rattle.layout_matching.specs.Firsts.{has_bit, may_begin}
-use Rattle.layout_digests.specs.Digests.{HasBits, KeepsBits, has, HasGlyphs, IsWithin}
+use Rattle.layout_matching.specs.Firsts.{has_bit, KeepsBits, may_begin}
+use Rattle.layout_matching.proofs.FirstLemmas.{bit_of, has_of, all_set, set_before, set_after}
+use Rattle.layout_digests.specs.Digests.{HasBits, has, HasGlyphs, IsWithin}
 
 -- ---- one word
-
-bit_of : (word n : ℕ) → has_bit word n ≡ true → bit_at word (n % 64) ≡ 1
-unfolding has_bit
-bit_of word n is = grind (arith, nat_tests, is)
-
-has_of : (word n : ℕ) → bit_at word (n % 64) ≡ 1 → has_bit word n ≡ true
-unfolding has_bit
-has_of word n is = ap (λ x. nat_eq x 1) is
 
 pub from_on : (k n : ℕ) → k < 64 → k ≤ n % 64 → has_bit (18446744073709551615 - (2 ^ k - 1)) n ≡ true
 from_on k n small within =
@@ -32,29 +25,11 @@ up_to k n within =
     let e : 2 ^ k - 1 + 2 ^ k ≡ 2 ^ (k + 1) - 1 = omega (arith, some, more) in
     has_of _ n (ap (λ w. bit_at w (n % 64)) e ∙ bit_at_ones (k + 1) (n % 64) (omega (arith, within)))
 
-pub all_set : (n : ℕ) → has_bit 18446744073709551615 n ≡ true
-all_set n = has_of _ n (bit_at_ones 64 (n % 64) (omega arith))
-
 pub set_both : (a b n : ℕ) → has_bit a n ≡ true → has_bit b n ≡ true → has_bit (bit_and a b) n ≡ true
 set_both a b n x y =
     let i = bit_of a n x in
     let j = bit_of b n y in
     has_of (bit_and a b) n (bit_at_and a b (n % 64) ∙ omega (arith, i, j))
-
-pub set_before : (a b n : ℕ) → has_bit a n ≡ true → has_bit (bit_or a b) n ≡ true
-set_before a b n x =
-    let i = bit_of a n x in
-    let j = bit_at-lt b (n % 64) in
-    has_of (bit_or a b) n (bit_at_or a b (n % 64) ∙ omega (arith, i, j))
-
-pub set_after : (a b n : ℕ) → has_bit b n ≡ true → has_bit (bit_or a b) n ≡ true
-set_after a b n y =
-    let i = bit_at-lt a (n % 64) in
-    let j = bit_of b n y in
-    has_of (bit_or a b) n (bit_at_or a b (n % 64) ∙ omega (arith, i, j))
-
-pub bit_set : (word n : ℕ) → has_bit (bit_or word (2 ^ (n % 64))) n ≡ true
-bit_set word n = set_after word (2 ^ (n % 64)) n (has_of (2 ^ (n % 64)) n (bit_at-pow_same (n % 64)))
 
 -- numbers of one block of 64, and of two
 pub in_block : (a b first last : ℕ) → first / 64 ≡ last / 64 → ((n : ℕ) → first % 64 ≤ n % 64 → has_bit a n ≡ true)

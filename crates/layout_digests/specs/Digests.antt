@@ -6,9 +6,6 @@ use Rattle.layout_digests.specs.declared.digest.Digest.{Digest}
 abbrev pub HasBits : ℕ → ℕ → ℕ → Type 0
 HasBits word first last = (n : ℕ) → first ≤ n → n ≤ last → has_bit word n ≡ true
 
-abbrev pub KeepsBits : ℕ → ℕ → Type 0
-KeepsBits word after = (n : ℕ) → has_bit word n ≡ true → has_bit after n ≡ true
-
 -- a glyph is in the set by its number, its half, quarter, sixteenth, 64th and 512th
 unfoldable pub has : Digest → ℕ → Bool
 has d glyph = has_bit d.fine glyph && has_bit d.halves (glyph / 2) && has_bit d.quarters (glyph / 4)

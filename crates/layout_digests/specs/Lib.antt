@@ -3,3 +3,4 @@ pub mod Digests
 pub mod Lookups
 pub mod Stored
 pub mod Worked
+pub mod LigatureSets

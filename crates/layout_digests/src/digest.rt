@@ -7,7 +7,7 @@ ghost use Rattle.std.specs.Prelude.{◌≡◌, ◌≤◌, ◌<◌, ◌%◌, ℕ,
 ghost use Rattle.layout_matching.specs.Firsts as first_rules;
 ghost use Rattle.layout_digests.specs.Digests;
 
-use layout_matching::firsts::{First, has_bit};
+use layout_matching::firsts::{First, has_bit, with_bit};
 
 /// A set of glyphs. It may hold glyphs that were not put in.
 #[derive(Clone, Copy, PartialEq, Eq, Debug)]
@@ -40,7 +40,7 @@ fn ones_to(k: u32) -> u64
 }
 
 /// The bits for the numbers from one to another.
-#[tactic(auto, using(crate::proofs::WordLemmas::in_block, crate::proofs::WordLemmas::in_two, crate::proofs::WordLemmas::all_set))]
+#[tactic(auto, using(crate::proofs::WordLemmas::in_block, crate::proofs::WordLemmas::in_two, layout_matching::proofs::FirstLemmas::all_set))]
 fn span(first: u32, last: u32) -> u64
     ensures { Digests.HasBits result first last }
 {
@@ -56,27 +56,18 @@ fn span(first: u32, last: u32) -> u64
 }
 
 /// A word with the bits for the numbers from one to another, and those that it had.
-#[tactic(auto, using(crate::proofs::WordLemmas::set_before, crate::proofs::WordLemmas::set_after))]
+#[tactic(auto, using(layout_matching::proofs::FirstLemmas::set_before, layout_matching::proofs::FirstLemmas::set_after))]
 fn with_span(word: u64, first: u32, last: u32) -> u64
     ensures set { Digests.HasBits result first last }
-    ensures kept { Digests.KeepsBits word result }
+    ensures kept { first_rules.KeepsBits word result }
 {
     word | span(first, last)
-}
-
-/// A word with the bit for a number, and those that it had.
-#[tactic(auto, using(crate::proofs::WordLemmas::set_before, crate::proofs::WordLemmas::bit_set))]
-fn with_bit(word: u64, n: u32) -> u64
-    ensures set { first_rules.has_bit result n ≡ true }
-    ensures kept { Digests.KeepsBits word result }
-{
-    word | 1 << (n % 64)
 }
 
 /// A word with all bits.
 fn filled(word: u64) -> u64
     ensures set { (n : ℕ) → first_rules.has_bit result n ≡ true }
-    ensures kept { Digests.KeepsBits word result }
+    ensures kept { first_rules.KeepsBits word result }
 {
     word | u64::MAX
 }

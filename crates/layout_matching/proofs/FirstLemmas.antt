@@ -1,18 +1,20 @@
 -- a subtable that doesn't begin at the glyph of a place does nothing there, and costs nothing
-use Rattle.std.proofs.Common.{◌≡◌, ℕ, Bool, true, false, List, Option, Some, None, ◌/◌, ◌%◌, ◌^◌, ◌<◌, ◌≤◌, ◌+◌, ◌-◌, min, bit_and, is_some, nat_eq, refl, ap, ◌∙◌, subst, arith, if◌then◌else◌}
+use Rattle.std.proofs.Common.{◌≡◌, ℕ, Bool, true, false, List, Option, Some, None, ◌/◌, ◌%◌, ◌^◌, ◌<◌, ◌≤◌, ◌+◌, ◌-◌, min, ◌&&◌, bit_and, bit_or, is_some, nat_eq, refl, ap, ◌∙◌, subst, arith, if◌then◌else◌}
 use Rattle.std.proofs.lemmas.Bool.Decides.{nat_tests}
-use Rattle.std.proofs.lemmas.Nat.Bits.{shr_and_one}
+use Rattle.std.proofs.lemmas.Nat.Bits.{shr_and_one, bit_at_or, bit_at-pow_same, bit_at_ones, bit_at-lt}
+use Rattle.std.specs.Int.{bit_at}
 use Rattle.std.specs.Option.{option_and_then, option_map_or}
 use Rattle.shape_font.specs.Bytes.{u16_of}
 use Rattle.shape_items.specs.Items.{Item}
 use Rattle.layout_tables.specs.Lookups.{subtable_count_of}
 use Rattle.layout_tables.specs.declared.lookups.LookupSubtable.{LookupSubtable}
-use Rattle.layout_matching.specs.Firsts.{has_bit, begins, IsOut, AreOut}
+use Rattle.layout_matching.specs.Firsts.{has_bit, KeepsBits, may_begin, begins, IsOut, AreOut}
 use Rattle.layout_matching.specs.Found.{is_chained, is_context_subtable, whole_rule, is_first, number_of, subtable_at, found_by_number, found_in_subtable, found_at_subtable, found_of}
 use Rattle.layout_matching.specs.Loops.{first_some, steps}
 use Rattle.layout_matching.specs.Rules.{FAR}
 use Rattle.layout_matching.specs.Skipping.{nth}
 use Rattle.layout_matching.specs.Work.{subtable_charged, charged_at_subtable, subtables_charged}
+use Rattle.layout_matching.specs.declared.firsts.First.{First}
 use Rattle.layout_matching.specs.declared.found.Found.{Found}
 use Rattle.layout_matching.specs.declared.lookup.Lookup.{Lookup}
 use Rattle.layout_matching.specs.declared.spans.Origin.{Origin}
@@ -25,6 +27,51 @@ near_values values near = omega (arith, near)
 pub tested : (word n : ℕ) → nat_eq (bit_and (word / 2 ^ (n % 64)) 1) 1 ≡ has_bit word n
 unfolding has_bit
 tested word n = ap (λ x. nat_eq x 1) (shr_and_one word (n % 64))
+
+-- ---- bits of words, and glyphs of three of them
+
+pub bit_of : (word n : ℕ) → has_bit word n ≡ true → bit_at word (n % 64) ≡ 1
+unfolding has_bit
+bit_of word n is = grind (arith, nat_tests, is)
+
+pub has_of : (word n : ℕ) → bit_at word (n % 64) ≡ 1 → has_bit word n ≡ true
+unfolding has_bit
+has_of word n is = ap (λ x. nat_eq x 1) is
+
+pub all_set : (n : ℕ) → has_bit 18446744073709551615 n ≡ true
+all_set n = has_of _ n (bit_at_ones 64 (n % 64) (omega arith))
+
+pub set_before : (a b n : ℕ) → has_bit a n ≡ true → has_bit (bit_or a b) n ≡ true
+set_before a b n x =
+    let i = bit_of a n x in
+    let j = bit_at-lt b (n % 64) in
+    has_of (bit_or a b) n (bit_at_or a b (n % 64) ∙ omega (arith, i, j))
+
+pub set_after : (a b n : ℕ) → has_bit b n ≡ true → has_bit (bit_or a b) n ≡ true
+set_after a b n y =
+    let i = bit_at-lt a (n % 64) in
+    let j = bit_of b n y in
+    has_of (bit_or a b) n (bit_at_or a b (n % 64) ∙ omega (arith, i, j))
+
+pub bit_set : (word n : ℕ) → has_bit (bit_or word (2 ^ (n % 64))) n ≡ true
+bit_set word n = set_after word (2 ^ (n % 64)) n (has_of (2 ^ (n % 64)) n (bit_at-pow_same (n % 64)))
+
+pub glyph_in : (f : First) (g : ℕ) → has_bit f.fine g ≡ true → has_bit f.middle (g / 16) ≡ true → has_bit f.coarse (g / 512) ≡ true
+    → may_begin f g ≡ true
+glyph_in f g fine middle coarse = rw (fine, middle, coarse) refl
+
+pub glyphs_kept : (f more : First) (g : ℕ) → KeepsBits f.fine more.fine → KeepsBits f.middle more.middle → KeepsBits f.coarse more.coarse
+    → may_begin f g ≡ true → may_begin more g ≡ true
+glyphs_kept f more g fine middle coarse = all_three (has_bit f.fine g) (has_bit f.middle (g / 16)) (has_bit f.coarse (g / 512)) refl refl refl
+  where
+    all_three : (x y z : Bool) → has_bit f.fine g ≡ x → has_bit f.middle (g / 16) ≡ y → has_bit f.coarse (g / 512) ≡ z
+        → (x && y && z) ≡ true → may_begin more g ≡ true
+    all_three true true true a b c is = glyph_in more g (fine g a) (middle (g / 16) b) (coarse (g / 512) c)
+    all_three true true false a b c is = cc
+    all_three true false z a b c is = cc
+    all_three false y z a b c is = cc
+
+-- ---- subtables
 
 pub one_out : (l : Lookup) (i j glyph : ℕ) → AreOut l i j glyph → IsOut l j glyph → AreOut l i (j + 1) glyph
 one_out l i j glyph before new k from below = by_last (nat_eq k j) refl

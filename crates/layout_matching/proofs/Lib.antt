@@ -17,3 +17,4 @@ pub mod TriesLemmas
 pub mod ReachAgainLemmas
 pub mod ScanLemmas
 pub mod SiftedLemmas
+pub mod LigatureSetLemmas

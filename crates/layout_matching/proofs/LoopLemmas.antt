@@ -1,6 +1,7 @@
 -- loops, step by step
 use Prim.Native.Nat.{zero}
 use Rattle.std.proofs.Common.{◌≡◌, ℕ, suc, ◌+◌, ◌-◌, ◌<◌, ◌≤◌, Bool, true, false, not, Option, Some, None, refl, sym, ap, ◌∙◌, arith}
+use Rattle.std.specs.Option.{option_and_then}
 use Rattle.layout_matching.specs.Loops.{times, steps, first_some, stopped, some_passes, each_passes}
 
 pub not_true : (b : Bool) → b ≡ true → not b ≡ false
@@ -54,6 +55,40 @@ pub steps_end : {S : Type 0} (f : ℕ → S → Option S) (n k : ℕ) (s : S) �
 steps_end f n k s over =
     let e : n - k ≡ 0 = omega (arith, over) in
     rw e refl
+
+-- the last of them
+then_last : {S : Type 0} (all most last : S → Option S) → ((t : S) → all t ≡ option_and_then last (most t)) → (o : Option S)
+    → option_and_then all o ≡ option_and_then last (option_and_then most o)
+then_last all most last same None = refl
+then_last all most last same (Some t) = same t
+
+some_stays : {S : Type 0} (o : Option S) → option_and_then (λ (t : S). Some t) o ≡ o
+some_stays None = refl
+some_stays (Some t) = refl
+
+pub steps_last : {S : Type 0} (f : ℕ → S → Option S) (n k : ℕ) (s : S)
+    → steps f (n + 1) k s ≡ option_and_then (f (k + n)) (steps f n k s)
+steps_last f zero k s =
+    let e : 0 + 1 ≡ suc 0 = omega arith in
+    let same : k + 0 ≡ k = omega arith in
+    ap (λ m. steps f m k s) e ∙ some_stays (f k s) ∙ sym (ap (λ j. f j s) same)
+steps_last f (suc n) k s =
+    let e : suc n + 1 ≡ suc (n + 1) = omega arith in
+    let same : suc k + n ≡ k + suc n = omega arith in
+    ap (λ m. steps f m k s) e ∙ then_last (steps f (n + 1) (suc k)) (steps f n (suc k)) (f (suc k + n)) (λ t. steps_last f n (suc k) t) (f k s)
+    ∙ ap (λ j. option_and_then (f j) (option_and_then (steps f n (suc k)) (f k s))) same
+
+-- the same by another name
+then_same : {S : Type 0} (f g : S → Option S) → ((t : S) → f t ≡ g t) → (o : Option S) → option_and_then f o ≡ option_and_then g o
+then_same f g same None = refl
+then_same f g same (Some t) = same t
+
+pub steps_same : {S : Type 0} (f g : ℕ → S → Option S) → ((k : ℕ) (s : S) → f k s ≡ g k s) → (n k : ℕ) (s : S)
+    → steps f n k s ≡ steps g n k s
+steps_same f g same zero k s = refl
+steps_same f g same (suc n) k s =
+    ap (option_and_then (steps f n (suc k))) (same k s)
+    ∙ then_same (steps f n (suc k)) (steps g n (suc k)) (λ t. steps_same f g same n (suc k) t) (g k s)
 
 -- the first that answers
 pub first_some_next : {X : Type 0} (f : ℕ → Option X) (n i : ℕ) → i < n → f i ≡ None

@@ -209,3 +209,8 @@ glance_nearest l items at more seen opaque =
         ≡ (if t then Only item.glyph_id else Closed)
     by_fit true = ap (λ u. if u then Open else Only item.glyph_id) (transparent_not l true item opaque)
     by_fit false = refl
+
+pub glance_past : (l : Lookup) (items : List Item) (at : ℕ) → length items ≤ at + 1 → second_glance l items at ≡ Closed
+glance_past l items at over =
+    let seek = seek_input l (nth items at) (row Glyph 0 0 0) in
+    ap (λ o. option_map_or (glance_at l seek items) o Closed) (next_past l (any_glyph seek) items at over)

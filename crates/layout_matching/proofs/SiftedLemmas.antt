@@ -1,9 +1,11 @@
 -- a subtable of ligatures is charged for the set of the glyph
-use Rattle.std.proofs.Common.{◌≡◌, ℕ, Bool, false, List, Some, refl}
-use Rattle.std.specs.Option.{option_map_or}
+use Rattle.std.proofs.Common.{◌≡◌, ℕ, ◌+◌, ◌*◌, Bool, false, List, Option, Some, None, refl}
+use Rattle.std.specs.Option.{option_and_then, option_map, option_map_or}
 use Rattle.shape_items.specs.Items.{Item}
+use Rattle.layout_tables.specs.Lookups.{lookup_type_of, resolved}
+use Rattle.layout_tables.specs.Offsets.{offset16_of}
 use Rattle.layout_tables.specs.declared.lookups.LookupSubtable.{LookupSubtable}
-use Rattle.layout_matching.specs.Found.{number_of}
+use Rattle.layout_matching.specs.Found.{number_of, subtable_at}
 use Rattle.layout_matching.specs.Rules.{rules_at}
 use Rattle.layout_matching.specs.Skipping.{nth}
 use Rattle.layout_matching.specs.Work.{passed, passed_charged, beside, has_classes, set_tries, tries_made, set_passed, set_charged, parts_charged, numbered_charged, subtable_charged}
@@ -30,3 +32,14 @@ pub set_free : (l : Lookup) (items : List Item) (at : ℕ) (subtable : LookupSub
 set_free l items at subtable set s none =
     passed_free l (has_classes l subtable) items at (record s { tries = tries_made (set_tries l items at subtable set) })
     (none (has_classes l subtable))
+
+ligature-resolved : (t : List ℕ) (o : Option ℕ)
+    → option_and_then (resolved t 7 4) o ≡ option_map (λ start. record { kind = 4; start = start }) o
+ligature-resolved t None = refl
+ligature-resolved t (Some start) = refl
+
+-- subtable `i` of a lookup of ligatures, by its offset
+pub ligature_subtable : (l : Lookup) (i : ℕ) → l.positioning ≡ false → lookup_type_of l.table.now l.place ≡ 4
+    → subtable_at l i
+    ≡ option_map (λ start. record { kind = 4; start = start }) (offset16_of l.table.now l.place (l.place + 6 + 2 * i))
+ligature_subtable l i gsub type = rw gsub (rw type (ligature-resolved l.table.now (offset16_of l.table.now l.place (l.place + 6 + 2 * i))))

@@ -1,5 +1,5 @@
 -- the glyphs that a subtable begins at, and what is stored of them for each subtable of a lookup
-use Rattle.std.specs.Prelude.{◌≡◌, ℕ, Bool, false, Some, is_some, ◌<◌, ◌≤◌, ◌+◌, ◌/◌, ◌%◌, ◌&&◌, nat_eq, length, slice_index_or, if◌then◌else◌}
+use Rattle.std.specs.Prelude.{◌≡◌, ℕ, Bool, true, false, Some, is_some, ◌<◌, ◌≤◌, ◌+◌, ◌/◌, ◌%◌, ◌&&◌, nat_eq, length, slice_index_or, if◌then◌else◌}
 use Rattle.std.specs.Int.{bit_at}
 use Rattle.shape_font.specs.Bytes.{u16_of}
 use Rattle.layout_tables.specs.declared.lookups.LookupSubtable.{LookupSubtable}
@@ -11,6 +11,10 @@ use Rattle.layout_matching.specs.declared.lookup.Lookup.{Lookup}
 -- a word has the bit for a number's last six bits
 unfoldable pub has_bit : ℕ → ℕ → Bool
 has_bit word n = nat_eq (bit_at word (n % 64)) 1
+
+-- no bit is lost
+abbrev pub KeepsBits : ℕ → ℕ → Type 0
+KeepsBits word more = (n : ℕ) → has_bit word n ≡ true → has_bit more n ≡ true
 
 -- a glyph is among the first ones by its number, its sixteenth and its 512th
 abbrev pub may_begin : First → ℕ → Bool

@@ -11,6 +11,7 @@ pub mod Sifted
 pub mod Nesting
 pub mod Tried
 pub mod Work
+pub mod LigatureSets
 pub mod Sought
 pub mod Tries
 pub mod Would

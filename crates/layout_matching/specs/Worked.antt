@@ -1,5 +1,6 @@
 -- Rules of context, computed by hand on tables of 16-bit words.
 pub mod Work
+pub mod LigatureSets
 pub mod Passing
 pub mod Glance
 pub mod Would

@@ -1,17 +1,23 @@
 //! A lookup with what is stored of its subtables, so that those are passed over that don't begin
 //! at a glyph: nothing of them is read. What the lookup does is the same.
 ghost use Rattle.std.specs.Prelude.{◌≡◌, ◌≤◌, ◌<◌, ◌+◌, ℕ, length, false};
+ghost use Rattle.std.specs.Option.{IfSome};
 ghost use Rattle.layout_matching.specs.Firsts.{AreFirsts, AreOut, IsOut};
+ghost use Rattle.layout_matching.specs.LigatureSets.{AreSets, IsSetOf};
 
 use crate::firsts::Firsts;
+use crate::ligature_sets::LigatureSet;
 use crate::lookup::Lookup;
 
-/// A lookup, and the glyphs that its subtables may begin at, as far as these are stored.
+/// A lookup, the glyphs that its subtables may begin at, as far as these are stored, and what is
+/// stored of the sets of ligatures of its first subtable.
 #[derive(Clone, Copy)]
 pub struct Indexed<'a> {
     pub lookup: &'a Lookup<'a>,
     firsts: Firsts<'a>,
+    sets: &'a [LigatureSet],
     ghost stored: { AreFirsts lookup.now firsts },
+    ghost said: { AreSets lookup.now.table.now lookup.now.place sets.now },
 }
 
 impl<'a> Indexed<'a> {
@@ -21,7 +27,29 @@ impl<'a> Indexed<'a> {
         requires { AreFirsts lookup.now firsts }
         ensures { result.lookup.now ≡ lookup.now }
     {
-        Indexed { lookup, firsts }
+        Indexed {
+            lookup,
+            firsts,
+            sets: &[],
+        }
+    }
+
+    /// The same, with what is stored of sets of ligatures.
+    #[inline(always)]
+    pub fn with_sets(
+        lookup: &'a Lookup<'a>,
+        firsts: Firsts<'a>,
+        sets: &'a [LigatureSet],
+    ) -> Indexed<'a>
+        requires firsts { AreFirsts lookup.now firsts }
+        requires sets { AreSets lookup.now.table.now lookup.now.place sets.now }
+        ensures { result.lookup.now ≡ lookup.now }
+    {
+        Indexed {
+            lookup,
+            firsts,
+            sets,
+        }
     }
 
     /// A lookup of whose subtables nothing is stored.
@@ -34,7 +62,26 @@ impl<'a> Indexed<'a> {
             from: 0,
             count: 0,
         };
-        Indexed { lookup, firsts }
+        Indexed {
+            lookup,
+            firsts,
+            sets: &[],
+        }
+    }
+
+    /// What is stored of the set of ligatures for the glyph with this number in the Coverage of the
+    /// first subtable.
+    #[inline(always)]
+    pub fn set_at(&self, number: u32) -> Option<&'a LigatureSet>
+        ensures { IfSome result (λ s. IsSetOf self.now.lookup.now.table.now self.now.lookup.now.place
+            number s.now) }
+    {
+        let number = number as usize;
+        if number < self.sets.len() {
+            Some(&self.sets[number])
+        } else {
+            None
+        }
     }
 
     /// The next of so many subtables, from number `i` on, that may begin at a glyph; their count,

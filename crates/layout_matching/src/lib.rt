@@ -10,7 +10,8 @@
 //! subtables of positioning, which share those glyphs, and [`sought`] a lookup of context while it
 //! looks for the rule that applies: `set_rules` in the sets of a subtable, `scanning` past the
 //! rules of a set that are refused at once; `remembered` has what the rules before passed over.
-//! [`ligatures`] charges those of a set while it sifts them.
+//! [`ligatures`] charges those of a set while it sifts them, and [`ligature_sets`] has what is
+//! stored of sets.
 //! [`firsts`] has the glyphs that subtables may begin at, and [`indexed`] a lookup with those of
 //! its own. [`would`] says whether context would match glyphs that stand alone. All are functions
 //! of the bytes of the font and of the list of items: nothing is changed. Any bytes are taken.
@@ -26,6 +27,7 @@ pub mod found;
 pub mod glance;
 pub mod indexed;
 pub mod input;
+pub mod ligature_sets;
 pub mod ligatures;
 pub mod lookup;
 pub mod nearest;

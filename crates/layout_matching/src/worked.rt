@@ -1,6 +1,7 @@
 //! The definitions, computed by hand.
 ghost use Rattle.layout_matching.specs.Worked.{WorkedNullClasses, WorkedEnds, WorkedTypes};
 ghost use Rattle.layout_matching.specs.Worked.Glance.{WorkedGlance};
+ghost use Rattle.layout_matching.specs.Worked.LigatureSets.{WorkedSets};
 ghost use Rattle.layout_matching.specs.Worked.Passing.{WorkedPassing};
 ghost use Rattle.layout_matching.specs.Worked.Seeking.{WorkedSeeking};
 ghost use Rattle.layout_matching.specs.Worked.Sought.{WorkedSought};
@@ -25,6 +26,11 @@ pub fn types_meet_worked_cases()
 /// beside it.
 pub fn work_meets_worked_cases()
     ensures { WorkedWork }
+{}
+
+/// What is stored of sets of ligatures.
+pub fn stored_sets_meet_worked_cases()
+    ensures { WorkedSets }
 {}
 
 /// What looking for a rule of context costs, up to the one that applies.

@@ -5,8 +5,8 @@ use Rattle.shape_font.specs.Worked.Glyphs.{words}
 use Rattle.layout_tables.specs.declared.lookups.LookupSubtable.{LookupSubtable}
 use Rattle.layout_matching.specs.declared.firsts.First.{First}
 use Rattle.layout_digests.specs.Coverages.{listed_count, range_count, HasListed, HasRanges, HasCovered}
-use Rattle.layout_matching.specs.Firsts.{has_bit, may_begin, no_first}
-use Rattle.layout_digests.specs.Digests.{has, HasBits, KeepsBits, HasGlyphs, IsWithin}
+use Rattle.layout_matching.specs.Firsts.{has_bit, KeepsBits, may_begin, no_first}
+use Rattle.layout_digests.specs.Digests.{has, HasBits, HasGlyphs, IsWithin}
 use Rattle.layout_digests.specs.Lookups.{begins_at, extension_kind, is_chained_kind, is_context_kind, AreDigests, IsDigest, no_digest}
 use Rattle.layout_digests.specs.Stored.{HoldsFirsts}
 use Rattle.layout_digests.specs.declared.digest.Digest.{Digest}

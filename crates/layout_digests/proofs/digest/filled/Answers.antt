@@ -1,4 +1,4 @@
-use Rattle.layout_digests.proofs.WordLemmas.{all_set, set_before, set_after}
+use Rattle.layout_matching.proofs.FirstLemmas.{all_set, set_before, set_after}
 use Rattle.layout_digests.proofs.digest.filled.Goals as goal
 
 pub returns-clause-set : goal.returns-clause-set

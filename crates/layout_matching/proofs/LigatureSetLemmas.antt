@@ -1,0 +1,291 @@
+-- what is stored of sets of ligatures: made one ligature after the other, and what it says at a place
+use Prim.Native.Nat.{zero}
+use Rattle.std.proofs.Common.{◌≡◌, ℕ, suc, ◌+◌, ◌-◌, ◌*◌, ◌^◌, ◌<◌, ◌≤◌, ◌&&◌, not, Bool, true, false, List, Option, Some, None, length, max, min, nat_eq, nat_lt, refl, sym, ap, subst, ◌∙◌, arith, if◌then◌else◌}
+use Rattle.std.proofs.lemmas.Bool.Decides.{nat_tests}
+use Rattle.std.specs.Option.{IfSome, option_and_then, option_map, option_map_or}
+use Rattle.shape_font.specs.Bytes.{u16_of}
+use Rattle.shape_items.specs.Buffer.{most_countable}
+use Rattle.shape_items.specs.Items.{Item, is_ignorable_item}
+use Rattle.layout_tables.specs.Lookups.{lookup_type_of, resolved}
+use Rattle.layout_tables.specs.Offsets.{offset16_of}
+use Rattle.layout_tables.specs.declared.lookups.LookupSubtable.{LookupSubtable}
+use Rattle.layout_matching.specs.Firsts.{may_begin}
+use Rattle.layout_matching.specs.Found.{number_of, subtable_at}
+use Rattle.layout_matching.specs.Glance.{any_glyph, glance_at, refuses}
+use Rattle.layout_matching.specs.Input.{seek_input}
+use Rattle.layout_matching.specs.LigatureSets.{ligature_counted, ligatures_counted, count_of, set_paid, HasFirst, HasSet, first_start, IsSetOf, IsRefused}
+use Rattle.layout_matching.specs.Loops.{steps}
+use Rattle.layout_matching.specs.Rules.{FAR, row, rules_at, rule_place}
+use Rattle.layout_matching.specs.Seeking.{fits}
+use Rattle.layout_matching.specs.Sifted.{nearest_glance, second_glance, begins_with_another, is_out, AreOut, set_there}
+use Rattle.layout_matching.specs.Skipping.{nth, is_skipped}
+use Rattle.layout_matching.specs.Work.{charged, counts_tallied, counts_work, counted, ligature_counts, null_counted, beside, part_counts, part_counted, part_rule, rule_counted, passed, passed_charged, set_counted, set_passed, set_charged, SUBTABLE_WORK, whole_list, begun_charged, parts_charged, numbered_charged, subtable_charged, charged_at_subtable}
+use Rattle.layout_matching.specs.declared.firsts.First.{First}
+use Rattle.layout_matching.specs.declared.glance.Glance.{Glance}
+use Rattle.layout_matching.specs.declared.glance.Glance.TheVariants.{Closed, Only}
+use Rattle.layout_matching.specs.declared.ligature_sets.LigatureSet.{LigatureSet}
+use Rattle.layout_matching.specs.declared.lookup.Lookup.{Lookup}
+use Rattle.layout_matching.specs.declared.rules.Test.TheVariants.{Glyph}
+use Rattle.layout_matching.specs.declared.seeking.Seek.{Seek}
+use Rattle.layout_matching.specs.declared.tally.Counts.{Counts}
+use Rattle.layout_matching.specs.declared.tally.Tally.{Tally}
+use Rattle.layout_matching.proofs.LoopLemmas.{steps_last, steps_same}
+use Rattle.layout_matching.proofs.NearestLemmas.{glance_nearest, glance_past}
+use Rattle.layout_matching.proofs.SiftedLemmas.{ligature_parts, ligature_charged, ligature_subtable, set_free}
+use Rattle.layout_matching.proofs.TallyLemmas.{part_counted_by}
+
+-- ---- what they cost
+
+charged-twice : (w c left : ℕ) → option_and_then (charged c) (charged w left) ≡ charged (w + c) left
+charged-twice w c left = by_first (nat_lt left w) refl
+  where
+    by_second : (u : Bool) → nat_lt left w ≡ false → nat_lt (left - w) c ≡ u
+        → (if u then None else Some (left - w - c)) ≡ charged (w + c) left
+    by_second true enough less =
+        let e : nat_lt left (w + c) ≡ true = grind (arith, nat_tests, enough, less) in rw e refl
+    by_second false enough less =
+        let e : nat_lt left (w + c) ≡ false = grind (arith, nat_tests, enough, less) in
+        let rest : left - w - c ≡ left - (w + c) = omega arith in rw (e, rest) refl
+
+    by_first : (u : Bool) → nat_lt left w ≡ u → option_and_then (charged c) (if u then None else Some (left - w)) ≡ charged (w + c) left
+    by_first true less = let e : nat_lt left (w + c) ≡ true = grind (arith, nat_tests, less) in rw e refl
+    by_first false enough = by_second (nat_lt (left - w) c) enough refl
+
+abbrev pub tallied : LigatureSet → ℕ → Tally
+tallied s rest = record { left = rest; before = 1; after = s.after; tries = s.tries }
+
+-- one ligature more, that costs so much
+paid-more : (t : List ℕ) (set r c : ℕ) (s more : LigatureSet) (f : ℕ → Tally)
+    → ((left : ℕ) → ligatures_counted t set r left ≡ set_paid s left)
+    → ((rest : ℕ) → ligature_counted t set r (tallied s rest) ≡ option_map f (charged c rest))
+    → ((rest : ℕ) → f rest ≡ tallied more rest) → more.work ≡ s.work + c
+    → (left : ℕ) → ligatures_counted t set (r + 1) left ≡ set_paid more left
+paid-more t set r c s more f before one same work left =
+    steps_last (ligature_counted t set) r 0 (beside left)
+    ∙ ap (option_and_then (ligature_counted t set (0 + r))) (before left)
+    ∙ here (charged s.work left)
+    ∙ ap (option_map (tallied more)) (charged-twice s.work c left ∙ ap (λ w. charged w left) (sym work))
+  where
+    first : 0 + r ≡ r
+    first = omega arith
+
+    one-map : (o : Option ℕ) → option_map f o ≡ option_map (tallied more) o
+    one-map None = refl
+    one-map (Some rest) = ap Some (same rest)
+
+    here : (o : Option ℕ) → option_and_then (ligature_counted t set (0 + r)) (option_map (tallied s) o)
+        ≡ option_map (tallied more) (option_and_then (charged c) o)
+    here None = refl
+    here (Some rest) = ap (λ k. ligature_counted t set k (tallied s rest)) first ∙ one rest ∙ one-map (charged c rest)
+
+-- ---- which glyphs refuse them
+
+pub second_in : (t : List ℕ) (ligature glyph : ℕ) (seconds : First) → ligature < 2 ^ 37 → 1 < u16_of t (ligature + 2)
+    → may_begin seconds (u16_of t (ligature + 4)) ≡ true → may_begin seconds glyph ≡ false
+    → begins_with_another t (Only glyph) ligature ≡ true
+second_in t ligature glyph seconds near two in_it out = by_glyph (nat_eq glyph (u16_of t (ligature + 4))) refl
+  where
+    many : nat_lt 1 (u16_of t (ligature + 2)) ≡ true
+    many = grind (arith, nat_tests, two)
+
+    place : min (ligature + 4) FAR ≡ ligature + 4
+    place = omega (arith, near)
+
+    by_glyph : (u : Bool) → nat_eq glyph (u16_of t (ligature + 4)) ≡ u
+        → (nat_lt 1 (u16_of t (ligature + 2)) && not (nat_eq glyph (u16_of t (min (ligature + 4) FAR)))) ≡ true
+    by_glyph true is =
+        let same : u16_of t (ligature + 4) ≡ glyph = grind (arith, nat_tests, is) in
+        let both : may_begin seconds glyph ≡ true = subst (λ g. may_begin seconds g ≡ true) same in_it in cc
+    by_glyph false is = rw (many, place, is) refl
+
+pub no_second : (t : List ℕ) (ligature glyph : ℕ) (seconds : First) → ((g : ℕ) → may_begin seconds g ≡ true) → may_begin seconds glyph ≡ false
+    → begins_with_another t (Only glyph) ligature ≡ true
+no_second t ligature glyph seconds each out = let is = each glyph in cc
+
+out-more : (t : List ℕ) (second : Glance) (set r : ℕ) → AreOut t second set r → is_out t second set r ≡ true → AreOut t second set (r + 1)
+out-more t second set r before last k below = by_last (nat_eq k r) refl
+  where
+    by_last : (u : Bool) → nat_eq k r ≡ u → is_out t second set k ≡ true
+    by_last true is = let same : r ≡ k = grind (arith, nat_tests, is) in subst (λ j. is_out t second set j ≡ true) same last
+    by_last false is = before k (grind (arith, nat_tests, is, below))
+
+pub null_more : (t : List ℕ) (set r : ℕ) (s more : LigatureSet) → rule_place t set r ≡ None → more.work ≡ s.work + 1
+    → more.after ≡ s.after → more.tries ≡ s.tries → more.seconds ≡ s.seconds → more.is_closed ≡ s.is_closed
+    → HasFirst t set r s → HasFirst t set (r + 1) more
+null_more t set r s more none work after tries seconds closed before = record {
+  paid = paid-more t set r 1 s more (λ rest. record (tallied s rest) { left = rest }) before.paid
+      (λ rest. rw none refl) (λ rest. rw (after, tries) refl) work;
+  seconds = λ glyph out. out-more t (Only glyph) set r (before.seconds glyph (ap (λ f. may_begin f glyph) (sym seconds) ∙ out)) (rw none refl);
+  closed = λ is. out-more t Closed set r (before.closed (sym closed ∙ is)) (rw none refl);
+}
+
+-- what is false of the more is false of the less
+less-out : (a b : Bool) → (a ≡ true → b ≡ true) → b ≡ false → a ≡ false
+less-out false b held none = refl
+less-out true true held none = cc
+less-out true false held none = sym (held refl)
+
+both-left : (a b : Bool) → (a && b) ≡ true → a ≡ true
+both-left true b is = refl
+both-left false b is = cc
+
+both-right : (a b : Bool) → (a && b) ≡ true → b ≡ true
+both-right true b is = is
+both-right false b is = cc
+
+pub ligature_more : (t : List ℕ) (set r ligature : ℕ) (s more : LigatureSet) → rule_place t set r ≡ Some ligature
+    → r < 2 ^ 16 → s.tries ≤ r + 1
+    → more.work ≡ s.work + (u16_of t (ligature + 2) + 1) → more.after ≡ max s.after (u16_of t (ligature + 2) - 1)
+    → more.tries ≡ s.tries + 1
+    → ((glyph : ℕ) → may_begin more.seconds glyph ≡ false → begins_with_another t (Only glyph) ligature ≡ true)
+    → ((glyph : ℕ) → may_begin s.seconds glyph ≡ true → may_begin more.seconds glyph ≡ true)
+    → more.is_closed ≡ (s.is_closed && nat_lt 1 (u16_of t (ligature + 2)))
+    → HasFirst t set r s → HasFirst t set (r + 1) more
+ligature_more t set r ligature s more there few small work after tries second kept closed before = record {
+  paid = paid-more t set r (counts_work counts) s more (λ rest. counts_tallied counts (tallied s rest) rest) before.paid
+      (λ rest. ap (λ o. option_map_or (λ place. counted (ligature_counts t place) (tallied s rest)) o (null_counted (tallied s rest))) there
+      ∙ tallied-here rest) same (work ∙ omega arith);
+  seconds = λ glyph out. out-more t (Only glyph) set r
+      (before.seconds glyph (less-out (may_begin s.seconds glyph) (may_begin more.seconds glyph) (kept glyph) out))
+      (ap (λ o. option_map_or (begins_with_another t (Only glyph)) o true) there ∙ second glyph out);
+  closed = λ is. let both : (s.is_closed && nat_lt 1 (u16_of t (ligature + 2))) ≡ true = sym closed ∙ is in
+      out-more t Closed set r (before.closed (both-left s.is_closed (nat_lt 1 (u16_of t (ligature + 2))) both))
+      (ap (λ o. option_map_or (begins_with_another t Closed) o true) there
+      ∙ ap (λ u. u && true) (both-right s.is_closed (nat_lt 1 (u16_of t (ligature + 2))) both));
+}
+  where
+    counts : Counts
+    counts = ligature_counts t ligature
+
+    tallied-here : (rest : ℕ) → counted counts (tallied s rest) ≡ option_map (counts_tallied counts (tallied s rest)) (charged (counts_work counts) rest)
+    tallied-here rest = refl
+
+    same : (rest : ℕ) → counts_tallied counts (tallied s rest) rest ≡ tallied more rest
+    same rest =
+        let a : max s.after (u16_of t (ligature + 2) - 1 + 0) ≡ more.after = omega (arith, after) in
+        let n : min (s.tries + (0 + 1)) most_countable ≡ more.tries = omega (arith, few, small, tries) in
+        rw (a, n) refl
+
+-- ---- what it says at a place
+
+pub end_refuses : (l : Lookup) (items : List Item) (at set n : ℕ) (s : LigatureSet) → length items ≤ at + 1 → s.is_closed ≡ true
+    → HasFirst l.table.now set n s → AreOut l.table.now (second_glance l items at) set n
+end_refuses l items at set n s over is has =
+    subst (λ second. AreOut l.table.now second set n) (sym (glance_past l items at over)) (has.closed is)
+
+closed-too : (t : List ℕ) (glyph set k : ℕ) → is_out t (Only glyph) set k ≡ true → is_out t Closed set k ≡ true
+closed-too t glyph set k = by_place (rule_place t set k)
+  where
+    by_place : (o : Option ℕ) → option_map_or (begins_with_another t (Only glyph)) o true ≡ true
+        → option_map_or (begins_with_another t Closed) o true ≡ true
+    by_place None out = refl
+    by_place (Some ligature) out = ap (λ u. u && true) (both-left (nat_lt 1 (u16_of t (ligature + 2))) _ out)
+
+pub glyph_refuses : (l : Lookup) (items : List Item) (at set n : ℕ) (s : LigatureSet) → at + 1 < length items
+    → is_skipped l (nth items (at + 1)) ≡ false → is_ignorable_item (nth items (at + 1)) ≡ false
+    → may_begin s.seconds (nth items (at + 1)).glyph_id ≡ false → HasFirst l.table.now set n s
+    → AreOut l.table.now (second_glance l items at) set n
+glyph_refuses l items at set n s more seen opaque out has =
+    subst (λ second. AreOut l.table.now second set n) (sym (glance_nearest l items at more seen opaque))
+    (by_fit (fits l (any_glyph (seek_input l (nth items at) (row Glyph 0 0 0))) 0 (nth items (at + 1))))
+  where
+    glyph : ℕ
+    glyph = (nth items (at + 1)).glyph_id
+
+    by_fit : (u : Bool) → AreOut l.table.now (if u then Only glyph else Closed) set n
+    by_fit true = has.seconds glyph out
+    by_fit false = λ k below. closed-too l.table.now glyph set k (has.seconds glyph out k below)
+
+-- a set of ligatures is counted by the table alone
+set-by-table : (l : Lookup) (start left set : ℕ) → l.positioning ≡ false
+    → set_counted l (record { kind = 4; start = start }) left set ≡ ligatures_counted l.table.now set (count_of l.table.now set) left
+set-by-table l start left set gsub =
+    steps_same (part_counted l subtable set) (ligature_counted l.table.now set) one (count_of l.table.now set) 0 (beside left)
+  where
+    subtable : LookupSubtable
+    subtable = record { kind = 4; start = start }
+
+    four : (place : ℕ) → part_counts l subtable place ≡ ligature_counts l.table.now place
+    four place = rw gsub refl
+
+    one : (r : ℕ) (s : Tally) → part_counted l subtable set r s ≡ ligature_counted l.table.now set r s
+    one r s = by_place (rule_place l.table.now set r)
+      where
+        by_place : (o : Option ℕ) → option_map_or (λ place. rule_counted (part_rule l subtable place) s) o (null_counted s)
+            ≡ option_map_or (λ place. counted (ligature_counts l.table.now place) s) o (null_counted s)
+        by_place None = refl
+        by_place (Some place) = part_counted_by l subtable place s ∙ ap (λ c. counted c s) (four place)
+
+pub refused_charged : (l : Lookup) (items : List Item) (at start number set left rest : ℕ) (s : LigatureSet) → l.positioning ≡ false
+    → lookup_type_of l.table.now l.place ≡ 4 → offset16_of l.table.now l.place (l.place + 6) ≡ Some start
+    → number_of l.table.now start (nth items at).glyph_id ≡ Some number → rules_at l.table.now start 4 number ≡ Some set
+    → IsSetOf l.table.now l.place number s → charged (SUBTABLE_WORK + s.work) left ≡ Some rest
+    → ((listed : Bool) → passed l listed items at (tallied s rest) ≡ 0)
+    → charged_at_subtable l items at 0 left ≡ Some rest
+refused_charged l items at start number set left rest s gsub type there covered is has enough free =
+    ap (λ o. option_map_or (subtable_charged l items at left) o (Some left)) first
+    ∙ ligature_charged l items at left start gsub
+    ∙ ap (λ o. option_map_or (numbered_charged l items at subtable left) o (Some left)) covered
+    ∙ by_begun (charged SUBTABLE_WORK left) refl
+  where
+    subtable : LookupSubtable
+    subtable = record { kind = 4; start = start }
+
+    place : l.place + 6 + 2 * 0 ≡ l.place + 6
+    place = omega arith
+
+    first : subtable_at l 0 ≡ Some subtable
+    first = ligature_subtable l 0 gsub type
+        ∙ ap (option_map (λ start. record { kind = 4; start = start })) (ap (offset16_of l.table.now l.place) place ∙ there)
+
+    nothing : charged 0 left ≡ Some left
+    nothing = let e : nat_lt left 0 ≡ false = grind (arith, nat_tests) in
+        let rest : left - 0 ≡ left = omega arith in rw (e, rest) refl
+
+    begun : begun_charged l items subtable left ≡ charged SUBTABLE_WORK left
+    begun = ap (option_and_then (charged SUBTABLE_WORK)) (no-list l.positioning ∙ nothing)
+      where
+        no-list : (p : Bool) → charged (if not p && false && l.random then length items else 0) left ≡ charged 0 left
+        no-list true = refl
+        no-list false = refl
+
+    parts : (less : ℕ) → parts_charged l items at subtable number less ≡ set_charged l items at subtable less set
+    parts less = ligature_parts l items at subtable number less gsub refl
+        ∙ ap (λ o. option_map_or (set_charged l items at subtable less) o (passed_charged l false items at (beside less))) is
+
+    whole : option_and_then (charged s.work) (charged SUBTABLE_WORK left) ≡ Some rest
+    whole = charged-twice SUBTABLE_WORK s.work left ∙ enough
+
+    set-left : (less : ℕ) → charged s.work less ≡ Some rest → set_charged l items at subtable less set ≡ Some rest
+    set-left less e =
+        ap (option_and_then (set_passed l items at subtable set))
+        (set-by-table l start less set gsub ∙ (has start set there is).paid less ∙ ap (option_map (tallied s)) e)
+        ∙ set_free l items at subtable set (tallied s rest) free
+
+    by_begun : (o : Option ℕ) → charged SUBTABLE_WORK left ≡ o → numbered_charged l items at subtable left number ≡ Some rest
+    by_begun None e = absurd-none (sym whole ∙ ap (option_and_then (charged s.work)) e)
+      where
+        absurd-none : Some rest ≡ None → numbered_charged l items at subtable left number ≡ Some rest
+        absurd-none wrong = cc
+    by_begun (Some less) e =
+        ap (option_and_then (parts_charged l items at subtable number)) (begun ∙ e)
+        ∙ parts less ∙ set-left less (sym (ap (option_and_then (charged s.work)) e) ∙ whole)
+
+pub refused_set : (l : Lookup) (items : List Item) (at start number set : ℕ) (s : LigatureSet)
+    → offset16_of l.table.now l.place (l.place + 6) ≡ Some start
+    → number_of l.table.now start (nth items at).glyph_id ≡ Some number → rules_at l.table.now start 4 number ≡ Some set
+    → IsSetOf l.table.now l.place number s
+    → ((set n : ℕ) → HasFirst l.table.now set n s → AreOut l.table.now (second_glance l items at) set n)
+    → IsRefused l items at
+refused_set l items at start number set s there covered has is out start' there' =
+    let same : start ≡ start' = some-same start start' (sym there ∙ there') in
+    let e : set_there l items at start' ≡ Some set = subst (λ p. set_there l items at p ≡ Some set) same (ap (option_and_then (rules_at l.table.now start 4)) covered ∙ has) in
+    subst (λ o. IfSome o (λ set. AreOut l.table.now (second_glance l items at) set (count_of l.table.now set))) (sym e)
+    (out set (count_of l.table.now set) (is start set there has))
+  where
+    some-same : (a b : ℕ) → Some a ≡ Some b → a ≡ b
+    some-same a b e = cc
+
+pub both_some : {P Q R : ℕ → Type 0} (o : Option ℕ) → IfSome o P → IfSome o Q → ((n : ℕ) → P n → Q n → R n) → IfSome o R
+both_some None p q both = tt
+both_some (Some n) p q both = both n p q

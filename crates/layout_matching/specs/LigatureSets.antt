@@ -1,0 +1,60 @@
+-- What is stored of a set of ligatures: what it costs, and which glyphs may follow the first one.
+use Rattle.std.specs.Prelude.{◌≡◌, ℕ, List, Bool, true, false, Option, Some, ◌+◌, ◌<◌, slice_index_or, length}
+use Rattle.std.specs.Option.{IfSome, option_map, option_map_or}
+use Rattle.shape_font.specs.Bytes.{u16_of, fitting}
+use Rattle.shape_items.specs.Items.{Item}
+use Rattle.layout_tables.specs.Offsets.{offset16_of}
+use Rattle.layout_matching.specs.Firsts.{may_begin, no_first}
+use Rattle.layout_matching.specs.Loops.{steps}
+use Rattle.layout_matching.specs.Rules.{rules_at, rule_place}
+use Rattle.layout_matching.specs.Sifted.{AreOut, second_glance, set_there}
+use Rattle.layout_matching.specs.Work.{beside, charged, counted, ligature_counts, null_counted}
+use Rattle.layout_matching.specs.declared.glance.Glance.TheVariants.{Closed, Only}
+use Rattle.layout_matching.specs.declared.ligature_sets.LigatureSet.{LigatureSet}
+use Rattle.layout_matching.specs.declared.lookup.Lookup.{Lookup}
+use Rattle.layout_matching.specs.declared.tally.Tally.{Tally}
+
+-- ligature `r` of a set, counted by the table alone
+abbrev pub ligature_counted : List ℕ → ℕ → ℕ → Tally → Option Tally
+ligature_counted t set r s = option_map_or (λ place. counted (ligature_counts t place) s) (rule_place t set r) (null_counted s)
+
+-- the first so many of a set
+abbrev pub ligatures_counted : List ℕ → ℕ → ℕ → ℕ → Option Tally
+ligatures_counted t set n left = steps (ligature_counted t set) n 0 (beside left)
+
+abbrev pub count_of : List ℕ → ℕ → ℕ
+count_of t set = fitting t (u16_of t set) (set + 2) 2
+
+-- what is left after a set of which this is stored, and how far it looks
+abbrev pub set_paid : LigatureSet → ℕ → Option Tally
+set_paid s left = option_map (λ rest. record { left = rest; before = 1; after = s.after; tries = s.tries }) (charged s.work left)
+
+-- what is stored of the first so many ligatures: what they cost; a glyph that isn't among the second ones refuses each, and so does
+-- the end of the list, if each has a second one
+pub record HasFirst (t : List ℕ) (set n : ℕ) (s : LigatureSet) : Type 0 where
+  pub paid : (left : ℕ) → ligatures_counted t set n left ≡ set_paid s left
+  pub seconds : (glyph : ℕ) → may_begin s.seconds glyph ≡ false → AreOut t (Only glyph) set n
+  pub closed : s.is_closed ≡ true → AreOut t Closed set n
+
+abbrev pub HasSet : List ℕ → ℕ → LigatureSet → Type 0
+HasSet t set s = HasFirst t set (count_of t set) s
+
+abbrev pub no_set : LigatureSet
+no_set = record { work = 0; after = 0; tries = 0; seconds = no_first; is_closed = false }
+
+-- where the first subtable of a lookup at a place stands
+abbrev pub first_start : List ℕ → ℕ → Option ℕ
+first_start t place = offset16_of t place (place + 6)
+
+-- what is stored of set number `number` of the first subtable of a lookup at a place
+abbrev pub IsSetOf : List ℕ → ℕ → ℕ → LigatureSet → Type 0
+IsSetOf t place number s = (start set : ℕ) → first_start t place ≡ Some start → rules_at t start 4 number ≡ Some set → HasSet t set s
+
+-- and of all of its sets, in the order of its Coverage
+abbrev pub AreSets : List ℕ → ℕ → List LigatureSet → Type 0
+AreSets t place sets = (number : ℕ) → number < length sets → IsSetOf t place number (slice_index_or sets number no_set)
+
+-- the next glyph refuses each ligature that the first subtable of a lookup has for the glyph at a place
+abbrev pub IsRefused : Lookup → List Item → ℕ → Type 0
+IsRefused l items at = (start : ℕ) → first_start l.table.now l.place ≡ Some start
+    → IfSome (set_there l items at start) (λ set. AreOut l.table.now (second_glance l items at) set (count_of l.table.now set))
