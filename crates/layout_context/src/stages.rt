@@ -2,6 +2,7 @@
 ghost use Rattle.std.specs.Prelude.{◌≡◌, ℕ, ◌<◌, ◌≤◌, ◌-◌, ◌^◌, length, true, false, IfOk, IsErrOf};
 ghost use Rattle.shape_buffer.specs.declared.buffer.error.ShapeError.TheVariants.{Length};
 ghost use Rattle.layout_matching.specs.Loops.{times};
+ghost use Rattle.layout_matching.specs.LigatureSets.{AreSets};
 ghost use Rattle.layout_matching.specs.Skipping.{is_on};
 ghost use Rattle.layout_substitution.specs.Edits.{is_inside, is_past, item_at};
 ghost use Rattle.layout_context.specs.Nested.{nested_applied};
@@ -14,6 +15,7 @@ use crate::reverse::{is_reverse, reverse};
 use layout_buffer::GapBuffer;
 use layout_digests::Digested;
 use layout_matching::indexed::Indexed;
+use layout_matching::ligature_sets::LigatureSet;
 use layout_matching::work::walk_work;
 use layout_substitution::apply::Spot;
 use shape_buffer::ShapeError;
@@ -128,10 +130,12 @@ fn walk(
     alloc: Global,
     levels: u32,
     named: &Digested<'_>,
+    sets: &[LigatureSet],
     buffer: &mut GapBuffer,
     spot: Spot,
 ) -> Result<Spot, ShapeError>
     requires said { IsDigested named.now }
+    requires sets { AreSets named.now.lookup.table.now named.now.lookup.place sets.now }
     ensures ok { IfOk result (λ next. record { buffer = buffer.new; spot = next }
         ≡ Stages.walked (nested_applied levels named.now.lookup) named.now.lookup
         (record { buffer = buffer.old; spot = spot })) }
@@ -152,7 +156,7 @@ fn walk(
         spot = passed.spot;
         done += passed.steps;
         if passed.is_met {
-            let indexed = Indexed::new(&named.lookup, named.firsts);
+            let indexed = Indexed::with_sets(&named.lookup, named.firsts, sets);
             match step_met(alloc, levels, &indexed, buffer, spot) {
                 Err(error) => return Err(error),
                 Ok(next) => spot = next,
@@ -168,10 +172,12 @@ fn go_over(
     alloc: Global,
     levels: u32,
     named: &Digested<'_>,
+    sets: &[LigatureSet],
     buffer: &mut GapBuffer,
     spot: Spot,
 ) -> Result<Spot, ShapeError>
     requires said { IsDigested named.now }
+    requires sets { AreSets named.now.lookup.table.now named.now.lookup.place sets.now }
     ensures ok { IfOk result (λ next. record { buffer = buffer.new; spot = next }
         ≡ Stages.gone_over levels named.now.lookup (record { buffer = buffer.old; spot = spot })) }
     ensures length { IsErrOf result Length
@@ -182,7 +188,7 @@ fn go_over(
         let left = reverse(&named.lookup, buffer, spot.left);
         return Ok(with_left(spot, left));
     }
-    walk(alloc, levels, named, buffer, spot)
+    walk(alloc, levels, named, sets, buffer, spot)
 }
 
 /// What is left after a walk that costs so much was charged for.
@@ -200,16 +206,18 @@ fn levels() -> u32
 }
 
 /// Goes over a buffer for one lookup of a stage, if what is left suffices for the walk, and returns
-/// where it ended. Refuses with `Length` if the list passes the limit of the run, and with `Memory`
+/// where it ended. `sets` are what is stored of its sets of ligatures; none need be. Refuses with `Length` if the list passes the limit of the run, and with `Memory`
 /// if a growth of the list, or of the places of a rule, was refused.
 #[tactic(auto, using(crate::proofs::DigestLemmas::looked_paid, crate::proofs::DigestLemmas::looked_unpaid))]
 pub fn look_up(
     alloc: Global,
     named: &Digested<'_>,
+    sets: &[LigatureSet],
     buffer: &mut GapBuffer,
     spot: Spot,
 ) -> Result<Spot, ShapeError>
     requires said { IsDigested named.now }
+    requires sets { AreSets named.now.lookup.table.now named.now.lookup.place sets.now }
     ensures ok { IfOk result (λ next. record { buffer = buffer.new; spot = next }
         ≡ Stages.looked_up Stages.most_levels named.now.lookup
         (record { buffer = buffer.old; spot = spot })) }
@@ -221,5 +229,12 @@ pub fn look_up(
     if spot.left < work {
         return Ok(charge_walk(work, spot));
     }
-    go_over(alloc, levels(), named, buffer, charge_walk(work, spot))
+    go_over(
+        alloc,
+        levels(),
+        named,
+        sets,
+        buffer,
+        charge_walk(work, spot),
+    )
 }

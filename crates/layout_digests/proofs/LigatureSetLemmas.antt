@@ -1,6 +1,6 @@
 -- what is stored of sets of ligatures stays true as more is stored
 use Rattle.std.proofs.Common.{◌≡◌, ℕ, Bool, true, false, List, [], ◌∷◌, ◌++◌, length, slice_index_or, Some, None, ◌+◌, ◌<◌, nat_eq, refl, sym, subst, ◌∙◌, arith}
-use Rattle.std.specs.Prelude.{Vec}
+use Rattle.std.specs.Global.{Vec}
 use Rattle.std.proofs.lemmas.Bool.Decides.{nat_tests}
 use Rattle.std.proofs.lemmas.List.{get_or_push, get_or_append_left, length-append}
 use Rattle.layout_tables.specs.Lookups.{lookup_of}

@@ -1,5 +1,6 @@
 -- what is stored of the sets of ligatures of a table
-use Rattle.std.specs.Prelude.{◌≡◌, ℕ, List, Some, Vec, ◌<◌, length, slice_index_or}
+use Rattle.std.specs.Prelude.{◌≡◌, ℕ, List, Some, ◌<◌, length, slice_index_or}
+use Rattle.std.specs.Global.{Vec}
 use Rattle.layout_tables.specs.Lookups.{lookup_of}
 use Rattle.layout_matching.specs.LigatureSets.{AreSets, HasSet, no_set}
 use Rattle.layout_matching.specs.Rules.{rules_at}

@@ -2,7 +2,7 @@
 use Prim.Native.Nat.{zero}
 use Rattle.std.proofs.Common.{◌≡◌, ℕ, suc, ◌+◌, ◌-◌, ◌*◌, ◌<◌, ◌≤◌, Bool, true, false, List, Option, Some, None, is_some, nat_eq, nat_lt, refl, sym, ap, ◌∙◌, subst, arith, if◌then◌else◌}
 use Rattle.std.proofs.lemmas.Bool.Decides.{nat_tests}
-use Rattle.std.specs.Option.{option_and_then, option_map, option_map_or, option_or}
+use Rattle.std.specs.Option.{IfSome, option_and_then, option_map, option_map_or, option_or}
 use Rattle.shape_font.specs.Bytes.{u16_of, fitting}
 use Rattle.shape_items.specs.Buffer.{Buffer}
 use Rattle.shape_buffer.specs.Outcome.{IsWithinLimit}
@@ -11,13 +11,15 @@ use Rattle.layout_tables.specs.Offsets.{offset16_of}
 use Rattle.layout_tables.specs.declared.lookups.LookupSubtable.{LookupSubtable}
 use Rattle.layout_matching.specs.Firsts.{begins, IsOut, AreOut}
 use Rattle.layout_matching.specs.Found.{number_of, subtable_at}
+use Rattle.layout_matching.specs.LigatureSets.{count_of, IsRefused}
 use Rattle.layout_matching.specs.Loops.{first_some, steps}
 use Rattle.layout_matching.specs.Rules.{rules_at, rule_place}
 use Rattle.layout_matching.specs.Sifted as sifted
 use Rattle.layout_matching.specs.Work.{subtable_charged, charged_at_subtable, subtables_charged}
 use Rattle.layout_matching.specs.declared.lookup.Lookup.{Lookup}
 use Rattle.layout_matching.proofs.FirstLemmas.{charged_out}
-use Rattle.layout_matching.proofs.LoopLemmas.{first_some_to, steps_next, steps_to}
+use Rattle.layout_matching.proofs.LoopLemmas.{first_some_end, first_some_to, steps_next, steps_to}
+use Rattle.layout_matching.proofs.SiftedLemmas.{ligature_subtable}
 use Rattle.layout_substitution.specs.Applied.{Applied, unapplied, put_one}
 use Rattle.layout_substitution.specs.Edits.{asks_for_concat, concat_marked, is_past, item_at}
 use Rattle.layout_substitution.specs.Kinds.{kind_applied, or_next, subtables_applied, lookup_applied}
@@ -77,16 +79,6 @@ pub found_by_set : (l : Lookup) (b : Buffer) (at start : ℕ) (o : Option ℕ) �
     → o ≡ sifted.set_there l b.items at start → found_by l b at start ≡ option_and_then (ligature_found l b at) o
 found_by_set l b at start o one is = ap (option_and_then (ligature_found l b at)) (set_of_format l b at start one ∙ sym is)
 
-ligature-resolved : (t : List ℕ) (o : Option ℕ)
-    → option_and_then (resolved t 7 4) o ≡ option_map (λ start. record { kind = 4; start = start }) o
-ligature-resolved t None = refl
-ligature-resolved t (Some start) = refl
-
-ligature-subtable : (l : Lookup) (i : ℕ) → l.positioning ≡ false → lookup_type_of l.table.now l.place ≡ 4
-    → subtable_at l i
-    ≡ option_map (λ start. record { kind = 4; start = start }) (offset16_of l.table.now l.place (l.place + 6 + 2 * i))
-ligature-subtable l i gsub type = rw gsub (rw type (ligature-resolved l.table.now (offset16_of l.table.now l.place (l.place + 6 + 2 * i))))
-
 or-none : (o : Option Components) → option_or o None ≡ o
 or-none None = refl
 or-none (Some x) = refl
@@ -98,7 +90,7 @@ pub step_by_offset : (l : Lookup) (b : Buffer) (at i : ℕ) (s : SoughtLigature)
 step_by_offset l b at i s o gsub type is =
     let made : Option LookupSubtable → Option SoughtLigature = λ p. option_map (with_found s.found (found_in l b at i))
     (option_map_or (subtable_charged l b.items at s.left) p (Some s.left)) in
-    ap made (ligature-subtable l i gsub type) ∙ by_offset (offset16_of l.table.now l.place (l.place + 6 + 2 * i)) is
+    ap made (ligature_subtable l i gsub type) ∙ by_offset (offset16_of l.table.now l.place (l.place + 6 + 2 * i)) is
   where
     at_offset : Option ℕ → Option SoughtLigature
     at_offset p = option_map (with_found s.found (option_and_then (found_by l b at) p))
@@ -117,6 +109,48 @@ step_by_offset l b at i s o gsub type is =
 
     by_offset : (p : Option ℕ) → p ≡ o → at_offset p ≡ option_map_or (λ start. sought_by l b at start s) o (Some s)
     by_offset p e = by_value p ∙ ap (λ q. option_map_or (λ start. sought_by l b at start s) q (Some s)) e
+
+-- ---- a first subtable whose ligatures are refused
+
+none-found : (l : Lookup) (b : Buffer) (at set : ℕ)
+    → sifted.AreOut l.table.now (sifted.second_glance l b.items at) set (count_of l.table.now set) → ligature_found l b at set ≡ None
+none-found l b at set out =
+    found_after l b at set (count_of l.table.now set) (count_of l.table.now set) refl (omega arith) out
+    ∙ first_some_end (ligature_in l b at set) (count_of l.table.now set) (count_of l.table.now set) (omega arith)
+
+none-by-set : (l : Lookup) (b : Buffer) (at : ℕ) (o : Option ℕ)
+    → IfSome o (λ set. sifted.AreOut l.table.now (sifted.second_glance l b.items at) set (count_of l.table.now set))
+    → option_and_then (ligature_found l b at) o ≡ None
+none-by-set l b at None out = refl
+none-by-set l b at (Some set) out = none-found l b at set out
+
+none-by : (l : Lookup) (b : Buffer) (at start : ℕ)
+    → IfSome (sifted.set_there l b.items at start) (λ set. sifted.AreOut l.table.now (sifted.second_glance l b.items at) set (count_of l.table.now set))
+    → found_by l b at start ≡ None
+none-by l b at start out = by_format (nat_eq (u16_of l.table.now start) 1) refl
+  where
+    by_format : (u : Bool) → nat_eq (u16_of l.table.now start) 1 ≡ u → found_by l b at start ≡ None
+    by_format true is =
+        ap (option_and_then (ligature_found l b at)) (set_of_format l b at start (grind (arith, nat_tests, is)))
+        ∙ none-by-set l b at (sifted.set_there l b.items at start) out
+    by_format false is = found_by_format l b at start is
+
+pub refused_step : (l : Lookup) (b : Buffer) (at i rest : ℕ) (s : SoughtLigature) → i ≡ 0
+    → charged_at_subtable l b.items at 0 s.left ≡ Some rest → IsRefused l b.items at
+    → sought_step l b at i s ≡ Some (record { left = rest; found = s.found })
+refused_step l b at i rest s first paid refused =
+    ap (λ k. sought_step l b at k s) first
+    ∙ ap (option_map (with_found s.found (found_in l b at 0))) paid
+    ∙ ap (λ f. Some (with_found s.found f rest)) (by_offset (offset16_of l.table.now l.place (l.place + 6)) refl)
+    ∙ ap (λ f. Some (record { left = rest; found = f })) (or-none s.found)
+  where
+    place : l.place + 6 + 2 * 0 ≡ l.place + 6
+    place = omega arith
+
+    by_offset : (o : Option ℕ) → offset16_of l.table.now l.place (l.place + 6) ≡ o → found_in l b at 0 ≡ None
+    by_offset None e = ap (option_and_then (found_by l b at)) (ap (offset16_of l.table.now l.place) place ∙ e)
+    by_offset (Some start) e = ap (option_and_then (found_by l b at)) (ap (offset16_of l.table.now l.place) place ∙ e)
+        ∙ none-by l b at start (refused start e)
 
 -- ---- those that don't begin at the glyph
 
@@ -143,7 +177,7 @@ module _ (l : Lookup) (b : Buffer) (at : ℕ) (gsub : l.positioning ≡ false) (
       by_offset None e = refl
       by_offset (Some start) e =
           let glyph = (item_at b at).glyph_id in
-          let there : subtable_at l i ≡ Some (record { kind = 4; start = start }) = ligature-subtable l i gsub type
+          let there : subtable_at l i ≡ Some (record { kind = 4; start = start }) = ligature_subtable l i gsub type
           ∙ ap (option_map (λ start. record { kind = 4; start = start })) e in
           let none = none-of (number_of l.table.now start glyph) (sym (begins-four l start glyph gsub) ∙ out (record { kind = 4; start = start }) there) in
           ap (option_and_then (ligature_found l b at)) (set-none l.table.now start glyph none)

@@ -15,6 +15,7 @@ use crate::ligature::{Components, matched_at};
 use crate::substitutes::{count, ligature_at};
 use layout_buffer::GapBuffer;
 use layout_matching::indexed::Indexed;
+use layout_matching::ligature_sets::left_if_refused;
 use layout_matching::ligatures::{Charge, ligatures_paid};
 use layout_matching::lookup::Lookup;
 use layout_tables::lookups::subtable_count;
@@ -167,6 +168,39 @@ fn sought_step(
     }
 }
 
+/// After subtable `i`. Of the first one what is stored of the glyph's set mostly says that none of
+/// its ligatures stands there.
+#[tactic(auto, using(crate::proofs::SoughtLemmas::refused_step))]
+#[inline(always)]
+fn sought_at(
+    indexed: &Indexed<'_>,
+    buffer: &GapBuffer,
+    at: usize,
+    i: u32,
+    sought: SoughtLigature,
+) -> Option<SoughtLigature>
+    requires place { indexed.now.lookup.now.place < 2 ^ 17 }
+    requires few { i < 2 ^ 16 }
+    requires inside { at < length buffer.now.items }
+    requires substitution { indexed.now.lookup.now.positioning ≡ false }
+    requires four { lookup_type_of indexed.now.lookup.now.table.now indexed.now.lookup.now.place ≡ 4 }
+    requires last { IfSome sought.found (λ m. m.last < length buffer.now.items) }
+    requires far { IfSome sought.found (λ m. m.ligature < 2 ^ 37) }
+    ensures value { result ≡ Seeking.sought_step indexed.now.lookup.now buffer.now at i sought }
+    ensures last { IfSome result (λ s. IfSome s.found (λ m. m.last < length buffer.now.items)) }
+    ensures far { IfSome result (λ s. IfSome s.found (λ m. m.ligature < 2 ^ 37)) }
+{
+    if i == 0 {
+        if let Some(left) = left_if_refused(indexed, &buffer.items(), at, sought.left) {
+            return Some(SoughtLigature {
+                left,
+                found: sought.found,
+            });
+        }
+    }
+    sought_step(indexed.lookup, buffer, at, i, sought)
+}
+
 /// The ligature that a lookup of type 4 makes at a place, and what is left after all that it may
 /// look at there; none if what was left doesn't suffice.
 #[tactic(auto, using(layout_matching::proofs::LoopLemmas::steps_none, layout_matching::proofs::LoopLemmas::steps_end, crate::proofs::SoughtLemmas::sought_whole))]
@@ -193,7 +227,7 @@ pub fn seek_ligature(
     let mut sought = SoughtLigature { left, found: None };
     let mut i = indexed.next_begun(0, count, glyph);
     while i < count {
-        match sought_step(indexed.lookup, buffer, at, i, sought) {
+        match sought_at(indexed, buffer, at, i, sought) {
             Some(more) => sought = more,
             None => return None,
         }

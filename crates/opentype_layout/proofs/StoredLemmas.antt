@@ -12,6 +12,9 @@ use Rattle.layout_matching.specs.declared.lookup.Lookup.{Lookup}
 use Rattle.layout_digests.specs.declared.digested.Digested.{Digested}
 use Rattle.layout_digests.specs.declared.stored.Head.{Head}
 use Rattle.layout_digests.specs.declared.stored.StoredLookup.{StoredLookup}
+use Rattle.layout_matching.specs.LigatureSets.{AreSets}
+use Rattle.layout_matching.specs.declared.ligature_sets.LigatureSet.{LigatureSet}
+use Rattle.layout_digests.specs.LigatureSets.{AreSetsAt}
 use Rattle.layout_digests.specs.Stored.{IsHead, IsStored, IsStoredAt}
 use Rattle.opentype_layout.specs.Digested.{IsSaid}
 use Rattle.opentype_layout.specs.Lookups.{lookup_at, lookup_by, lookup_of, steps_work_by}
@@ -63,6 +66,23 @@ known_said t m stored s h known is =
       digest = made.digest;
       firsts = λ i glyph below inside out. made.subtables i glyph below out;
     })
+
+-- the sets that are stored for an index are those of the lookup there
+pub sets_of_lookup : (t : LookupTables) (m : LookupMap) (l : Lookup) (sets : List LigatureSet) → Some l ≡ lookup_of t m
+    → AreSetsAt t.table.now m.index sets → AreSets l.table.now l.place sets
+sets_of_lookup t m l sets is held = by_place (tables.lookup_of t.table.now m.index) refl
+  where
+    by_place : (o : Option ℕ) → tables.lookup_of t.table.now m.index ≡ o → AreSets l.table.now l.place sets
+    by_place None e = absurd-none (is ∙ ap (option_map (lookup_at t m)) e)
+      where
+        absurd-none : Some l ≡ None → AreSets l.table.now l.place sets
+        absurd-none wrong = cc
+    by_place (Some place) e =
+        subst (λ (x : Lookup). AreSets x.table.now x.place sets) (some-same (lookup_at t m place) l (sym (is ∙ ap (option_map (lookup_at t m)) e)))
+        (held place e)
+      where
+        some-same : (a b : Lookup) → Some a ≡ Some b → a ≡ b
+        some-same a b e = cc
 
 pub work_of : (t : LookupTables) (m : LookupMap) (h : Head) → IsHead t.table.now h → t.positioning ≡ false
     → steps_work_by h m.random ≡ steps_work (lookup_by t m h)

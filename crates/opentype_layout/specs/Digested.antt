@@ -1,6 +1,9 @@
 -- lookups with digests that hold the glyphs that they may begin at, and the face that stores these
 use Rattle.std.specs.Prelude.{◌≡◌, ℕ, Bool, true, false, List, ◌<◌, ◌^◌}
+use Rattle.std.specs.Global.{Vec}
 use Rattle.layout_matching.specs.Firsts.{AreFirsts}
+use Rattle.layout_matching.specs.declared.ligature_sets.LigatureSet.{LigatureSet}
+use Rattle.layout_digests.specs.LigatureSets.{HoldSets}
 use Rattle.layout_digests.specs.Lookups.{IsDigest}
 use Rattle.layout_digests.specs.Stored.{AreStored}
 use Rattle.layout_digests.specs.declared.digested.Digested.{Digested}
@@ -20,9 +23,12 @@ pub record IsSaid (positioning : Bool) (d : Digested) : Type 0 where
 abbrev pub AreStoredOf : List ℕ → Bool → StoredLookups → Type 0
 AreStoredOf t positioning s = AreStored t positioning s.firsts.items s.lookups.items
 
--- the font of the face, opened, what is said of the first glyphs, and what is stored of each lookup of its tables
-pub record IsStored (opened : FontFace) (f : OpenTypeFace) (props : List ℕ) (substitution positioning : StoredLookups) : Type 0 where
+-- the font of the face, opened, what is said of the first glyphs, and what is stored of each lookup of its tables and of its sets of
+-- ligatures
+pub record IsStored (opened : FontFace) (f : OpenTypeFace) (props : List ℕ) (substitution positioning : StoredLookups)
+    (sets : List (Vec LigatureSet)) : Type 0 where
   pub font : opened ≡ f.font
   pub classes : AreProps f.gdef.now props
   pub gsub : AreStoredOf f.gsub.now false substitution
   pub gpos : AreStoredOf f.gpos.now true positioning
+  pub ligatures : HoldSets f.gsub.now sets

@@ -233,6 +233,7 @@ impl<'a> hb_ot_layout_t<OpenTypeFace<'a>> for OpenTypeLayout {
             Stored {
                 lookups: &[],
                 firsts: &[],
+                sets: &[],
             },
             map.gsub_lookups(i),
             buffer,
@@ -283,6 +284,7 @@ impl<'a> hb_ot_layout_t<OpenTypeFace<'a>> for OpenTypeLayout {
         let none = Stored {
             lookups: &[],
             firsts: &[],
+            sets: &[],
         };
         position_by(gpos_tables(face), none, map.gpos_lookups(), buffer);
         Ok(())

@@ -1,6 +1,7 @@
 //! The lookups of a plan, ready to be applied.
-ghost use Rattle.std.specs.Prelude.{◌≡◌, ◌<◌, ◌^◌};
+ghost use Rattle.std.specs.Prelude.{◌≡◌, ◌<◌, ◌^◌, ℕ, List};
 ghost use Rattle.std.specs.Option.{IfSome, option_map};
+ghost use Rattle.layout_digests.specs.LigatureSets.{AreSetsAt, HoldSets};
 ghost use Rattle.layout_digests.specs.Stored.{AreStored, IsHead, IsStoredAt};
 ghost use Rattle.layout_digests.specs.declared.stored.Head.{Head as HeadOf};
 ghost use Rattle.layout_digests.specs.declared.digested.Digested.{Digested as DigestedLookup};
@@ -12,6 +13,7 @@ use layout_digests::stored::head_at;
 use layout_digests::{Digest, Digested, Head, StoredLookup};
 use layout_map::lookups::LookupMap;
 use layout_matching::firsts::{First, Firsts};
+use layout_matching::ligature_sets::LigatureSet;
 use layout_matching::lookup::Lookup;
 use layout_tables::lookups::lookup_count;
 use layout_tables::offsets::{header_offset, offset16};
@@ -27,11 +29,29 @@ pub struct LookupTables<'a> {
     pub positioning: bool,
 }
 
-/// What is stored of the lookups of a table, and of their subtables. None need be stored.
+/// What is stored of the lookups of a table, of their subtables, and of their sets of ligatures.
+/// None need be stored.
 #[derive(Clone, Copy)]
 pub struct Stored<'a> {
     pub lookups: &'a [StoredLookup],
     pub firsts: &'a [First],
+    pub sets: &'a [Vec<LigatureSet>],
+}
+
+impl<'a> Stored<'a> {
+    /// What is stored of the sets of ligatures of the lookup with this index.
+    #[inline(always)]
+    pub(crate) fn sets_of(&self, index: u16) -> &'a [LigatureSet]
+        ensures { (table : List ℕ) → HoldSets table self.now.sets.now
+            → AreSetsAt table index result.now }
+    {
+        let i = usize::from(index);
+        if i < self.sets.len() {
+            self.sets[i].as_slice()
+        } else {
+            &[]
+        }
+    }
 }
 
 /// The list of lookups of a table, read once for all lookups of a stage: where it stands, and how

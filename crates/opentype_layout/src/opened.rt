@@ -1,6 +1,7 @@
 //! The face that is opened once, for the engine.
 ghost use Rattle.std.specs.Prelude.{◌≡◌, true, false, IfOk, IsOkUnless};
 ghost use Rattle.kern_table.specs.Pairs.{HoldSides};
+ghost use Rattle.layout_digests.specs.LigatureSets.{HoldSets};
 ghost use Rattle.layout_digests.specs.Stored.{AreStored};
 ghost use Rattle.opentype_layout.specs.Face.{opentype_face};
 
@@ -9,8 +10,10 @@ use crate::face::OpenTypeFace;
 use crate::lookups::Stored;
 use kern_table::Sides;
 use layout_digests::StoredLookups;
+use layout_digests::ligature_sets::stored_sets;
 use layout_digests::lookups::Lookups;
 use layout_digests::stored::stored;
+use layout_matching::ligature_sets::LigatureSet;
 use opened_face::OpenedFace;
 use shape_buffer::{GlyphId, ShapeError, hb_font_t, hb_glyph_extents_t, hb_tables_t};
 use std::alloc::Global;
@@ -19,7 +22,8 @@ use std::marker::Model;
 /// A face over the bytes of a font file with tables beside it: those of [`OpenedFace`], for each
 /// glyph what `GDEF` says of it, in 2 bytes, for each lookup of `GSUB` and `GPOS` what it begins
 /// with and a digest of the glyphs that it may begin at, in 88 bytes with the place of those of its
-/// subtables, and for these 24 each. It returns what the [`OpenTypeFace`] returns, and contracts
+/// subtables, and for these 24 each; and for each set of ligatures what it costs and the second
+/// components, in 40. It returns what the [`OpenTypeFace`] returns, and contracts
 /// see it as that face.
 #[derive(Drop)]
 pub struct OpenedOpenTypeFace<'a> {
@@ -28,6 +32,7 @@ pub struct OpenedOpenTypeFace<'a> {
     props: Vec<u16>,
     substitution: StoredLookups,
     positioning: StoredLookups,
+    sets: Vec<Vec<LigatureSet>>,
 }
 
 impl<'a> Model for OpenedOpenTypeFace<'a> {
@@ -38,7 +43,7 @@ impl<'a> Model for OpenedOpenTypeFace<'a> {
 
     ghost view = { λ o. o.face };
 
-    ghost invariant = { λ o. IsStored o.font o.face o.props.items o.substitution o.positioning };
+    ghost invariant = { λ o. IsStored o.font o.face o.props.items o.substitution o.positioning o.sets.items };
 }
 
 impl<'a> OpenedOpenTypeFace<'a> {
@@ -61,12 +66,14 @@ impl<'a> OpenedOpenTypeFace<'a> {
         };
         let substitution = stored(alloc, gsub)?;
         let positioning = stored(alloc, gpos)?;
+        let sets = stored_sets(alloc, face.gsub())?;
         Ok(OpenedOpenTypeFace {
             face,
             font,
             props,
             substitution,
             positioning,
+            sets,
         })
     }
 
@@ -93,11 +100,13 @@ impl<'a> OpenedOpenTypeFace<'a> {
 
     /// What is stored of the lookups of `GSUB`.
     pub(crate) fn stored_gsub(&self) -> Stored<'_>
-        ensures { AreStored self.now.gsub.now false result.firsts.now result.lookups.now }
+        ensures stored { AreStored self.now.gsub.now false result.firsts.now result.lookups.now }
+        ensures sets { HoldSets self.now.gsub.now result.sets.now }
     {
         Stored {
             lookups: self.substitution.lookups.as_slice(),
             firsts: self.substitution.firsts.as_slice(),
+            sets: self.sets.as_slice(),
         }
     }
 
@@ -108,6 +117,7 @@ impl<'a> OpenedOpenTypeFace<'a> {
         Stored {
             lookups: self.positioning.lookups.as_slice(),
             firsts: self.positioning.firsts.as_slice(),
+            sets: &[],
         }
     }
 }

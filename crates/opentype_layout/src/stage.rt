@@ -8,6 +8,7 @@ ghost use Rattle.std.specs.Option.{IfSome};
 ghost use Rattle.shape_items.specs.Items.{Item};
 ghost use Rattle.shape_buffer.specs.Outcome.{IsWithinLimit, Outcome, step};
 ghost use Rattle.shape_buffer.specs.declared.buffer.error.ShapeError.TheVariants.{Length};
+ghost use Rattle.layout_digests.specs.LigatureSets.{HoldSets};
 ghost use Rattle.layout_digests.specs.Stored.{AreStored};
 ghost use Rattle.layout_matching.specs.declared.lookup.Lookup.{Lookup};
 ghost use Rattle.layout_substitution.specs.Edits.{is_past};
@@ -179,10 +180,13 @@ fn apply_one(
         ≡ true }
 {
     match digested(stage.tables, stage.list, stage.stored, map) {
-        Some(named) => match look_up(alloc, &named, buffer, spot) {
-            Err(error) => Err(error),
-            Ok(next) => Ok(next),
-        },
+        Some(named) => {
+            let sets = stage.stored.sets_of(map.index);
+            match look_up(alloc, &named, sets, buffer, spot) {
+                Err(error) => Err(error),
+                Ok(next) => Ok(next),
+            }
+        }
         None => Ok(spot),
     }
 }
@@ -307,6 +311,7 @@ pub(crate) fn substitute_by(
     requires within { IsWithinLimit buffer.old }
     requires kind { tables.positioning ≡ false }
     requires stored { AreStored tables.table.now false stored.firsts.now stored.lookups.now }
+    requires sets { HoldSets tables.table.now stored.sets.now }
     ensures { Outcome (step (substituted (lookups_of tables.entry maps.now)))
         buffer.old buffer.new result }
 {

@@ -1,4 +1,5 @@
 use Rattle.std.proofs.Common.{◌≡◌, true, false, rules, ap, subst}
+use Rattle.layout_digests.specs.LigatureSets.{HoldSets}
 use Rattle.layout_digests.specs.Stored.{AreStored}
 use Rattle.opentype_layout.specs.Classes.{AreProps}
 use Rattle.opentype_layout.proofs.opened.OpenedOpenTypeFace.new.Goals as goal
@@ -16,4 +17,5 @@ invariant_of-result c =
       classes = subst (λ t. AreProps t c.in_ok-props.props.items) gdef c.in_ok-props.ensures.ok;
       gsub = subst (λ t. AreStored t false substitution.firsts.items substitution.lookups.items) gsub c.in_ok-substitution.ensures.ok;
       gpos = subst (λ t. AreStored t true positioning.firsts.items positioning.lookups.items) gpos c.in_ok-positioning.ensures.ok;
+      ligatures = subst (λ t. HoldSets t c.in_ok-sets.sets.items) (ap (λ t. t.now) c.gsub-2.ensures) c.in_ok-sets.ensures.ok;
     }
