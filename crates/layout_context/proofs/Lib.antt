@@ -4,6 +4,7 @@ pub mod AttemptLemmas
 pub mod OnceLemmas
 pub mod ReverseLemmas
 pub mod StageLemmas
+pub mod KeptLemmas
 pub mod CoveredLemmas
 mod OffWalks
 pub mod DigestLemmas

@@ -1,6 +1,6 @@
 //! The digest of a list, which tells at once which lookups find no glyph there. Lookups change the
 //! list, so it is made anew where enough of them are left.
-ghost use Rattle.std.specs.Prelude.{◌≡◌};
+ghost use Rattle.std.specs.Prelude.{◌≡◌, true};
 ghost use Rattle.layout_digests.specs.Digests.{IsWithin};
 ghost use Rattle.layout_context.specs.Digested.{HoldsGlyphs};
 
@@ -57,15 +57,26 @@ pub fn digest_for(lookups: usize, items: &ItemList<'_>) -> Digest
     }
 }
 
-/// A digest that holds the glyphs of a list that a lookup has gone over, where so many lookups are
+/// A digest that holds the glyphs of a list that a lookup has changed, where so many lookups are
 /// left. For few it holds every glyph.
 #[inline(never)]
-pub fn renewed(rest: usize, items: &ItemList<'_>) -> Digest
+fn renewed(rest: usize, items: &ItemList<'_>) -> Digest
     ensures { HoldsGlyphs result items.now }
 {
     if rest < WORTH_RENEWING {
         Digest::every()
     } else {
         digest_of(items)
+    }
+}
+
+/// Makes the digest of a list anew, for so many lookups, unless the list was kept as it was.
+#[inline(always)]
+pub fn renew(run: &mut Digest, is_kept: bool, rest: usize, items: &ItemList<'_>)
+    requires { is_kept ≡ true → HoldsGlyphs run.old items.now }
+    ensures { HoldsGlyphs run.new items.now }
+{
+    if !is_kept {
+        *run = renewed(rest, items);
     }
 }

@@ -1,16 +1,17 @@
 //! Lookups over a buffer, nested ones included, and stages of lookups.
-ghost use Rattle.std.specs.Prelude.{◌≡◌, ℕ, ◌<◌, ◌≤◌, ◌-◌, ◌^◌, length, true, false, IfOk, IsErrOf};
+ghost use Rattle.std.specs.Prelude.{◌≡◌, ℕ, ◌<◌, ◌≤◌, ◌-◌, ◌^◌, None, length, true, false, IfOk, IsErrOf};
+ghost use Rattle.std.specs.Option.{unwrap_or};
 ghost use Rattle.shape_buffer.specs.declared.buffer.error.ShapeError.TheVariants.{Length};
 ghost use Rattle.layout_matching.specs.Loops.{times};
 ghost use Rattle.layout_matching.specs.LigatureSets.{AreSets};
 ghost use Rattle.layout_matching.specs.Skipping.{is_on};
-ghost use Rattle.layout_substitution.specs.Edits.{is_inside, is_past, item_at};
+ghost use Rattle.layout_substitution.specs.Edits.{asks_for_concat as is_concat_asked, is_inside, is_past, item_at};
 ghost use Rattle.layout_context.specs.Nested.{nested_applied};
 ghost use Rattle.layout_context.specs.Stages;
 ghost use Rattle.layout_context.specs.Digested.{IsDigested};
 
 use crate::meeting::unmet;
-use crate::nested::{apply_charged, with_left};
+use crate::nested::{Tried, apply_charged, with_left};
 use crate::reverse::{is_reverse, reverse};
 use layout_buffer::GapBuffer;
 use layout_digests::Digested;
@@ -18,8 +19,16 @@ use layout_matching::indexed::Indexed;
 use layout_matching::ligature_sets::LigatureSet;
 use layout_matching::work::walk_work;
 use layout_substitution::apply::Spot;
+use layout_substitution::edits::asks_for_concat;
 use shape_buffer::ShapeError;
 use std::alloc::Global;
+
+/// Where a lookup goes on, and whether it is known to have left the buffer as it was.
+#[derive(Clone, Copy)]
+pub struct Looked {
+    pub spot: Spot,
+    pub is_kept: bool,
+}
 
 fn next_spot(spot: Spot, count: usize) -> Spot
     requires { spot.at < count }
@@ -30,21 +39,50 @@ fn next_spot(spot: Spot, count: usize) -> Spot
     next
 }
 
+/// Where a lookup goes on that was tried at a place. One that wasn't applied goes on at the next.
+#[inline(always)]
+fn gone_on(tried: Tried, next: Spot) -> Looked
+    ensures spot { result.spot ≡ unwrap_or tried.next (record next { left = tried.left }) }
+    ensures kept { result.is_kept ≡ true → tried.next ≡ None }
+{
+    match tried.next {
+        Some(spot) => Looked {
+            spot,
+            is_kept: false,
+        },
+        None => Looked {
+            spot: with_left(next, tried.left),
+            is_kept: true,
+        },
+    }
+}
+
+/// Whether two steps one after the other left the buffer as it was.
+#[inline(always)]
+fn both_kept(before: bool, now: bool) -> bool
+    ensures before { result ≡ true → before ≡ true }
+    ensures now { result ≡ true → now ≡ true }
+{
+    before && now
+}
+
 /// Applies the lookup at one place, if what is left suffices for what it may try there. Else
 /// nothing is left.
-#[tactic(auto, using(crate::proofs::AttemptLemmas::walk_tried))]
+#[tactic(auto, using(crate::proofs::AttemptLemmas::walk_tried, crate::proofs::KeptLemmas::attempt_unpaid, crate::proofs::KeptLemmas::attempt_kept))]
 fn try_at(
     alloc: Global,
     levels: u32,
     indexed: &Indexed<'_>,
     buffer: &mut GapBuffer,
     spot: Spot,
-) -> Result<Spot, ShapeError>
+) -> Result<Looked, ShapeError>
     requires near { indexed.now.lookup.now.place < 2 ^ 17 }
     requires inside { spot.at < length buffer.old.items }
-    ensures ok { IfOk result (λ next. record { buffer = buffer.new; spot = next }
+    ensures ok { IfOk result (λ next. record { buffer = buffer.new; spot = next.spot }
         ≡ Stages.tried (nested_applied levels indexed.now.lookup.now) indexed.now.lookup.now
         (record { buffer = buffer.old; spot = spot })) }
+    ensures kept { IfOk result (λ next. next.is_kept ≡ true → is_concat_asked buffer.old ≡ false
+        → buffer.new ≡ buffer.old) }
     ensures length { IsErrOf result Length
         → is_past (Stages.tried (nested_applied levels indexed.now.lookup.now) indexed.now.lookup.now
         (record { buffer = buffer.old; spot = spot })).buffer ≡ true }
@@ -52,8 +90,11 @@ fn try_at(
     let next = next_spot(spot, buffer.len());
     match apply_charged(alloc, levels, indexed, buffer, spot) {
         Err(error) => Err(error),
-        Ok(None) => Ok(with_left(next, 0)),
-        Ok(Some(tried)) => Ok(tried.next.unwrap_or(with_left(next, tried.left))),
+        Ok(None) => Ok(Looked {
+            spot: with_left(next, 0),
+            is_kept: true,
+        }),
+        Ok(Some(tried)) => Ok(gone_on(tried, next)),
     }
 }
 
@@ -65,14 +106,16 @@ fn step_met(
     indexed: &Indexed<'_>,
     buffer: &mut GapBuffer,
     spot: Spot,
-) -> Result<Spot, ShapeError>
+) -> Result<Looked, ShapeError>
     requires near { indexed.now.lookup.now.place < 2 ^ 17 }
     requires within { is_past buffer.old ≡ false }
     requires inside { is_inside spot.at buffer.old ≡ true }
     requires on { is_on indexed.now.lookup.now (item_at buffer.old spot.at) ≡ true }
-    ensures ok { IfOk result (λ next. record { buffer = buffer.new; spot = next }
+    ensures ok { IfOk result (λ next. record { buffer = buffer.new; spot = next.spot }
         ≡ Stages.lookup_step (nested_applied levels indexed.now.lookup.now) indexed.now.lookup.now
         (record { buffer = buffer.old; spot = spot })) }
+    ensures kept { IfOk result (λ next. next.is_kept ≡ true → is_concat_asked buffer.old ≡ false
+        → buffer.new ≡ buffer.old) }
     ensures length { IsErrOf result Length
         → is_past (Stages.lookup_step (nested_applied levels indexed.now.lookup.now) indexed.now.lookup.now
         (record { buffer = buffer.old; spot = spot })).buffer ≡ true }
@@ -133,17 +176,20 @@ fn walk(
     sets: &[LigatureSet],
     buffer: &mut GapBuffer,
     spot: Spot,
-) -> Result<Spot, ShapeError>
+) -> Result<Looked, ShapeError>
     requires said { IsDigested named.now }
     requires sets { AreSets named.now.lookup.table.now named.now.lookup.place sets.now }
-    ensures ok { IfOk result (λ next. record { buffer = buffer.new; spot = next }
+    ensures ok { IfOk result (λ next. record { buffer = buffer.new; spot = next.spot }
         ≡ Stages.walked (nested_applied levels named.now.lookup) named.now.lookup
         (record { buffer = buffer.old; spot = spot })) }
+    ensures kept { IfOk result (λ next. next.is_kept ≡ true → buffer.new ≡ buffer.old) }
     ensures length { IsErrOf result Length
         → is_past (Stages.walked (nested_applied levels named.now.lookup) named.now.lookup
         (record { buffer = buffer.old; spot = spot })).buffer ≡ true }
 {
     let count = buffer.len();
+    let indexed = Indexed::with_sets(&named.lookup, named.firsts, sets);
+    let mut is_kept = !asks_for_concat(buffer);
     let mut spot = Spot {
         at: 0,
         random: spot.random,
@@ -156,15 +202,17 @@ fn walk(
         spot = passed.spot;
         done += passed.steps;
         if passed.is_met {
-            let indexed = Indexed::with_sets(&named.lookup, named.firsts, sets);
             match step_met(alloc, levels, &indexed, buffer, spot) {
                 Err(error) => return Err(error),
-                Ok(next) => spot = next,
+                Ok(next) => {
+                    spot = next.spot;
+                    is_kept = both_kept(is_kept, next.is_kept);
+                }
             }
             done += 1;
         }
     }
-    Ok(spot)
+    Ok(Looked { spot, is_kept })
 }
 
 /// Goes over a buffer, forwards or backwards.
@@ -175,18 +223,22 @@ fn go_over(
     sets: &[LigatureSet],
     buffer: &mut GapBuffer,
     spot: Spot,
-) -> Result<Spot, ShapeError>
+) -> Result<Looked, ShapeError>
     requires said { IsDigested named.now }
     requires sets { AreSets named.now.lookup.table.now named.now.lookup.place sets.now }
-    ensures ok { IfOk result (λ next. record { buffer = buffer.new; spot = next }
+    ensures ok { IfOk result (λ next. record { buffer = buffer.new; spot = next.spot }
         ≡ Stages.gone_over levels named.now.lookup (record { buffer = buffer.old; spot = spot })) }
+    ensures kept { IfOk result (λ next. next.is_kept ≡ true → buffer.new ≡ buffer.old) }
     ensures length { IsErrOf result Length
         → is_past (Stages.gone_over levels named.now.lookup
         (record { buffer = buffer.old; spot = spot })).buffer ≡ true }
 {
     if is_reverse(&named.lookup) {
         let left = reverse(&named.lookup, buffer, spot.left);
-        return Ok(with_left(spot, left));
+        return Ok(Looked {
+            spot: with_left(spot, left),
+            is_kept: false,
+        });
     }
     walk(alloc, levels, named, sets, buffer, spot)
 }
@@ -215,19 +267,23 @@ pub fn look_up(
     sets: &[LigatureSet],
     buffer: &mut GapBuffer,
     spot: Spot,
-) -> Result<Spot, ShapeError>
+) -> Result<Looked, ShapeError>
     requires said { IsDigested named.now }
     requires sets { AreSets named.now.lookup.table.now named.now.lookup.place sets.now }
-    ensures ok { IfOk result (λ next. record { buffer = buffer.new; spot = next }
+    ensures ok { IfOk result (λ next. record { buffer = buffer.new; spot = next.spot }
         ≡ Stages.looked_up Stages.most_levels named.now.lookup
         (record { buffer = buffer.old; spot = spot })) }
+    ensures kept { IfOk result (λ next. next.is_kept ≡ true → buffer.new ≡ buffer.old) }
     ensures length { IsErrOf result Length
         → is_past (Stages.looked_up Stages.most_levels named.now.lookup
         (record { buffer = buffer.old; spot = spot })).buffer ≡ true }
 {
     let work = walk_work(&named.lookup, buffer.len());
     if spot.left < work {
-        return Ok(charge_walk(work, spot));
+        return Ok(Looked {
+            spot: charge_walk(work, spot),
+            is_kept: true,
+        });
     }
     go_over(
         alloc,

@@ -20,8 +20,8 @@ ghost use Rattle.opentype_layout.specs.Stage as Stages;
 use crate::lookups::{LookupList, LookupTables, Stored, digested, list_of, stored_at};
 use layout_buffer::{GapBuffer, ItemList};
 use layout_context::meeting::is_unmet;
-use layout_context::run_digest::{digest_for, renewed};
-use layout_context::stages::look_up;
+use layout_context::run_digest::{digest_for, renew};
+use layout_context::stages::{Looked, look_up};
 use layout_digests::{Digest, Head};
 use layout_map::lookups::LookupMap;
 use layout_matching::work::{PLAIN_WORK, STEP_WORK, walk_work};
@@ -171,10 +171,11 @@ fn apply_one(
     map: &LookupMap,
     buffer: &mut GapBuffer,
     spot: Spot,
-) -> Result<Spot, ShapeError>
+) -> Result<Looked, ShapeError>
     requires { Stages.AreReady stage.now }
-    ensures ok { IfOk result (λ next. (ls : List Lookup) → Stages.made_by ls buffer.new next
+    ensures ok { IfOk result (λ next. (ls : List Lookup) → Stages.made_by ls buffer.new next.spot
         ≡ Stages.made_by (Stages.after (lookup_of stage.now.tables map.now) ls) buffer.old spot) }
+    ensures kept { IfOk result (λ next. next.is_kept ≡ true → buffer.new ≡ buffer.old) }
     ensures length { IsErrOf result Length → (ls : List Lookup)
         → is_past (Stages.made_by (Stages.after (lookup_of stage.now.tables map.now) ls) buffer.old spot)
         ≡ true }
@@ -187,7 +188,10 @@ fn apply_one(
                 Ok(next) => Ok(next),
             }
         }
-        None => Ok(spot),
+        None => Ok(Looked {
+            spot,
+            is_kept: true,
+        }),
     }
 }
 
@@ -196,9 +200,11 @@ fn apply_from(
     alloc: Global,
     stage: &StageLookups<'_>,
     from: Progress,
+    first: &Digest,
     buffer: &mut GapBuffer,
 ) -> Result<(), ShapeError>
     requires ready { Stages.AreReady stage.now }
+    requires run { HoldsGlyphs first.now buffer.old.items }
     requires inside { from.next ≤ length stage.now.maps.now }
     ensures ok { OnOk result (buffer.new ≡ Stages.made_from stage.now.tables stage.now.maps.now from.next
         buffer.old (record { at = 0; random = 1; left = from.left; whole = 0 })) }
@@ -212,14 +218,18 @@ fn apply_from(
         left: from.left,
         whole: 0,
     };
+    let mut run = *first;
     let mut next = from.next;
     while next < stage.maps.len() {
         match apply_one(alloc, stage, &stage.maps[next], buffer, spot) {
             Err(error) => return Err(error),
-            Ok(there) => spot = there,
+            Ok(there) => {
+                spot = there.spot;
+                let rest = stage.maps.len() - next - 1;
+                renew(&mut run, there.is_kept, rest, &buffer.items());
+            }
         }
         next += 1;
-        let run = renewed(stage.maps.len() - next, &buffer.items());
         let left = spot.left;
         let on = skip(stage, Progress { next, left }, &run, buffer.len());
         next = on.next;
@@ -245,9 +255,11 @@ fn apply_opened(
     alloc: Global,
     stage: &StageLookups<'_>,
     from: Progress,
+    run: &Digest,
     buffer: &mut hb_buffer_t,
 ) -> Result<(), ShapeError>
     requires ready { Stages.AreReady stage.now }
+    requires run { HoldsGlyphs run.now buffer.old.items }
     requires inside { from.next ≤ length stage.now.maps.now }
     ensures ok { OnOk result (buffer.new ≡ Stages.made_from stage.now.tables stage.now.maps.now from.next
         buffer.old (record { at = 0; random = 1; left = from.left; whole = 0 })) }
@@ -256,7 +268,7 @@ fn apply_opened(
         (record { at = 0; random = 1; left = from.left; whole = 0 })) ≡ true }
 {
     let mut walk = GapBuffer::open(alloc, buffer);
-    match apply_from(alloc, stage, from, &mut walk) {
+    match apply_from(alloc, stage, from, run, &mut walk) {
         Err(error) => {
             *buffer = walk.abandon();
             Err(error)
@@ -292,7 +304,7 @@ fn apply_stage(
     let run = digest_for(stage.maps.len(), &ItemList::of_slice(buffer.infos()));
     let met = first_met(stage, &run, buffer);
     if met.next < stage.maps.len() {
-        return apply_opened(alloc, stage, met, buffer);
+        return apply_opened(alloc, stage, met, &run, buffer);
     }
     buffer.set_max_ops(met.left);
     Ok(())
