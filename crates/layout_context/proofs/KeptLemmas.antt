@@ -148,11 +148,13 @@ attempt_unpaid level l spot b c is = by_charge (place_charged l b.items (origin_
     by_charge None e = ap (λ (a : Attempt). a.buffer) e
     by_charge (Some left) e = never (sym (ap (λ (a : Attempt). is_some a.tried) e))
 
-pub attempt_kept : (level : ℕ) (l : Lookup) (spot : Spot) (b c : Buffer) (t : Tried)
-    → record { buffer = c; tried = Some t } ≡ place_attempt level l spot b → t.next ≡ None → asks_for_concat b ≡ false → c ≡ b
-attempt_kept level l spot b c t is none unasked = by_charge (place_charged l b.items (origin_of spot b) spot.left) is
+pub attempt_kept : (level : ℕ) (l : Lookup) (spot : Spot) (b c : Buffer) (o : Option Tried) (t : Tried)
+    → record { buffer = c; tried = o } ≡ place_attempt level l spot b → o ≡ Some t → t.next ≡ None → asks_for_concat b ≡ false → c ≡ b
+attempt_kept level l spot b c o t is some none unasked =
+    by_charge (place_charged l b.items (origin_of spot b) spot.left)
+    (subst (λ (p : Option Tried). record { buffer = c; tried = p } ≡ place_attempt level l spot b) some is)
   where
-    by_charge : (o : Option ℕ) → record { buffer = c; tried = Some t } ≡ attempt_by level l spot b o → c ≡ b
+    by_charge : (charge : Option ℕ) → record { buffer = c; tried = Some t } ≡ attempt_by level l spot b charge → c ≡ b
     by_charge None e = never (ap (λ (a : Attempt). is_some a.tried) e)
     by_charge (Some left) e =
         let there : Spot = record spot { left = left } in

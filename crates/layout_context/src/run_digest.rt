@@ -27,6 +27,20 @@ fn with_piece(digest: Digest, infos: &[hb_glyph_info_t]) -> Digest
     all
 }
 
+/// A digest of no glyph, whose words are filled that `may_share` doesn't compare: so these stay as
+/// they are where a list is gone over.
+#[inline(always)]
+fn first_digest() -> Digest {
+    Digest {
+        fine: 0,
+        halves: u64::MAX,
+        quarters: u64::MAX,
+        middle: 0,
+        blocks: u64::MAX,
+        coarse: 0,
+    }
+}
+
 /// A digest that holds the glyphs of a list. It is gone over in the two pieces in which it is
 /// stored.
 #[inline(always)]
@@ -34,7 +48,7 @@ fn with_piece(digest: Digest, infos: &[hb_glyph_info_t]) -> Digest
 fn digest_of(items: &ItemList<'_>) -> Digest
     ensures { HoldsGlyphs result items.now }
 {
-    let mut all = Digest::new();
+    let mut all = first_digest();
     let mut at = 0;
     while at < items.len() {
         let piece = items.piece(at);

@@ -21,7 +21,7 @@ returns-in-Err-clause-length c =
     c.loop-done.invariant.made (c.pass_over-passed.ensures.passed c.args.levels) in
     let more : c.loop-done.done + c.pass_over-passed.result.steps < n = omega (arith, c.pass_over-passed.ensures.more c.if-passed.true, c.len-count.ensures.items) in
     λ is. past_times (nested_applied c.args.levels l) l n (c.loop-done.done + c.pass_over-passed.result.steps) first there more on
-    (subst (λ (k : Lookup). is_past (lookup_step (nested_applied c.args.levels k) k there).buffer ≡ true) c.new-indexed.ensures
+    (subst (λ (k : Lookup). is_past (lookup_step (nested_applied c.args.levels k) k there).buffer ≡ true) c.with_sets-indexed.ensures
     (c.in-Err.ensures.length is))
 
 pub loop-done-preserved-then-passed : goal.loop-done-preserved-then-passed
@@ -37,7 +37,7 @@ loop-done-preserved-then-passed c =
     record {
       within = omega (arith, c.pass_over-passed.ensures.more c.if-passed.true, c.loop-done-test.true);
       made = times_step (lookup_step (nested_applied c.args.levels l) l) (c.loop-done.done + c.pass_over-passed.result.steps) first there next on
-          (subst (λ (k : Lookup). next ≡ lookup_step (nested_applied c.args.levels k) k there) c.new-indexed.ensures c.in-Ok.ensures.ok);
+          (subst (λ (k : Lookup). next ≡ lookup_step (nested_applied c.args.levels k) k there) c.with_sets-indexed.ensures c.in-Ok.ensures.ok);
       unasked = λ is. c.loop-done.invariant.unasked (c.both_kept-is_kept.ensures.before is);
       kept = λ is.
           let before = c.both_kept-is_kept.ensures.before is in
