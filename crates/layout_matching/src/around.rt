@@ -26,8 +26,29 @@ pub struct GlancedSet {
     pub before: Glance,
 }
 
-/// What the glyph before a place says of the rules of a subtable.
+/// What the glyph before a place says of the chained rules of a subtable.
 #[inline(never)]
+fn look_back_chained(
+    lookup: &Lookup<'_>,
+    items: &ItemList<'_>,
+    origin: Origin,
+    subtable: LookupSubtable,
+) -> Glance
+    requires near { subtable.start < 2 ^ 35 }
+    requires inside { origin.at < length items.now }
+    requires chained { is_chained lookup.now subtable ≡ true }
+    ensures { result ≡ (glances.glances_in lookup.now items.now origin subtable).before }
+{
+    let is_chain = found::is_chained(lookup, subtable);
+    let rows = rows_of(lookup.table, is_chain, subtable.start);
+    let first = items.item(origin.at);
+    let row = row_of(rows.test, rows.before, 0, 0);
+    let back = seek_around(lookup, &first, origin.is_steady, row);
+    glance_before(lookup, &back, items, origin.at)
+}
+
+/// What the glyph before a place says of the rules of a subtable.
+#[inline(always)]
 fn look_back(
     lookup: &Lookup<'_>,
     items: &ItemList<'_>,
@@ -38,15 +59,11 @@ fn look_back(
     requires inside { origin.at < length items.now }
     ensures { result ≡ (glances.glances_in lookup.now items.now origin subtable).before }
 {
-    let is_chain = found::is_chained(lookup, subtable);
-    if !is_chain {
-        return Glance::Open;
+    if found::is_chained(lookup, subtable) {
+        look_back_chained(lookup, items, origin, subtable)
+    } else {
+        Glance::Open
     }
-    let rows = rows_of(lookup.table, is_chain, subtable.start);
-    let first = items.item(origin.at);
-    let row = row_of(rows.test, rows.before, 0, 0);
-    let back = seek_around(lookup, &first, origin.is_steady, row);
-    glance_before(lookup, &back, items, origin.at)
 }
 
 /// The set of rules at a place of the table, seen from `origin`.

@@ -300,6 +300,7 @@ pub fn find(indexed: &Indexed<'_>, items: &ItemList<'_>, origin: Origin) -> Opti
 }
 
 /// Subtable `i` of the lookup; none if its offset is NULL.
+#[inline(always)]
 pub fn subtable_at(lookup: &Lookup<'_>, i: u32) -> Option<LookupSubtable>
     requires near { lookup.now.place < 2 ^ 17 }
     requires few { i < 2 ^ 16 }
@@ -312,6 +313,7 @@ pub fn subtable_at(lookup: &Lookup<'_>, i: u32) -> Option<LookupSubtable>
 /// The first subtable of the lookup whose offset isn't NULL. All subtables are of the type of the
 /// lookup, or of the one that its extensions stand for.
 #[tactic(auto, using(crate::proofs::LoopLemmas::first_some_next, crate::proofs::LoopLemmas::first_some_found, crate::proofs::LoopLemmas::first_some_end))]
+#[inline(always)]
 pub fn first_subtable(lookup: &Lookup<'_>) -> Option<LookupSubtable>
     requires { lookup.now.place < 2 ^ 17 }
     ensures { result ≡ found_rules.first_subtable lookup.now }
