@@ -1,5 +1,6 @@
 mod BracketLemmas
 mod CanonicalLemmas
+mod DirectionLemmas
 mod LastStepLemmas
 mod MirrorLemmas
 mod OrderLemmas
