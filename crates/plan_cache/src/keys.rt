@@ -116,11 +116,10 @@ impl PlanKey {
         requires script { script ≡ guessed_script U.unicode text.now }
         ensures { IsTrue result ↔ IsFor U.unicode self.now face features.now text.now }
     {
-        let spoken = same_language(self.language.as_ref(), text.language());
         self.face == face
             && direction == self.direction
             && script == self.script
-            && spoken
+            && same_language(self.language.as_ref(), text.language())
             && same_features(self.features.as_slice(), features)
     }
 
