@@ -9,9 +9,9 @@ ghost use Rattle.c_runs.specs.Texts.{text_of_run, units_of};
 use crate::plain::{luthgarn_glyph, luthgarn_outcome, luthgarn_run};
 use crate::refusal::{DONE, Refusal};
 use crate::shaper::TextShaper;
-use crate::texts::{Text, filled};
+use crate::texts::{Text, fill};
 use crate::written::{count, write};
-use shape_buffer::buffer::GlyphBuffer;
+use shape_buffer::buffer::{GlyphBuffer, UnicodeBuffer};
 use std::alloc::Global;
 
 /// What stops a call: why, and how many glyphs found no room.
@@ -38,8 +38,9 @@ fn shape_run<S: TextShaper>(
     ensures err { IfErr result (λ e. IsRefused (TextPasses (S.runs shaper.old)
         (text_of_run (units_of text.entry) run.now)) (units_of text.entry) run.now e) }
 {
-    let text = filled(alloc, text, run)?;
-    let glyphs = shaper.shape(alloc, text)?;
+    let mut buffer = UnicodeBuffer::new(alloc);
+    fill(alloc, text, run, &mut buffer)?;
+    let glyphs = shaper.shape(alloc, buffer)?;
     Ok(glyphs)
 }
 

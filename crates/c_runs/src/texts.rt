@@ -1,8 +1,9 @@
 //! A run as a text to be shaped.
-ghost use Rattle.std.specs.Prelude.{◌≡◌, ◌≤◌, ◌<◌, ◌^◌, ◌++◌, length, replicate, true, IfOk, IfErr, string_bytes};
+ghost use Rattle.std.specs.Prelude.{◌≡◌, ◌≤◌, ◌<◌, ◌^◌, ◌++◌, length, replicate, true, IfOk, IfErr, OnOk, IsOkUnless, string_bytes};
 ghost use Rattle.std.specs.Option.{option_map};
 ghost use Rattle.std.specs.Str.{IsUtf8};
 ghost use Rattle.shape_common.specs.Positions.{zero_position};
+ghost use Rattle.shape_items.specs.Buffer.{new_buffer};
 ghost use Rattle.shape_text_forms.specs.Names.{language_of_text};
 ghost use Rattle.c_runs.specs.Languages;
 ghost use Rattle.c_runs.specs.Numbers.{is_direction, is_level};
@@ -126,89 +127,108 @@ pub fn language_bytes(name: &[u8]) -> [u8; 64]
     language
 }
 
-/// A buffer without text, with what a run asks for.
-fn asked(alloc: Global, run: &luthgarn_run) -> Result<UnicodeBuffer, Refusal>
-    ensures ok { IfOk result (λ buffer. buffer ≡ asked_of run.now) }
-    ensures direction { IfOk result (λ _. is_direction run.now.direction ≡ true) }
-    ensures level { IfOk result (λ _. is_level run.now.level ≡ true) }
-    ensures language { IfOk result (λ _. IsUtf8 run.now.language) }
+/// A buffer without text gets what a run asks for.
+fn ask(alloc: Global, run: &luthgarn_run, buffer: &mut UnicodeBuffer) -> Result<(), Refusal>
+    requires { buffer.old ≡ new_buffer }
+    ensures ok { OnOk result (buffer.new ≡ asked_of run.now) }
+    ensures direction { OnOk result (is_direction run.now.direction ≡ true) }
+    ensures level { OnOk result (is_level run.now.level ≡ true) }
+    ensures language { OnOk result (IsUtf8 run.now.language) }
     ensures err { IfErr result (λ e. IsUnasked run.now e) }
 {
     let direction = plain::direction(run.direction)?;
     let level = plain::level(run.level)?;
     let language = language(alloc, &run.language)?;
-    let mut buffer = UnicodeBuffer::new(alloc);
     buffer.set_direction(direction);
     buffer.set_script(plain::script(run.script));
     buffer.set_language(language);
     buffer.set_flags(BufferFlags(run.flags));
     buffer.set_cluster_level(level);
-    Ok(buffer)
+    Ok(())
 }
 
-/// The run of a text in UTF-8.
-fn filled_utf8(alloc: Global, text: &[u8], run: &luthgarn_run) -> Result<UnicodeBuffer, Refusal>
-    ensures ok { IfOk result (λ buffer. buffer ≡ text_of_run (Utf8 text.now) run.now) }
-    ensures valid { IfOk result (λ _. IsValid (Utf8 text.now) run.now) }
+/// A buffer without text gets the run of a text in UTF-8.
+fn fill_utf8(
+    alloc: Global,
+    text: &[u8],
+    run: &luthgarn_run,
+    buffer: &mut UnicodeBuffer,
+) -> Result<(), Refusal>
+    requires { buffer.old ≡ new_buffer }
+    ensures ok { OnOk result (buffer.new ≡ text_of_run (Utf8 text.now) run.now) }
+    ensures valid { OnOk result (IsValid (Utf8 text.now) run.now) }
     ensures err { IfErr result (λ e. IsRefused ⊥ (Utf8 text.now) run.now e) }
 {
     let before = bytes_between(text, run.before, run.start)?;
     let own = bytes_between(text, run.start, run.end)?;
     let after = bytes_between(text, run.end, run.after)?;
-    let mut buffer = asked(alloc, run)?;
+    ask(alloc, run, buffer)?;
     buffer.push_str(own)?;
     buffer.set_pre_context(before);
     buffer.set_post_context(after);
-    Ok(buffer)
+    Ok(())
 }
 
 /// A buffer without text gets one in UTF-16, and what stands beside it. Refuses with `Memory`
 /// alone.
-fn with_units(
+fn add_units(
     alloc: Global,
-    mut buffer: UnicodeBuffer,
+    buffer: &mut UnicodeBuffer,
     before: &[u16],
     own: &[u16],
     after: &[u16],
-) -> Result<UnicodeBuffer, ShapeError>
+) -> Result<(), ShapeError>
     requires { length own.now < 2 ^ 32 }
-    ensures ok { IfOk result (λ filled. filled ≡ record buffer {
-      items = buffer.items ++ utf16_items own.now;
-      positions = buffer.positions ++ replicate (length (utf16_items own.now)) zero_position;
+    ensures ok { OnOk result (buffer.new ≡ record buffer.old {
+      items = buffer.old.items ++ utf16_items own.now;
+      positions = buffer.old.positions ++ replicate (length (utf16_items own.now)) zero_position;
       pre_context = utf16_before before.now;
       post_context = utf16_after after.now;
     }) }
-    ensures memory { IfErr result (λ e. e ≡ ShapeError.Memory) }
+    ensures memory { IsOkUnless result ShapeError.Memory }
 {
-    push_utf16(alloc, &mut buffer, own)?;
-    set_utf16_pre_context(alloc, &mut buffer, before)?;
-    set_utf16_post_context(alloc, &mut buffer, after)?;
-    Ok(buffer)
+    push_utf16(alloc, buffer, own)?;
+    set_utf16_pre_context(alloc, buffer, before)?;
+    set_utf16_post_context(alloc, buffer, after)?;
+    Ok(())
 }
 
-/// The run of a text in UTF-16.
-fn filled_utf16(alloc: Global, text: &[u16], run: &luthgarn_run) -> Result<UnicodeBuffer, Refusal>
-    ensures ok { IfOk result (λ buffer. buffer ≡ text_of_run (Utf16 text.now) run.now) }
-    ensures valid { IfOk result (λ _. IsValid (Utf16 text.now) run.now) }
+/// A buffer without text gets the run of a text in UTF-16.
+fn fill_utf16(
+    alloc: Global,
+    text: &[u16],
+    run: &luthgarn_run,
+    buffer: &mut UnicodeBuffer,
+) -> Result<(), Refusal>
+    requires { buffer.old ≡ new_buffer }
+    ensures ok { OnOk result (buffer.new ≡ text_of_run (Utf16 text.now) run.now) }
+    ensures valid { OnOk result (IsValid (Utf16 text.now) run.now) }
     ensures err { IfErr result (λ e. IsRefused ⊥ (Utf16 text.now) run.now e) }
 {
     let before = units_between(text, run.before, run.start)?;
     let own = units_between(text, run.start, run.end)?;
     let after = units_between(text, run.end, run.after)?;
-    let buffer = asked(alloc, run)?;
-    Ok(with_units(alloc, buffer, before, own, after)?)
+    ask(alloc, run, buffer)?;
+    add_units(alloc, buffer, before, own, after)?;
+    Ok(())
 }
 
-/// A buffer with the characters of a run, what stands beside them, and what the run asks for.
-/// Refuses a run that isn't placed in the text, or whose units aren't text, and with `Memory` if a
-/// growth was refused.
-pub fn filled(alloc: Global, text: Text<'_>, run: &luthgarn_run) -> Result<UnicodeBuffer, Refusal>
-    ensures ok { IfOk result (λ buffer. buffer ≡ text_of_run (units_of text.entry) run.now) }
-    ensures valid { IfOk result (λ _. IsValid (units_of text.entry) run.now) }
+/// A buffer without text gets the characters of a run, what stands beside them, and what the run
+/// asks for. Refuses a run that isn't placed in the text, or whose units aren't text, and with
+/// `Memory` if a growth was refused.
+pub fn fill(
+    alloc: Global,
+    text: Text<'_>,
+    run: &luthgarn_run,
+    buffer: &mut UnicodeBuffer,
+) -> Result<(), Refusal>
+    requires { buffer.old ≡ new_buffer }
+    ensures ok { OnOk result (buffer.new ≡ text_of_run (units_of text.entry) run.now) }
+    ensures valid { OnOk result (IsValid (units_of text.entry) run.now) }
     ensures err { IfErr result (λ e. IsRefused ⊥ (units_of text.entry) run.now e) }
 {
     match text {
-        Text::Utf8(bytes) => filled_utf8(alloc, bytes, run),
-        Text::Utf16(units) => filled_utf16(alloc, units, run),
+        Text::Utf8(bytes) => fill_utf8(alloc, bytes, run, buffer),
+        Text::Utf16(units) => fill_utf16(alloc, units, run, buffer),
     }
 }

@@ -10,5 +10,5 @@ returns-in_err-glyphs-clause-err g c =
     let runs = g.S.TextShaper.runs c.args.shaper.now in
     refused-by (TextPasses runs (text_of_run (units_of c.args.text) c.args.run.now)) (units_of c.args.text) c.args.run.now c.in_err-glyphs.field-0.0
     c.from_residual-in_err-glyphs.result
-    (λ is. subst (λ (b : Buffer). TextPasses runs b) c.in_ok-text.ensures.ok (c.in_err-glyphs.ensures.length is))
+    (λ is. subst (λ (b : Buffer). TextPasses runs b) c.in_ok-fill.ensures.ok (c.in_err-glyphs.ensures.length is))
     c.from_residual-in_err-glyphs.ensures.1
