@@ -216,7 +216,7 @@ fn fill_utf16(
 /// A buffer without text gets the characters of a run, what stands beside them, and what the run
 /// asks for. Refuses a run that isn't placed in the text, or whose units aren't text, and with
 /// `Memory` if a growth was refused.
-pub fn fill(
+pub(crate) fn fill(
     alloc: Global,
     text: Text<'_>,
     run: &luthgarn_run,
