@@ -5,4 +5,5 @@ pub mod Drives
 pub mod Glyphs
 pub mod Noncontextual
 pub mod Rearrangement
+pub mod Contextual
 pub mod Worked

@@ -2,3 +2,4 @@
 pub mod Driving
 pub mod Replacing
 pub mod Rearranging
+pub mod Contexts

@@ -1,14 +1,16 @@
 //! Substitution by Apple's tables.
 //!
 //! [`driver`] drives an extended state table over a list of glyphs; what its entries do is a kind
-//! of subtable's, a [`Subtable`]: [`rearrangement`] moves glyphs of a span. [`noncontextual`] replaces
-//! each glyph by itself, with the class that [`glyphs`] gives. [`ranges`] says where features have a
-//! subtable on. Any bytes are taken, and a walk ends for each: what it may cost is charged to the
-//! buffer. [`worked`] has the definitions computed by hand.
+//! of subtable's, a [`Subtable`]: [`rearrangement`] moves glyphs of a span, [`contextual`] replaces a
+//! marked glyph and the current one. [`noncontextual`] replaces each glyph by itself, with the class
+//! that [`glyphs`] gives. [`ranges`] says where features have a subtable on. Any bytes are taken, and
+//! a walk ends for each: what it may cost is charged to the buffer. [`worked`] has the definitions
+//! computed by hand.
 #![tactic(auto)]
 #![allow(non_camel_case_types)]
 
 mod breaking;
+pub mod contextual;
 pub mod driver;
 mod edits;
 pub mod glyphs;

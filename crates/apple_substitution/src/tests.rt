@@ -1,5 +1,8 @@
-//! A walk of a rearrangement subtable, and a noncontextual one, over glyphs 5, 6 and 7.
-use crate::driver::drive;
+//! A walk of a subtable of each kind over glyphs 5, 6 and 7.
+ghost use Rattle.std.specs.Prelude.{◌≤◌};
+
+use crate::contextual::{Contextual, Mark};
+use crate::driver::{Subtable, drive};
 use crate::glyphs::Tables;
 use crate::noncontextual::{Noncontextual, substitute_all};
 use crate::rearrangement::{Marks, Rearrangement};
@@ -17,6 +20,20 @@ const TURNS: &[u8] = &[
     0, 0, 0, 0, 0, 0, 0, 0, 0, 1, 0, 2, // the first state
     0, 0, 0, 0, 0, 0, 0, 0, 0, 1, 0, 2, // the second one
     0, 0, 0, 0, 0, 0, 0x80, 0, 0, 0, 0x20, 3, // entries: nothing, first, last with verb 3
+];
+
+/// The same classes and states: glyph 5 is marked, and glyph 6 has both replaced, by the lookup
+/// tables that have 50 in place of 5 and 60 in place of 6.
+const REPLACES: &[u8] = &[
+    0, 0, 0, 6, 0, 0, 0, 20, 0, 0, 0, 30, 0, 0, 0, 54, 0, 0, 0, 78, // and lookup tables
+    0, 8, 0, 5, 0, 2, 0, 4, 0, 5, // classes
+    0, 0, 0, 0, 0, 0, 0, 0, 0, 1, 0, 2, // states
+    0, 0, 0, 0, 0, 0, 0, 0, 0, 1, 0, 2, //
+    0, 0, 0, 0, 255, 255, 255, 255, // entries: nothing
+    0, 0, 0x80, 0, 255, 255, 255, 255, // marks
+    0, 0, 0, 0, 0, 0, 0, 1, // replaces
+    0, 0, 0, 8, 0, 0, 0, 16, // where the lookup tables begin
+    0, 8, 0, 5, 0, 1, 0, 50, 0, 8, 0, 6, 0, 1, 0, 60,
 ];
 
 /// A lookup table of format 8: in place of glyph 6 stands glyph 9.
@@ -41,13 +58,21 @@ fn three(alloc: Global) -> Result<hb_buffer_t, ShapeError> {
     Ok(buffer)
 }
 
-/// The glyphs after a walk of the state table.
-fn turned(alloc: Global) -> Result<hb_buffer_t, ShapeError> {
+/// The glyphs after a walk of a state table.
+fn walked<S: Subtable>(
+    alloc: Global,
+    table: &[u8],
+    entry_size: usize,
+    subtable: &S,
+    memory: S::Memory,
+) -> Result<hb_buffer_t, ShapeError>
+    requires { entry_size ≤ 8 }
+{
     let machine = Machine {
         states: StateTable {
-            table: TURNS,
+            table,
             start: 0,
-            entry_size: 4,
+            entry_size,
             glyphs: 10,
         },
         ranges: Ranges {
@@ -57,11 +82,27 @@ fn turned(alloc: Global) -> Result<hb_buffer_t, ShapeError> {
     };
     let mut buffer = three(alloc)?;
     let mut walk = GapBuffer::open(alloc, &mut buffer);
-    let none = Marks { first: 0, end: 0 };
-    drive(&machine, &Rearrangement { alloc }, &mut walk, none)?;
+    drive(&machine, subtable, &mut walk, memory)?;
     let (buffer, outcome) = walk.close();
     outcome?;
     Ok(buffer)
+}
+
+/// The glyphs after a contextual subtable.
+fn in_context(alloc: Global) -> Result<hb_buffer_t, ShapeError> {
+    let subtable = Contextual {
+        tables: Tables {
+            morx: REPLACES,
+            gdef: &[],
+            glyphs: 10,
+        },
+        start: 0,
+    };
+    let none = Mark {
+        place: 0,
+        is_set: false,
+    };
+    walked(alloc, REPLACES, 8, &subtable, none)
 }
 
 /// The glyphs after a noncontextual subtable, where features have it on by this flag.
@@ -90,8 +131,16 @@ fn glyphs(buffer: &hb_buffer_t) -> (u32, u32, u32) {
 
 #[test]
 fn a_span_is_turned(rt: HostRuntime) {
-    let buffer = turned(rt.alloc()).expect(&rt, "memory");
+    let alloc = rt.alloc();
+    let none = Marks { first: 0, end: 0 };
+    let buffer = walked(alloc, TURNS, 4, &Rearrangement { alloc }, none).expect(&rt, "memory");
     assert_eq!(rt; glyphs(&buffer), (6, 5, 7));
+}
+
+#[test]
+fn glyphs_are_replaced_in_context(rt: HostRuntime) {
+    let buffer = in_context(rt.alloc()).expect(&rt, "memory");
+    assert_eq!(rt; glyphs(&buffer), (50, 60, 7));
 }
 
 #[test]

@@ -1,5 +1,7 @@
 //! The definitions, computed by hand.
 ghost use Rattle.apple_substitution.specs.Worked.Driving.{WorkedDrives, WorkedBreaks, WorkedCharges};
+ghost use Rattle.apple_substitution.specs.Worked.Contexts.{WorkedContexts, WorkedCurrent};
+ghost use Rattle.apple_substitution.specs.Worked.Contexts.{WorkedBoth, WorkedMarkCharges};
 ghost use Rattle.apple_substitution.specs.Worked.Replacing.{WorkedReplacing};
 ghost use Rattle.apple_substitution.specs.Worked.Rearranging.{WorkedVerbs, WorkedSpans};
 
@@ -19,4 +21,12 @@ pub fn replacing_meets_worked_cases()
 pub fn rearranging_meets_worked_cases()
     ensures verbs { WorkedVerbs }
     ensures spans { WorkedSpans }
+{}
+
+/// Glyphs that contextual subtables replace.
+pub fn contexts_meet_worked_cases()
+    ensures contexts { WorkedContexts }
+    ensures current { WorkedCurrent }
+    ensures both { WorkedBoth }
+    ensures charges { WorkedMarkCharges }
 {}
