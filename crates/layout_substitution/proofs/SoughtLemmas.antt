@@ -24,7 +24,7 @@ use Rattle.layout_substitution.specs.Applied.{Applied, unapplied, put_one}
 use Rattle.layout_substitution.specs.Edits.{asks_for_concat, concat_marked, is_past, item_at}
 use Rattle.layout_substitution.specs.Kinds.{kind_applied, or_next, subtables_applied, lookup_applied}
 use Rattle.layout_substitution.specs.Ligatures.{ligature_matched, ligature_in, ligature_found, ligature_made, ligature_put, ligatures_reach, set_ligated, one_ligated}
-use Rattle.layout_substitution.specs.Sought.{found_by, found_in, first_ligature, with_found, sought_by, sought_step}
+use Rattle.layout_substitution.specs.Sought.{found_by, found_in, first_ligature, with_found, all_sought, sought_by, sought_step}
 use Rattle.layout_substitution.specs.Substitutes.{component_count, ligature_glyph, listed_count, set_number, set_of}
 use Rattle.layout_substitution.specs.declared.apply.Spot.{Spot}
 use Rattle.layout_substitution.specs.declared.ligature.Components.{Components}
@@ -236,8 +236,23 @@ all-sought l b at (suc n) i left found =
 
 pub sought_whole : (l : Lookup) (b : Buffer) (at left : ℕ)
     → steps (sought_step l b at) (subtable_count_of l.table.now l.place) 0 (record { left = left; found = None })
-    ≡ option_map (λ rest. record { left = rest; found = first_ligature l b at }) (subtables_charged l b.items at left)
+    ≡ all_sought l b at left
 sought_whole l b at left = all-sought l b at (subtable_count_of l.table.now l.place) 0 left None
+
+-- one subtable alone, whose ligatures are refused
+refused_alone : (l : Lookup) (b : Buffer) (at left rest : ℕ) → subtable_count_of l.table.now l.place ≡ 1
+    → charged_at_subtable l b.items at 0 left ≡ Some rest → IsRefused l b.items at
+    → Some (with_found None None rest) ≡ all_sought l b at left
+refused_alone l b at left rest one paid refused =
+    let before : SoughtLigature = record { left = left; found = None } in
+    sym (ap (λ o. option_and_then (λ s. Some s) o) (refused_step l b at 0 rest before refl paid refused))
+    ∙ ap (λ n. steps (sought_step l b at) n 0 before) (sym one) ∙ sought_whole l b at left
+
+pub none_if_refused : (l : Lookup) (b : Buffer) (at left : ℕ) (o : Option ℕ) → subtable_count_of l.table.now l.place ≡ 1
+    → IfSome o (λ rest. charged_at_subtable l b.items at 0 left ≡ Some rest) → IfSome o (λ rest. IsRefused l b.items at)
+    → IfSome o (λ rest. Some (with_found None None rest) ≡ all_sought l b at left)
+none_if_refused l b at left None one paid refused = tt
+none_if_refused l b at left (Some rest) one paid refused = refused_alone l b at left rest one paid refused
 
 -- ---- what the lookup makes
 

@@ -1,11 +1,11 @@
 -- A lookup of type 4 at a place, gone over once: what is left, and the ligature that stands there.
-use Rattle.std.specs.Prelude.{ℕ, List, Option, ◌+◌, ◌*◌}
+use Rattle.std.specs.Prelude.{ℕ, List, Option, None, ◌+◌, ◌*◌}
 use Rattle.std.specs.Option.{option_and_then, option_map, option_or}
 use Rattle.shape_items.specs.Buffer.{Buffer}
 use Rattle.layout_tables.specs.Lookups.{subtable_count_of}
 use Rattle.layout_tables.specs.Offsets.{offset16_of}
 use Rattle.layout_matching.specs.Loops.{first_some}
-use Rattle.layout_matching.specs.Work.{charged_at_subtable, subtable_charged}
+use Rattle.layout_matching.specs.Work.{charged_at_subtable, subtable_charged, subtables_charged}
 use Rattle.layout_matching.specs.declared.lookup.Lookup.{Lookup}
 use Rattle.layout_substitution.specs.Edits.{item_at}
 use Rattle.layout_substitution.specs.Ligatures.{ligature_found}
@@ -27,6 +27,10 @@ first_ligature l b at = first_some (found_in l b at) (subtable_count_of l.table.
 -- with one more: it counts if none was found before
 abbrev pub with_found : Option Components → Option Components → ℕ → SoughtLigature
 with_found before found left = record { left = left; found = option_or before found }
+
+-- after all subtables, if what was left suffices
+abbrev pub all_sought : Lookup → Buffer → ℕ → ℕ → Option SoughtLigature
+all_sought l b at left = option_map (with_found None (first_ligature l b at)) (subtables_charged l b.items at left)
 
 -- after the subtable at `start`, and after subtable `i`
 abbrev pub sought_by : Lookup → Buffer → ℕ → ℕ → SoughtLigature → Option SoughtLigature

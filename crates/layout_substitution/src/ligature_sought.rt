@@ -1,10 +1,9 @@
 //! Lookups of ligatures (type 4) at a place, gone over once: what is looked at is charged for while
 //! it is looked for.
 ghost use Rattle.std.specs.Prelude.{◌≡◌, Some, None, ◌<◌, ◌≤◌, ◌^◌, length, false};
-ghost use Rattle.std.specs.Option.{IfSome, option_map, option_map_or};
+ghost use Rattle.std.specs.Option.{IfSome, option_map_or};
 ghost use Rattle.layout_tables.specs.Lookups.{lookup_type_of};
 ghost use Rattle.layout_matching.specs.Sifted.{AreOut, second_glance, set_there};
-ghost use Rattle.layout_matching.specs.Work.{subtables_charged};
 ghost use Rattle.layout_substitution.specs.Applied.{unapplied};
 ghost use Rattle.layout_substitution.specs.Ligatures.{ligature_found, ligature_in as one_ligature, ligature_made};
 ghost use Rattle.layout_substitution.specs.Sought as Seeking;
@@ -201,10 +200,26 @@ fn sought_at(
     sought_step(indexed.lookup, buffer, at, i, sought)
 }
 
+/// What is left after a lookup of one subtable, where what is stored of the glyph's set says that
+/// no ligature of it stands at a place; none if it doesn't say that. So it is at most places.
+#[inline(always)]
+fn left_if_none(indexed: &Indexed<'_>, buffer: &GapBuffer, at: usize, left: usize) -> Option<usize>
+    requires place { indexed.now.lookup.now.place < 2 ^ 17 }
+    requires inside { at < length buffer.now.items }
+    requires substitution { indexed.now.lookup.now.positioning ≡ false }
+    requires four { lookup_type_of indexed.now.lookup.now.table.now indexed.now.lookup.now.place ≡ 4 }
+    ensures { IfSome result (λ rest. Some (Seeking.with_found None None rest)
+        ≡ Seeking.all_sought indexed.now.lookup.now buffer.now at left) }
+{
+    if subtable_count(indexed.lookup.table, indexed.lookup.place) != 1 {
+        return None;
+    }
+    left_if_refused(indexed, &buffer.items(), at, left)
+}
+
 /// The ligature that a lookup of type 4 makes at a place, and what is left after all that it may
 /// look at there; none if what was left doesn't suffice.
-#[tactic(auto, using(layout_matching::proofs::LoopLemmas::steps_none, layout_matching::proofs::LoopLemmas::steps_end, crate::proofs::SoughtLemmas::sought_whole))]
-#[inline(never)]
+#[inline(always)]
 pub fn seek_ligature(
     indexed: &Indexed<'_>,
     buffer: &GapBuffer,
@@ -215,10 +230,31 @@ pub fn seek_ligature(
     requires inside { at < length buffer.now.items }
     requires substitution { indexed.now.lookup.now.positioning ≡ false }
     requires four { lookup_type_of indexed.now.lookup.now.table.now indexed.now.lookup.now.place ≡ 4 }
-    ensures value { result ≡ option_map (λ rest. record {
-      left = rest;
-      found = Seeking.first_ligature indexed.now.lookup.now buffer.now at;
-    }) (subtables_charged indexed.now.lookup.now buffer.now.items at left) }
+    ensures value { result ≡ Seeking.all_sought indexed.now.lookup.now buffer.now at left }
+    ensures last { IfSome result (λ s. IfSome s.found (λ m. m.last < length buffer.now.items)) }
+    ensures far { IfSome result (λ s. IfSome s.found (λ m. m.ligature < 2 ^ 37)) }
+{
+    match left_if_none(indexed, buffer, at, left) {
+        Some(left) => Some(SoughtLigature { left, found: None }),
+        None => seek_in_each(indexed, buffer, at, left),
+    }
+}
+
+/// The same, subtable by subtable. A call of its own: its registers are saved where it is needed
+/// alone.
+#[tactic(auto, using(layout_matching::proofs::LoopLemmas::steps_none, layout_matching::proofs::LoopLemmas::steps_end, crate::proofs::SoughtLemmas::sought_whole))]
+#[inline(never)]
+fn seek_in_each(
+    indexed: &Indexed<'_>,
+    buffer: &GapBuffer,
+    at: usize,
+    left: usize,
+) -> Option<SoughtLigature>
+    requires place { indexed.now.lookup.now.place < 2 ^ 17 }
+    requires inside { at < length buffer.now.items }
+    requires substitution { indexed.now.lookup.now.positioning ≡ false }
+    requires four { lookup_type_of indexed.now.lookup.now.table.now indexed.now.lookup.now.place ≡ 4 }
+    ensures value { result ≡ Seeking.all_sought indexed.now.lookup.now buffer.now at left }
     ensures last { IfSome result (λ s. IfSome s.found (λ m. m.last < length buffer.now.items)) }
     ensures far { IfSome result (λ s. IfSome s.found (λ m. m.ligature < 2 ^ 37)) }
 {

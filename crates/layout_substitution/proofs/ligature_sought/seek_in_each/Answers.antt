@@ -7,7 +7,7 @@ use Rattle.layout_matching.specs.Loops.{steps}
 use Rattle.layout_substitution.specs.Edits.{item_at}
 use Rattle.layout_substitution.specs.Sought.{sought_step}
 use Rattle.layout_substitution.proofs.SoughtLemmas.{sought_begun, sought_next}
-use Rattle.layout_substitution.proofs.ligature_sought.seek_ligature.Goals as goal
+use Rattle.layout_substitution.proofs.ligature_sought.seek_in_each.Goals as goal
 
 pub loop-i-init : goal.loop-i-init
 loop-i-init c =

@@ -2,7 +2,7 @@ use Rattle.std.proofs.Common.{◌≡◌, ◌≤◌, ◌<◌, ◌-◌, None, leng
 use Rattle.layout_tables.specs.Lookups.{subtable_count_of}
 use Rattle.layout_matching.specs.Loops.{steps}
 use Rattle.layout_substitution.specs.Sought.{sought_step}
-use Rattle.layout_substitution.proofs.ligature_sought.seek_ligature.Given as goal
+use Rattle.layout_substitution.proofs.ligature_sought.seek_in_each.Given as goal
 
 -- what the subtables from here on give is what all give
 abbrev pub invariant-loop-i : goal.invariant-loop-i
