@@ -43,7 +43,7 @@ fn first_digest() -> Digest {
 
 /// A digest that holds the glyphs of a list. It is gone over in the two pieces in which it is
 /// stored.
-#[inline(always)]
+#[inline(never)]
 #[tactic(auto, using(crate::proofs::DigestLemmas::piece_held))]
 fn digest_of(items: &ItemList<'_>) -> Digest
     ensures { HoldsGlyphs result items.now }
@@ -60,7 +60,7 @@ fn digest_of(items: &ItemList<'_>) -> Digest
 
 /// A digest that holds the glyphs of a list, for a stage of so many lookups. For one alone it
 /// holds every glyph.
-#[inline(never)]
+#[inline(always)]
 pub fn digest_for(lookups: usize, items: &ItemList<'_>) -> Digest
     ensures { HoldsGlyphs result items.now }
 {
@@ -73,7 +73,7 @@ pub fn digest_for(lookups: usize, items: &ItemList<'_>) -> Digest
 
 /// A digest that holds the glyphs of a list that a lookup has changed, where so many lookups are
 /// left. For few it holds every glyph.
-#[inline(never)]
+#[inline(always)]
 fn renewed(rest: usize, items: &ItemList<'_>) -> Digest
     ensures { HoldsGlyphs result items.now }
 {

@@ -5,6 +5,7 @@ ghost use Rattle.shape_buffer.specs.declared.buffer.error.ShapeError.TheVariants
 ghost use Rattle.layout_matching.specs.Loops.{times};
 ghost use Rattle.layout_matching.specs.LigatureSets.{AreSets};
 ghost use Rattle.layout_matching.specs.Skipping.{is_on};
+ghost use Rattle.layout_matching.specs.Work.{walk_work};
 ghost use Rattle.layout_substitution.specs.Edits.{asks_for_concat as is_concat_asked, is_inside, is_past, item_at};
 ghost use Rattle.layout_context.specs.Nested.{nested_applied};
 ghost use Rattle.layout_context.specs.Stages;
@@ -17,7 +18,6 @@ use layout_buffer::GapBuffer;
 use layout_digests::Digested;
 use layout_matching::indexed::Indexed;
 use layout_matching::ligature_sets::LigatureSet;
-use layout_matching::work::walk_work;
 use layout_substitution::apply::Spot;
 use layout_substitution::edits::asks_for_concat;
 use shape_buffer::ShapeError;
@@ -257,19 +257,22 @@ fn levels() -> u32
     65
 }
 
-/// Goes over a buffer for one lookup of a stage, if what is left suffices for the walk, and returns
-/// where it ended. `sets` are what is stored of its sets of ligatures; none need be. Refuses with `Length` if the list passes the limit of the run, and with `Memory`
-/// if a growth of the list, or of the places of a rule, was refused.
+/// Goes over a buffer for one lookup of a stage, if what is left suffices for the walk, which costs
+/// `work`, and returns where it ended. `sets` are what is stored of its sets of ligatures; none need
+/// be. Refuses with `Length` if the list passes the limit of the run, and with `Memory` if a growth
+/// of the list, or of the places of a rule, was refused.
 #[tactic(auto, using(crate::proofs::DigestLemmas::looked_paid, crate::proofs::DigestLemmas::looked_unpaid))]
 pub fn look_up(
     alloc: Global,
     named: &Digested<'_>,
     sets: &[LigatureSet],
+    work: usize,
     buffer: &mut GapBuffer,
     spot: Spot,
 ) -> Result<Looked, ShapeError>
     requires said { IsDigested named.now }
     requires sets { AreSets named.now.lookup.table.now named.now.lookup.place sets.now }
+    requires work { work ≡ walk_work named.now.lookup (length buffer.old.items) }
     ensures ok { IfOk result (λ next. record { buffer = buffer.new; spot = next.spot }
         ≡ Stages.looked_up Stages.most_levels named.now.lookup
         (record { buffer = buffer.old; spot = spot })) }
@@ -278,19 +281,12 @@ pub fn look_up(
         → is_past (Stages.looked_up Stages.most_levels named.now.lookup
         (record { buffer = buffer.old; spot = spot })).buffer ≡ true }
 {
-    let work = walk_work(&named.lookup, buffer.len());
+    let paid = charge_walk(work, spot);
     if spot.left < work {
         return Ok(Looked {
-            spot: charge_walk(work, spot),
+            spot: paid,
             is_kept: true,
         });
     }
-    go_over(
-        alloc,
-        levels(),
-        named,
-        sets,
-        buffer,
-        charge_walk(work, spot),
-    )
+    go_over(alloc, levels(), named, sets, buffer, paid)
 }

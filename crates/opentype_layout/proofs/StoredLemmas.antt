@@ -1,11 +1,12 @@
 -- a lookup made of what is stored is the lookup of the table
-use Rattle.std.proofs.Common.{◌≡◌, ◌+◌, ◌*◌, ℕ, Bool, true, false, Option, Some, None, max, not, nat_eq, ◌&&◌, ◌||◌, refl, sym, ap, ◌∙◌, subst, if◌then◌else◌}
+use Rattle.std.proofs.Common.{◌≡◌, ◌+◌, ◌*◌, ℕ, Bool, true, false, Option, Some, None, max, min, not, nat_eq, ◌&&◌, ◌||◌, refl, sym, ap, ◌∙◌, subst, if◌then◌else◌}
 use Rattle.std.specs.Option.{IfSome, option_map}
 use Rattle.std.specs.Prelude.{List}
+use Rattle.shape_items.specs.Buffer.{most_countable}
 use Rattle.layout_tables.specs.Lookups as tables
 use Rattle.layout_map.specs.declared.lookups.LookupMap.{LookupMap}
 use Rattle.layout_matching.specs.Found.{is_context}
-use Rattle.layout_matching.specs.Work.{PLAIN_WORK, STEP_WORK, steps_work}
+use Rattle.layout_matching.specs.Work.{PLAIN_WORK, STEP_WORK, steps_work, walk_work}
 use Rattle.layout_matching.specs.declared.firsts.First.{First}
 use Rattle.layout_matching.specs.declared.firsts.Firsts.{Firsts}
 use Rattle.layout_matching.specs.declared.lookup.Lookup.{Lookup}
@@ -94,3 +95,9 @@ work_of t m h head gsub =
     ∙ ap (λ kind. max n 1 * (if plain kind then PLAIN_WORK else STEP_WORK)) head.kind
     ∙ sym (ap (λ p. max n 1 * (if (if p then not (is_context (lookup_by t m h)) else plain k)
     then PLAIN_WORK + (if p then t.device_work else 0) else STEP_WORK)) gsub)
+
+-- what a walk over so many items costs
+pub walk_of : (t : LookupTables) (m : LookupMap) (h : Head) (l : Lookup) (count steps work : ℕ) → IsHead t.table.now h → t.positioning ≡ false
+    → l ≡ lookup_by t m h → steps ≡ steps_work_by h m.random → work ≡ min (count * steps) most_countable → work ≡ walk_work l count
+walk_of t m h l count steps work head gsub is each all =
+    all ∙ ap (λ n. min (count * n) most_countable) (each ∙ work_of t m h head gsub) ∙ sym (ap (λ x. walk_work x count) is)

@@ -13,7 +13,7 @@ ghost use Rattle.layout_map.proofs.LawfulLemmas.{map_meaning-lawful};
 use crate::chosen::{chosen_for, script_in};
 use crate::classes::{GlyphClasses, begin_glyphs};
 use crate::face::OpenTypeFace;
-use crate::lookups::{LookupTables, Stored, digested, list_of};
+use crate::lookups::{LookupTables, Stored, list_of, made_ready, stored_at};
 use crate::stage::substitute_by;
 use crate::would::feature_would;
 use kern_table::tables::{kern_table, subtable_count};
@@ -87,8 +87,12 @@ fn apply_each(
     let run = walk::run_digest(buffer.infos());
     let mut left = buffer.max_ops();
     for map in maps {
-        match digested(tables, list, stored, map) {
-            Some(named) => left = walk::apply_within(&named, &run, buffer, left),
+        let known = stored_at(tables, list, stored, map.index);
+        match known.head {
+            Some(head) => {
+                let named = made_ready(tables, stored, map, &known, &head);
+                left = walk::apply_within(&named, &run, buffer, left);
+            }
             None => continue,
         }
     }

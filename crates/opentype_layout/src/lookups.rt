@@ -99,7 +99,7 @@ fn least_bit(mask: u32) -> u32
 
 /// The lookup with this head, with the use that a plan makes of it.
 #[inline(always)]
-fn made_ready<'a>(tables: LookupTables<'a>, map: &LookupMap, head: &Head) -> Lookup<'a>
+fn used<'a>(tables: LookupTables<'a>, map: &LookupMap, head: &Head) -> Lookup<'a>
     ensures { result ≡ Lookups.lookup_by tables.entry map.now head.now }
 {
     Lookup {
@@ -164,33 +164,31 @@ pub(crate) fn stored_at(
     }
 }
 
-/// A lookup with the use that a plan makes of it, and its digest; none if the table has no such
-/// lookup. Inlined, since what it returns would be copied twice.
-#[tactic(auto, using(crate::proofs::StoredLemmas::known_none, crate::proofs::StoredLemmas::known_some))]
+/// A lookup that is stored, with the use that a plan makes of it, and its digest. Inlined, since
+/// what it returns would be copied.
+#[tactic(auto, using(crate::proofs::StoredLemmas::known_some))]
 #[inline(always)]
-pub(crate) fn digested<'a>(
+pub(crate) fn made_ready<'a>(
     tables: LookupTables<'a>,
-    list: LookupList,
     stored: Stored<'a>,
     map: &LookupMap,
-) -> Option<Digested<'a>>
-    requires list { Lookups.IsListOf tables.table.now list }
-    requires near { IfSome list.place (λ list. list < 2 ^ 16) }
-    requires stored { AreStored tables.table.now tables.positioning stored.firsts.now
-        stored.lookups.now }
-    ensures value { option_map (λ (d : DigestedLookup). d.lookup) result
-        ≡ Lookups.lookup_of tables.entry map.now }
-    ensures said { IfSome result (IsSaid tables.entry.positioning) }
+    known: &StoredLookup,
+    head: &Head,
+) -> Digested<'a>
+    requires known { IsStoredAt tables.table.now tables.positioning map.now.index stored.firsts.now
+        known.now }
+    requires head { known.now.head ≡ Some head.now }
+    ensures value { Some result.lookup ≡ Lookups.lookup_of tables.entry map.now }
+    ensures by { result.lookup ≡ Lookups.lookup_by tables.entry map.now head.now }
+    ensures said { IsSaid tables.entry.positioning result }
 {
-    let known = stored_at(tables, list, stored, map.index);
-    let head = known.head?;
-    Some(Digested {
-        lookup: made_ready(tables, map, &head),
+    Digested {
+        lookup: used(tables, map, head),
         digest: known.digest,
         firsts: Firsts {
             all: stored.firsts,
             from: known.from,
             count: known.count,
         },
-    })
+    }
 }

@@ -4,8 +4,10 @@ ghost use Rattle.std.specs.Prelude.{◌≡◌, IsOk};
 ghost use Rattle.shape_buffer.specs.Outcome.{IsWithinLimit, Made, Outcome, step};
 ghost use Rattle.layout_map.specs.Map.{OtMap, map_meaning};
 ghost use Rattle.opentype_layout.specs.declared.face.OpenTypeFace.{OpenTypeFace as Face};
-ghost use Rattle.opentype_layout.specs.Engine.{opentype_layout, opentype_lookups};
+ghost use Rattle.layout_context.specs.Stages.{substituted};
+ghost use Rattle.opentype_layout.specs.Engine.{gsub_tables as tables_of, opentype_layout, opentype_lookups};
 ghost use Rattle.opentype_layout.specs.EngineLaws.{opentype_lookups-lawful};
+ghost use Rattle.opentype_layout.specs.Lookups.{lookups_of};
 ghost use Rattle.layout_map.proofs.LawfulLemmas.{map_meaning-lawful};
 
 use crate::chosen::script_in;
@@ -15,6 +17,7 @@ use crate::opened::OpenedOpenTypeFace;
 use crate::stage::substitute_by;
 use crate::would::feature_would;
 use kern_table::tables::{kern_table_by, subtable_count};
+use layout_map::lookups::LookupMap;
 use layout_map::map::hb_ot_map_t;
 use layout_matching::would::Alone;
 use layout_positions::attachment::finish_offsets;
@@ -25,6 +28,27 @@ use shape_buffer::buffer::{
 };
 use shape_buffer::interfaces::{TableIndex, hb_ot_layout_t, hb_ot_map_builder_t};
 use std::alloc::Global;
+
+/// The lookups of a stage. A call of its own: most stages of most plans have none.
+#[inline(never)]
+fn substitute_opened(
+    alloc: Global,
+    face: &OpenedOpenTypeFace<'_>,
+    maps: &[LookupMap],
+    buffer: &mut hb_buffer_t,
+) -> Result<(), ShapeError>
+    requires { IsWithinLimit buffer.old }
+    ensures { Outcome (step (substituted (lookups_of (tables_of face.now) maps.now)))
+        buffer.old buffer.new result }
+{
+    substitute_by(
+        alloc,
+        gsub_tables(face.face()),
+        face.stored_gsub(),
+        maps,
+        buffer,
+    )
+}
 
 impl<'a> hb_ot_layout_t<OpenedOpenTypeFace<'a>> for OpenTypeLayout {
     type Map = hb_ot_map_t;
@@ -123,13 +147,11 @@ impl<'a> hb_ot_layout_t<OpenedOpenTypeFace<'a>> for OpenTypeLayout {
         face: &OpenedOpenTypeFace<'a>,
         buffer: &mut hb_buffer_t,
     ) -> Result<(), ShapeError> {
-        substitute_by(
-            alloc,
-            gsub_tables(face.face()),
-            face.stored_gsub(),
-            map.gsub_lookups(i),
-            buffer,
-        )
+        let maps = map.gsub_lookups(i);
+        if maps.is_empty() {
+            return Ok(());
+        }
+        substitute_opened(alloc, face, maps, buffer)
     }
 
     fn pause_after(map: &hb_ot_map_t, i: usize) -> Option<u32>

@@ -17,14 +17,14 @@ ghost use Rattle.layout_context.specs.Stages.{substituted};
 ghost use Rattle.opentype_layout.specs.Lookups.{lookup_of, lookups_of, steps_work_by as work_by};
 ghost use Rattle.opentype_layout.specs.Stage as Stages;
 
-use crate::lookups::{LookupList, LookupTables, Stored, digested, list_of, stored_at};
+use crate::lookups::{LookupList, LookupTables, Stored, list_of, made_ready, stored_at};
 use layout_buffer::{GapBuffer, ItemList};
 use layout_context::meeting::is_unmet;
 use layout_context::run_digest::{digest_for, renew};
 use layout_context::stages::{Looked, look_up};
 use layout_digests::{Digest, Head};
 use layout_map::lookups::LookupMap;
-use layout_matching::work::{PLAIN_WORK, STEP_WORK, walk_work};
+use layout_matching::work::{PLAIN_WORK, STEP_WORK};
 use layout_substitution::apply::Spot;
 use shape_buffer::{ShapeError, hb_buffer_t, hb_glyph_info_t};
 use std::alloc::Global;
@@ -92,7 +92,7 @@ fn left_if_idle(
 
 /// Skips the lookups of a stage that find none of so many glyphs of a digest, from one on.
 #[inline(never)]
-fn skip(stage: &StageLookups<'_>, from: Progress, run: &Digest, count: usize) -> Progress
+fn skip_idle(stage: &StageLookups<'_>, from: Progress, run: &Digest, count: usize) -> Progress
     requires ready { Stages.AreReady stage.now }
     requires inside { from.next ≤ length stage.now.maps.now }
     ensures inside { result.next ≤ length stage.now.maps.now }
@@ -113,6 +113,22 @@ fn skip(stage: &StageLookups<'_>, from: Progress, run: &Digest, count: usize) ->
     }
 }
 
+/// The same, unless the stage has one lookup alone: for that no digest is made.
+#[inline(always)]
+fn skip(stage: &StageLookups<'_>, from: Progress, run: &Digest, count: usize) -> Progress
+    requires ready { Stages.AreReady stage.now }
+    requires inside { from.next ≤ length stage.now.maps.now }
+    ensures inside { result.next ≤ length stage.now.maps.now }
+    ensures further { from.next ≤ result.next }
+    ensures skipped { (items : List Item) → HoldsGlyphs run.now items → length items ≡ count
+        → Stages.SkipsTo stage.now.tables stage.now.maps.now items from result }
+{
+    if stage.maps.len() < 2 {
+        return from;
+    }
+    skip_idle(stage, from, run, count)
+}
+
 /// What is left after a lookup that meets no item; none of any other one.
 #[inline(always)]
 fn left_if_unmet(
@@ -124,13 +140,16 @@ fn left_if_unmet(
     requires { Stages.AreReady stage.now }
     ensures { IfSome result (Stages.Skips stage.now.tables map.now infos.now left) }
 {
-    match digested(stage.tables, stage.list, stage.stored, map) {
-        None => Some(left),
-        Some(named) if is_unmet(&named, infos) => {
-            Some(left.saturating_sub(walk_work(&named.lookup, infos.len())))
-        }
-        Some(_) => None,
+    let known = stored_at(stage.tables, stage.list, stage.stored, map.index);
+    let Some(head) = known.head else {
+        return Some(left);
+    };
+    let named = made_ready(stage.tables, stage.stored, map, &known, &head);
+    if is_unmet(&named, infos) {
+        let work = infos.len().saturating_mul(steps_work_by(&head, map.random));
+        return Some(left.saturating_sub(work));
     }
+    None
 }
 
 /// The first lookup of a stage that meets an item of a buffer, if one does, and what is left after
@@ -180,18 +199,21 @@ fn apply_one(
         → is_past (Stages.made_by (Stages.after (lookup_of stage.now.tables map.now) ls) buffer.old spot)
         ≡ true }
 {
-    match digested(stage.tables, stage.list, stage.stored, map) {
-        Some(named) => {
-            let sets = stage.stored.sets_of(map.index);
-            match look_up(alloc, &named, sets, buffer, spot) {
-                Err(error) => Err(error),
-                Ok(next) => Ok(next),
-            }
-        }
-        None => Ok(Looked {
+    let known = stored_at(stage.tables, stage.list, stage.stored, map.index);
+    let Some(head) = known.head else {
+        return Ok(Looked {
             spot,
             is_kept: true,
-        }),
+        });
+    };
+    let named = made_ready(stage.tables, stage.stored, map, &known, &head);
+    let sets = stage.stored.sets_of(map.index);
+    let work = buffer
+        .len()
+        .saturating_mul(steps_work_by(&head, map.random));
+    match look_up(alloc, &named, sets, work, buffer, spot) {
+        Err(error) => Err(error),
+        Ok(next) => Ok(next),
     }
 }
 

@@ -5,23 +5,26 @@ use Rattle.opentype_layout.specs.Digested.{IsSaid}
 use Rattle.opentype_layout.specs.Lookups.{lookups_of}
 use Rattle.opentype_layout.proofs.DigestLemmas.{positions-one}
 use Rattle.opentype_layout.proofs.PositionLemmas.{none_placed, placed_on}
+use Rattle.opentype_layout.proofs.StoredLemmas.{known_none}
 use Rattle.opentype_layout.proofs.engine.apply_each.Goals as goal
 
-pub digested-requires-clause-stored : goal.digested-requires-clause-stored
-digested-requires-clause-stored c =
+pub stored_at-known-requires-clause-stored : goal.stored_at-known-requires-clause-stored
+stored_at-known-requires-clause-stored c =
     subst (λ (p : Bool). AreStored c.args.tables.table.now p c.args.stored.firsts.now c.args.stored.lookups.now) (sym c.requires.kind)
     c.requires.stored
 
 pub apply_within-left-requires-clause-said : goal.apply_within-left-requires-clause-said
 apply_within-left-requires-clause-said c =
-    positions-one c.in-Some.named (subst (λ (p : Bool). IsSaid p c.in-Some.named) c.requires.kind c.in-Some.ensures.said)
+    let named = c.made_ready-named.result in
+    positions-one named (subst (λ (p : Bool). IsSaid p named) c.requires.kind c.made_ready-named.ensures.said)
 
 pub loop-map-preserved-in-None : goal.loop-map-preserved-in-None
 loop-map-preserved-in-None c =
     let here : Budgeted = record { buffer = c.loop-map.buffer; left = c.loop-map.left } in
     record {
       made = none_placed c.args.tables c.args.maps.now c.loop-map.map-index _ here
-          (fold lookup_applied (budgeted c.args.buffer.now) (lookups_of c.args.tables c.args.maps.now)) c.loop-map-test.true c.in-None.ensures.value
+          (fold lookup_applied (budgeted c.args.buffer.now) (lookups_of c.args.tables c.args.maps.now)) c.loop-map-test.true
+          (known_none c.args.tables _ c.args.stored.firsts.now c.stored_at-known.result c.stored_at-known.ensures c.in-None.is)
           c.loop-map.invariant.made;
       run = c.loop-map.invariant.run;
     }
@@ -31,8 +34,8 @@ loop-map-preserved c =
     let here : Budgeted = record { buffer = c.loop-map.buffer; left = c.loop-map.left } in
     let next : Budgeted = record { buffer = c.apply_within-left.new.buffer; left = c.apply_within-left.result } in
     record {
-      made = placed_on c.args.tables c.args.maps.now c.loop-map.map-index _ c.in-Some.named.lookup here next
-          (fold lookup_applied (budgeted c.args.buffer.now) (lookups_of c.args.tables c.args.maps.now)) c.loop-map-test.true c.in-Some.ensures.value
-          c.apply_within-left.ensures.made c.loop-map.invariant.made;
+      made = placed_on c.args.tables c.args.maps.now c.loop-map.map-index _ c.made_ready-named.result.lookup here next
+          (fold lookup_applied (budgeted c.args.buffer.now) (lookups_of c.args.tables c.args.maps.now)) c.loop-map-test.true
+          c.made_ready-named.ensures.value c.apply_within-left.ensures.made c.loop-map.invariant.made;
       run = c.apply_within-left.ensures.run;
     }

@@ -1,12 +1,24 @@
-use Rattle.std.proofs.Common.{Bool, subst}
+use Rattle.std.proofs.Common.{◌≡◌, ◌*◌, Bool, length, min, subst}
+use Rattle.shape_items.specs.Buffer.{most_countable}
 use Rattle.opentype_layout.specs.Digested.{IsSaid}
 use Rattle.opentype_layout.proofs.DigestLemmas.{substitutes-one}
-use Rattle.opentype_layout.proofs.StoredLemmas.{sets_of_lookup}
+use Rattle.opentype_layout.proofs.StoredLemmas.{known_head, sets_of_lookup, walk_of}
 use Rattle.opentype_layout.proofs.stage.apply_one.Goals as goal
 
 pub look_up-requires : goal.look_up-requires
-look_up-requires c = record {
-  said = substitutes-one c.in-Some.named (subst (λ (p : Bool). IsSaid p c.in-Some.named) c.requires.kind c.in-Some.ensures.said);
-  sets = sets_of_lookup c.args.stage.now.tables c.args.map.now c.in-Some.named.lookup c.sets_of-sets.result.now c.in-Some.ensures.value
-      (c.sets_of-sets.ensures c.args.stage.now.tables.table.now c.requires.sets);
-}
+look_up-requires c =
+    let t = c.args.stage.now.tables in
+    let m = c.args.map.now in
+    let named = c.made_ready-named.result in
+    let h = c.in-Some.head in
+    let head = known_head t.table.now t.positioning m.index c.args.stage.now.stored.firsts.now c.stored_at-known.result h c.stored_at-known.ensures
+    c.in-Some.is in
+    record {
+      said = substitutes-one named (subst (λ (p : Bool). IsSaid p named) c.requires.kind c.made_ready-named.ensures.said);
+      sets = sets_of_lookup t m named.lookup c.sets_of-sets.result.now c.made_ready-named.ensures.value
+          (c.sets_of-sets.ensures t.table.now c.requires.sets);
+      work = walk_of t m h named.lookup (length c.args.buffer.now.items) c.steps_work_by.result c.saturating_mul-work.result head c.requires.kind
+          c.made_ready-named.ensures.by c.steps_work_by.ensures
+          (subst (λ n. c.saturating_mul-work.result ≡ min (n * c.steps_work_by.result) most_countable) c.len.ensures.items
+          c.saturating_mul-work.ensures);
+    }

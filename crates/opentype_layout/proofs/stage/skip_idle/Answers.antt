@@ -1,7 +1,7 @@
 use Rattle.std.proofs.Common.{◌≡◌, length, refl, subst, arith}
 use Rattle.opentype_layout.specs.Stage.{SkipsTo}
 use Rattle.opentype_layout.proofs.StageLemmas.{skips_on}
-use Rattle.opentype_layout.proofs.stage.skip.Goals as goal
+use Rattle.opentype_layout.proofs.stage.skip_idle.Goals as goal
 
 pub loop-next-init : goal.loop-next-init
 loop-next-init c = λ items held many b spot is. refl

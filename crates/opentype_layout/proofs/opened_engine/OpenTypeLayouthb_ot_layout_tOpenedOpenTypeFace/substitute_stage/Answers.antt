@@ -1,18 +1,21 @@
-use Rattle.std.proofs.Common.{◌≡◌, false, sym, ap, subst, ◌∙◌}
-use Rattle.layout_digests.specs.LigatureSets.{HoldSets}
-use Rattle.layout_digests.specs.Stored.{AreStored}
-use Rattle.opentype_layout.specs.declared.face.OpenTypeFace.{OpenTypeFace}
-use Rattle.opentype_layout.specs.declared.lookups.LookupTables.{LookupTables}
+use Rattle.std.proofs.Common.{List, [], ◌∷◌, sym, subst, ◌∙◌}
+use Rattle.shape_buffer.specs.Outcome.{Outcome, Ran, step}
+use Rattle.layout_context.specs.Stages.{substituted}
+use Rattle.layout_map.specs.declared.lookups.LookupMap.{LookupMap}
+use Rattle.opentype_layout.specs.Engine.{gsub_tables}
+use Rattle.opentype_layout.specs.Lookups.{lookups_of}
+use Rattle.opentype_layout.proofs.StageLemmas.{nothing_substituted}
 use Rattle.opentype_layout.proofs.opened_engine.OpenTypeLayouthb_ot_layout_tOpenedOpenTypeFace.substitute_stage.Goals as goal
 
-pub substitute_by-requires-clause-stored : goal.substitute_by-requires-clause-stored
-substitute_by-requires-clause-stored c =
-    let same : c.gsub_tables.result.table.now ≡ c.args.face.now.gsub.now =
-    ap (λ (t : LookupTables). t.table.now) c.gsub_tables.ensures ∙ ap (λ (f : OpenTypeFace). f.gsub.now) c.face.ensures in
-    subst (λ t. AreStored t false c.stored_gsub.result.firsts.now c.stored_gsub.result.lookups.now) (sym same) c.stored_gsub.ensures.stored
+pub returns-then-is_empty : goal.returns-then-is_empty
+returns-then-is_empty c =
+    let b = c.args.buffer.now in
+    subst (λ (maps : List LookupMap). Ran (step (substituted (lookups_of (gsub_tables c.args.face.now) maps)) ∷ []) b b)
+    c.gsub_lookups-maps.ensures
+    (nothing_substituted (gsub_tables c.args.face.now) c.gsub_lookups-maps.result.now b (sym c.is_empty.ensures ∙ c.if-is_empty.true)
+    c.requires)
 
-pub substitute_by-requires-clause-sets : goal.substitute_by-requires-clause-sets
-substitute_by-requires-clause-sets c =
-    let same : c.gsub_tables.result.table.now ≡ c.args.face.now.gsub.now =
-    ap (λ (t : LookupTables). t.table.now) c.gsub_tables.ensures ∙ ap (λ (f : OpenTypeFace). f.gsub.now) c.face.ensures in
-    subst (λ t. HoldSets t c.stored_gsub.result.sets.now) (sym same) c.stored_gsub.ensures.sets
+pub returns : goal.returns
+returns c =
+    subst (λ (maps : List LookupMap). Outcome (step (substituted (lookups_of (gsub_tables c.args.face.now) maps))) c.args.buffer.now
+    c.substitute_opened.new.buffer c.substitute_opened.result) c.gsub_lookups-maps.ensures c.substitute_opened.ensures
