@@ -1,16 +1,14 @@
 //! Positioning: no glyph is attached at first; then lookups go over the buffer, one after the
 //! other.
-ghost use Rattle.std.specs.Prelude.{◌≡◌, ℕ, ◌<◌, ◌≤◌, ◌+◌, ◌-◌, ◌^◌, false, fold, length, true, All};
+ghost use Rattle.std.specs.Prelude.{◌≡◌, ◌<◌, ◌-◌, ◌^◌, false, fold, length, true, All};
 ghost use Rattle.shape_buffer.specs.Outcome.{Made};
 ghost use Rattle.layout_matching.specs.Found as found_rules;
-ghost use Rattle.layout_matching.specs.Loops.{times};
 ghost use Rattle.layout_matching.specs.Work;
 ghost use Rattle.layout_positions.specs.Flagged.{IsFlagged};
 ghost use Rattle.layout_positions.specs.Known as known_marks;
 ghost use Rattle.layout_positions.specs.Nested;
 ghost use Rattle.layout_positions.specs.Walk;
-ghost use Rattle.layout_positions.specs.Digested.{IsDigested, HoldsGlyphs, AreUnheld, lookups_in};
-ghost use Rattle.layout_positions.specs.declared.bases.BaseSeen.{BaseSeen};
+ghost use Rattle.layout_positions.specs.Digested.{IsDigested, HoldsGlyphs, lookups_in};
 
 use crate::bases::BaseSeen;
 use crate::flagged::{Flagged, none_flagged};
@@ -18,27 +16,18 @@ use crate::known::{Known, LONG, ROOM, apply_known, attaches_marks};
 use crate::nested::{apply_sought, unpaid};
 use crate::pair_walk::{go_over_pairs, keeps_pairs};
 use crate::places::after;
+use crate::steps::{Spot, charge, steps_over};
 use crate::subtables::{Carried, Outcome, apply_lookup};
 use crate::tolls::{has_rules, walk_toll};
-use layout_buffer::ItemList;
 use layout_digests::{Digest, Digested};
-use layout_matching::beside::plain_charged;
 use layout_matching::indexed::Indexed;
 use layout_matching::lookup::Lookup;
-use layout_matching::skipping::{is_on, is_transparent};
-use layout_matching::work::lookup_charged;
+use layout_matching::skipping::is_on;
 use shape_buffer::position_walks::update_positions;
 use shape_buffer::{GlyphPosition, hb_buffer_t, hb_glyph_info_t};
 
 /// How many levels of lookups there are: one of the plan, and 64 below it.
 const LEVELS: u32 = 65;
-
-/// Where a walk over a buffer stands, and what is carried on.
-#[derive(Clone, Copy)]
-pub struct Spot {
-    pub at: usize,
-    pub carried: Carried,
-}
 
 /// The position of a glyph that isn't attached to another one.
 fn unattached(position: GlyphPosition) -> GlyphPosition
@@ -56,31 +45,6 @@ pub fn position_start(buffer: &mut hb_buffer_t)
     ensures { Made Walk.started buffer.old buffer.new }
 {
     update_positions(buffer, |_info, position| unattached(position));
-}
-
-/// What is left after a lookup that isn't one of context was charged at a place.
-#[inline(always)]
-pub(crate) fn charge(
-    indexed: &Indexed<'_>,
-    buffer: &hb_buffer_t,
-    at: usize,
-    left: usize,
-) -> Option<usize>
-    requires near { indexed.now.lookup.now.place < 2 ^ 17 }
-    requires plain { found_rules.is_context indexed.now.lookup.now ≡ false }
-    requires inside { at < length buffer.now.items }
-    ensures { result ≡ Work.lookup_charged indexed.now.lookup.now buffer.now.items at left }
-{
-    let lookup = indexed.lookup;
-    let infos = buffer.infos();
-    if !lookup.positioning {
-        return lookup_charged(indexed, &ItemList::of_slice(infos), at, left);
-    }
-    if is_transparent(lookup, false, &infos[at]) {
-        plain_charged(lookup, &ItemList::of_slice(infos), at, left)
-    } else {
-        Some(left)
-    }
 }
 
 /// Applies a lookup that isn't one of context at a place.
@@ -204,52 +168,6 @@ fn step_on(
         at: outcome.next.unwrap_or(next),
         carried: outcome.carried,
     }
-}
-
-/// How many glyphs from a place on, of so many, a digest doesn't hold.
-#[tactic(auto, using(crate::proofs::DigestLemmas::one_unheld))]
-fn unheld(digest: &Digest, items: &[hb_glyph_info_t], from: usize, most: usize) -> usize
-    requires { from + most ≤ length items.now }
-    ensures few { result ≤ most }
-    ensures free { AreUnheld digest.now items.now from result }
-{
-    for k in 0..most {
-        if digest.has(items[from + k].glyph_id) {
-            return k;
-        }
-    }
-    most
-}
-
-/// How many steps of a walk, at most so many, lead to the next glyph that the digest of the lookup
-/// holds.
-#[inline(always)]
-pub(crate) fn steps_over(
-    named: &Digested<'_>,
-    buffer: &hb_buffer_t,
-    at: usize,
-    most: usize,
-) -> usize
-    requires said { IsDigested named.now }
-    ensures few { result ≤ most }
-    ensures fits { at + result < 2 ^ 64 }
-    ensures passed { (seen : BaseSeen) (left : ℕ) → record {
-      buffer = buffer.now;
-      at = at + result;
-      seen = seen;
-      left = left;
-    } ≡ times (Walk.lookup_step named.now.lookup) result
-        (record { buffer = buffer.now; at = at; seen = seen; left = left }) }
-{
-    if buffer.len() <= at {
-        return 0;
-    }
-    unheld(
-        &named.digest,
-        buffer.infos(),
-        at,
-        most.min(buffer.len() - at),
-    )
 }
 
 /// Goes over a buffer with a lookup, from its first glyph on, with what is known of glyphs. Returns

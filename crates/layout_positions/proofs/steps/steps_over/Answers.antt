@@ -1,7 +1,7 @@
 use Rattle.std.proofs.Common.{◌+◌, ◌≤◌, length, subst, arith}
 use Rattle.layout_positions.specs.Digested.{AreUnheld}
 use Rattle.layout_positions.proofs.DigestLemmas.{steps_passed}
-use Rattle.layout_positions.proofs.walk.steps_over.Goals as goal
+use Rattle.layout_positions.proofs.steps.steps_over.Goals as goal
 
 pub returns-clause-passed : goal.returns-clause-passed
 returns-clause-passed c =
