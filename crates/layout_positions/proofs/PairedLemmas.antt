@@ -15,13 +15,14 @@ use Rattle.layout_matching.proofs.LoopLemmas.{times_step}
 use Rattle.layout_positions.specs.Anchors.{number_at}
 use Rattle.layout_positions.specs.Edits.{asks_for_concat, broken, concat_marked}
 use Rattle.layout_positions.specs.Lookups.{Applied, unapplied, glyph_after, end_after}
-use Rattle.layout_positions.specs.Paired.{pair_in, found_put, placed_as, AreBeside, untried, HasAt, HasFor, found_of, IsKnownPair}
+use Rattle.layout_positions.specs.Paired.{pair_in, found_put, placed_as, AreBeside, untried, HasAt, HasFor, advance_pair, plain_found, found_of, IsKnownPair}
 use Rattle.layout_positions.specs.Pairs.{has_pairs, pair_of, pair_put, pair_ended, pair_with, pair_at_number, pair_applied}
-use Rattle.layout_positions.specs.Subtables.{kind_applied, sought, unplaced, subtable_placed, subtable_tried, trial_of, trial_step, placed_by}
+use Rattle.layout_positions.specs.Subtables.{kind_applied, sought, unplaced, subtable_placed, subtable_tried, trial_of, trial_step, placed_by, lookup_placed}
 use Rattle.layout_positions.specs.Values.{advance_only}
 use Rattle.layout_positions.specs.declared.bases.BaseSeen.{BaseSeen}
 use Rattle.layout_positions.specs.declared.paired.FoundPair.{FoundPair}
 use Rattle.layout_positions.specs.declared.paired.KnownPair.{KnownPair}
+use Rattle.layout_positions.specs.declared.paired.PlainPair.{PlainPair}
 use Rattle.layout_positions.specs.declared.pairs.PairValues.{PairValues}
 use Rattle.layout_positions.specs.declared.values.Adjustment.{Adjustment}
 use Rattle.layout_positions.proofs.FlaggedLemmas.{concat_unasked}
@@ -83,15 +84,23 @@ pair_has l subtable left right k found this kind is b i j seen rest beside =
     ∙ ap (found_put i j b) (pair-glyphs l subtable.start left right b i j beside ∙ sym is)))
 
 -- none at all
-pub none_has : (l : Lookup) (left right k : ℕ) → subtable_of l.table.now 9 l.place k ≡ None → HasAt l left right k None
-none_has l left right k none b i j seen rest beside =
+none-at : (l : Lookup) (left right k : ℕ) → subtable_of l.table.now 9 l.place k ≡ None → HasAt l left right k None
+none-at l left right k none b i j seen rest beside =
     let here = untried b seen rest k in
     ap (λ o. option_map_or (subtable_tried l i here) o (trial_of here (unplaced rest seen b))) none
 
+pub none_has : (l : Lookup) (left right k : ℕ) (found : Option FoundPair) → subtable_of l.table.now 9 l.place k ≡ None → found ≡ None
+    → HasAt l left right k found
+none_has l left right k found none is = subst (λ o. HasAt l left right k o) (sym is) (none-at l left right k none)
+
 -- one that doesn't begin at the first glyph
-pub out_has : (l : Lookup) (left right k : ℕ) → l.positioning ≡ true → IsOut l k left → HasAt l left right k None
-out_has l left right k gpos out b i j seen rest beside =
+out-at : (l : Lookup) (left right k : ℕ) → l.positioning ≡ true → IsOut l k left → HasAt l left right k None
+out-at l left right k gpos out b i j seen rest beside =
     sym (subtable_passed l i k rest seen b None refl gpos (subst (IsOut l k) (sym beside.left_is) out))
+
+pub out_has : (l : Lookup) (left right k : ℕ) (found : Option FoundPair) → l.positioning ≡ true → IsOut l k left → found ≡ None
+    → HasAt l left right k found
+out_has l left right k found gpos out is = subst (λ o. HasAt l left right k o) (sym is) (out-at l left right k gpos out)
 
 -- ---- the subtables one after the other
 
@@ -133,12 +142,34 @@ found_first l left right k n (Some f) before at some below count b i j seen rest
     ∙ ap (λ m. placed_by (times (trial_step l i) m first)) count
 
 -- or if none has
-pub none_first : (l : Lookup) (left right n : ℕ) → Passes l left right n → n ≡ subtable_count_of l.table.now l.place
+none-for : (l : Lookup) (left right n : ℕ) → Passes l left right n → n ≡ subtable_count_of l.table.now l.place
     → HasFor l left right None
-none_first l left right n before count b i j seen rest beside =
+none-for l left right n before count b i j seen rest beside =
     ap placed_by (before b i j seen rest beside) ∙ ap (λ m. placed_by (times (trial_step l i) m (untried b seen rest 0))) count
 
+pub none_first : (l : Lookup) (left right n : ℕ) (found : Option FoundPair) → Passes l left right n
+    → n ≡ subtable_count_of l.table.now l.place → found ≡ None → HasFor l left right found
+none_first l left right n found before count is = subst (λ o. HasFor l left right o) (sym is) (none-for l left right n before count)
+
+-- ---- two glyphs adjusted as it was found for them
+
+pub found_made : (l : Lookup) (left right : ℕ) (found : Option FoundPair) (b : Buffer) (i j : ℕ) (made : Buffer) (next : Option ℕ)
+    → HasFor l left right found → AreBeside l left right b i j → made ≡ (found_put i j b found).buffer
+    → next ≡ (found_put i j b found).next → (seen : BaseSeen) (rest : ℕ)
+    → placed_as seen rest (record { buffer = made; next = next }) ≡ lookup_placed l i rest seen b
+found_made l left right found b i j made next has beside is goes_on seen rest =
+    let same : placed_as seen rest (record { buffer = made; next = next }) ≡ placed_as seen rest (found_put i j b found) =
+    λ k. record { buffer = is k; next = goes_on k; seen = seen; left = rest } in
+    same ∙ has b i j seen rest beside
+
 -- ---- what is kept in mind
+
+pub plain_some : (p : PlainPair) → p.is_found ≡ is_some (plain_found p)
+plain_some p = by_found p.is_found
+  where
+    by_found : (t : Bool) → t ≡ is_some (if t then Some (advance_pair p.listed p.advance) else None)
+    by_found true = refl
+    by_found false = refl
 
 left-of : (s t : Bool) → (s && t) ≡ true → s ≡ true
 left-of true t e = refl

@@ -1,5 +1,5 @@
 -- What a walk knows of pairs of glyphs: what the lookup has for them.
-use Rattle.std.specs.Prelude.{◌≡◌, ℕ, ℤ, pos, Bool, true, false, Option, Some, None, ◌+◌, nat_eq, if◌then◌else◌}
+use Rattle.std.specs.Prelude.{◌≡◌, ℕ, ℤ, Bool, true, false, Option, Some, None, ◌+◌, nat_eq, if◌then◌else◌}
 use Rattle.std.specs.Option.{option_and_then, option_map, option_map_or}
 use Rattle.shape_font.specs.Bytes.{u16_of}
 use Rattle.shape_items.specs.Buffer.{Buffer}
@@ -8,12 +8,15 @@ use Rattle.layout_matching.specs.declared.lookup.Lookup.{Lookup}
 use Rattle.layout_positions.specs.Anchors.{number_at}
 use Rattle.layout_positions.specs.Edits.{asks_for_concat}
 use Rattle.layout_positions.specs.Lookups.{Applied, unapplied, glyph_after}
-use Rattle.layout_positions.specs.Pairs.{has_pairs, pair_of, pair_put}
+use Rattle.layout_positions.specs.Pairs.{has_pairs, pair_of, pair_put, values_of, advance_values}
 use Rattle.layout_positions.specs.Subtables.{Placing, Trial, trial_of, trial_step, lookup_placed}
-use Rattle.layout_positions.specs.Values.{advance_only}
 use Rattle.layout_positions.specs.declared.bases.BaseSeen.{BaseSeen}
 use Rattle.layout_positions.specs.declared.paired.FoundPair.{FoundPair}
 use Rattle.layout_positions.specs.declared.paired.KnownPair.{KnownPair}
+use Rattle.layout_positions.specs.declared.paired.PairFound.{PairFound}
+use Rattle.layout_positions.specs.declared.paired.PairFound.TheVariants.{Plain, Other}
+use Rattle.layout_positions.specs.declared.paired.PlainPair.{PlainPair}
+use Rattle.layout_positions.specs.declared.pairs.PairRecords.{PairRecords}
 
 -- what a subtable has for two glyphs, of which it lists the first one
 abbrev pub pair_in : Lookup → ℕ → ℕ → ℕ → Option FoundPair
@@ -21,6 +24,15 @@ pair_in l start left right = if has_pairs l.table.now start
     then option_map (λ values. record { listed = nat_eq (u16_of l.table.now start) 1; values = values })
     (option_and_then (λ number. pair_of l start number left right) (number_at l.table.now start (start + 2) left))
     else None
+
+-- the same, by the number of the first one
+abbrev pub pair_numbered : Lookup → ℕ → ℕ → ℕ → ℕ → Option FoundPair
+pair_numbered l start left right number =
+    option_map (λ values. record { listed = nat_eq (u16_of l.table.now start) 1; values = values }) (pair_of l start number left right)
+
+-- what the records of a pair say
+abbrev pub found_there : Lookup → Bool → PairRecords → FoundPair
+found_there l listed r = record { listed = listed; values = values_of l r }
 
 -- two glyphs adjusted as it was found for them
 abbrev pub found_put : ℕ → ℕ → Buffer → Option FoundPair → Applied
@@ -52,7 +64,16 @@ HasFor l left right found = (b : Buffer) (i j : ℕ) (seen : BaseSeen) (rest : �
 
 -- a pair that changes the advance of its first glyph alone
 abbrev pub advance_pair : Bool → ℤ → FoundPair
-advance_pair listed x = record { listed = listed; values = record { first = advance_only x; second = advance_only (pos 0); has_second = false } }
+advance_pair listed x = record { listed = listed; values = advance_values x }
+
+-- such a pair, or none
+abbrev pub plain_found : PlainPair → Option FoundPair
+plain_found p = if p.is_found then Some (advance_pair p.listed p.advance) else None
+
+-- what was found for two glyphs
+abbrev pub found_in : PairFound → Option FoundPair
+found_in (Plain p) = plain_found p
+found_in (Other f) = Some f
 
 abbrev pub found_of : KnownPair → Option FoundPair
 found_of known = if known.is_found then Some (advance_pair known.listed known.advance) else None

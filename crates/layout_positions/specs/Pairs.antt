@@ -1,5 +1,5 @@
 -- Single and pair adjustment (OpenType, `GPOS`, lookup types 1 and 2).
-use Rattle.std.specs.Prelude.{ℕ, List, Bool, Option, Some, None, ◌+◌, ◌*◌, ◌&&◌, ◌||◌, not, min, length, nat_eq, nat_lt, nat_le, if◌then◌else◌}
+use Rattle.std.specs.Prelude.{ℕ, ℤ, pos, false, List, Bool, Option, Some, None, ◌+◌, ◌*◌, ◌&&◌, ◌||◌, not, min, length, nat_eq, nat_lt, nat_le, if◌then◌else◌}
 use Rattle.std.specs.Option.{option_map, option_map_or, option_and_then}
 use Rattle.std.specs.declared.cmp.Ordering.{Ordering}
 use Rattle.shape_common.specs.Direction.{is_horizontal}
@@ -13,7 +13,8 @@ use Rattle.layout_matching.specs.declared.lookup.Lookup.{Lookup}
 use Rattle.layout_positions.specs.Anchors.{number_at}
 use Rattle.layout_positions.specs.Edits.{position_changed, broken, concat_marked}
 use Rattle.layout_positions.specs.Lookups.{Applied, unapplied, glyph_after, end_after}
-use Rattle.layout_positions.specs.Values.{value_size, value_at, has_bytes, value_in, adjusted, has_effect}
+use Rattle.layout_positions.specs.Values.{value_size, value_at, has_bytes, value_in, adjusted, has_effect, advance_only}
+use Rattle.layout_positions.specs.declared.pairs.PairRecords.{PairRecords}
 use Rattle.layout_positions.specs.declared.pairs.PairValues.{PairValues}
 use Rattle.layout_positions.specs.declared.values.Adjustment.{Adjustment}
 
@@ -48,6 +49,14 @@ records_at l first second base at = record {
   second = value_at l second base (at + value_size first);
   has_second = not (nat_eq second 0);
 }
+
+-- the same, by where they stand
+abbrev pub values_of : Lookup → PairRecords → PairValues
+values_of l r = records_at l r.first r.second r.base r.at
+
+-- a pair that changes the advance of its first glyph alone
+abbrev pub advance_values : ℤ → PairValues
+advance_values x = record { first = advance_only x; second = advance_only (pos 0); has_second = false }
 
 abbrev pub records_size : ℕ → ℕ → ℕ
 records_size first second = value_size first + value_size second

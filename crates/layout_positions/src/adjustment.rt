@@ -7,7 +7,9 @@ ghost use Rattle.layout_positions.specs.Pairs;
 use crate::anchors::number_there;
 use crate::edits::{break_between, concat_between, position, put};
 use crate::neighbours::{end_at, glyph_at, known_stop};
-use crate::pairs::{PairValues, pair, single};
+use crate::pairs::{
+    PairRecords, PairValues, advance_values, pair_records, plain_advance, single, values_of,
+};
 use crate::places::{after, two_after};
 use crate::values::{Adjustment, adjusted, has_effect};
 use layout_matching::lookup::Lookup;
@@ -16,6 +18,7 @@ use shape_buffer::hb_buffer_t;
 use shape_font::bytes::u16_at;
 
 /// Adjusts the glyph at place `i`.
+#[inline(always)]
 fn adjust(buffer: &mut hb_buffer_t, i: usize, value: &Adjustment)
     ensures made { buffer.new ≡ Pairs.glyph_adjusted value.now i buffer.old }
     ensures items { buffer.new.items ≡ buffer.old.items }
@@ -48,6 +51,7 @@ pub fn apply_single(
 }
 
 /// Whether a pair changes something.
+#[inline(always)]
 fn moves(horizontal: bool, values: &PairValues) -> bool
     ensures { result ≡ Pairs.pair_moves horizontal values.now }
 {
@@ -55,6 +59,7 @@ fn moves(horizontal: bool, values: &PairValues) -> bool
 }
 
 /// Marks the two glyphs of a pair, as it moves them or doesn't.
+#[inline(always)]
 fn mark(buffer: &mut hb_buffer_t, listed: bool, moved: bool, i: usize, j: usize)
     requires { j < length buffer.old.items }
     ensures made { buffer.new ≡ Pairs.pair_marked listed moved i j buffer.old }
@@ -69,6 +74,7 @@ fn mark(buffer: &mut hb_buffer_t, listed: bool, moved: bool, i: usize, j: usize)
 }
 
 /// Ends a pair: goes on at its second glyph, or after that one if it has a record.
+#[inline(always)]
 fn end_pair(buffer: &mut hb_buffer_t, values: &PairValues, i: usize, j: usize) -> Option<usize>
     requires { j < length buffer.old.items }
     ensures made { buffer.new ≡ (Pairs.pair_ended values.now i j buffer.old).buffer }
@@ -84,7 +90,8 @@ fn end_pair(buffer: &mut hb_buffer_t, values: &PairValues, i: usize, j: usize) -
 }
 
 /// Adjusts the two glyphs of a pair.
-pub(crate) fn put_pair(
+#[inline(always)]
+fn put_values(
     buffer: &mut hb_buffer_t,
     listed: bool,
     i: usize,
@@ -100,6 +107,65 @@ pub(crate) fn put_pair(
     adjust(buffer, j, &values.second);
     mark(buffer, listed, moved, i, j);
     end_pair(buffer, values, i, j)
+}
+
+/// Adjusts the two glyphs of any pair.
+#[inline(never)]
+pub(crate) fn put_pair(
+    buffer: &mut hb_buffer_t,
+    listed: bool,
+    i: usize,
+    j: usize,
+    values: &PairValues,
+) -> Option<usize>
+    requires inside { j < length buffer.old.items }
+    ensures made { buffer.new ≡ (Pairs.pair_put listed i j buffer.old values.now).buffer }
+    ensures next { result ≡ (Pairs.pair_put listed i j buffer.old values.now).next }
+{
+    put_values(buffer, listed, i, j, values)
+}
+
+/// Adjusts the two glyphs of a pair that changes the advance of its first one alone. A call of its
+/// own, in which little is left of what other pairs need.
+#[inline(never)]
+pub(crate) fn put_advance(
+    buffer: &mut hb_buffer_t,
+    listed: bool,
+    i: usize,
+    j: usize,
+    advance: i32,
+) -> Option<usize>
+    requires inside { j < length buffer.old.items }
+    ensures made { buffer.new
+        ≡ (Pairs.pair_put listed i j buffer.old (Pairs.advance_values advance)).buffer }
+    ensures next { result
+        ≡ (Pairs.pair_put listed i j buffer.old (Pairs.advance_values advance)).next }
+{
+    put_values(buffer, listed, i, j, &advance_values(advance))
+}
+
+/// Adjusts the two glyphs of a pair by the records that were found for them.
+#[inline(always)]
+fn put_records(
+    lookup: &Lookup<'_>,
+    buffer: &mut hb_buffer_t,
+    listed: bool,
+    i: usize,
+    j: usize,
+    records: &PairRecords,
+) -> Option<usize>
+    requires inside { j < length buffer.old.items }
+    requires base { records.now.base < 2 ^ 35 }
+    requires at { records.now.at < 480000000000 }
+    ensures made { buffer.new
+        ≡ (Pairs.pair_put listed i j buffer.old (Pairs.values_of lookup.now records.now)).buffer }
+    ensures next { result
+        ≡ (Pairs.pair_put listed i j buffer.old (Pairs.values_of lookup.now records.now)).next }
+{
+    match plain_advance(lookup, records) {
+        Some(advance) => put_advance(buffer, listed, i, j, advance),
+        None => put_pair(buffer, listed, i, j, &values_of(lookup, records)),
+    }
 }
 
 /// Applies pair adjustment to the glyphs at places `i` and `j`; `number` is that of the first one
@@ -120,8 +186,11 @@ fn pair_with(
     let count = buffer.len();
     let left = item_at(buffer.infos(), i).glyph_id;
     let right = item_at(buffer.infos(), j).glyph_id;
-    match pair(lookup, start, number, left, right) {
-        Some(values) => put_pair(buffer, u16_at(lookup.table, start) == 1, i, j, &values),
+    match pair_records(lookup, start, number, left, right) {
+        Some(records) => {
+            let listed = u16_at(lookup.table, start) == 1;
+            put_records(lookup, buffer, listed, i, j, &records)
+        }
         None => {
             concat_between(buffer, i, after(count, j));
             None

@@ -1,15 +1,20 @@
 //! Walks of lookups of pairs.
-ghost use Rattle.std.specs.Prelude.{◌≡◌, ◌<◌, ◌^◌, false, length, All};
+ghost use Rattle.std.specs.Prelude.{◌≡◌, ◌<◌, ◌^◌, ℕ, None, false, length, All};
+ghost use Rattle.std.specs.Option.{IfSome};
 ghost use Rattle.layout_matching.specs.Found as found_rules;
 ghost use Rattle.layout_positions.specs.Digested.{IsDigested};
 ghost use Rattle.layout_positions.specs.Nested;
 ghost use Rattle.layout_positions.specs.Paired as pair_rules;
 ghost use Rattle.layout_positions.specs.Subtables;
 ghost use Rattle.layout_positions.specs.Walk;
+ghost use Rattle.layout_positions.specs.declared.bases.BaseSeen.{BaseSeen};
 
+use crate::adjustment::{put_advance, put_pair};
 use crate::bases::BaseSeen;
+use crate::edits::asks_for_concat;
+use crate::neighbours::{glyph_at, stop_after};
 use crate::nested::unpaid;
-use crate::paired::{KnownPair, pair_met, put_met};
+use crate::paired::{KnownPair, PairFound, PlainPair, first_pair, keep, recalled};
 use crate::places::after;
 use crate::steps::{Spot, charge, steps_over};
 use crate::subtables::{Carried, Outcome, apply_lookup};
@@ -66,6 +71,115 @@ pub(crate) fn keeps_pairs(lookup: &Lookup<'_>, count: usize) -> bool
     LONG <= count && adjusts_pairs(lookup)
 }
 
+/// Adjusts two glyphs by a pair that changes the advance of the first one alone, or not at all.
+/// Returns where the lookup goes on.
+#[inline(always)]
+fn put_plain(buffer: &mut hb_buffer_t, i: usize, j: usize, plain: &PlainPair) -> Option<usize>
+    requires { j < length buffer.old.items }
+    ensures made { buffer.new
+        ≡ (pair_rules.found_put i j buffer.old (pair_rules.plain_found plain.now)).buffer }
+    ensures next { result
+        ≡ (pair_rules.found_put i j buffer.old (pair_rules.plain_found plain.now)).next }
+{
+    if plain.is_found {
+        put_advance(buffer, plain.listed, i, j, plain.advance)
+    } else {
+        None
+    }
+}
+
+/// Two glyphs beside each other, by their numbers, and where the second one stands.
+#[derive(Clone, Copy)]
+struct Beside {
+    left: u32,
+    right: u32,
+    second: usize,
+}
+
+/// The glyph at place `i` and the next one that a lookup sees; none if there is none, or what was
+/// looked at is to be marked.
+#[inline(always)]
+fn beside_at(lookup: &Lookup<'_>, buffer: &hb_buffer_t, i: usize) -> Option<Beside>
+    requires { i < length buffer.now.items }
+    ensures inside { IfSome result (λ two. two.second < length buffer.now.items) }
+    ensures beside { IfSome result
+        (λ two. pair_rules.AreBeside lookup.now two.left two.right buffer.now i two.second) }
+{
+    if asks_for_concat(buffer) {
+        return None;
+    }
+    let items = buffer.infos();
+    let stop = stop_after(lookup, items, i);
+    let second = glyph_at(lookup, items, stop)?;
+    Some(Beside {
+        left: items[i].glyph_id,
+        right: items[second].glyph_id,
+        second,
+    })
+}
+
+/// Adjusts two glyphs beside each other as a lookup of pairs does. Unless it is known what that has
+/// for them it is sought, and kept in mind. Returns where the lookup goes on; none, with nothing
+/// adjusted, if a subtable isn't one of pairs.
+#[inline(always)]
+fn put_two(
+    indexed: &Indexed<'_>,
+    buffer: &mut hb_buffer_t,
+    i: usize,
+    two: Beside,
+    known: &mut [KnownPair],
+) -> Option<Option<usize>>
+    requires place { indexed.now.lookup.now.place < 2 ^ 17 }
+    requires inside { two.second < length buffer.old.items }
+    requires beside { pair_rules.AreBeside indexed.now.lookup.now two.left two.right buffer.old i
+        two.second }
+    requires known { All (pair_rules.IsKnownPair indexed.now.lookup.now) known.old }
+    ensures made { IfSome result (λ next. (seen : BaseSeen) (left : ℕ)
+        → record { buffer = buffer.new; next = next; seen = seen; left = left }
+        ≡ Subtables.lookup_placed indexed.now.lookup.now i left seen buffer.old) }
+    ensures none { result ≡ None → buffer.new ≡ buffer.old }
+    ensures known { All (pair_rules.IsKnownPair indexed.now.lookup.now) known.new }
+{
+    let Beside {
+        left,
+        right,
+        second,
+    } = two;
+    if let Some(plain) = recalled(indexed.lookup, left, right, known) {
+        return Some(put_plain(buffer, i, second, &plain));
+    }
+    match first_pair(indexed, left, right)? {
+        PairFound::Plain(plain) => {
+            keep(indexed.lookup, left, right, &plain, known);
+            Some(put_plain(buffer, i, second, &plain))
+        }
+        PairFound::Other(pair) => { Some(put_pair(buffer, pair.listed, i, second, &pair.values)) }
+    }
+}
+
+/// Adjusts the glyph at place `i` and the next one that a lookup of pairs sees, as that does.
+/// Returns where the lookup goes on; none, with nothing adjusted, if there is no such glyph, or
+/// what was looked at is to be marked, or a subtable isn't one of pairs.
+#[inline(always)]
+fn put_next(
+    indexed: &Indexed<'_>,
+    buffer: &mut hb_buffer_t,
+    i: usize,
+    known: &mut [KnownPair],
+) -> Option<Option<usize>>
+    requires place { indexed.now.lookup.now.place < 2 ^ 17 }
+    requires inside { i < length buffer.old.items }
+    requires known { All (pair_rules.IsKnownPair indexed.now.lookup.now) known.old }
+    ensures made { IfSome result (λ next. (seen : BaseSeen) (left : ℕ)
+        → record { buffer = buffer.new; next = next; seen = seen; left = left }
+        ≡ Subtables.lookup_placed indexed.now.lookup.now i left seen buffer.old) }
+    ensures none { result ≡ None → buffer.new ≡ buffer.old }
+    ensures known { All (pair_rules.IsKnownPair indexed.now.lookup.now) known.new }
+{
+    let two = beside_at(indexed.lookup, buffer, i)?;
+    put_two(indexed, buffer, i, two, known)
+}
+
 /// Applies a lookup of pairs to the glyph at a place.
 #[inline(always)]
 fn place_pair(
@@ -86,11 +200,8 @@ fn place_pair(
     } ≡ Subtables.lookup_placed indexed.now.lookup.now at carried.left carried.seen buffer.old }
     ensures known { All (pair_rules.IsKnownPair indexed.now.lookup.now) known.new }
 {
-    match pair_met(indexed, buffer, at, known) {
-        Some(met) => {
-            let next = put_met(buffer, at, &met);
-            Outcome { next, carried }
-        }
+    match put_next(indexed, buffer, at, known) {
+        Some(next) => Outcome { next, carried },
         None => {
             let mut carried = carried;
             let next = apply_lookup(indexed, buffer, at, &mut carried);

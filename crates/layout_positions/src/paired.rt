@@ -2,23 +2,19 @@
 //! the same two glyphs come beside each other again and again, and what a lookup of pairs has for
 //! them takes a search in each of its subtables: those aren't searched again for two glyphs as
 //! long as they are kept in mind.
-ghost use Rattle.std.specs.Prelude.{◌≡◌, ◌<◌, ◌^◌, ◌&&◌, ℕ, All, false, length, nat_eq, pos};
+ghost use Rattle.std.specs.Prelude.{◌≡◌, ◌<◌, ◌^◌, ◌&&◌, All, Some, None, is_some, nat_eq};
 ghost use Rattle.std.specs.Option.{IfSome};
 ghost use Rattle.layout_positions.specs.Paired as pair_rules;
-ghost use Rattle.layout_positions.specs.Subtables;
+ghost use Rattle.layout_positions.specs.Pairs;
 ghost use Rattle.layout_positions.specs.Values;
-ghost use Rattle.layout_positions.specs.declared.bases.BaseSeen.{BaseSeen};
 
-use crate::adjustment::{has_pairs, put_pair};
+use crate::adjustment::has_pairs;
 use crate::anchors::number_there;
-use crate::edits::asks_for_concat;
-use crate::neighbours::{glyph_at, stop_after};
-use crate::pairs::{PairValues, pair};
-use crate::values::{Adjustment, advance_only};
+use crate::pairs::{PairRecords, PairValues, pair_records, plain_advance, values_of};
+use crate::values::Adjustment;
 use layout_matching::indexed::Indexed;
 use layout_matching::lookup::Lookup;
 use layout_tables::lookups::{subtable, subtable_count};
-use shape_buffer::hb_buffer_t;
 use shape_font::bytes::u16_at;
 
 /// What a subtable has for two glyphs, and whether it lists them one by one.
@@ -28,8 +24,23 @@ pub struct FoundPair {
     pub values: PairValues,
 }
 
+/// Nothing, or a pair that changes the advance of its first glyph alone, as most do.
+#[derive(Clone, Copy)]
+pub struct PlainPair {
+    pub advance: i32,
+    pub is_found: bool,
+    pub listed: bool,
+}
+
+/// What was found for two glyphs. What most pairs say is a few words, which are cheap to move.
+#[derive(Clone, Copy)]
+pub enum PairFound {
+    Plain(PlainPair),
+    Other(FoundPair),
+}
+
 /// Two glyphs, and what the lookup has for them, once that was sought: nothing, or a pair that
-/// changes the advance of its first glyph alone, as most do.
+/// changes the advance of its first glyph alone.
 #[derive(Clone, Copy)]
 pub struct KnownPair {
     pub left: u32,
@@ -38,125 +49,6 @@ pub struct KnownPair {
     pub is_sought: bool,
     pub is_found: bool,
     pub listed: bool,
-}
-
-/// What the subtable of pair adjustment at `start` has for two glyphs.
-#[inline(always)]
-fn pair_in(lookup: &Lookup<'_>, start: usize, left: u32, right: u32) -> Option<FoundPair>
-    requires { start < 2 ^ 34 }
-    ensures { result ≡ pair_rules.pair_in lookup.now start left right }
-{
-    if !has_pairs(lookup.table, start) {
-        return None;
-    }
-    let number = number_there(lookup.table, start, start + 2, left)?;
-    match pair(lookup, start, number, left, right) {
-        Some(values) => Some(FoundPair {
-            listed: u16_at(lookup.table, start) == 1,
-            values,
-        }),
-        None => None,
-    }
-}
-
-/// What subtable `k` of the lookup has for two glyphs; none if it isn't one of pairs.
-#[tactic(auto, using(crate::proofs::PairedLemmas::pair_has, crate::proofs::PairedLemmas::none_has))]
-#[inline(always)]
-fn pair_at(indexed: &Indexed<'_>, left: u32, right: u32, k: u32) -> Option<Option<FoundPair>>
-    requires place { indexed.now.lookup.now.place < 2 ^ 17 }
-    requires few { k < 2 ^ 16 }
-    ensures { IfSome result (pair_rules.HasAt indexed.now.lookup.now left right k) }
-{
-    let lookup = indexed.lookup;
-    if lookup.positioning && !indexed.may_begin(k, left) {
-        return Some(None);
-    }
-    match subtable(lookup.table, 9, lookup.place, k) {
-        Some(subtable) if subtable.kind == 2 => {
-            Some(pair_in(lookup, subtable.start, left, right))
-        }
-        Some(_) => None,
-        None => Some(None),
-    }
-}
-
-/// What the first subtable has that has something for two glyphs; none if one before it isn't one
-/// of pairs.
-#[tactic(auto, using(crate::proofs::PairedLemmas::passes_none, crate::proofs::PairedLemmas::none_first))]
-#[inline(never)]
-fn first_pair(indexed: &Indexed<'_>, left: u32, right: u32) -> Option<Option<FoundPair>>
-    requires { indexed.now.lookup.now.place < 2 ^ 17 }
-    ensures { IfSome result (pair_rules.HasFor indexed.now.lookup.now left right) }
-{
-    for k in 0..subtable_count(indexed.lookup.table, indexed.lookup.place) {
-        let found = pair_at(indexed, left, right, k)?;
-        if found.is_some() {
-            return Some(found);
-        }
-    }
-    Some(None)
-}
-
-/// Where two glyphs are kept among so many, a power of 2.
-#[inline(always)]
-fn slot(left: u32, right: u32, count: usize) -> usize {
-    (left as usize * 31 + right as usize) & count.saturating_sub(1)
-}
-
-/// A pair that changes the advance of its first glyph alone.
-#[inline(always)]
-fn advance_pair(listed: bool, advance: i32) -> FoundPair
-    ensures { result ≡ pair_rules.advance_pair listed advance }
-{
-    FoundPair {
-        listed,
-        values: PairValues {
-            first: advance_only(advance),
-            second: advance_only(0),
-            has_second: false,
-        },
-    }
-}
-
-/// What is known of two glyphs.
-#[inline(always)]
-fn found_of(known: &KnownPair) -> Option<FoundPair>
-    ensures { result ≡ pair_rules.found_of known.now }
-{
-    if known.is_found {
-        Some(advance_pair(known.listed, known.advance))
-    } else {
-        None
-    }
-}
-
-/// Whether it is known what the lookup has for these two glyphs.
-#[inline(always)]
-fn is_for(known: &KnownPair, left: u32, right: u32) -> bool
-    ensures { result ≡ (known.now.is_sought && nat_eq known.now.left left
-        && nat_eq known.now.right right) }
-{
-    known.is_sought && known.left == left && known.right == right
-}
-
-/// What the lookup has for two glyphs, if it is kept in mind.
-#[tactic(auto, using(crate::proofs::PairedLemmas::known_for))]
-#[inline(always)]
-fn recalled(
-    lookup: &Lookup<'_>,
-    left: u32,
-    right: u32,
-    known: &[KnownPair],
-) -> Option<Option<FoundPair>>
-    requires { All (pair_rules.IsKnownPair lookup.now) known.now }
-    ensures { IfSome result (pair_rules.HasFor lookup.now left right) }
-{
-    let i = slot(left, right, known.len());
-    if i < known.len() && is_for(&known[i], left, right) {
-        Some(found_of(&known[i]))
-    } else {
-        None
-    }
 }
 
 /// The advance of a record, if it changes that along a horizontal line alone.
@@ -176,12 +68,7 @@ fn advance_of(value: &Adjustment) -> Option<i32>
 /// The advance of a pair that changes that of its first glyph alone.
 #[tactic(auto, using(crate::proofs::PairedLemmas::pair_alone))]
 fn pair_advance(values: &PairValues) -> Option<i32>
-    ensures { IfSome result (λ x. values.now
-        ≡ record {
-          first = Values.advance_only x;
-          second = Values.advance_only (pos 0);
-          has_second = false;
-        }) }
+    ensures { IfSome result (λ x. values.now ≡ Pairs.advance_values x) }
 {
     if values.has_second {
         return None;
@@ -192,124 +79,221 @@ fn pair_advance(values: &PairValues) -> Option<i32>
     }
 }
 
-/// What was found for two glyphs, as it is kept in mind; none if it is no such pair.
-fn noted(left: u32, right: u32, found: &Option<FoundPair>) -> Option<KnownPair>
-    ensures left { IfSome result (λ known. known.left ≡ left) }
-    ensures right { IfSome result (λ known. known.right ≡ right) }
-    ensures found { IfSome result (λ known. pair_rules.found_of known ≡ found.now) }
+/// A pair that changes the advance of its first glyph alone.
+#[inline(always)]
+fn advance_found(listed: bool, advance: i32) -> PairFound
+    ensures { pair_rules.found_in result ≡ Some (pair_rules.advance_pair listed advance) }
 {
-    let nothing = KnownPair {
-        left,
-        right,
+    PairFound::Plain(PlainPair {
+        advance,
+        is_found: true,
+        listed,
+    })
+}
+
+/// That nothing was found.
+#[inline(always)]
+fn nothing_found() -> PairFound
+    ensures { pair_rules.found_in result ≡ None }
+{
+    PairFound::Plain(PlainPair {
         advance: 0,
-        is_sought: true,
         is_found: false,
         listed: false,
-    };
-    match found {
-        Some(pair) => {
-            let advance = pair_advance(&pair.values)?;
-            Some(KnownPair {
-                advance,
-                is_found: true,
-                listed: pair.listed,
-                ..nothing
-            })
+    })
+}
+
+/// What any records of a pair say. A call of its own, since few pairs need it.
+#[inline(never)]
+fn read_any(lookup: &Lookup<'_>, listed: bool, records: &PairRecords) -> PairFound
+    requires base { records.now.base < 2 ^ 35 }
+    requires at { records.now.at < 480000000000 }
+    ensures { pair_rules.found_in result
+        ≡ Some (pair_rules.found_there lookup.now listed records.now) }
+{
+    let values = values_of(lookup, records);
+    match pair_advance(&values) {
+        Some(advance) => advance_found(listed, advance),
+        None => PairFound::Other(FoundPair { listed, values }),
+    }
+}
+
+/// What the records of a pair say.
+#[inline(always)]
+fn read_pair(lookup: &Lookup<'_>, listed: bool, records: &PairRecords) -> PairFound
+    requires base { records.now.base < 2 ^ 35 }
+    requires at { records.now.at < 480000000000 }
+    ensures { pair_rules.found_in result
+        ≡ Some (pair_rules.found_there lookup.now listed records.now) }
+{
+    match plain_advance(lookup, records) {
+        Some(advance) => advance_found(listed, advance),
+        None => read_any(lookup, listed, records),
+    }
+}
+
+/// What the subtable of pair adjustment at `start` has for two glyphs, of which the first one has
+/// this number in its list.
+#[inline(always)]
+fn pair_numbered(lookup: &Lookup<'_>, start: usize, number: u32, left: u32, right: u32) -> PairFound
+    requires { start < 2 ^ 34 }
+    ensures { pair_rules.found_in result
+        ≡ pair_rules.pair_numbered lookup.now start left right number }
+{
+    match pair_records(lookup, start, number, left, right) {
+        Some(records) => read_pair(lookup, u16_at(lookup.table, start) == 1, &records),
+        None => nothing_found(),
+    }
+}
+
+/// What the subtable of pair adjustment at `start` has for two glyphs.
+#[inline(always)]
+fn pair_in(lookup: &Lookup<'_>, start: usize, left: u32, right: u32) -> PairFound
+    requires { start < 2 ^ 34 }
+    ensures { pair_rules.found_in result ≡ pair_rules.pair_in lookup.now start left right }
+{
+    if !has_pairs(lookup.table, start) {
+        return nothing_found();
+    }
+    match number_there(lookup.table, start, start + 2, left) {
+        Some(number) => pair_numbered(lookup, start, number, left, right),
+        None => nothing_found(),
+    }
+}
+
+/// What subtable `k` of the lookup has for two glyphs; none if it isn't one of pairs.
+#[tactic(auto, using(crate::proofs::PairedLemmas::pair_has, crate::proofs::PairedLemmas::none_has))]
+#[inline(always)]
+fn pair_at(indexed: &Indexed<'_>, left: u32, right: u32, k: u32) -> Option<PairFound>
+    requires place { indexed.now.lookup.now.place < 2 ^ 17 }
+    requires few { k < 2 ^ 16 }
+    ensures { IfSome result
+        (λ f. pair_rules.HasAt indexed.now.lookup.now left right k (pair_rules.found_in f)) }
+{
+    let lookup = indexed.lookup;
+    if lookup.positioning && !indexed.may_begin(k, left) {
+        return Some(nothing_found());
+    }
+    match subtable(lookup.table, 9, lookup.place, k) {
+        Some(subtable) if subtable.kind == 2 => {
+            Some(pair_in(lookup, subtable.start, left, right))
         }
-        None => Some(nothing),
+        Some(_) => None,
+        None => Some(nothing_found()),
+    }
+}
+
+/// Whether something was found.
+#[tactic(auto, using(crate::proofs::PairedLemmas::plain_some))]
+#[inline(always)]
+fn has_found(found: &PairFound) -> bool
+    ensures { result ≡ is_some (pair_rules.found_in found.now) }
+{
+    match found {
+        PairFound::Plain(plain) => plain.is_found,
+        PairFound::Other(_) => true,
+    }
+}
+
+/// What the first subtable has that has something for two glyphs; none if one before it isn't one
+/// of pairs.
+#[tactic(auto, using(crate::proofs::PairedLemmas::passes_none, crate::proofs::PairedLemmas::none_first))]
+#[inline(never)]
+pub(crate) fn first_pair(indexed: &Indexed<'_>, left: u32, right: u32) -> Option<PairFound>
+    requires { indexed.now.lookup.now.place < 2 ^ 17 }
+    ensures { IfSome result
+        (λ f. pair_rules.HasFor indexed.now.lookup.now left right (pair_rules.found_in f)) }
+{
+    for k in 0..subtable_count(indexed.lookup.table, indexed.lookup.place) {
+        let found = pair_at(indexed, left, right, k)?;
+        if has_found(&found) {
+            return Some(found);
+        }
+    }
+    Some(nothing_found())
+}
+
+/// Where two glyphs are kept among so many, a power of 2.
+#[inline(always)]
+fn slot(left: u32, right: u32, count: usize) -> usize {
+    (left as usize * 31 + right as usize) & count.saturating_sub(1)
+}
+
+/// What is known of two glyphs.
+#[inline(always)]
+fn found_of(known: &KnownPair) -> PlainPair
+    ensures { pair_rules.plain_found result ≡ pair_rules.found_of known.now }
+{
+    PlainPair {
+        advance: known.advance,
+        is_found: known.is_found,
+        listed: known.listed,
+    }
+}
+
+/// Whether it is known what the lookup has for these two glyphs.
+#[inline(always)]
+fn is_for(known: &KnownPair, left: u32, right: u32) -> bool
+    ensures { result ≡ (known.now.is_sought && nat_eq known.now.left left
+        && nat_eq known.now.right right) }
+{
+    known.is_sought && known.left == left && known.right == right
+}
+
+/// What the lookup has for two glyphs, if it is kept in mind.
+#[tactic(auto, using(crate::proofs::PairedLemmas::known_for))]
+#[inline(always)]
+pub(crate) fn recalled(
+    lookup: &Lookup<'_>,
+    left: u32,
+    right: u32,
+    known: &[KnownPair],
+) -> Option<PlainPair>
+    requires { All (pair_rules.IsKnownPair lookup.now) known.now }
+    ensures { IfSome result
+        (λ p. pair_rules.HasFor lookup.now left right (pair_rules.plain_found p)) }
+{
+    let i = slot(left, right, known.len());
+    if i < known.len() && is_for(&known[i], left, right) {
+        Some(found_of(&known[i]))
+    } else {
+        None
+    }
+}
+
+/// Two glyphs and what was found for them, as it is kept in mind.
+#[inline(always)]
+fn noted(left: u32, right: u32, plain: &PlainPair) -> KnownPair
+    ensures left { result.left ≡ left }
+    ensures right { result.right ≡ right }
+    ensures found { pair_rules.found_of result ≡ pair_rules.plain_found plain.now }
+{
+    KnownPair {
+        left,
+        right,
+        advance: plain.advance,
+        is_sought: true,
+        is_found: plain.is_found,
+        listed: plain.listed,
     }
 }
 
 /// Keeps in mind what the lookup has for two glyphs, in place of what was known of others.
 #[tactic(auto, using(crate::proofs::PairedLemmas::noted_known))]
 #[inline(always)]
-fn keep(
+pub(crate) fn keep(
     lookup: &Lookup<'_>,
     left: u32,
     right: u32,
-    found: &Option<FoundPair>,
+    plain: &PlainPair,
     known: &mut [KnownPair],
 )
-    requires new { pair_rules.HasFor lookup.now left right found.now }
+    requires new { pair_rules.HasFor lookup.now left right (pair_rules.plain_found plain.now) }
     requires all { All (pair_rules.IsKnownPair lookup.now) known.old }
     ensures { All (pair_rules.IsKnownPair lookup.now) known.new }
 {
     let i = slot(left, right, known.len());
     if i < known.len() {
-        match noted(left, right, found) {
-            Some(one) => known[i] = one,
-            None => {}
-        }
-    }
-}
-
-/// What the lookup has for two glyphs. Unless it is known it is sought, and kept in mind.
-#[inline(always)]
-fn known_pair(
-    indexed: &Indexed<'_>,
-    left: u32,
-    right: u32,
-    known: &mut [KnownPair],
-) -> Option<Option<FoundPair>>
-    requires place { indexed.now.lookup.now.place < 2 ^ 17 }
-    requires known { All (pair_rules.IsKnownPair indexed.now.lookup.now) known.old }
-    ensures value { IfSome result (pair_rules.HasFor indexed.now.lookup.now left right) }
-    ensures known { All (pair_rules.IsKnownPair indexed.now.lookup.now) known.new }
-{
-    if let Some(found) = recalled(indexed.lookup, left, right, known) {
-        return Some(found);
-    }
-    let found = first_pair(indexed, left, right)?;
-    keep(indexed.lookup, left, right, &found, known);
-    Some(found)
-}
-
-/// Two glyphs beside each other: where the second one stands, and what the lookup has for them.
-#[derive(Clone, Copy)]
-pub(crate) struct Met {
-    pub second: usize,
-    pub found: Option<FoundPair>,
-}
-
-/// What a lookup of pairs has for the glyph at place `i` and the next one that it sees; none if
-/// there is none, or what was looked at is to be marked, or a subtable isn't one of pairs.
-#[inline(always)]
-pub(crate) fn pair_met(
-    indexed: &Indexed<'_>,
-    buffer: &hb_buffer_t,
-    i: usize,
-    known: &mut [KnownPair],
-) -> Option<Met>
-    requires place { indexed.now.lookup.now.place < 2 ^ 17 }
-    requires inside { i < length buffer.now.items }
-    requires known { All (pair_rules.IsKnownPair indexed.now.lookup.now) known.old }
-    ensures inside { IfSome result (λ met. met.second < length buffer.now.items) }
-    ensures met { IfSome result (λ met. (seen : BaseSeen) (left : ℕ)
-        → pair_rules.placed_as seen left (pair_rules.found_put i met.second buffer.now met.found)
-        ≡ Subtables.lookup_placed indexed.now.lookup.now i left seen buffer.now) }
-    ensures known { All (pair_rules.IsKnownPair indexed.now.lookup.now) known.new }
-{
-    if asks_for_concat(buffer) {
-        return None;
-    }
-    let items = buffer.infos();
-    let stop = stop_after(indexed.lookup, items, i);
-    let second = glyph_at(indexed.lookup, items, stop)?;
-    let found = known_pair(indexed, items[i].glyph_id, items[second].glyph_id, known)?;
-    Some(Met { second, found })
-}
-
-/// Adjusts two glyphs as it was found for them. Returns where the lookup goes on.
-#[inline(always)]
-pub(crate) fn put_met(buffer: &mut hb_buffer_t, i: usize, met: &Met) -> Option<usize>
-    requires { met.now.second < length buffer.old.items }
-    ensures made { buffer.new
-        ≡ (pair_rules.found_put i met.now.second buffer.old met.now.found).buffer }
-    ensures next { result
-        ≡ (pair_rules.found_put i met.now.second buffer.old met.now.found).next }
-{
-    match &met.found {
-        Some(pair) => put_pair(buffer, pair.listed, i, met.second, &pair.values),
-        None => None,
+        known[i] = noted(left, right, plain);
     }
 }

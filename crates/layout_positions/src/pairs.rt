@@ -1,12 +1,12 @@
 //! Single and pair adjustment (OpenType, `GPOS`, lookup types 1 and 2): what a subtable has for a
 //! glyph, or for two.
 ghost use Rattle.std.specs.Prelude.{◌≡◌, ◌<◌, ◌≤◌, ◌^◌};
-ghost use Rattle.std.specs.Option.{IfSome};
+ghost use Rattle.std.specs.Option.{IfSome, option_map};
 ghost use Rattle.layout_positions.specs.Pairs;
 
 use crate::anchors::number_there;
 use crate::places::{cell, record_offset};
-use crate::values::{Adjustment, has_bytes, size, value_in, value_record};
+use crate::values::{Adjustment, advance_only, has_bytes, size, value_in, value_record};
 use layout_matching::lookup::Lookup;
 use layout_tables::classes::class;
 use layout_tables::offsets::offset16;
@@ -48,18 +48,63 @@ pub fn single(lookup: &Lookup<'_>, start: usize, glyph: u32) -> Option<Adjustmen
     single_record(lookup, start, number)
 }
 
-/// The two records of a pair at `at`, of these formats, which the subtable says once for all its
-/// pairs. Offsets of their devices count from `base`.
-fn records_at(lookup: &Lookup<'_>, first: u16, second: u16, base: usize, at: usize) -> PairValues
-    requires base { base < 2 ^ 35 }
-    requires at { at < 480000000000 }
-    ensures { result ≡ Pairs.records_at lookup.now first second base at }
+/// Where the two records of a pair stand, one after the other, and their formats, which the
+/// subtable says once for all its pairs. Offsets of their devices count from `base`.
+#[derive(Clone, Copy)]
+pub struct PairRecords {
+    pub first: u16,
+    pub second: u16,
+    pub base: usize,
+    pub at: usize,
+}
+
+/// The two records of a pair.
+#[inline(always)]
+pub(crate) fn values_of(lookup: &Lookup<'_>, records: &PairRecords) -> PairValues
+    requires base { records.now.base < 2 ^ 35 }
+    requires at { records.now.at < 480000000000 }
+    ensures { result ≡ Pairs.values_of lookup.now records.now }
 {
+    let PairRecords {
+        first,
+        second,
+        base,
+        at,
+    } = *records;
     PairValues {
         first: value_record(lookup, first, base, at),
         second: value_record(lookup, second, base, at + size(first)),
         has_second: second != 0,
     }
+}
+
+/// A pair that changes the advance of its first glyph alone.
+#[inline(always)]
+pub(crate) fn advance_values(advance: i32) -> PairValues
+    ensures { result ≡ Pairs.advance_values advance }
+{
+    PairValues {
+        first: advance_only(advance),
+        second: advance_only(0),
+        has_second: false,
+    }
+}
+
+/// The advance of a pair whose formats say that it changes that of its first glyph alone, as those
+/// of most subtables do.
+#[tactic(auto, using(crate::proofs::ValueLemmas::advance_records))]
+#[inline(always)]
+pub(crate) fn plain_advance(lookup: &Lookup<'_>, records: &PairRecords) -> Option<i32>
+    requires base { records.now.base < 2 ^ 35 }
+    requires at { records.now.at < 480000000000 }
+    ensures { IfSome result
+        (λ x. Pairs.values_of lookup.now records.now ≡ Pairs.advance_values x) }
+{
+    if records.first != 4 || records.second != 0 {
+        return None;
+    }
+    let value = value_record(lookup, records.first, records.base, records.at);
+    Some(value.x_advance)
 }
 
 /// How many bytes the two records of a pair have.
@@ -70,20 +115,19 @@ fn records_size(first: u16, second: u16) -> usize
     size(first) + size(second)
 }
 
-/// The two records at `at`, if the table has room for them.
-fn records_if(
-    lookup: &Lookup<'_>,
-    first: u16,
-    second: u16,
-    base: usize,
-    at: usize,
-) -> Option<PairValues>
-    requires base { base < 2 ^ 35 }
-    requires at { at < 480000000000 }
-    ensures { result ≡ Pairs.records_if lookup.now first second base at }
+/// The records, if the table has room for them.
+#[inline(always)]
+fn records_if(lookup: &Lookup<'_>, records: PairRecords) -> Option<PairRecords>
+    requires base { records.base < 2 ^ 35 }
+    requires at { records.at < 480000000000 }
+    ensures value { option_map (Pairs.values_of lookup.now) result
+        ≡ Pairs.records_if lookup.now records.first records.second records.base records.at }
+    ensures base { IfSome result (λ r. r.base < 2 ^ 35) }
+    ensures at { IfSome result (λ r. r.at < 480000000000) }
 {
-    if has_bytes(lookup.table, at, records_size(first, second)) {
-        Some(records_at(lookup, first, second, base, at))
+    let size = records_size(records.first, records.second);
+    if has_bytes(lookup.table, records.at, size) {
+        Some(records)
     } else {
         None
     }
@@ -123,10 +167,13 @@ fn second_in(table: &[u8], size: usize, set: usize, glyph: u32) -> Option<u32>
 }
 
 /// The pair with this second glyph in a set.
-fn pair_within(lookup: &Lookup<'_>, start: usize, set: usize, glyph: u32) -> Option<PairValues>
+fn pair_within(lookup: &Lookup<'_>, start: usize, set: usize, glyph: u32) -> Option<PairRecords>
     requires start { start < 2 ^ 34 }
     requires set { set < 2 ^ 35 }
-    ensures { result ≡ Pairs.pair_in_set lookup.now start glyph set }
+    ensures value { option_map (Pairs.values_of lookup.now) result
+        ≡ Pairs.pair_in_set lookup.now start glyph set }
+    ensures base { IfSome result (λ r. r.base < 2 ^ 35) }
+    ensures at { IfSome result (λ r. r.at < 480000000000) }
 {
     let table = lookup.table;
     let first = u16_at(table, start + 4);
@@ -135,16 +182,24 @@ fn pair_within(lookup: &Lookup<'_>, start: usize, set: usize, glyph: u32) -> Opt
     match second_in(table, size, set, glyph) {
         Some(r) => {
             let at = set + 4 + record_offset(r as usize, size);
-            Some(records_at(lookup, first, second, set, at))
+            Some(PairRecords {
+                first,
+                second,
+                base: set,
+                at,
+            })
         }
         None => None,
     }
 }
 
 /// The pair of glyph number `number` and of this second glyph, by format 1.
-fn listed_pair(lookup: &Lookup<'_>, start: usize, number: u32, glyph: u32) -> Option<PairValues>
+fn listed_pair(lookup: &Lookup<'_>, start: usize, number: u32, glyph: u32) -> Option<PairRecords>
     requires { start < 2 ^ 34 }
-    ensures { result ≡ Pairs.listed_pair lookup.now start number glyph }
+    ensures value { option_map (Pairs.values_of lookup.now) result
+        ≡ Pairs.listed_pair lookup.now start number glyph }
+    ensures base { IfSome result (λ r. r.base < 2 ^ 35) }
+    ensures at { IfSome result (λ r. r.at < 480000000000) }
 {
     let set = pair_set(lookup.table, start, number)?;
     pair_within(lookup, start, set, glyph)
@@ -163,9 +218,12 @@ fn class_at(table: &[u8], start: usize, at: usize, glyph: u32) -> u16
 }
 
 /// The pair of the classes of two glyphs, by format 2.
-fn classed_pair(lookup: &Lookup<'_>, start: usize, left: u32, right: u32) -> Option<PairValues>
+fn classed_pair(lookup: &Lookup<'_>, start: usize, left: u32, right: u32) -> Option<PairRecords>
     requires { start < 2 ^ 34 }
-    ensures { result ≡ Pairs.classed_pair lookup.now start left right }
+    ensures value { option_map (Pairs.values_of lookup.now) result
+        ≡ Pairs.classed_pair lookup.now start left right }
+    ensures base { IfSome result (λ r. r.base < 2 ^ 35) }
+    ensures at { IfSome result (λ r. r.at < 480000000000) }
 {
     let table = lookup.table;
     let row = class_at(table, start, start + 8, left);
@@ -178,20 +236,30 @@ fn classed_pair(lookup: &Lookup<'_>, start: usize, left: u32, right: u32) -> Opt
     let first = u16_at(table, start + 4);
     let second = u16_at(table, start + 6);
     let offset = record_offset(n, records_size(first, second));
-    records_if(lookup, first, second, start, start + 16 + offset)
+    let records = PairRecords {
+        first,
+        second,
+        base: start,
+        at: start + 16 + offset,
+    };
+    records_if(lookup, records)
 }
 
-/// What the subtable of pair adjustment at `start` has for two glyphs; `number` is that of the
-/// first one in its list.
-pub fn pair(
+/// Where the subtable of pair adjustment at `start` has its records for two glyphs; `number` is
+/// that of the first one in its list. What they say isn't read here, so that it is nowhere moved
+/// from one place to another.
+pub fn pair_records(
     lookup: &Lookup<'_>,
     start: usize,
     number: u32,
     left: u32,
     right: u32,
-) -> Option<PairValues>
+) -> Option<PairRecords>
     requires { start < 2 ^ 34 }
-    ensures { result ≡ Pairs.pair_of lookup.now start number left right }
+    ensures value { option_map (Pairs.values_of lookup.now) result
+        ≡ Pairs.pair_of lookup.now start number left right }
+    ensures base { IfSome result (λ r. r.base < 2 ^ 35) }
+    ensures at { IfSome result (λ r. r.at < 480000000000) }
 {
     match u16_at(lookup.table, start) {
         1 => listed_pair(lookup, start, number, right),

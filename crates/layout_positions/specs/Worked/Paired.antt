@@ -10,16 +10,17 @@ use Rattle.shape_font.specs.Worked.Glyphs.{words}
 use Rattle.shape_items.specs.Buffer.{Buffer}
 use Rattle.layout_matching.specs.declared.lookup.Lookup.{Lookup}
 use Rattle.layout_positions.specs.Lookups.{unapplied}
-use Rattle.layout_positions.specs.Paired.{pair_in, found_put, placed_as, AreBeside, untried, HasAt, HasFor, IsKnownPair}
+use Rattle.layout_positions.specs.Paired.{pair_in, pair_numbered, found_there, found_in, found_put, placed_as, AreBeside, untried, HasAt, HasFor, IsKnownPair}
 use Rattle.layout_positions.specs.Subtables.{Trial, trial_of, trial_step}
 use Rattle.layout_positions.specs.Values.{no_devices}
 use Rattle.layout_positions.specs.Worked.Lines.{over, base, ignorable, line, advances}
 use Rattle.layout_positions.specs.Walk.{none_seen}
-use Rattle.layout_positions.specs.Worked.Pairs.{IsLookup, pairs_one, pairs_two}
+use Rattle.layout_positions.specs.Worked.Pairs.{IsLookup, pairs_one, pairs_both, pairs_two}
 use Rattle.layout_positions.specs.Worked.Walk.{one_subtable}
 use Rattle.layout_positions.specs.declared.bases.BaseSeen.{BaseSeen}
 use Rattle.layout_positions.specs.declared.paired.FoundPair.{FoundPair}
 use Rattle.layout_positions.specs.declared.paired.KnownPair.{KnownPair}
+use Rattle.layout_positions.specs.declared.paired.PairFound.TheVariants.{Plain, Other}
 use Rattle.layout_positions.specs.declared.values.Adjustment.{Adjustment}
 
 abbrev wider : ℤ → Adjustment
@@ -58,6 +59,16 @@ pub record WorkedPaired : Type 0 where
   pub classes : (l : Lookup) → pair_in (over pairs_two l) 0 3 5 ≡ Some (by_classes (pos 4))
   pub first_not_covered : (l : Lookup) → pair_in (over pairs_two l) 0 7 5 ≡ None
   pub other_format : (l : Lookup) → pair_in (over (words (3 ∷ 4 ∷ 1 ∷ 1 ∷ 2 ∷ [])) l) 0 2 3 ≡ None
+  pub by_its_number : (l : Lookup) → pair_numbered (over pairs_one l) 0 2 3 0 ≡ Some (by_first (negsuc 49))
+  pub no_such_number : (l : Lookup) → pair_numbered (over pairs_one l) 0 2 3 9 ≡ None
+  pub at_their_place : (l : Lookup) → found_there (over pairs_both l) true (record { first = 4; second = 1; base = 20; at = 24 }) ≡ record {
+    listed = true;
+    values = record { first = wider (negsuc 49); second = record (wider (pos 0)) { x_placement = pos 30 }; has_second = true };
+  }
+  pub plain : found_in (Plain (record { advance = negsuc 49; is_found = true; listed = true })) ≡ Some (by_first (negsuc 49))
+  pub plain_classes : found_in (Plain (record { advance = pos 4; is_found = true; listed = false })) ≡ Some (by_classes (pos 4))
+  pub plainly_none : found_in (Plain (record { advance = pos 4; is_found = false; listed = true })) ≡ None
+  pub other : found_in (Other (by_classes (pos 4))) ≡ Some (by_classes (pos 4))
   pub adjusted : advances (found_put 0 1 two (Some (by_first (negsuc 49)))).buffer ≡ (pos 550, pos 0) ∷ (pos 600, pos 0) ∷ []
   pub goes_on_at_the_second : (found_put 0 1 two (Some (by_first (negsuc 49)))).next ≡ Some 1
   pub nothing_found : found_put 0 1 two None ≡ unapplied two
@@ -88,6 +99,13 @@ worked_paired = record {
   classes = λ _. refl;
   first_not_covered = λ _. refl;
   other_format = λ _. refl;
+  by_its_number = λ _. refl;
+  no_such_number = λ _. refl;
+  at_their_place = λ _. refl;
+  plain = refl;
+  plain_classes = refl;
+  plainly_none = refl;
+  other = refl;
   adjusted = refl;
   goes_on_at_the_second = refl;
   nothing_found = refl;
