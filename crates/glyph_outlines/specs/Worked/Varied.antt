@@ -4,6 +4,7 @@ use Rattle.std.specs.Float.{Float, round_with, binary32, binary64, round_to_form
 use lib.Count.{count_trailing_zeros}
 use lib.Ieee.{round, size, span, climb, units, odd, of_bits, of_fields, of_int, div, mul, add, sub, sum, eq, lt}
 use Rattle.font_bytes.specs.Bytes as numbers
+use Rattle.font_variations.specs.Tents.{nothing}
 use Rattle.font_variations.specs.Worked.Deltas.{there}
 use Rattle.glyf_points.specs.declared.composite.Placement.TheVariants.{Moved}
 use Rattle.glyf_points.specs.declared.simple.GlyphPoint.{GlyphPoint}
@@ -86,6 +87,12 @@ pub record WorkedLefts : Type 0 where
   pub of_a_component : (o : Outlines) → outline_bytes o 1 ≡ of_seven → metrics_step o 1 ≡ 7
   pub of_itself : (o : Outlines) → outline_bytes o 7 ≡ [] → metrics_step o 7 ≡ 7
   pub left : (o : Outlines) → left_at (one o) 0 ≡ whole (pos 30)
+  pub without_a_bearing : (o : Outlines) → left_at (record (one o) { hmtx = record o.hmtx { now = words (500 ∷ []) } }) 0 ≡ whole (pos 50)
+  -- an outline of one contour that ends before the number of its last point
+  pub cut_off : (o : Outlines) → left_at (record (one o) {
+    loca = record o.loca { now = words (0 ∷ 6 ∷ []) };
+    glyf = record o.glyf { now = words (1 ∷ 70 ∷ 0 ∷ 430 ∷ 700 ∷ 9 ∷ []) };
+  }) 0 ≡ nothing
   pub shifted : (o : Outlines) → frame_at (one o) 0 ≡ along (of_int binary64 (negsuc 29))
   pub by_default : (o : Outlines) → frame_at (record (one o) { coordinates = record o.coordinates { now = [] } }) 0 ≡ still
 
@@ -109,6 +116,8 @@ worked_lefts = record {
   of_a_component = λ o is. rw is refl;
   of_itself = λ o is. rw is refl;
   left = λ o. refl;
+  without_a_bearing = λ o. refl;
+  cut_off = λ o. refl;
   shifted = λ o. refl;
   by_default = λ o. refl;
 }
