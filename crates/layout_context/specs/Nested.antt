@@ -21,7 +21,7 @@ use Rattle.layout_substitution.specs.Kinds.{lookup_applied}
 use Rattle.layout_substitution.specs.declared.apply.Spot.{Spot}
 use Rattle.layout_context.specs.Places.{renumbered, moved_end, is_too_long}
 use Rattle.layout_context.specs.declared.nested.LookupRule.{LookupRule}
-use Rattle.layout_context.specs.declared.nested.Progress.{Progress}
+use Rattle.layout_context.specs.declared.progress.Progress.{Progress}
 use Rattle.layout_context.specs.declared.nested.Tried.{Tried}
 
 abbrev pub origin_of : Spot → Buffer → Origin

@@ -4,34 +4,28 @@
 //! rule matched, and where it goes on, move along. A rule goes no further when it would hold more
 //! than 64 glyphs, when what is left doesn't suffice for a nested lookup, or when the list passes
 //! the limit of the run.
-ghost use Rattle.std.specs.Prelude.{◌≡◌, ◌<◌, ◌≤◌, ◌-◌, ◌^◌, ◌+◌, length, true, false, map, OnOk, IfOk, IsErrOf, IsOkUnless};
-ghost use Rattle.std.specs.Option.{IfSome, unwrap_or};
-ghost use Rattle.shape_items.specs.Buffer.{limit_of};
+ghost use Rattle.std.specs.Prelude.{◌≡◌, ◌<◌, ◌-◌, ◌^◌, ◌+◌, length, true, false, OnOk, IfOk, IsErrOf};
+ghost use Rattle.std.specs.Option.{IfSome};
 ghost use Rattle.shape_buffer.specs.Outcome.{IsWithinLimit};
 ghost use Rattle.shape_buffer.specs.declared.buffer.error.ShapeError.TheVariants.{Length};
 ghost use Rattle.layout_matching.specs.Found as found_rules;
 ghost use Rattle.layout_matching.specs.Loops.{times};
-ghost use Rattle.layout_substitution.specs.Edits.{asks_for_concat as is_concat_asked, is_past};
-ghost use Rattle.layout_tables.specs.Lookups.{lookup_type_of};
-ghost use Rattle.layout_context.specs.Places;
+ghost use Rattle.layout_substitution.specs.Edits.{is_past};
 ghost use Rattle.layout_context.specs.Nested;
 
-use crate::places::{is_too_long, moved_end, renumber};
+use crate::progress::{Progress, at_end, nested_spot, passed_record, settle, stopped_record};
+use crate::tried::{mark_tried, origin};
 use layout_buffer::GapBuffer;
 use layout_matching::found::{Found, find, is_context};
 use layout_matching::indexed::Indexed;
 use layout_matching::lookup::Lookup;
 use layout_matching::nesting::{Target, places, target_at};
-use layout_matching::reaching::reach_at;
 use layout_matching::rules::Rule;
 use layout_matching::sought::seek_rule;
-use layout_matching::spans::Origin;
-use layout_matching::work::{lookup_charged, named_paid, nested_charged};
+use layout_matching::work::{named_paid, nested_charged};
 use layout_substitution::apply::Spot;
-use layout_substitution::edits::{asks_for_concat, break_span, concat_span, next_place};
+use layout_substitution::edits::{asks_for_concat, break_span, next_place};
 use layout_substitution::kinds::apply_lookup;
-use layout_substitution::ligature_sought::{make_found, seek_ligature};
-use layout_tables::lookups::lookup_type;
 use shape_buffer::ShapeError;
 use std::alloc::Global;
 
@@ -40,45 +34,6 @@ use std::alloc::Global;
 pub struct LookupRule<'a> {
     pub lookup: Lookup<'a>,
     pub rule: Rule,
-}
-
-/// How far the records of a rule are applied: what the lookup counts, where the rule goes on,
-/// whether it goes no further, and the next record.
-#[derive(Clone, Copy, PartialEq, Eq, Debug)]
-pub struct Progress {
-    pub spot: Spot,
-    pub end: usize,
-    pub stopped: bool,
-    pub r: u32,
-}
-
-fn passed_record(progress: Progress) -> Progress
-    requires { progress.r < 2 ^ 16 }
-    ensures { result ≡ Nested.passed_record progress }
-{
-    let mut next = progress;
-    next.r += 1;
-    next
-}
-
-fn stopped_record(progress: Progress) -> Progress
-    requires { progress.r < 2 ^ 16 }
-    ensures { result ≡ Nested.stopped_record progress }
-{
-    let mut next = progress;
-    next.spot.left = 0;
-    next.stopped = true;
-    next.r += 1;
-    next
-}
-
-fn nested_spot(spot: Spot, place: usize, left: usize) -> Spot
-    ensures { result ≡ Nested.nested_spot spot place left }
-{
-    let mut next = spot;
-    next.at = place;
-    next.left = left;
-    next
 }
 
 /// What is left after a lookup was charged for at a place, and where it goes on if it was applied.
@@ -97,37 +52,6 @@ pub(crate) fn with_left(spot: Spot, left: usize) -> Spot
         left,
         whole: spot.whole,
     }
-}
-
-/// After a lookup that was applied at a glyph, or wasn't. Refuses with `Memory` alone.
-fn settle(
-    there: &Target<'_>,
-    before: usize,
-    after: usize,
-    places: &mut Vec<usize>,
-    spot: Spot,
-    progress: Progress,
-) -> Result<Progress, ShapeError>
-    requires index { there.now.index < 2 ^ 16 }
-    requires place { there.now.place < before }
-    requires r { progress.r < 2 ^ 16 }
-    ensures progress { IfOk result (λ p. p
-        ≡ Nested.settled there.now before after places.old.items spot progress) }
-    ensures short { Places.is_too_long before after places.old.items ≡ false → OnOk result
-        (places.new.items ≡ Places.renumbered there.now.place there.now.index before after
-        places.old.items) }
-    ensures long { Places.is_too_long before after places.old.items ≡ true
-        → places.new.items ≡ places.old.items }
-    ensures memory { IsOkUnless result ShapeError.Memory }
-{
-    let mut next = passed_record(progress);
-    next.spot = spot;
-    next.end = moved_end(there.place, before, after, progress.end);
-    next.stopped = is_too_long(before, after, places.as_slice());
-    if !next.stopped {
-        renumber(places, there.place, there.index, before, after)?;
-    }
-    Ok(next)
 }
 
 /// Applies a lookup that a rule names, if what is left suffices for what it may try.
@@ -320,42 +244,6 @@ fn apply_rule(
     }
 }
 
-/// Where a lookup goes on after a rule.
-fn at_end(progress: Progress) -> Spot
-    ensures { result ≡ record progress.spot { at = progress.end } }
-{
-    let mut next = progress.spot;
-    next.at = progress.end;
-    next
-}
-
-/// Where a match begins.
-fn origin(spot: Spot, buffer: &GapBuffer) -> Origin
-    ensures { result ≡ Nested.origin_of spot buffer.now }
-{
-    Origin {
-        at: spot.at,
-        is_steady: buffer.len() == spot.whole,
-    }
-}
-
-/// Marks what the rules of a lookup looked at in vain unsafe to concat, up to the first that
-/// matches, if the buffer asks for that.
-#[tactic(auto, using(layout_substitution::proofs::EditLemmas::concat_marked_unasked))]
-fn mark_tried(lookup: &Lookup<'_>, buffer: &mut GapBuffer, spot: Spot)
-    requires near { lookup.now.place < 2 ^ 17 }
-    requires inside { spot.at < length buffer.old.items }
-    ensures made { buffer.new ≡ Nested.tried_marked lookup.now spot buffer.old }
-    ensures as_many { length buffer.new.items ≡ length buffer.old.items }
-    ensures limit { limit_of buffer.new ≡ limit_of buffer.old }
-{
-    if !asks_for_concat(buffer) {
-        return;
-    }
-    let reach = reach_at(lookup, &buffer.items(), origin(spot, buffer));
-    concat_span(buffer, reach);
-}
-
 /// Applies the rule of a lookup of context that matches at a place. A call of its own, so that the
 /// path of the other lookups stays small.
 #[cycle(nesting)]
@@ -425,7 +313,7 @@ fn apply_found(
 #[cycle(nesting)]
 #[inline(never)]
 #[tactic(auto, using(crate::proofs::AttemptLemmas::sought_some, crate::proofs::AttemptLemmas::sought_none))]
-fn apply_sought(
+pub(crate) fn apply_sought(
     alloc: Global,
     level: u32,
     indexed: &Indexed<'_>,
@@ -452,84 +340,6 @@ fn apply_sought(
         with_left(spot, left),
         sought.found,
     ) {
-        Err(error) => Err(error),
-        Ok(next) => Ok(Some(Tried { left, next })),
-    }
-}
-
-/// Whether a lookup at a place is one of ligatures that is gone over once: nothing is marked that
-/// it looked at before.
-#[inline(always)]
-fn is_sought_once(level: u32, lookup: &Lookup<'_>, buffer: &GapBuffer) -> bool
-    requires near { lookup.now.place < 2 ^ 17 }
-    ensures some { result ≡ true → 0 < level }
-    ensures four { result ≡ true → lookup_type_of lookup.now.table.now lookup.now.place ≡ 4 }
-    ensures substitution { result ≡ true → lookup.now.positioning ≡ false }
-    ensures unasked { result ≡ true → is_concat_asked buffer.now ≡ false }
-    ensures within { result ≡ true → IsWithinLimit buffer.now }
-{
-    lookup_type(lookup.table, lookup.place) == 4
-        && 0 < level
-        && !lookup.positioning
-        && !asks_for_concat(buffer)
-        && buffer.len() <= buffer.length_limit()
-}
-
-/// Applies a lookup of ligatures at a place of its walk, if what is left suffices for what it may
-/// try there.
-#[tactic(auto, using(crate::proofs::OnceLemmas::once_made))]
-#[inline(never)]
-fn apply_ligatures(
-    level: u32,
-    indexed: &Indexed<'_>,
-    buffer: &mut GapBuffer,
-    spot: Spot,
-) -> Option<Tried>
-    requires near { indexed.now.lookup.now.place < 2 ^ 17 }
-    requires inside { spot.at < length buffer.old.items }
-    requires some { 0 < level }
-    requires four { lookup_type_of indexed.now.lookup.now.table.now indexed.now.lookup.now.place ≡ 4 }
-    requires substitution { indexed.now.lookup.now.positioning ≡ false }
-    requires unasked { is_concat_asked buffer.old ≡ false }
-    requires within { IsWithinLimit buffer.old }
-    requires plain { found_rules.is_context indexed.now.lookup.now ≡ false }
-    ensures { record { buffer = buffer.new; tried = result }
-        ≡ Nested.place_attempt level indexed.now.lookup.now spot buffer.old }
-{
-    let Some(sought) = seek_ligature(indexed, buffer, spot.at, spot.left) else {
-        return None;
-    };
-    let left = sought.left;
-    let next = make_found(indexed.lookup, buffer, with_left(spot, left), sought.found);
-    Some(Tried { left, next })
-}
-
-/// Applies a lookup at a place of its walk, if what is left suffices for what it may try there.
-#[tactic(auto, using(crate::proofs::AttemptLemmas::place_context, crate::proofs::AttemptLemmas::place_plain))]
-pub fn apply_charged(
-    alloc: Global,
-    level: u32,
-    indexed: &Indexed<'_>,
-    buffer: &mut GapBuffer,
-    spot: Spot,
-) -> Result<Option<Tried>, ShapeError>
-    requires near { indexed.now.lookup.now.place < 2 ^ 17 }
-    requires inside { spot.at < length buffer.old.items }
-    ensures ok { IfOk result (λ t. record { buffer = buffer.new; tried = t }
-        ≡ Nested.place_attempt level indexed.now.lookup.now spot buffer.old) }
-    ensures length { IsErrOf result Length
-        → is_past (Nested.place_attempt level indexed.now.lookup.now spot buffer.old).buffer ≡ true }
-{
-    if is_context(indexed.lookup) {
-        return apply_sought(alloc, level, indexed, buffer, spot);
-    }
-    if is_sought_once(level, indexed.lookup, buffer) {
-        return Ok(apply_ligatures(level, indexed, buffer, spot));
-    }
-    let Some(left) = lookup_charged(indexed, &buffer.items(), spot.at, spot.left) else {
-        return Ok(None);
-    };
-    match apply_nested(alloc, level, indexed, buffer, with_left(spot, left)) {
         Err(error) => Err(error),
         Ok(next) => Ok(Some(Tried { left, next })),
     }

@@ -11,8 +11,9 @@ ghost use Rattle.layout_context.specs.Nested.{nested_applied};
 ghost use Rattle.layout_context.specs.Stages;
 ghost use Rattle.layout_context.specs.Digested.{IsDigested};
 
+use crate::attempts::apply_charged;
 use crate::meeting::unmet;
-use crate::nested::{Tried, apply_charged, with_left};
+use crate::nested::{Tried, with_left};
 use crate::reverse::{is_reverse, reverse};
 use layout_buffer::GapBuffer;
 use layout_digests::Digested;

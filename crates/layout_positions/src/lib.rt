@@ -27,6 +27,7 @@ pub mod pair_walk;
 pub mod paired;
 pub mod pairs;
 pub mod places;
+pub mod sites;
 pub mod steps;
 pub mod subtables;
 pub mod tolls;

@@ -18,7 +18,7 @@ use Rattle.layout_context.specs.Stage.{Standing, Made, Going, unmade, unless_mad
 use Rattle.layout_context.specs.Stages.{first_walk, lookup_step, stage_begun, tried}
 use Rattle.layout_context.specs.Worked.Lookups.{words, lookup_words, single_1, context, backwards, on, glyph, off, list, glyphs, after_with, Holds}
 use Rattle.layout_context.specs.declared.nested.LookupRule.{LookupRule}
-use Rattle.layout_context.specs.declared.nested.Progress.{Progress}
+use Rattle.layout_context.specs.declared.progress.Progress.{Progress}
 use Rattle.layout_context.specs.declared.nested.Tried.{Tried}
 
 -- a lookup that numbers ligatures from 9 on, wherever it is applied
