@@ -6,4 +6,5 @@ pub mod Glyphs
 pub mod Noncontextual
 pub mod Rearrangement
 pub mod Contextual
+pub mod Ligature
 pub mod Worked

@@ -3,3 +3,4 @@ pub mod Driving
 pub mod Replacing
 pub mod Rearranging
 pub mod Contexts
+pub mod Ligating

@@ -4,6 +4,7 @@ ghost use Rattle.std.specs.Prelude.{◌≤◌};
 use crate::contextual::{Contextual, Mark};
 use crate::driver::{Subtable, drive};
 use crate::glyphs::Tables;
+use crate::ligature::{Ligature, Stack};
 use crate::noncontextual::{Noncontextual, substitute_all};
 use crate::rearrangement::{Marks, Rearrangement};
 use crate::{FlagRange, Machine, Ranges};
@@ -34,6 +35,19 @@ const REPLACES: &[u8] = &[
     0, 0, 0, 0, 0, 0, 0, 1, // replaces
     0, 0, 0, 8, 0, 0, 0, 16, // where the lookup tables begin
     0, 8, 0, 5, 0, 1, 0, 50, 0, 8, 0, 6, 0, 1, 0, 60,
+];
+
+/// Glyphs 5 and 6 are components of glyph 73: the numbers 2 and 1 add up to 3.
+const JOINS: &[u8] = &[
+    0, 0, 0, 6, 0, 0, 0, 28, 0, 0, 0, 38, 0, 0, 0, 62, //
+    0, 0, 0, 80, 0, 0, 0, 88, 0, 0, 0, 92, // actions, components, ligatures
+    0, 8, 0, 5, 0, 2, 0, 4, 0, 5, // classes
+    0, 0, 0, 0, 0, 0, 0, 0, 0, 1, 0, 2, // states
+    0, 0, 0, 0, 0, 0, 0, 0, 0, 1, 0, 2, //
+    0, 0, 0, 0, 0, 0, 0, 0, 0x80, 0, 0, 0, 0, 0, 0xA0, 0, 0, 0, // entries
+    0x3F, 255, 255, 0xFA, 0xBF, 255, 255, 0xFC, // actions: 6 less, and 4 less
+    0, 1, 0, 2, // components
+    0, 70, 0, 71, 0, 72, 0, 73, // ligatures
 ];
 
 /// A lookup table of format 8: in place of glyph 6 stands glyph 9.
@@ -141,6 +155,16 @@ fn a_span_is_turned(rt: HostRuntime) {
 fn glyphs_are_replaced_in_context(rt: HostRuntime) {
     let buffer = in_context(rt.alloc()).expect(&rt, "memory");
     assert_eq!(rt; glyphs(&buffer), (50, 60, 7));
+}
+
+#[test]
+fn components_are_joined(rt: HostRuntime) {
+    let subtable = Ligature {
+        morx: JOINS,
+        start: 0,
+    };
+    let buffer = walked(rt.alloc(), JOINS, 6, &subtable, Stack::new()).expect(&rt, "memory");
+    assert_eq!(rt; glyphs(&buffer), (73, 0xFFFF, 7));
 }
 
 #[test]

@@ -2,6 +2,9 @@
 ghost use Rattle.apple_substitution.specs.Worked.Driving.{WorkedDrives, WorkedBreaks, WorkedCharges};
 ghost use Rattle.apple_substitution.specs.Worked.Contexts.{WorkedContexts, WorkedCurrent};
 ghost use Rattle.apple_substitution.specs.Worked.Contexts.{WorkedBoth, WorkedMarkCharges};
+ghost use Rattle.apple_substitution.specs.Worked.Ligating.{WorkedStack, WorkedNumbers, WorkedLigature};
+ghost use Rattle.apple_substitution.specs.Worked.Ligating.{WorkedLeft, WorkedTooLittle};
+ghost use Rattle.apple_substitution.specs.Worked.Ligating.{WorkedStores, WorkedNoLigature};
 ghost use Rattle.apple_substitution.specs.Worked.Replacing.{WorkedReplacing};
 ghost use Rattle.apple_substitution.specs.Worked.Rearranging.{WorkedVerbs, WorkedSpans};
 
@@ -29,4 +32,15 @@ pub fn contexts_meet_worked_cases()
     ensures current { WorkedCurrent }
     ensures both { WorkedBoth }
     ensures charges { WorkedMarkCharges }
+{}
+
+/// The stack of components, and the ligatures that actions make.
+pub fn ligating_meets_worked_cases()
+    ensures stack { WorkedStack }
+    ensures numbers { WorkedNumbers }
+    ensures ligature { WorkedLigature }
+    ensures left { WorkedLeft }
+    ensures too_little { WorkedTooLittle }
+    ensures stores { WorkedStores }
+    ensures no_ligature { WorkedNoLigature }
 {}
