@@ -1,3 +1,4 @@
 pub mod EditLemmas
 pub mod DriverLemmas
 pub mod LigatureLemmas
+pub mod InsertionLemmas

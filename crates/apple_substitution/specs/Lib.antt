@@ -7,4 +7,5 @@ pub mod Noncontextual
 pub mod Rearrangement
 pub mod Contextual
 pub mod Ligature
+pub mod Insertion
 pub mod Worked

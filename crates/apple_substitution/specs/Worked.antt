@@ -4,3 +4,4 @@ pub mod Replacing
 pub mod Rearranging
 pub mod Contexts
 pub mod Ligating
+pub mod Inserting

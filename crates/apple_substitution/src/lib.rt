@@ -2,10 +2,10 @@
 //!
 //! [`driver`] drives an extended state table over a list of glyphs; what its entries do is a kind
 //! of subtable's, a [`Subtable`]: [`rearrangement`] moves glyphs of a span, [`contextual`] replaces a
-//! marked glyph and the current one, and [`ligature`] joins components. [`noncontextual`] replaces
-//! each glyph by itself, with the class that [`glyphs`] gives. [`ranges`] says where features have a
-//! subtable on. Any bytes are taken, and a walk ends for each: what it may cost is charged to the
-//! buffer. [`worked`] has the definitions computed by hand.
+//! marked glyph and the current one, [`ligature`] joins components, and [`insertion`] inserts glyphs
+//! of a list. [`noncontextual`] replaces each glyph by itself, with the class that [`glyphs`] gives.
+//! [`ranges`] says where features have a subtable on. Any bytes are taken, and a walk ends for each:
+//! what it may cost is charged to the buffer. [`worked`] has the definitions computed by hand.
 #![tactic(auto)]
 #![allow(non_camel_case_types)]
 
@@ -14,6 +14,7 @@ pub mod contextual;
 pub mod driver;
 mod edits;
 pub mod glyphs;
+pub mod insertion;
 pub mod ligature;
 pub mod noncontextual;
 pub mod ranges;

@@ -4,6 +4,7 @@ ghost use Rattle.std.specs.Prelude.{◌≤◌};
 use crate::contextual::{Contextual, Mark};
 use crate::driver::{Subtable, drive};
 use crate::glyphs::Tables;
+use crate::insertion::Insertion;
 use crate::ligature::{Ligature, Stack};
 use crate::noncontextual::{Noncontextual, substitute_all};
 use crate::rearrangement::{Marks, Rearrangement};
@@ -48,6 +49,18 @@ const JOINS: &[u8] = &[
     0x3F, 255, 255, 0xFA, 0xBF, 255, 255, 0xFC, // actions: 6 less, and 4 less
     0, 1, 0, 2, // components
     0, 70, 0, 71, 0, 72, 0, 73, // ligatures
+];
+
+/// Glyph 5 is marked; at glyph 6 glyph 81 is inserted before it, and glyph 80 after glyph 6.
+const INSERTS: &[u8] = &[
+    0, 0, 0, 6, 0, 0, 0, 20, 0, 0, 0, 30, 0, 0, 0, 54, 0, 0, 0, 78, // and the list of glyphs
+    0, 8, 0, 5, 0, 2, 0, 4, 0, 5, // classes
+    0, 0, 0, 0, 0, 0, 0, 0, 0, 1, 0, 2, // states
+    0, 0, 0, 0, 0, 0, 0, 0, 0, 1, 0, 2, //
+    0, 0, 0, 0, 255, 255, 255, 255, // entries: nothing
+    0, 0, 0x80, 0, 255, 255, 255, 255, // marks
+    0, 0, 0x04, 0x21, 0, 0, 0, 1, // inserts
+    0, 80, 0, 81,
 ];
 
 /// A lookup table of format 8: in place of glyph 6 stands glyph 9.
@@ -165,6 +178,17 @@ fn components_are_joined(rt: HostRuntime) {
     };
     let buffer = walked(rt.alloc(), JOINS, 6, &subtable, Stack::new()).expect(&rt, "memory");
     assert_eq!(rt; glyphs(&buffer), (73, 0xFFFF, 7));
+}
+
+#[test]
+fn glyphs_are_inserted(rt: HostRuntime) {
+    let subtable = Insertion {
+        morx: INSERTS,
+        start: 0,
+    };
+    let buffer = walked(rt.alloc(), INSERTS, 8, &subtable, 0).expect(&rt, "memory");
+    assert_eq!(rt; glyphs(&buffer), (81, 5, 6));
+    assert_eq!(rt; buffer.len(), 5);
 }
 
 #[test]

@@ -5,6 +5,9 @@ ghost use Rattle.apple_substitution.specs.Worked.Contexts.{WorkedBoth, WorkedMar
 ghost use Rattle.apple_substitution.specs.Worked.Ligating.{WorkedStack, WorkedNumbers, WorkedLigature};
 ghost use Rattle.apple_substitution.specs.Worked.Ligating.{WorkedLeft, WorkedTooLittle};
 ghost use Rattle.apple_substitution.specs.Worked.Ligating.{WorkedStores, WorkedNoLigature};
+ghost use Rattle.apple_substitution.specs.Worked.Inserting.{WorkedWanted, WorkedCurrentInserted};
+ghost use Rattle.apple_substitution.specs.Worked.Inserting.{WorkedPassed, WorkedMarkedInserted};
+ghost use Rattle.apple_substitution.specs.Worked.Inserting.{WorkedBothInserted};
 ghost use Rattle.apple_substitution.specs.Worked.Replacing.{WorkedReplacing};
 ghost use Rattle.apple_substitution.specs.Worked.Rearranging.{WorkedVerbs, WorkedSpans};
 
@@ -43,4 +46,13 @@ pub fn ligating_meets_worked_cases()
     ensures too_little { WorkedTooLittle }
     ensures stores { WorkedStores }
     ensures no_ligature { WorkedNoLigature }
+{}
+
+/// Glyphs that are inserted.
+pub fn inserting_meets_worked_cases()
+    ensures wanted { WorkedWanted }
+    ensures current { WorkedCurrentInserted }
+    ensures passed { WorkedPassed }
+    ensures marked { WorkedMarkedInserted }
+    ensures both { WorkedBothInserted }
 {}
