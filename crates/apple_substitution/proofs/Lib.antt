@@ -2,3 +2,4 @@ pub mod EditLemmas
 pub mod DriverLemmas
 pub mod LigatureLemmas
 pub mod InsertionLemmas
+pub mod ChainLemmas

@@ -8,4 +8,5 @@ pub mod Rearrangement
 pub mod Contextual
 pub mod Ligature
 pub mod Insertion
+pub mod Chains
 pub mod Worked

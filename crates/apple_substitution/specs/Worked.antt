@@ -5,3 +5,4 @@ pub mod Rearranging
 pub mod Contexts
 pub mod Ligating
 pub mod Inserting
+pub mod Chaining

@@ -4,12 +4,14 @@
 //! of subtable's, a [`Subtable`]: [`rearrangement`] moves glyphs of a span, [`contextual`] replaces a
 //! marked glyph and the current one, [`ligature`] joins components, and [`insertion`] inserts glyphs
 //! of a list. [`noncontextual`] replaces each glyph by itself, with the class that [`glyphs`] gives.
-//! [`ranges`] says where features have a subtable on. Any bytes are taken, and a walk ends for each:
+//! [`ranges`] says where features have a subtable on, [`chains`] by which flags, and over which text.
+//! Any bytes are taken, and a walk ends for each:
 //! what it may cost is charged to the buffer. [`worked`] has the definitions computed by hand.
 #![tactic(auto)]
 #![allow(non_camel_case_types)]
 
 mod breaking;
+pub mod chains;
 pub mod contextual;
 pub mod driver;
 mod edits;

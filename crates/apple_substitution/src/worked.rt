@@ -8,6 +8,7 @@ ghost use Rattle.apple_substitution.specs.Worked.Ligating.{WorkedStores, WorkedN
 ghost use Rattle.apple_substitution.specs.Worked.Inserting.{WorkedWanted, WorkedCurrentInserted};
 ghost use Rattle.apple_substitution.specs.Worked.Inserting.{WorkedPassed, WorkedMarkedInserted};
 ghost use Rattle.apple_substitution.specs.Worked.Inserting.{WorkedBothInserted};
+ghost use Rattle.apple_substitution.specs.Worked.Chaining.{WorkedFlags, WorkedCoverage};
 ghost use Rattle.apple_substitution.specs.Worked.Replacing.{WorkedReplacing};
 ghost use Rattle.apple_substitution.specs.Worked.Rearranging.{WorkedVerbs, WorkedSpans};
 
@@ -55,4 +56,10 @@ pub fn inserting_meets_worked_cases()
     ensures passed { WorkedPassed }
     ensures marked { WorkedMarkedInserted }
     ensures both { WorkedBothInserted }
+{}
+
+/// The flags of a chain, and how its subtables run.
+pub fn chaining_meets_worked_cases()
+    ensures flags { WorkedFlags }
+    ensures coverage { WorkedCoverage }
 {}

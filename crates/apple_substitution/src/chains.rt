@@ -1,0 +1,105 @@
+//! Chains of the table `morx`: their flags, how their subtables run, and the deleted glyphs that
+//! they leave.
+ghost use Rattle.std.specs.Prelude.{◌≡◌, ◌<◌, ◌^◌};
+ghost use Rattle.std.specs.List.{list_any};
+ghost use Rattle.apple_substitution.specs.Chains;
+ghost use Rattle.shape_buffer.specs.Outcome.{Made};
+
+use apple_tables::states::DELETED_GLYPH;
+use shape_buffer::{Direction, hb_buffer_t};
+use shape_font::bytes::{records, u16_at, u32_at};
+
+/// A feature that is asked for, by the numbers of Apple's registry.
+#[derive(Clone, Copy, Debug)]
+pub struct Feature {
+    /// Its type.
+    pub kind: u16,
+    /// The setting of that type.
+    pub setting: u16,
+}
+
+/// Whether a feature has this type and this setting.
+fn is_feature(kind: u16, setting: u16, feature: &Feature) -> bool
+    ensures { result ≡ Chains.is_feature kind setting feature.now }
+{
+    feature.kind == kind && feature.setting == setting
+}
+
+/// Whether a feature is among those that are asked for.
+fn is_requested(features: &[Feature], kind: u16, setting: u16) -> bool
+    ensures { result ≡ Chains.is_requested features.now kind setting }
+{
+    features
+        .iter()
+        .any(|feature| is_feature(kind, setting, feature))
+}
+
+/// Whether an entry for this type and this setting counts. Small capitals were setting 3 of type 3,
+/// see <https://github.com/harfbuzz/harfbuzz/issues/1342>.
+fn is_on(features: &[Feature], kind: u16, setting: u16) -> bool
+    ensures { result ≡ Chains.is_on features.now kind setting }
+{
+    is_requested(features, kind, setting)
+        || kind == 3 && setting == 3 && is_requested(features, 37, 1)
+}
+
+/// The flags after the entry at a place.
+fn flags_after(morx: &[u8], features: &[Feature], at: usize, flags: u32) -> u32
+    requires { at < 2 ^ 39 }
+    ensures { result ≡ Chains.flags_after morx.now features.now at flags }
+{
+    if is_on(features, u16_at(morx, at), u16_at(morx, at + 2)) {
+        flags & u32_at(morx, at + 8) | u32_at(morx, at + 4)
+    } else {
+        flags
+    }
+}
+
+/// The flags of the chain that begins at `chain`, by the features that are asked for (TrueType
+/// Reference Manual, "The 'morx' table", "Feature subtables"). Takes time in step with the entries
+/// that the chain has for features, and with the features.
+#[tactic(auto, unfolding(crate::specs::Chains::chain_flags), using(crate::proofs::ChainLemmas::flags_next, crate::proofs::ChainLemmas::flags_all))]
+pub fn chain_flags(morx: &[u8], features: &[Feature], chain: u32) -> u32
+    ensures { result ≡ Chains.chain_flags morx.now features.now chain }
+{
+    let first = chain as usize + 16;
+    let count = records(morx, u32_at(morx, chain as usize + 8), first, 12);
+    let mut flags = u32_at(morx, chain as usize);
+    for i in 0..count {
+        flags = flags_after(morx, features, first + 12 * i as usize, flags);
+    }
+    flags
+}
+
+/// Whether a subtable runs over text of a direction.
+pub fn covers(coverage: u32, direction: Direction) -> bool
+    ensures { result ≡ Chains.covers coverage direction }
+{
+    if coverage & 0x2000_0000 != 0 {
+        return true;
+    }
+    if direction.is_vertical() {
+        coverage & 0x8000_0000 != 0
+    } else {
+        coverage & 0x8000_0000 == 0
+    }
+}
+
+/// Whether a list is reversed before a subtable runs over it, and after that.
+pub fn is_reversed(coverage: u32, direction: Direction) -> bool
+    ensures { result ≡ Chains.is_reversed coverage direction }
+{
+    let is_backwards = coverage & 0x4000_0000 != 0;
+    if coverage & 0x1000_0000 != 0 || !direction.is_backward() {
+        is_backwards
+    } else {
+        !is_backwards
+    }
+}
+
+/// Removes the glyphs that ligatures left as deleted, as the end of a run does. Takes no memory.
+pub fn remove_deleted_glyphs(buffer: &mut hb_buffer_t)
+    ensures { Made Chains.without_deleted buffer.old buffer.new }
+{
+    buffer.delete_glyphs_inplace(|item| item.glyph_id == DELETED_GLYPH);
+}
