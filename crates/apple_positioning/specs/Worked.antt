@@ -1,0 +1,2 @@
+-- Apple's positioning tables, read by hand.
+pub mod Spacing

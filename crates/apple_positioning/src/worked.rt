@@ -1,0 +1,10 @@
+//! The definitions, computed by hand.
+ghost use Rattle.apple_positioning.specs.Worked.Spacing.{WorkedTracking, WorkedParts};
+ghost use Rattle.apple_positioning.specs.Worked.Spacing.{WorkedSpacing};
+
+/// The tracking of point sizes, and runs that it widens or tightens.
+pub fn tracking_meets_worked_cases()
+    ensures tracking { WorkedTracking }
+    ensures parts { WorkedParts }
+    ensures spacing { WorkedSpacing }
+{}
