@@ -1,2 +1,3 @@
 -- Apple's positioning tables, read by hand.
 pub mod Spacing
+pub mod Points

@@ -1,9 +1,13 @@
-//! Positioning by Apple's tables, read in place: [`tracking`] by the point size of a text.
+//! Positioning by Apple's tables, read in place: [`tracking`] by the point size of a text, and
+//! [`anchors`], points of glyphs by number.
 //!
 //! Any bytes are taken. What lies past the end of a table reads as 0, and a count is cut to what
 //! the table has room for. [`worked`] has the definitions computed by hand.
 #![tactic(auto)]
 #![allow(non_camel_case_types)]
 
+pub mod anchors;
 pub mod tracking;
 pub mod worked;
+
+pub use anchors::{Anchor, Anchors};

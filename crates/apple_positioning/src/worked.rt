@@ -1,4 +1,5 @@
 //! The definitions, computed by hand.
+ghost use Rattle.apple_positioning.specs.Worked.Points.{WorkedAnchors};
 ghost use Rattle.apple_positioning.specs.Worked.Spacing.{WorkedTracking, WorkedParts};
 ghost use Rattle.apple_positioning.specs.Worked.Spacing.{WorkedSpacing};
 
@@ -7,4 +8,9 @@ pub fn tracking_meets_worked_cases()
     ensures tracking { WorkedTracking }
     ensures parts { WorkedParts }
     ensures spacing { WorkedSpacing }
+{}
+
+/// Anchor points of glyphs.
+pub fn anchors_meet_worked_cases()
+    ensures { WorkedAnchors }
 {}
