@@ -1,3 +1,5 @@
 pub mod Tracking
 pub mod Anchors
+pub mod Chains
+pub mod Values
 pub mod Worked

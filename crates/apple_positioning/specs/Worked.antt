@@ -1,3 +1,4 @@
 -- Apple's positioning tables, read by hand.
 pub mod Spacing
 pub mod Points
+pub mod Kerning

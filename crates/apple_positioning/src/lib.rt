@@ -7,7 +7,11 @@
 #![allow(non_camel_case_types)]
 
 pub mod anchors;
+pub mod chains;
 pub mod tracking;
+pub mod values;
 pub mod worked;
 
 pub use anchors::{Anchor, Anchors};
+pub use chains::{Chain, Header};
+pub use values::Subtable;

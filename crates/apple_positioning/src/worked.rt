@@ -1,4 +1,6 @@
 //! The definitions, computed by hand.
+ghost use Rattle.apple_positioning.specs.Worked.Kerning.{WorkedChains, WorkedHeaders};
+ghost use Rattle.apple_positioning.specs.Worked.Kerning.{WorkedPairs, WorkedClasses, WorkedRows};
 ghost use Rattle.apple_positioning.specs.Worked.Points.{WorkedAnchors};
 ghost use Rattle.apple_positioning.specs.Worked.Spacing.{WorkedTracking, WorkedParts};
 ghost use Rattle.apple_positioning.specs.Worked.Spacing.{WorkedSpacing};
@@ -13,4 +15,13 @@ pub fn tracking_meets_worked_cases()
 /// Anchor points of glyphs.
 pub fn anchors_meet_worked_cases()
     ensures { WorkedAnchors }
+{}
+
+/// Chains of subtables, their headers, and the values of pairs.
+pub fn kerning_meets_worked_cases()
+    ensures chains { WorkedChains }
+    ensures headers { WorkedHeaders }
+    ensures pairs { WorkedPairs }
+    ensures classes { WorkedClasses }
+    ensures rows { WorkedRows }
 {}
