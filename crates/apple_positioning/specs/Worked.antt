@@ -2,3 +2,4 @@
 pub mod Spacing
 pub mod Points
 pub mod Kerning
+pub mod Machines

@@ -44,6 +44,17 @@ fn point(table: &[u8], number: u32, at: usize) -> Option<usize>
     }
 }
 
+/// The point whose coordinates stand there.
+pub(crate) fn read_anchor(table: &[u8], at: usize) -> Anchor
+    requires { at < 2 ^ 39 }
+    ensures { result ≡ anchor_rules.read_at table.now at }
+{
+    Anchor {
+        x: i16_at(table, at),
+        y: i16_at(table, at + 2),
+    }
+}
+
 impl<'a> Anchors<'a> {
     /// Where the points of a glyph stand.
     fn points(&self, glyph: u32) -> Option<usize>
@@ -77,10 +88,7 @@ impl<'a> Anchors<'a> {
         ensures { result ≡ anchor_rules.anchor_of self.now.table.now self.now.glyphs glyph number }
     {
         match self.place(glyph, number) {
-            Some(at) => Anchor {
-                x: i16_at(self.table, at),
-                y: i16_at(self.table, at + 2),
-            },
+            Some(at) => read_anchor(self.table, at),
             None => Anchor { x: 0, y: 0 },
         }
     }

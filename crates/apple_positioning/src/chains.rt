@@ -57,7 +57,7 @@ fn ends_chain(kerx: &[u8], start: usize) -> bool
 }
 
 /// Whether a bit of a number is set.
-fn bit_of(n: u32, bit: u32) -> bool
+pub(crate) fn bit_of(n: u32, bit: u32) -> bool
     requires { 0 < bit }
     ensures { result ≡ chain_rules.bit_of n bit }
 {

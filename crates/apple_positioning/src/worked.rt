@@ -1,6 +1,7 @@
 //! The definitions, computed by hand.
 ghost use Rattle.apple_positioning.specs.Worked.Kerning.{WorkedChains, WorkedHeaders};
 ghost use Rattle.apple_positioning.specs.Worked.Kerning.{WorkedPairs, WorkedClasses, WorkedRows};
+ghost use Rattle.apple_positioning.specs.Worked.Machines.{WorkedAttachments, WorkedStacks};
 ghost use Rattle.apple_positioning.specs.Worked.Points.{WorkedAnchors};
 ghost use Rattle.apple_positioning.specs.Worked.Spacing.{WorkedTracking, WorkedParts};
 ghost use Rattle.apple_positioning.specs.Worked.Spacing.{WorkedSpacing};
@@ -24,4 +25,10 @@ pub fn kerning_meets_worked_cases()
     ensures pairs { WorkedPairs }
     ensures classes { WorkedClasses }
     ensures rows { WorkedRows }
+{}
+
+/// What entries of state tables name: actions that attach glyphs, and values for glyphs on a stack.
+pub fn machines_meet_worked_cases()
+    ensures attachments { WorkedAttachments }
+    ensures stacks { WorkedStacks }
 {}
