@@ -374,7 +374,7 @@ kept_fonts(void)
   IS("a font in its place", luthgarn_font_new(whole_font, whole_size, 0, &font) == LUTHGARN_DONE && held == one_font);
   IS("no font leaves it", luthgarn_font_new(whole_font, whole_size, 9, &font) == LUTHGARN_FONT && font.is_open);
   IS("a shared font", luthgarn_font_share(&font, &copy) == LUTHGARN_DONE && copy.is_open);
-  IS("shared again", luthgarn_font_share(&font, &copy) == LUTHGARN_DONE && held == one_font + 1);
+  IS("shared again", luthgarn_font_share(&font, &copy) == LUTHGARN_DONE && held == one_font + 2);
   luthgarn_font_free(&font);
   luthgarn_font_free(&font);
   outcome = luthgarn_shape_font(&copy, no_features(), 0, (const uint8_t *) "AV", 2, &run, 1, glyphs, 2);

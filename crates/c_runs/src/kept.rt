@@ -1,4 +1,5 @@
 //! A font that is opened once, and the plans that its texts needed.
+ghost use Rattle.std.specs.Arc.{arc_value};
 ghost use Rattle.std.specs.Prelude.{◌≡◌, map, IfOk, IfErr};
 ghost use Rattle.c_runs.specs.Numbers.{feature_of_c};
 ghost use Rattle.c_runs.specs.Opened.{IsNamed, name_bytes};
@@ -15,6 +16,7 @@ use crate::written::put_bytes;
 use layout_map::map::hb_ot_map_t;
 use opentype_layout::{OpenTypeFace, OpenTypeLayout, OpenedOpenTypeFace};
 use shape_buffer::GlyphId;
+use shape_buffer::buffer::UnicodeBuffer;
 use shape_buffer::interfaces::hb_font_t;
 use shape_unicode::UnicodeDatabase;
 use shaper_choice::choice::{ScriptRuns, by_script};
@@ -25,26 +27,31 @@ use std::mem;
 use std::sync::Arc;
 
 /// An opened font. Contracts see it as its face. Copies share what was opened, and each has plans
-/// of its own.
+/// and buffers of its own.
 #[derive(Drop)]
 pub struct KeptFont {
     face: Arc<OpenedOpenTypeFace<'static>, Global>,
     plans: Kept<'static, hb_ot_map_t>,
+    spares: Vec<UnicodeBuffer>,
 }
 
 impl Model for KeptFont {
     ghost use Rattle.std.specs.Arc.{arc_value};
     ghost use Rattle.opentype_layout.specs.declared.face.OpenTypeFace.{OpenTypeFace};
     ghost use Rattle.shaper_choice.specs.ScriptPlans.{all_shapers};
-    ghost use Rattle.c_runs.specs.Plans.{AreMadeBy};
+    ghost use Rattle.std.specs.Prelude.{All};
+    ghost use Rattle.c_runs.specs.Plans.{AreMadeBy, IsNew};
 
     ghost Value = { OpenTypeFace };
 
     ghost view = { λ k. arc_value k.face };
 
-    ghost invariant = { λ k. AreMadeBy
-        (⟦<by_script as ScriptPlans<UnicodeDatabase, OpenedOpenTypeFace<'static>, OpenTypeLayout>>⟧.planned
-        (arc_value k.face) all_shapers) k.plans.items };
+    ghost invariant = { λ k. record {
+      plans : AreMadeBy
+          (⟦<by_script as ScriptPlans<UnicodeDatabase, OpenedOpenTypeFace<'static>, OpenTypeLayout>>⟧.planned
+          (arc_value k.face) all_shapers) k.plans.items;
+      spares : All IsNew k.spares.items;
+    } };
 }
 
 impl KeptFont {
@@ -55,9 +62,23 @@ impl KeptFont {
     {
         let opened = OpenedOpenTypeFace::new(alloc, face)?;
         let face = Arc::new(alloc, opened)?;
+        KeptFont::of(alloc, face)
+    }
+
+    /// A font of an opened face, without plans yet, and with room for one buffer. Refuses with
+    /// `Memory` alone.
+    fn of(
+        alloc: Global,
+        face: Arc<OpenedOpenTypeFace<'static>, Global>,
+    ) -> Result<KeptFont, Refusal>
+        ensures ok { IfOk result (λ kept. kept ≡ arc_value face.entry) }
+        ensures memory { IfErr result (λ e. e ≡ Refusal.Memory) }
+    {
+        let spares = Vec::with_capacity(alloc, 1)?;
         Ok(KeptFont {
             face,
             plans: Vec::new(alloc),
+            spares,
         })
     }
 
@@ -67,10 +88,7 @@ impl KeptFont {
         ensures memory { IfErr result (λ e. e ≡ Refusal.Memory) }
     {
         let face = Arc::try_clone(&self.face)?;
-        Ok(KeptFont {
-            face,
-            plans: Vec::new(alloc),
-        })
+        KeptFont::of(alloc, face)
     }
 
     /// How many units the em square has.
@@ -117,9 +135,11 @@ impl KeptFont {
             face: &self.face,
             features: features.as_slice(),
             plans: mem::replace(&mut self.plans, Vec::new(alloc)),
+            spares: mem::replace(&mut self.spares, Vec::new(alloc)),
         };
         let outcome = shape_runs(alloc, &mut shaper, text, runs, glyphs);
         self.plans = shaper.plans;
+        self.spares = shaper.spares;
         Ok(outcome)
     }
 }

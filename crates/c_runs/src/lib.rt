@@ -19,6 +19,7 @@ mod plans;
 pub mod refusal;
 mod runs;
 mod shaper;
+mod spares;
 pub mod texts;
 mod written;
 
@@ -79,6 +80,7 @@ fn shape_with(
         face,
         features: features.as_slice(),
         plans: Vec::new(alloc),
+        spares: Vec::new(alloc),
     };
     Ok(shape_runs(alloc, &mut shaper, text, runs, glyphs))
 }

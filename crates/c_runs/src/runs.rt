@@ -11,7 +11,7 @@ use crate::refusal::{DONE, Refusal};
 use crate::shaper::TextShaper;
 use crate::texts::{Text, fill};
 use crate::written::{count, write};
-use shape_buffer::buffer::{GlyphBuffer, UnicodeBuffer};
+use shape_buffer::buffer::GlyphBuffer;
 use std::alloc::Global;
 
 /// What stops a call: why, and how many glyphs found no room.
@@ -38,7 +38,7 @@ fn shape_run<S: TextShaper>(
     ensures err { IfErr result (λ e. IsRefused (TextPasses (S.runs shaper.old)
         (text_of_run (units_of text.entry) run.now)) (units_of text.entry) run.now e) }
 {
-    let mut buffer = UnicodeBuffer::new(alloc);
+    let mut buffer = shaper.empty(alloc);
     fill(alloc, text, run, &mut buffer)?;
     let glyphs = shaper.shape(alloc, buffer)?;
     Ok(glyphs)
@@ -79,6 +79,7 @@ fn put_run<S: TextShaper>(
                 });
             }
             write(&glyphs, room, used);
+            shaper.take_back(glyphs);
             Ok(needed)
         }
         Err(refusal) => Err(Stop { refusal, needed: 0 }),
