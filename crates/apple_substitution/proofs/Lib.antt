@@ -3,3 +3,4 @@ pub mod DriverLemmas
 pub mod LigatureLemmas
 pub mod InsertionLemmas
 pub mod ChainLemmas
+pub mod SubtableLemmas

@@ -2,7 +2,7 @@
 -- the class of a glyph lead to an entry, which says what is done there, and which state is next. The next glyph is looked at then,
 -- or the same one again ("don't advance"), which is charged for, so that a walk ends.
 use Prim.Native.Nat.{zero}
-use Rattle.std.specs.Prelude.{ℕ, suc, Bool, true, false, ◌+◌, ◌-◌, ◌*◌, ◌&&◌, ◌||◌, ◌==◌, not, min, length, nat_eq, nat_le, nat_lt, if◌then◌else◌}
+use Rattle.std.specs.Prelude.{ℕ, suc, Bool, true, false, ◌+◌, ◌-◌, ◌&&◌, ◌||◌, not, min, length, nat_eq, nat_le, nat_lt, if◌then◌else◌}
 use Rattle.shape_items.specs.Buffer.{Buffer, most_countable}
 use Rattle.apple_tables.specs.States.{class_of, entry_of}
 use Rattle.apple_tables.specs.declared.states.Entry.{Entry}
@@ -141,6 +141,9 @@ abbrev pub walked : {T : Type 0} → Rules → Actions T → T → Buffer → Bu
 walked r a memory b = (drive_on r a (most_steps b) (first_drive memory b)).buffer
 
 -- a walk is charged for; if what is left doesn't suffice, it isn't made, and nothing is left
+abbrev pub driven_by : {T : Type 0} → Rules → ℕ → Actions T → T → Buffer → Buffer
+driven_by r ranges a memory b = let work = walk_work ranges b in
+    (if nat_lt b.max_ops work then charged work b else walked r a memory (charged work b))
+
 abbrev pub driven : {T : Type 0} → Machine → Actions T → T → Buffer → Buffer
-driven m a memory b = let work = walk_work (length m.ranges.list.now) b in
-    (if nat_lt b.max_ops work then charged work b else walked (rules_of m) a memory (charged work b))
+driven m a memory b = driven_by (rules_of m) (length m.ranges.list.now) a memory b

@@ -9,4 +9,5 @@ pub mod Contextual
 pub mod Ligature
 pub mod Insertion
 pub mod Chains
+pub mod Subtables
 pub mod Worked

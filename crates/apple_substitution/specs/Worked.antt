@@ -6,3 +6,4 @@ pub mod Contexts
 pub mod Ligating
 pub mod Inserting
 pub mod Chaining
+pub mod Running

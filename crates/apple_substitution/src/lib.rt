@@ -4,9 +4,9 @@
 //! of subtable's, a [`Subtable`]: [`rearrangement`] moves glyphs of a span, [`contextual`] replaces a
 //! marked glyph and the current one, [`ligature`] joins components, and [`insertion`] inserts glyphs
 //! of a list. [`noncontextual`] replaces each glyph by itself, with the class that [`glyphs`] gives.
-//! [`ranges`] says where features have a subtable on, [`chains`] by which flags, and over which text.
-//! Any bytes are taken, and a walk ends for each:
-//! what it may cost is charged to the buffer. [`worked`] has the definitions computed by hand.
+//! [`ranges`] says where features have a subtable on, [`chains`] by which flags, and over which text;
+//! [`subtables`] runs one by its header. Any bytes are taken, and a walk ends for each: what it may
+//! cost is charged to the buffer. [`worked`] has the definitions computed by hand.
 #![tactic(auto)]
 #![allow(non_camel_case_types)]
 
@@ -21,9 +21,11 @@ pub mod ligature;
 pub mod noncontextual;
 pub mod ranges;
 pub mod rearrangement;
+pub mod subtables;
 #[cfg(test)]
 mod tests;
 pub mod worked;
 
 pub use driver::{Machine, Subtable};
 pub use ranges::{FlagRange, Ranges};
+pub use subtables::{Chain, run_subtable};

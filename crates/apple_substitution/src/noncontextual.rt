@@ -21,7 +21,7 @@ pub struct Noncontextual<'a> {
 }
 
 /// The glyph that the lookup table has in place of this one, where features have the subtable on.
-#[tactic(auto, unfolding(crate::specs::Noncontextual::substituted))]
+#[tactic(auto, unfolding(crate::specs::Noncontextual::substituted_by))]
 fn substituted(subtable: &Noncontextual<'_>, item: &hb_glyph_info_t) -> hb_glyph_info_t
     ensures { result ≡ noncontextual_rules.substituted subtable.now item.now }
 {
@@ -44,7 +44,7 @@ fn substitute_each(subtable: &Noncontextual<'_>, buffer: &mut hb_buffer_t)
 
 /// Puts in place of each glyph the one that the lookup table has. Takes of the buffer's `max_ops`
 /// what a walk costs; if less is left, nothing is done, and nothing is left. Takes no memory.
-#[tactic(auto, unfolding(crate::specs::Noncontextual::all_substituted))]
+#[tactic(auto, unfolding(crate::specs::Noncontextual::all_substituted_by))]
 pub fn substitute_all(subtable: &Noncontextual<'_>, buffer: &mut hb_buffer_t)
     ensures { Made (noncontextual_rules.all_substituted subtable.now) buffer.old buffer.new }
 {

@@ -8,10 +8,10 @@ use crate::insertion::Insertion;
 use crate::ligature::{Ligature, Stack};
 use crate::noncontextual::{Noncontextual, substitute_all};
 use crate::rearrangement::{Marks, Rearrangement};
-use crate::{FlagRange, Machine, Ranges};
+use crate::{Chain, FlagRange, Machine, Ranges, run_subtable};
 use apple_tables::StateTable;
 use layout_buffer::GapBuffer;
-use shape_buffer::{ShapeError, hb_buffer_t, hb_glyph_info_t};
+use shape_buffer::{Direction, ShapeError, hb_buffer_t, hb_glyph_info_t};
 use std::alloc::Global;
 
 /// A state table of six classes: glyph 5 has class 4, and marks the first of a span; glyph 6 has
@@ -22,6 +22,16 @@ const TURNS: &[u8] = &[
     0, 0, 0, 0, 0, 0, 0, 0, 0, 1, 0, 2, // the first state
     0, 0, 0, 0, 0, 0, 0, 0, 0, 1, 0, 2, // the second one
     0, 0, 0, 0, 0, 0, 0x80, 0, 0, 0, 0x20, 3, // entries: nothing, first, last with verb 3
+];
+
+/// The same with the header of a subtable, which flag 1 has on. It runs in the order of the line.
+const TURNS_IN_A_LINE: &[u8] = &[
+    0, 0, 0, 74, 0, 0, 0, 0, 0, 0, 0, 1, // its length, its coverage, and its flags
+    0, 0, 0, 6, 0, 0, 0, 16, 0, 0, 0, 26, 0, 0, 0, 50, //
+    0, 8, 0, 5, 0, 2, 0, 4, 0, 5, //
+    0, 0, 0, 0, 0, 0, 0, 0, 0, 1, 0, 2, //
+    0, 0, 0, 0, 0, 0, 0, 0, 0, 1, 0, 2, //
+    0, 0, 0, 0, 0, 0, 0x80, 0, 0, 0, 0x20, 3,
 ];
 
 /// The same classes and states: glyph 5 is marked, and glyph 6 has both replaced, by the lookup
@@ -148,6 +158,22 @@ fn replaced(alloc: Global, wanted: u32) -> Result<hb_buffer_t, ShapeError> {
     Ok(buffer)
 }
 
+/// The glyphs of a text of this direction after a subtable.
+fn run(alloc: Global, direction: Direction) -> Result<hb_buffer_t, ShapeError> {
+    let chain = Chain {
+        tables: Tables {
+            morx: TURNS_IN_A_LINE,
+            gdef: &[],
+            glyphs: 10,
+        },
+        ranges: ON,
+    };
+    let mut buffer = three(alloc)?;
+    buffer.set_direction(direction);
+    run_subtable(alloc, &chain, 0, &mut buffer)?;
+    Ok(buffer)
+}
+
 /// The first three glyphs of a list.
 fn glyphs(buffer: &hb_buffer_t) -> (u32, u32, u32) {
     match buffer.infos() {
@@ -197,4 +223,14 @@ fn glyphs_are_replaced(rt: HostRuntime) {
     let off = replaced(rt.alloc(), 2).expect(&rt, "memory");
     assert_eq!(rt; glyphs(&on), (5, 9, 7));
     assert_eq!(rt; glyphs(&off), (5, 6, 7));
+}
+
+#[test]
+fn a_subtable_runs_over_a_text(rt: HostRuntime) {
+    let on = run(rt.alloc(), Direction::LeftToRight).expect(&rt, "memory");
+    let from_the_end = run(rt.alloc(), Direction::RightToLeft).expect(&rt, "memory");
+    let vertical = run(rt.alloc(), Direction::TopToBottom).expect(&rt, "memory");
+    assert_eq!(rt; glyphs(&on), (6, 5, 7));
+    assert_eq!(rt; glyphs(&from_the_end), (5, 7, 6));
+    assert_eq!(rt; glyphs(&vertical), (5, 6, 7));
 }

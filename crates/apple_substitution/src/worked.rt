@@ -10,6 +10,7 @@ ghost use Rattle.apple_substitution.specs.Worked.Inserting.{WorkedPassed, Worked
 ghost use Rattle.apple_substitution.specs.Worked.Inserting.{WorkedBothInserted};
 ghost use Rattle.apple_substitution.specs.Worked.Chaining.{WorkedFlags, WorkedCoverage};
 ghost use Rattle.apple_substitution.specs.Worked.Replacing.{WorkedReplacing};
+ghost use Rattle.apple_substitution.specs.Worked.Running.{WorkedKinds, WorkedOrders, WorkedRuns};
 ghost use Rattle.apple_substitution.specs.Worked.Rearranging.{WorkedVerbs, WorkedSpans};
 
 /// Walks of a driver, where they leave a text unsafe to break, and what they cost.
@@ -62,4 +63,11 @@ pub fn inserting_meets_worked_cases()
 pub fn chaining_meets_worked_cases()
     ensures flags { WorkedFlags }
     ensures coverage { WorkedCoverage }
+{}
+
+/// Subtables that run over a text.
+pub fn running_meets_worked_cases()
+    ensures runs { WorkedRuns }
+    ensures kinds { WorkedKinds }
+    ensures orders { WorkedOrders }
 {}

@@ -1,10 +1,9 @@
 -- Glyphs that subtables replace, computed by hand on tables of 16-bit words.
-use Rattle.std.specs.Prelude.{◌≡◌, ℕ, List, [], ◌∷◌, Some, None, map, refl}
+use Rattle.std.specs.Prelude.{◌≡◌, ℕ, List, [], ◌∷◌, Some, None, refl}
 use Rattle.shape_buffer.specs.Walks.{items_mapped}
-use Rattle.shape_items.specs.Buffer.{Buffer}
 use Rattle.shape_font.specs.Worked.Glyphs.{words}
 use Rattle.apple_substitution.specs.Glyphs.{glyph_by, replaced, with_class}
-use Rattle.apple_substitution.specs.Noncontextual.{all_substituted, substituted}
+use Rattle.apple_substitution.specs.Noncontextual.{all_substituted, all_substituted_by, substituted_by}
 use Rattle.apple_substitution.specs.Worked.Driving.{glyph, glyphs_of, text}
 use Rattle.apple_substitution.specs.declared.noncontextual.Noncontextual.{Noncontextual}
 
@@ -34,7 +33,7 @@ pub record WorkedReplacing : Type 0 where
   pub too_little : Substitutes 67 (5 ∷ 6 ∷ 5 ∷ 7 ∷ []) 0
 
 pub worked_replacing : WorkedReplacing
-unfolding items_mapped substituted all_substituted
+unfolding items_mapped substituted_by all_substituted_by
 worked_replacing = record {
   in_the_table = refl;
   not_in_the_table = refl;
