@@ -4,3 +4,4 @@ mod StoredLemmas
 pub mod TriedLemmas
 mod WordLemmas
 mod LigatureSetLemmas
+pub mod WholeRuleLemmas

@@ -4,3 +4,4 @@ pub mod Lookups
 pub mod Stored
 pub mod Worked
 pub mod LigatureSets
+pub mod WholeRules

@@ -14,6 +14,7 @@ pub mod digested;
 pub mod ligature_sets;
 pub mod lookups;
 pub mod stored;
+pub mod whole_rules;
 pub mod worked;
 
 pub use digest::Digest;

@@ -31,19 +31,19 @@ pub(crate) struct Reading {
     pub left: usize,
 }
 
-fn is_chained_kind(positioning: bool, kind: u16) -> bool
+pub(crate) fn is_chained_kind(positioning: bool, kind: u16) -> bool
     ensures { result ≡ lookup_rules.is_chained_kind positioning kind }
 {
     kind == if positioning { 8 } else { 6 }
 }
 
-fn is_context_kind(positioning: bool, kind: u16) -> bool
+pub(crate) fn is_context_kind(positioning: bool, kind: u16) -> bool
     ensures { result ≡ lookup_rules.is_context_kind positioning kind }
 {
     kind == if positioning { 7 } else { 5 } || is_chained_kind(positioning, kind)
 }
 
-fn extension_kind(positioning: bool) -> u16
+pub(crate) fn extension_kind(positioning: bool) -> u16
     ensures { result ≡ lookup_rules.extension_kind positioning }
 {
     if positioning { 9 } else { 7 }
@@ -68,7 +68,7 @@ fn first_coverage(lookups: Lookups<'_>, subtable: LookupSubtable) -> Option<usiz
 }
 
 /// Puts the glyphs in that the Coverage table at `list` covers, or all glyphs if too much was read.
-fn with_list(table: &[u8], list: usize, reading: Reading) -> Reading
+pub(crate) fn with_list(table: &[u8], list: usize, reading: Reading) -> Reading
     requires { list < 2 ^ 40 }
     ensures covered { HasCovered table.now list result.digest }
     ensures kept { IsWithin reading.digest result.digest }

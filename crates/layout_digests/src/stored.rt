@@ -5,10 +5,13 @@ ghost use Rattle.std.specs.Option.{IfSome, option_map};
 ghost use Rattle.layout_tables.specs.Lookups.{lookup_count_of, lookup_of};
 ghost use Rattle.layout_digests.specs.declared.stored.Head.{Head as HeadOf};
 ghost use Rattle.layout_digests.specs.Stored as stored_rules;
+ghost use Rattle.layout_digests.specs.WholeRules.{HoldWholes};
 
 use crate::digest::Digest;
 use crate::lookups::{Lookups, Reading, digest_of, with_subtable};
+use crate::whole_rules::stored_wholes;
 use layout_matching::firsts::First;
+use layout_matching::whole_rules::WholeRule;
 use layout_tables::lookups::{
     lookup, lookup_count, lookup_flag, lookup_type, mark_filtering_set, subtable_count,
 };
@@ -36,12 +39,13 @@ pub struct StoredLookup {
     pub count: u32,
 }
 
-/// What is stored of the lookups of a table, by their indexes, and of the subtables of all of them,
-/// one lookup after the other.
+/// What is stored of the lookups of a table, by their indexes, of the subtables of all of them, one
+/// lookup after the other, and for each lookup of the rules of format 3 of its subtables.
 #[derive(Drop)]
 pub struct StoredLookups {
     pub lookups: Vec<StoredLookup>,
     pub firsts: Vec<First>,
+    pub wholes: Vec<Vec<Option<WholeRule>>>,
 }
 
 /// Which of the stored subtables are those of a lookup, and how many entries and subtables may
@@ -172,7 +176,7 @@ fn head_of(table: &[u8], index: u16) -> Option<Head>
 }
 
 /// What is stored of each lookup of a table. Takes a step for each entry of their lists and for
-/// each subtable, and no more steps than twice the bytes of the table. Refuses with `Memory` if a
+/// each subtable, and no more steps than three times the bytes of the table. Refuses with `Memory` if a
 /// growth was refused.
 #[tactic(auto, using(crate::proofs::StoredLemmas::one_stored, crate::proofs::StoredLemmas::all_inside))]
 pub fn stored(alloc: Global, lookups: Lookups<'_>) -> Result<StoredLookups, ShapeError>
@@ -180,6 +184,8 @@ pub fn stored(alloc: Global, lookups: Lookups<'_>) -> Result<StoredLookups, Shap
         lookups.entry.positioning s.firsts.items s.lookups.items) }
     ensures count { IfOk result (λ s. length s.lookups.items
         ≡ lookup_count_of lookups.entry.table.now) }
+    ensures wholes { IfOk result (λ s. HoldWholes lookups.entry.table.now
+        lookups.entry.positioning s.wholes.items) }
     ensures memory { IsOkUnless result ShapeError.Memory }
 {
     let count = lookup_count(lookups.table);
@@ -199,8 +205,10 @@ pub fn stored(alloc: Global, lookups: Lookups<'_>) -> Result<StoredLookups, Shap
             count: span.count,
         })?;
     }
+    let wholes = stored_wholes(alloc, lookups)?;
     Ok(StoredLookups {
         lookups: all,
         firsts,
+        wholes,
     })
 }

@@ -18,3 +18,4 @@ pub mod ReachAgainLemmas
 pub mod ScanLemmas
 pub mod SiftedLemmas
 pub mod LigatureSetLemmas
+pub mod WholeRuleLemmas

@@ -36,7 +36,7 @@ use Rattle.layout_matching.proofs.TallyLemmas.{part_counted_by}
 
 -- ---- what they cost
 
-charged-twice : (w c left : ℕ) → option_and_then (charged c) (charged w left) ≡ charged (w + c) left
+pub charged-twice : (w c left : ℕ) → option_and_then (charged c) (charged w left) ≡ charged (w + c) left
 charged-twice w c left = by_first (nat_lt left w) refl
   where
     by_second : (u : Bool) → nat_lt left w ≡ false → nat_lt (left - w) c ≡ u

@@ -12,6 +12,7 @@ pub mod Nesting
 pub mod Tried
 pub mod Work
 pub mod LigatureSets
+pub mod WholeRules
 pub mod Sought
 pub mod Tries
 pub mod Would

@@ -1,6 +1,7 @@
 -- Rules of context, computed by hand on tables of 16-bit words.
 pub mod Work
 pub mod LigatureSets
+pub mod WholeRules
 pub mod Passing
 pub mod Glance
 pub mod Would

@@ -3,6 +3,10 @@
 //! be among them, and never fewer.
 ghost use Rattle.std.specs.Prelude.{◌≡◌, ◌/◌, ℕ, true, false};
 ghost use Rattle.layout_matching.specs.Firsts as first_rules;
+ghost use Rattle.layout_matching.specs.WholeRules.{AreWholes, AreWholesOf};
+ghost use Rattle.layout_matching.specs.declared.lookup.Lookup.{Lookup};
+
+use crate::whole_rules::WholeRule;
 
 /// The glyphs that a subtable may begin at, or more.
 #[derive(Clone, Copy, PartialEq, Eq, Debug)]
@@ -13,12 +17,15 @@ pub struct First {
 }
 
 /// What is stored of the subtables of a lookup: so many in a row of those of all lookups, from one
-/// place on. None need be stored.
+/// place on, and their rules of format 3, with this index among those of all lookups. None need be
+/// stored.
 #[derive(Clone, Copy)]
 pub struct Firsts<'a> {
     pub all: &'a [First],
     pub from: u32,
     pub count: u32,
+    pub wholes: &'a [Vec<Option<WholeRule>>],
+    pub index: u16,
 }
 
 /// Whether the word has the bit for a number.
@@ -37,6 +44,21 @@ pub fn with_bit(word: u64, n: u32) -> u64
     ensures kept { first_rules.KeepsBits word result }
 {
     word | 1 << (n % 64)
+}
+
+impl<'a> Firsts<'a> {
+    /// What is stored of the rules of format 3 of the lookup's subtables, in their order.
+    #[inline(always)]
+    pub(crate) fn wholes_of(&self) -> &'a [Option<WholeRule>]
+        ensures { (lookup : Lookup) → AreWholesOf lookup self.now → AreWholes lookup result.now }
+    {
+        let index = usize::from(self.index);
+        if index < self.wholes.len() {
+            self.wholes[index].as_slice()
+        } else {
+            &[]
+        }
+    }
 }
 
 impl First {

@@ -4,19 +4,22 @@ ghost use Rattle.std.specs.Prelude.{◌≡◌, ◌≤◌, ◌<◌, ◌+◌, ℕ,
 ghost use Rattle.std.specs.Option.{IfSome};
 ghost use Rattle.layout_matching.specs.Firsts.{AreFirsts, AreOut, IsOut};
 ghost use Rattle.layout_matching.specs.LigatureSets.{AreSets, IsSetOf};
+ghost use Rattle.layout_matching.specs.WholeRules.{AreWholesOf, IsWholeOf};
 
 use crate::firsts::Firsts;
 use crate::ligature_sets::LigatureSet;
 use crate::lookup::Lookup;
+use crate::whole_rules::WholeRule;
 
-/// A lookup, the glyphs that its subtables may begin at, as far as these are stored, and what is
-/// stored of the sets of ligatures of its first subtable.
+/// A lookup, the glyphs that its subtables may begin at and their rules of format 3, as far as these
+/// are stored, and what is stored of the sets of ligatures of its first subtable.
 #[derive(Clone, Copy)]
 pub struct Indexed<'a> {
     pub lookup: &'a Lookup<'a>,
     firsts: Firsts<'a>,
     sets: &'a [LigatureSet],
     ghost stored: { AreFirsts lookup.now firsts },
+    ghost ruled: { AreWholesOf lookup.now firsts },
     ghost said: { AreSets lookup.now.table.now lookup.now.place sets.now },
 }
 
@@ -24,7 +27,8 @@ impl<'a> Indexed<'a> {
     /// A lookup with what is stored of its subtables.
     #[inline(always)]
     pub fn new(lookup: &'a Lookup<'a>, firsts: Firsts<'a>) -> Indexed<'a>
-        requires { AreFirsts lookup.now firsts }
+        requires firsts { AreFirsts lookup.now firsts }
+        requires wholes { AreWholesOf lookup.now firsts }
         ensures { result.lookup.now ≡ lookup.now }
     {
         Indexed {
@@ -42,6 +46,7 @@ impl<'a> Indexed<'a> {
         sets: &'a [LigatureSet],
     ) -> Indexed<'a>
         requires firsts { AreFirsts lookup.now firsts }
+        requires wholes { AreWholesOf lookup.now firsts }
         requires sets { AreSets lookup.now.table.now lookup.now.place sets.now }
         ensures { result.lookup.now ≡ lookup.now }
     {
@@ -61,6 +66,8 @@ impl<'a> Indexed<'a> {
             all: &[],
             from: 0,
             count: 0,
+            wholes: &[],
+            index: 0,
         };
         Indexed {
             lookup,
@@ -79,6 +86,20 @@ impl<'a> Indexed<'a> {
         let number = number as usize;
         if number < self.sets.len() {
             Some(&self.sets[number])
+        } else {
+            None
+        }
+    }
+
+    /// What is stored of the one rule of subtable `i`.
+    #[inline(always)]
+    pub fn whole_at(&self, i: u32) -> Option<&'a WholeRule>
+        ensures { IfSome result (λ w. IsWholeOf self.now.lookup.now i w.now) }
+    {
+        let wholes = self.firsts.wholes_of();
+        let i = i as usize;
+        if i < wholes.len() {
+            wholes[i].as_ref()
         } else {
             None
         }

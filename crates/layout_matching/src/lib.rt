@@ -11,7 +11,7 @@
 //! looks for the rule that applies: `set_rules` in the sets of a subtable, `scanning` past the
 //! rules of a set that are refused at once; `remembered` has what the rules before passed over.
 //! [`ligatures`] charges those of a set while it sifts them, and [`ligature_sets`] has what is
-//! stored of sets.
+//! stored of sets, [`whole_rules`] what is stored of rules of format 3.
 //! [`firsts`] has the glyphs that subtables may begin at, and [`indexed`] a lookup with those of
 //! its own. [`would`] says whether context would match glyphs that stand alone. All are functions
 //! of the bytes of the font and of the list of items: nothing is changed. Any bytes are taken.
@@ -45,6 +45,7 @@ pub mod sought;
 pub mod spans;
 pub mod tally;
 pub mod tried;
+pub mod whole_rules;
 pub mod work;
 pub mod worked;
 pub mod would;

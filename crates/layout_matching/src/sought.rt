@@ -20,6 +20,7 @@ use crate::set_rules::sets_sought;
 use crate::sets::rule_charged;
 use crate::spans::Origin;
 use crate::tally::charged;
+use crate::whole_rules::stored_begins;
 use crate::work::SUBTABLE_WORK;
 use layout_buffer::ItemList;
 use layout_tables::lookups::{LookupSubtable, subtable_count};
@@ -85,9 +86,9 @@ fn whole_begins(
     }
 }
 
-/// Subtable `i`, if it has to be looked at; if not, it was charged for.
+/// Subtable `i`, of which nothing is stored, if it has to be looked at; if not, it was charged for.
 #[inline(always)]
-fn begun_at(
+fn unstored_begun_at(
     lookup: &Lookup<'_>,
     items: &ItemList<'_>,
     origin: Origin,
@@ -118,6 +119,40 @@ fn begun_at(
         return None;
     }
     Some(subtable)
+}
+
+/// Subtable `i`, if it has to be looked at; if not, it was charged for.
+#[tactic(auto, using(crate::proofs::WholeRuleLemmas::stored_sought, crate::proofs::WholeRuleLemmas::stored_begun))]
+#[inline(always)]
+fn begun_at(
+    indexed: &Indexed<'_>,
+    items: &ItemList<'_>,
+    origin: Origin,
+    i: u32,
+    left: &mut usize,
+    known: &mut Option<Beside>,
+) -> Option<LookupSubtable>
+    requires near { indexed.now.lookup.now.place < 2 ^ 17 }
+    requires few { i < 2 ^ 16 }
+    requires inside { origin.at < length items.now }
+    requires known { IfSome known.old (Work.IsBeside indexed.now.lookup.now true items.now origin.at) }
+    ensures missed { result ≡ None
+        → sought_rules.sought_at_subtable indexed.now.lookup.now items.now origin i left.old
+        ≡ Some (sought_rules.unfound left.new) }
+    ensures begun { IfSome result (λ s.
+        sought_rules.sought_at_subtable indexed.now.lookup.now items.now origin i left.old
+        ≡ sought_rules.begun_sought indexed.now.lookup.now items.now origin left.new s) }
+    ensures near { IfSome result (λ s. s.start < 2 ^ 35) }
+    ensures known { IfSome known.new (Work.IsBeside indexed.now.lookup.now true items.now origin.at) }
+{
+    let Some(stored) = indexed.whole_at(i) else {
+        return unstored_begun_at(indexed.lookup, items, origin, i, left, known);
+    };
+    if stored_begins(indexed.lookup, items, origin, stored, left, known) {
+        Some(stored.subtable)
+    } else {
+        None
+    }
 }
 
 /// The one rule of a subtable of format 3 that begins with the glyph, if it applies. It is read
@@ -193,7 +228,7 @@ pub fn seek_rule(
     let mut known = None;
     let mut i = indexed.next_begun(0, count, glyph);
     while i < count {
-        let begun = begun_at(indexed.lookup, items, origin, i, &mut left, &mut known);
+        let begun = begun_at(indexed, items, origin, i, &mut left, &mut known);
         let Some(subtable) = begun else {
             i = indexed.next_begun(i + 1, count, glyph);
             continue;

@@ -2,6 +2,7 @@
 ghost use Rattle.layout_matching.specs.Worked.{WorkedNullClasses, WorkedEnds, WorkedTypes};
 ghost use Rattle.layout_matching.specs.Worked.Glance.{WorkedGlance};
 ghost use Rattle.layout_matching.specs.Worked.LigatureSets.{WorkedSets};
+ghost use Rattle.layout_matching.specs.Worked.WholeRules.{WorkedWholes};
 ghost use Rattle.layout_matching.specs.Worked.Passing.{WorkedPassing};
 ghost use Rattle.layout_matching.specs.Worked.Seeking.{WorkedSeeking};
 ghost use Rattle.layout_matching.specs.Worked.Sought.{WorkedSought};
@@ -31,6 +32,11 @@ pub fn work_meets_worked_cases()
 /// What is stored of sets of ligatures.
 pub fn stored_sets_meet_worked_cases()
     ensures { WorkedSets }
+{}
+
+/// What is stored of rules of format 3.
+pub fn stored_rules_meet_worked_cases()
+    ensures { WorkedWholes }
 {}
 
 /// What looking for a rule of context costs, up to the one that applies.

@@ -133,11 +133,13 @@ passed_over d b left next count run said held apart is same =
     ∙ sym (digest-idle d (record { buffer = b; left = left }) run said held apart)
 
 -- the set of all glyphs serves any lookup
-pub every_said : (d : Digested) → d.lookup.place < 2 ^ 17 → ((glyph : ℕ) → has d.digest glyph ≡ true) → d.firsts.count ≡ 0 → IsDigested d
-every_said d near all none = record {
+pub every_said : (d : Digested) → d.lookup.place < 2 ^ 17 → ((glyph : ℕ) → has d.digest glyph ≡ true) → d.firsts.count ≡ 0
+    → length d.firsts.wholes.now ≡ 0 → IsDigested d
+every_said d near all none empty = record {
   near = near;
   out = λ glyph not. never glyph (has d.digest glyph) (all glyph) not;
   firsts = λ i glyph below inside out. absurd (omega (arith, below, none));
+  wholes = λ v inside. absurd (omega (arith, inside, empty));
 }
   where
     never : (glyph : ℕ) (t : Bool) → t ≡ true → t ≡ false → IsOut d.lookup glyph

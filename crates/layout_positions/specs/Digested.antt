@@ -2,6 +2,7 @@
 use Rattle.std.specs.Prelude.{◌≡◌, ℕ, true, false, List, ◌+◌, ◌<◌, ◌^◌, length, map}
 use Rattle.shape_items.specs.Items.{Item}
 use Rattle.layout_matching.specs.Firsts.{AreFirsts}
+use Rattle.layout_matching.specs.WholeRules.{AreWholesOf}
 use Rattle.layout_matching.specs.Skipping.{nth}
 use Rattle.layout_matching.specs.declared.lookup.Lookup.{Lookup}
 use Rattle.layout_digests.specs.Digests.{has}
@@ -19,6 +20,7 @@ pub record IsDigested (d : Digested) : Type 0 where
   pub near : d.lookup.place < 2 ^ 17
   pub out : (glyph : ℕ) → has d.digest glyph ≡ false → IsOut d.lookup glyph
   pub firsts : AreFirsts d.lookup d.firsts
+  pub wholes : AreWholesOf d.lookup d.firsts
 
 -- the set holds the first so many glyphs of a list, or all
 abbrev pub HoldsFirst : Digest → List Item → ℕ → Type 0

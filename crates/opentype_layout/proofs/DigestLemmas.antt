@@ -24,6 +24,7 @@ substitutes-one d said = record {
         (λ covers. said.digest i below s glyph there (sym (ap (λ p. begins_at d.lookup.table.now p s glyph) said.kind) ∙ covers)) none;
   };
   firsts = said.firsts;
+  wholes = said.wholes;
 }
 
 pub substitutes : (ds : List Digested) → All (IsSaid false) ds → All substitution.IsDigested ds
@@ -38,4 +39,5 @@ positions-one d said = record {
         (λ lists. said.digest i below s glyph there (sym (ap (λ p. begins_at d.lookup.table.now p s glyph) said.kind) ∙ lists)) none;
   };
   firsts = said.firsts;
+  wholes = said.wholes;
 }

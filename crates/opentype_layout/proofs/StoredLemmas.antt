@@ -1,7 +1,7 @@
 -- a lookup made of what is stored is the lookup of the table
 use Rattle.std.proofs.Common.{◌≡◌, ◌+◌, ◌*◌, ℕ, Bool, true, false, Option, Some, None, max, min, not, nat_eq, ◌&&◌, ◌||◌, refl, sym, ap, ◌∙◌, subst, if◌then◌else◌}
 use Rattle.std.specs.Option.{IfSome, option_map}
-use Rattle.std.specs.Prelude.{List}
+use Rattle.std.specs.Prelude.{List, slice_index_or}
 use Rattle.shape_items.specs.Buffer.{most_countable}
 use Rattle.layout_tables.specs.Lookups as tables
 use Rattle.layout_map.specs.declared.lookups.LookupMap.{LookupMap}
@@ -17,6 +17,9 @@ use Rattle.layout_matching.specs.LigatureSets.{AreSets}
 use Rattle.layout_matching.specs.declared.ligature_sets.LigatureSet.{LigatureSet}
 use Rattle.layout_digests.specs.LigatureSets.{AreSetsAt}
 use Rattle.layout_digests.specs.Stored.{IsHead, IsStored, IsStoredAt}
+use Rattle.layout_digests.specs.WholeRules.{AreWholesAt, HoldWholes, IsWholeAt}
+use Rattle.layout_matching.specs.WholeRules.{AreWholes}
+use Rattle.layout_matching.specs.declared.whole_rules.WholeRule.{WholeRule}
 use Rattle.opentype_layout.specs.Digested.{IsSaid}
 use Rattle.opentype_layout.specs.Lookups.{lookup_at, lookup_by, lookup_of, steps_work_by}
 use Rattle.opentype_layout.specs.declared.lookups.LookupTables.{LookupTables}
@@ -47,25 +50,34 @@ known_some t m firsts s h known is =
     ap Some (same_lookup t m h (known_head t.table.now t.positioning m.index firsts s h known is))
     ∙ sym (ap (option_map (lookup_at t m)) (known_place t.table.now t.positioning m.index firsts s h known is))
 
+-- the rules that are stored for an index are those of the lookup there
+known-wholes : (t : LookupTables) (m : LookupMap) (h : Head) (ws : List (Option WholeRule)) → tables.lookup_of t.table.now m.index ≡ Some h.place
+    → AreWholesAt t.table.now t.positioning m.index ws → AreWholes (lookup_at t m h.place) ws
+known-wholes t m h ws there held i inside w is =
+    let at : IsWholeAt t.table.now t.positioning h.place i w =
+    subst (λ (o : Option WholeRule). IfSome o (IsWholeAt t.table.now t.positioning h.place i)) is (held h.place there i inside) in
+    record { subtable = at.subtable; context = at.context; whole = at.whole }
+
 -- what is said of a lookup that is stored
 pub known_said : (t : LookupTables) (m : LookupMap) (stored : Stored) (s : StoredLookup) (h : Head)
-    → IsStoredAt t.table.now t.positioning m.index stored.firsts.now s → s.head ≡ Some h
+    → IsStoredAt t.table.now t.positioning m.index stored.firsts.now s → HoldWholes t.table.now t.positioning stored.wholes.now → s.head ≡ Some h
     → IsSaid t.positioning (record {
       lookup = lookup_by t m h;
       digest = s.digest;
-      firsts = record { all = stored.firsts; from = s.from; count = s.count };
+      firsts = record { all = stored.firsts; from = s.from; count = s.count; wholes = stored.wholes; index = m.index };
     })
-known_said t m stored s h known is =
+known_said t m stored s h known held is =
     let there = known_place t.table.now t.positioning m.index stored.firsts.now s h known is in
     let head = known_head t.table.now t.positioning m.index stored.firsts.now s h known is in
     let made = known.stored h.place there in
-    let firsts : Firsts = record { all = stored.firsts; from = s.from; count = s.count } in
+    let firsts : Firsts = record { all = stored.firsts; from = s.from; count = s.count; wholes = stored.wholes; index = m.index } in
     subst (λ (l : Lookup). IsSaid t.positioning (record { lookup = l; digest = s.digest; firsts = firsts })) (sym (same_lookup t m h head))
     (record {
       near = head.near;
       kind = refl;
       digest = made.digest;
       firsts = λ i glyph below inside out. made.subtables i glyph below out;
+      wholes = λ none inside. known-wholes t m h (slice_index_or stored.wholes.now m.index none).items there (held m.index none inside);
     })
 
 -- the sets that are stored for an index are those of the lookup there

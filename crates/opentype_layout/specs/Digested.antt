@@ -2,10 +2,12 @@
 use Rattle.std.specs.Prelude.{◌≡◌, ℕ, Bool, true, false, List, ◌<◌, ◌^◌}
 use Rattle.std.specs.Global.{Vec}
 use Rattle.layout_matching.specs.Firsts.{AreFirsts}
+use Rattle.layout_matching.specs.WholeRules.{AreWholesOf}
 use Rattle.layout_matching.specs.declared.ligature_sets.LigatureSet.{LigatureSet}
 use Rattle.layout_digests.specs.LigatureSets.{HoldSets}
 use Rattle.layout_digests.specs.Lookups.{IsDigest}
 use Rattle.layout_digests.specs.Stored.{AreStored}
+use Rattle.layout_digests.specs.WholeRules.{HoldWholes}
 use Rattle.layout_digests.specs.declared.digested.Digested.{Digested}
 use Rattle.layout_digests.specs.declared.stored.StoredLookups.{StoredLookups}
 use Rattle.shape_font.specs.declared.face.FontFace.{FontFace}
@@ -18,10 +20,12 @@ pub record IsSaid (positioning : Bool) (d : Digested) : Type 0 where
   pub kind : d.lookup.positioning ≡ positioning
   pub digest : IsDigest d.lookup.table.now positioning d.lookup.place d.digest
   pub firsts : AreFirsts d.lookup d.firsts
+  pub wholes : AreWholesOf d.lookup d.firsts
 
--- what is stored of the lookups of a table
-abbrev pub AreStoredOf : List ℕ → Bool → StoredLookups → Type 0
-AreStoredOf t positioning s = AreStored t positioning s.firsts.items s.lookups.items
+-- what is stored of the lookups of a table, and of their rules of format 3
+pub record AreStoredOf (t : List ℕ) (positioning : Bool) (s : StoredLookups) : Type 0 where
+  pub lookups : AreStored t positioning s.firsts.items s.lookups.items
+  pub wholes : HoldWholes t positioning s.wholes.items
 
 -- the font of the face, opened, what is said of the first glyphs, and what is stored of each lookup of its tables and of its sets of
 -- ligatures

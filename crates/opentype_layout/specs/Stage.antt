@@ -7,6 +7,7 @@ use Rattle.layout_map.specs.declared.lookups.LookupMap.{LookupMap}
 use Rattle.layout_matching.specs.declared.lookup.Lookup.{Lookup}
 use Rattle.layout_digests.specs.LigatureSets.{HoldSets}
 use Rattle.layout_digests.specs.Stored.{AreStored}
+use Rattle.layout_digests.specs.WholeRules.{HoldWholes}
 use Rattle.layout_substitution.specs.declared.apply.Spot.{Spot}
 use Rattle.layout_context.specs.Stages.{all_looked_up, stage_ended, most_levels}
 use Rattle.opentype_layout.specs.Lookups.{IsListOf, lookup_of, lookups_of}
@@ -21,6 +22,7 @@ pub record AreReady (s : StageLookups) : Type 0 where
   pub near : IfSome s.list.place (λ place. place < 2 ^ 16)
   pub stored : AreStored s.tables.table.now s.tables.positioning s.stored.firsts.now s.stored.lookups.now
   pub sets : HoldSets s.tables.table.now s.stored.sets.now
+  pub wholes : HoldWholes s.tables.table.now s.tables.positioning s.stored.wholes.now
 
 -- what lookups make of a buffer
 abbrev pub made_by : List Lookup → Buffer → Spot → Buffer

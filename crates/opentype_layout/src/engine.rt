@@ -2,6 +2,7 @@
 ghost use Rattle.std.specs.Prelude.{◌≡◌, fold, true, IsOk, MatchResult};
 ghost use Rattle.shape_buffer.specs.Outcome.{IsWithinLimit, Made, Outcome, step};
 ghost use Rattle.layout_digests.specs.Stored.{AreStored};
+ghost use Rattle.layout_digests.specs.WholeRules.{HoldWholes};
 ghost use Rattle.layout_positions.specs.Walk.{budgeted, lookup_applied};
 ghost use Rattle.layout_map.specs.Map.{OtMap, map_meaning};
 ghost use Rattle.opentype_layout.specs.declared.face.OpenTypeFace.{OpenTypeFace as Face};
@@ -80,6 +81,7 @@ fn apply_each(
 ) -> usize
     requires kind { tables.positioning ≡ true }
     requires stored { AreStored tables.table.now true stored.firsts.now stored.lookups.now }
+    requires wholes { HoldWholes tables.table.now true stored.wholes.now }
     ensures { record { buffer = buffer.new; left = result }
         ≡ fold lookup_applied (budgeted buffer.old) (lookups_of tables.entry maps.now) }
 {
@@ -109,6 +111,7 @@ pub(crate) fn position_by(
 )
     requires kind { tables.positioning ≡ true }
     requires stored { AreStored tables.table.now true stored.firsts.now stored.lookups.now }
+    requires wholes { HoldWholes tables.table.now true stored.wholes.now }
     ensures { Made (Engine.positioned_by tables.entry maps.now) buffer.old buffer.new }
 {
     let left = apply_each(tables, stored, maps, buffer);
@@ -238,6 +241,7 @@ impl<'a> hb_ot_layout_t<OpenTypeFace<'a>> for OpenTypeLayout {
                 lookups: &[],
                 firsts: &[],
                 sets: &[],
+                wholes: &[],
             },
             map.gsub_lookups(i),
             buffer,
@@ -289,6 +293,7 @@ impl<'a> hb_ot_layout_t<OpenTypeFace<'a>> for OpenTypeLayout {
             lookups: &[],
             firsts: &[],
             sets: &[],
+            wholes: &[],
         };
         position_by(gpos_tables(face), none, map.gpos_lookups(), buffer);
         Ok(())

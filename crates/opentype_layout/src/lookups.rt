@@ -2,6 +2,7 @@
 ghost use Rattle.std.specs.Prelude.{◌≡◌, ◌<◌, ◌^◌, ℕ, List};
 ghost use Rattle.std.specs.Option.{IfSome, option_map};
 ghost use Rattle.layout_digests.specs.LigatureSets.{AreSetsAt, HoldSets};
+ghost use Rattle.layout_digests.specs.WholeRules.{HoldWholes};
 ghost use Rattle.layout_digests.specs.Stored.{AreStored, IsHead, IsStoredAt};
 ghost use Rattle.layout_digests.specs.declared.stored.Head.{Head as HeadOf};
 ghost use Rattle.layout_digests.specs.declared.digested.Digested.{Digested as DigestedLookup};
@@ -15,6 +16,7 @@ use layout_map::lookups::LookupMap;
 use layout_matching::firsts::{First, Firsts};
 use layout_matching::ligature_sets::LigatureSet;
 use layout_matching::lookup::Lookup;
+use layout_matching::whole_rules::WholeRule;
 use layout_tables::lookups::lookup_count;
 use layout_tables::offsets::{header_offset, offset16};
 
@@ -29,13 +31,14 @@ pub struct LookupTables<'a> {
     pub positioning: bool,
 }
 
-/// What is stored of the lookups of a table, of their subtables, and of their sets of ligatures.
-/// None need be stored.
+/// What is stored of the lookups of a table, of their subtables, of their sets of ligatures, and of
+/// their rules of format 3. None need be stored.
 #[derive(Clone, Copy)]
 pub struct Stored<'a> {
     pub lookups: &'a [StoredLookup],
     pub firsts: &'a [First],
     pub sets: &'a [Vec<LigatureSet>],
+    pub wholes: &'a [Vec<Option<WholeRule>>],
 }
 
 impl<'a> Stored<'a> {
@@ -177,6 +180,7 @@ pub(crate) fn made_ready<'a>(
 ) -> Digested<'a>
     requires known { IsStoredAt tables.table.now tables.positioning map.now.index stored.firsts.now
         known.now }
+    requires wholes { HoldWholes tables.table.now tables.positioning stored.wholes.now }
     requires head { known.now.head ≡ Some head.now }
     ensures value { Some result.lookup ≡ Lookups.lookup_of tables.entry map.now }
     ensures by { result.lookup ≡ Lookups.lookup_by tables.entry map.now head.now }
@@ -189,6 +193,8 @@ pub(crate) fn made_ready<'a>(
             all: stored.firsts,
             from: known.from,
             count: known.count,
+            wholes: stored.wholes,
+            index: map.index,
         },
     }
 }

@@ -3,6 +3,7 @@ ghost use Rattle.std.specs.Prelude.{◌≡◌, true, false, IfOk, IsOkUnless};
 ghost use Rattle.kern_table.specs.Pairs.{HoldSides};
 ghost use Rattle.layout_digests.specs.LigatureSets.{HoldSets};
 ghost use Rattle.layout_digests.specs.Stored.{AreStored};
+ghost use Rattle.layout_digests.specs.WholeRules.{HoldWholes};
 ghost use Rattle.opentype_layout.specs.Face.{opentype_face};
 
 use crate::classes::{GlyphClasses, props_of};
@@ -22,8 +23,8 @@ use std::marker::Model;
 /// A face over the bytes of a font file with tables beside it: those of [`OpenedFace`], for each
 /// glyph what `GDEF` says of it, in 2 bytes, for each lookup of `GSUB` and `GPOS` what it begins
 /// with and a digest of the glyphs that it may begin at, in 88 bytes with the place of those of its
-/// subtables, and for these 24 each; and for each set of ligatures what it costs and the second
-/// components, in 40. It returns what the [`OpenTypeFace`] returns, and contracts
+/// subtables, and for these 24 each, or 120 in lookups of context; and for each set of ligatures what
+/// it costs and the second components, in 40. It returns what the [`OpenTypeFace`] returns, and contracts
 /// see it as that face.
 #[derive(Drop)]
 pub struct OpenedOpenTypeFace<'a> {
@@ -102,22 +103,26 @@ impl<'a> OpenedOpenTypeFace<'a> {
     pub(crate) fn stored_gsub(&self) -> Stored<'_>
         ensures stored { AreStored self.now.gsub.now false result.firsts.now result.lookups.now }
         ensures sets { HoldSets self.now.gsub.now result.sets.now }
+        ensures wholes { HoldWholes self.now.gsub.now false result.wholes.now }
     {
         Stored {
             lookups: self.substitution.lookups.as_slice(),
             firsts: self.substitution.firsts.as_slice(),
             sets: self.sets.as_slice(),
+            wholes: self.substitution.wholes.as_slice(),
         }
     }
 
     /// What is stored of the lookups of `GPOS`.
     pub(crate) fn stored_gpos(&self) -> Stored<'_>
-        ensures { AreStored self.now.gpos.now true result.firsts.now result.lookups.now }
+        ensures stored { AreStored self.now.gpos.now true result.firsts.now result.lookups.now }
+        ensures wholes { HoldWholes self.now.gpos.now true result.wholes.now }
     {
         Stored {
             lookups: self.positioning.lookups.as_slice(),
             firsts: self.positioning.firsts.as_slice(),
             sets: &[],
+            wholes: self.positioning.wholes.as_slice(),
         }
     }
 }

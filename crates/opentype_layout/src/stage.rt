@@ -10,6 +10,7 @@ ghost use Rattle.shape_buffer.specs.Outcome.{IsWithinLimit, Outcome, step};
 ghost use Rattle.shape_buffer.specs.declared.buffer.error.ShapeError.TheVariants.{Length};
 ghost use Rattle.layout_digests.specs.LigatureSets.{HoldSets};
 ghost use Rattle.layout_digests.specs.Stored.{AreStored};
+ghost use Rattle.layout_digests.specs.WholeRules.{HoldWholes};
 ghost use Rattle.layout_matching.specs.declared.lookup.Lookup.{Lookup};
 ghost use Rattle.layout_substitution.specs.Edits.{is_past};
 ghost use Rattle.layout_context.specs.Digested.{HoldsGlyphs};
@@ -346,6 +347,7 @@ pub(crate) fn substitute_by(
     requires kind { tables.positioning ≡ false }
     requires stored { AreStored tables.table.now false stored.firsts.now stored.lookups.now }
     requires sets { HoldSets tables.table.now stored.sets.now }
+    requires wholes { HoldWholes tables.table.now false stored.wholes.now }
     ensures { Outcome (step (substituted (lookups_of tables.entry maps.now)))
         buffer.old buffer.new result }
 {

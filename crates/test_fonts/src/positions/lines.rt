@@ -105,6 +105,8 @@ pub fn positioned(rt: &impl Host, lookups: &str, line: &str) -> String {
             all: &[],
             from: 0,
             count: 0,
+            wholes: &[],
+            index: 0,
         },
     };
     position(&[named], &mut buffer);

@@ -1,5 +1,6 @@
 use Rattle.std.proofs.Common.{Bool, fold, sym, subst}
 use Rattle.layout_digests.specs.Stored.{AreStored}
+use Rattle.layout_digests.specs.WholeRules.{HoldWholes}
 use Rattle.layout_positions.specs.Walk.{Budgeted, budgeted, lookup_applied}
 use Rattle.opentype_layout.specs.Digested.{IsSaid}
 use Rattle.opentype_layout.specs.Lookups.{lookups_of}
@@ -12,6 +13,10 @@ pub stored_at-known-requires-clause-stored : goal.stored_at-known-requires-claus
 stored_at-known-requires-clause-stored c =
     subst (λ (p : Bool). AreStored c.args.tables.table.now p c.args.stored.firsts.now c.args.stored.lookups.now) (sym c.requires.kind)
     c.requires.stored
+
+pub made_ready-named-requires-clause-wholes : goal.made_ready-named-requires-clause-wholes
+made_ready-named-requires-clause-wholes c =
+    subst (λ (p : Bool). HoldWholes c.args.tables.table.now p c.args.stored.wholes.now) (sym c.requires.kind) c.requires.wholes
 
 pub apply_within-left-requires-clause-said : goal.apply_within-left-requires-clause-said
 apply_within-left-requires-clause-said c =

@@ -13,6 +13,6 @@ returns-clause-value c =
 pub returns-clause-said : goal.returns-clause-said
 returns-clause-said c =
     let known = c.args.known.now in
-    let firsts : Firsts = record { all = c.args.stored.firsts; from = known.from; count = known.count } in
+    let firsts : Firsts = record { all = c.args.stored.firsts; from = known.from; count = known.count; wholes = c.args.stored.wholes; index = c.args.map.now.index } in
     subst (λ (l : Lookup). IsSaid c.args.tables.positioning (record { lookup = l; digest = known.digest; firsts = firsts })) (sym c.used.ensures)
-    (known_said c.args.tables c.args.map.now c.args.stored known c.args.head.now c.requires.known c.requires.head)
+    (known_said c.args.tables c.args.map.now c.args.stored known c.args.head.now c.requires.known c.requires.wholes c.requires.head)

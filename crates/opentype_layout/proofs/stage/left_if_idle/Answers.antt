@@ -21,9 +21,9 @@ returns c = λ items held many.
     let d : Digested = record {
       lookup = lookup_by t m h;
       digest = known.digest;
-      firsts = record { all = stored.firsts; from = known.from; count = known.count };
+      firsts = record { all = stored.firsts; from = known.from; count = known.count; wholes = stored.wholes; index = m.index };
     } in
-    let said : IsSaid t.positioning d = known_said t m stored known h c.stored_at-known.ensures c.in-Some.is in
+    let said : IsSaid t.positioning d = known_said t m stored known h c.stored_at-known.ensures c.requires.wholes c.in-Some.is in
     let digested : IsDigested d = substitutes-one d (subst (λ (p : Bool). IsSaid p d) c.requires.kind said) in
     let there : Some d.lookup ≡ lookup_of t m = known_some t m stored.firsts.now known h c.stored_at-known.ensures c.in-Some.is in
     let head = known_head t.table.now t.positioning m.index stored.firsts.now known h c.stored_at-known.ensures c.in-Some.is in
