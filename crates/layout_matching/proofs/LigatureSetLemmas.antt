@@ -2,7 +2,7 @@
 use Prim.Native.Nat.{zero}
 use Rattle.std.proofs.Common.{◌≡◌, ℕ, suc, ◌+◌, ◌-◌, ◌*◌, ◌^◌, ◌<◌, ◌≤◌, ◌&&◌, not, Bool, true, false, List, Option, Some, None, length, max, min, nat_eq, nat_lt, refl, sym, ap, subst, ◌∙◌, arith, if◌then◌else◌}
 use Rattle.std.proofs.lemmas.Bool.Decides.{nat_tests}
-use Rattle.std.specs.Option.{IfSome, option_and_then, option_map, option_map_or}
+use Rattle.std.specs.Option.{option_and_then, option_map, option_map_or}
 use Rattle.shape_font.specs.Bytes.{u16_of}
 use Rattle.shape_items.specs.Buffer.{most_countable}
 use Rattle.shape_items.specs.Items.{Item, is_ignorable_item}
@@ -13,12 +13,13 @@ use Rattle.layout_matching.specs.Firsts.{may_begin}
 use Rattle.layout_matching.specs.Found.{number_of, subtable_at}
 use Rattle.layout_matching.specs.Glance.{any_glyph, glance_at, refuses}
 use Rattle.layout_matching.specs.Input.{seek_input}
-use Rattle.layout_matching.specs.LigatureSets.{ligature_counted, ligatures_counted, count_of, set_paid, HasFirst, HasSet, first_start, IsSetOf, IsRefused}
-use Rattle.layout_matching.specs.Loops.{steps}
+use Rattle.layout_matching.specs.LigatureSets.{ligature_counted, ligatures_counted, count_of, set_paid, subtable_paid, HasFirst, HasSet, first_start, IsSetOf}
+use Rattle.layout_matching.specs.Loops.{along, steps}
 use Rattle.layout_matching.specs.Rules.{FAR, row, rules_at, rule_place}
 use Rattle.layout_matching.specs.Seeking.{fits}
 use Rattle.layout_matching.specs.Sifted.{nearest_glance, second_glance, begins_with_another, is_out, AreOut, set_there}
 use Rattle.layout_matching.specs.Skipping.{nth, is_skipped}
+use Rattle.layout_matching.specs.Work.{glances_at, has_classes, rule_tried, set_tries, tries_made, tries_step}
 use Rattle.layout_matching.specs.Work.{charged, counts_tallied, counts_work, counted, ligature_counts, null_counted, beside, part_counts, part_counted, part_rule, rule_counted, passed, passed_charged, set_counted, set_passed, set_charged, SUBTABLE_WORK, whole_list, begun_charged, parts_charged, numbered_charged, subtable_charged, charged_at_subtable}
 use Rattle.layout_matching.specs.declared.firsts.First.{First}
 use Rattle.layout_matching.specs.declared.glance.Glance.{Glance}
@@ -28,7 +29,9 @@ use Rattle.layout_matching.specs.declared.lookup.Lookup.{Lookup}
 use Rattle.layout_matching.specs.declared.rules.Test.TheVariants.{Glyph}
 use Rattle.layout_matching.specs.declared.seeking.Seek.{Seek}
 use Rattle.layout_matching.specs.declared.tally.Counts.{Counts}
+use Rattle.layout_matching.specs.declared.glance.Glances.{Glances}
 use Rattle.layout_matching.specs.declared.tally.Tally.{Tally}
+use Rattle.layout_matching.specs.declared.tally.Tries.{Tries}
 use Rattle.layout_matching.proofs.LoopLemmas.{steps_last, steps_same}
 use Rattle.layout_matching.proofs.NearestLemmas.{glance_nearest, glance_past}
 use Rattle.layout_matching.proofs.SiftedLemmas.{ligature_parts, ligature_charged, ligature_subtable, set_free}
@@ -216,17 +219,80 @@ set-by-table l start left set gsub =
         by_place None = refl
         by_place (Some place) = part_counted_by l subtable place s ∙ ap (λ c. counted c s) (four place)
 
-pub refused_charged : (l : Lookup) (items : List Item) (at start number set left rest : ℕ) (s : LigatureSet) → l.positioning ≡ false
-    → lookup_type_of l.table.now l.place ≡ 4 → offset16_of l.table.now l.place (l.place + 6) ≡ Some start
+-- they look beside a place as often as is counted with them
+tries_counted : (l : Lookup) (around : Glances) (start set : ℕ) → l.positioning ≡ false → (n i : ℕ) (s last : Tally) (tries : Tries)
+    → s.tries ≡ min (1 + tries.rules) most_countable → tries.lookups ≡ 0 → steps (ligature_counted l.table.now set) n i s ≡ Some last
+    → last.tries ≡ tries_made (along (tries_step l (record { kind = 4; start = start }) around set) n i tries)
+tries_counted l around start set gsub zero i s last tries same none made =
+    let more : min (1 + tries.rules + tries.lookups) most_countable ≡ min (1 + tries.rules) most_countable = omega (arith, none) in
+    let is : s ≡ last = ap (λ (o : Option Tally). option_map_or (λ (x : Tally). x) o s) made in
+    sym (ap (λ (x : Tally). x.tries) is) ∙ same ∙ sym more
+tries_counted l around start set gsub (suc n) i s last tries same none made =
+    by_place (λ s tries same none made. tries_counted l around start set gsub n (suc i) s last tries same none made) (rule_place t set i) made
+  where
+    t : List ℕ
+    t = l.table.now
+
+    subtable : LookupSubtable
+    subtable = record { kind = 4; start = start }
+
+    rest : Option Tally → Option Tally
+    rest = option_and_then (steps (ligature_counted t set) n (suc i))
+
+    after : Tries → ℕ
+    after now = tries_made (along (tries_step l subtable around set) n (suc i) now)
+
+    Again : Type 0
+    Again = (s : Tally) (tries : Tries) → s.tries ≡ min (1 + tries.rules) most_countable → tries.lookups ≡ 0 → rest (Some s) ≡ Some last
+        → last.tries ≡ after tries
+
+    with-left : Again → (f : ℕ → Tally) (next : Tries) → ((left : ℕ) → (f left).tries ≡ min (1 + next.rules) most_countable)
+        → next.lookups ≡ 0 → (o : Option ℕ) → rest (option_map f o) ≡ Some last → last.tries ≡ after next
+    with-left again f next is zeros None there = cc
+    with-left again f next is zeros (Some left) there = again (f left) next (is left) zeros there
+
+    one_more : Tries
+    one_more = record { rules = min (tries.rules + 1) most_countable; lookups = max tries.lookups 0 }
+
+    tried : (place : ℕ) → one_more ≡ rule_tried l subtable around place tries
+    tried place = rw gsub refl
+
+    by_place : Again → (o : Option ℕ) → rest (option_map_or (λ place. counted (ligature_counts t place) s) o (null_counted s)) ≡ Some last
+        → last.tries ≡ after (option_map_or (λ place. rule_tried l subtable around place tries) o tries)
+    by_place again None there = with-left again (λ left. record s { left = left }) tries (λ left. same) none (charged 1 s.left) there
+    by_place again (Some place) there =
+        let counts : Counts = ligature_counts t place in
+        let more : min (s.tries + (0 + 1)) most_countable ≡ min (1 + min (tries.rules + 1) most_countable) most_countable = omega (arith, same) in
+        let zeros : max tries.lookups 0 ≡ 0 = omega (arith, none) in
+        subst (λ (next : Tries). last.tries ≡ after next) (tried place)
+        (with-left again (counts_tallied counts s) one_more (λ left. more) zeros (charged (counts_work counts) s.left) there)
+
+-- so what they pass over is charged by what is counted
+ligatures-passed : (l : Lookup) (items : List Item) (at start set less : ℕ) (s : Tally) → l.positioning ≡ false
+    → ligatures_counted l.table.now set (count_of l.table.now set) less ≡ Some s
+    → set_passed l items at (record { kind = 4; start = start }) set s ≡ passed_charged l false items at s
+ligatures-passed l items at start set less s gsub made =
+    let subtable : LookupSubtable = record { kind = 4; start = start } in
+    let first : 1 ≡ min (1 + 0) most_countable = omega arith in
+    let same : s.tries ≡ tries_made (set_tries l items at subtable set) =
+    tries_counted l (glances_at l items at subtable) start set gsub (count_of l.table.now set) 0 (beside less) s
+    (record { rules = 0; lookups = 0 }) first refl made in
+    let listed : has_classes l subtable ≡ false = rw gsub refl in
+    ap (λ u. passed_charged l u items at (record s { tries = tries_made (set_tries l items at subtable set) })) listed
+    ∙ ap (λ n. passed_charged l false items at (record s { tries = n })) (sym same)
+
+pub stored_charged : (l : Lookup) (items : List Item) (at start number set left rest : ℕ) (s : LigatureSet) → l.positioning ≡ false
+    → lookup_type_of l.table.now l.place ≡ 4 → first_start l.table.now l.place ≡ Some start
     → number_of l.table.now start (nth items at).glyph_id ≡ Some number → rules_at l.table.now start 4 number ≡ Some set
-    → IsSetOf l.table.now l.place number s → charged (SUBTABLE_WORK + s.work) left ≡ Some rest
-    → ((listed : Bool) → passed l listed items at (tallied s rest) ≡ 0)
+    → IsSetOf l.table.now l.place number s
+    → Some rest ≡ option_and_then (passed_charged l false items at) (subtable_paid s left)
     → charged_at_subtable l items at 0 left ≡ Some rest
-refused_charged l items at start number set left rest s gsub type there covered is has enough free =
+stored_charged l items at start number set left rest s gsub type there covered is has paid =
     ap (λ o. option_map_or (subtable_charged l items at left) o (Some left)) first
     ∙ ligature_charged l items at left start gsub
     ∙ ap (λ o. option_map_or (numbered_charged l items at subtable left) o (Some left)) covered
-    ∙ by_begun (charged SUBTABLE_WORK left) refl
+    ∙ ap (option_and_then (parts_charged l items at subtable number)) begun
+    ∙ by_begun (charged SUBTABLE_WORK left) (sym paid)
   where
     subtable : LookupSubtable
     subtable = record { kind = 4; start = start }
@@ -253,39 +319,23 @@ refused_charged l items at start number set left rest s gsub type there covered 
     parts less = ligature_parts l items at subtable number less gsub refl
         ∙ ap (λ o. option_map_or (set_charged l items at subtable less) o (passed_charged l false items at (beside less))) is
 
-    whole : option_and_then (charged s.work) (charged SUBTABLE_WORK left) ≡ Some rest
-    whole = charged-twice SUBTABLE_WORK s.work left ∙ enough
+    counted_so : (less : ℕ) → ligatures_counted l.table.now set (count_of l.table.now set) less ≡ set_paid s less
+    counted_so less = (has start set there is).paid less
 
-    set-left : (less : ℕ) → charged s.work less ≡ Some rest → set_charged l items at subtable less set ≡ Some rest
-    set-left less e =
-        ap (option_and_then (set_passed l items at subtable set))
-        (set-by-table l start less set gsub ∙ (has start set there is).paid less ∙ ap (option_map (tallied s)) e)
-        ∙ set_free l items at subtable set (tallied s rest) free
+    by_left : (less : ℕ) (o : Option ℕ) → set_paid s less ≡ option_map (tallied s) o
+        → option_and_then (passed_charged l false items at) (option_map (tallied s) o) ≡ Some rest
+        → option_and_then (set_passed l items at subtable set) (option_map (tallied s) o) ≡ Some rest
+    by_left less None e this = cc
+    by_left less (Some n) e this = ligatures-passed l items at start set less (tallied s n) gsub (counted_so less ∙ e) ∙ this
 
-    by_begun : (o : Option ℕ) → charged SUBTABLE_WORK left ≡ o → numbered_charged l items at subtable left number ≡ Some rest
-    by_begun None e = absurd-none (sym whole ∙ ap (option_and_then (charged s.work)) e)
-      where
-        absurd-none : Some rest ≡ None → numbered_charged l items at subtable left number ≡ Some rest
-        absurd-none wrong = cc
-    by_begun (Some less) e =
-        ap (option_and_then (parts_charged l items at subtable number)) (begun ∙ e)
-        ∙ parts less ∙ set-left less (sym (ap (option_and_then (charged s.work)) e) ∙ whole)
+    by_begun : (o : Option ℕ) → option_and_then (passed_charged l false items at) (option_and_then (set_paid s) o) ≡ Some rest
+        → option_and_then (parts_charged l items at subtable number) o ≡ Some rest
+    by_begun None this = cc
+    by_begun (Some less) this =
+        parts less
+        ∙ ap (option_and_then (set_passed l items at subtable set)) (set-by-table l start less set gsub ∙ counted_so less)
+        ∙ by_left less (charged s.work less) refl this
 
-pub refused_set : (l : Lookup) (items : List Item) (at start number set : ℕ) (s : LigatureSet)
-    → offset16_of l.table.now l.place (l.place + 6) ≡ Some start
-    → number_of l.table.now start (nth items at).glyph_id ≡ Some number → rules_at l.table.now start 4 number ≡ Some set
-    → IsSetOf l.table.now l.place number s
-    → ((set n : ℕ) → HasFirst l.table.now set n s → AreOut l.table.now (second_glance l items at) set n)
-    → IsRefused l items at
-refused_set l items at start number set s there covered has is out start' there' =
-    let same : start ≡ start' = some-same start start' (sym there ∙ there') in
-    let e : set_there l items at start' ≡ Some set = subst (λ p. set_there l items at p ≡ Some set) same (ap (option_and_then (rules_at l.table.now start 4)) covered ∙ has) in
-    subst (λ o. IfSome o (λ set. AreOut l.table.now (second_glance l items at) set (count_of l.table.now set))) (sym e)
-    (out set (count_of l.table.now set) (is start set there has))
-  where
-    some-same : (a b : ℕ) → Some a ≡ Some b → a ≡ b
-    some-same a b e = cc
-
-pub both_some : {P Q R : ℕ → Type 0} (o : Option ℕ) → IfSome o P → IfSome o Q → ((n : ℕ) → P n → Q n → R n) → IfSome o R
-both_some None p q both = tt
-both_some (Some n) p q both = both n p q
+pub covered_set : (l : Lookup) (items : List Item) (at start number set : ℕ) → number_of l.table.now start (nth items at).glyph_id ≡ Some number
+    → rules_at l.table.now start 4 number ≡ Some set → set_there l items at start ≡ Some set
+covered_set l items at start number set covered has = ap (option_and_then (rules_at l.table.now start 4)) covered ∙ has

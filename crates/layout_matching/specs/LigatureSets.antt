@@ -1,14 +1,13 @@
 -- What is stored of a set of ligatures: what it costs, and which glyphs may follow the first one.
 use Rattle.std.specs.Prelude.{◌≡◌, ℕ, List, Bool, true, false, Option, Some, ◌+◌, ◌<◌, slice_index_or, length}
-use Rattle.std.specs.Option.{IfSome, option_map, option_map_or}
+use Rattle.std.specs.Option.{option_and_then, option_map, option_map_or}
 use Rattle.shape_font.specs.Bytes.{u16_of, fitting}
-use Rattle.shape_items.specs.Items.{Item}
 use Rattle.layout_tables.specs.Offsets.{offset16_of}
 use Rattle.layout_matching.specs.Firsts.{may_begin, no_first}
 use Rattle.layout_matching.specs.Loops.{steps}
 use Rattle.layout_matching.specs.Rules.{rules_at, rule_place}
-use Rattle.layout_matching.specs.Sifted.{AreOut, second_glance, set_there}
-use Rattle.layout_matching.specs.Work.{beside, charged, counted, ligature_counts, null_counted}
+use Rattle.layout_matching.specs.Sifted.{AreOut}
+use Rattle.layout_matching.specs.Work.{beside, charged, counted, ligature_counts, null_counted, SUBTABLE_WORK}
 use Rattle.layout_matching.specs.declared.glance.Glance.TheVariants.{Closed, Only}
 use Rattle.layout_matching.specs.declared.ligature_sets.LigatureSet.{LigatureSet}
 use Rattle.layout_matching.specs.declared.lookup.Lookup.{Lookup}
@@ -28,6 +27,10 @@ count_of t set = fitting t (u16_of t set) (set + 2) 2
 -- what is left after a set of which this is stored, and how far it looks
 abbrev pub set_paid : LigatureSet → ℕ → Option Tally
 set_paid s left = option_map (λ rest. record { left = rest; before = 1; after = s.after; tries = s.tries }) (charged s.work left)
+
+-- the same after its subtable
+abbrev pub subtable_paid : LigatureSet → ℕ → Option Tally
+subtable_paid s left = option_and_then (set_paid s) (charged SUBTABLE_WORK left)
 
 -- what is stored of the first so many ligatures: what they cost; a glyph that isn't among the second ones refuses each, and so does
 -- the end of the list, if each has a second one
@@ -53,8 +56,3 @@ IsSetOf t place number s = (start set : ℕ) → first_start t place ≡ Some st
 -- and of all of its sets, in the order of its Coverage
 abbrev pub AreSets : List ℕ → ℕ → List LigatureSet → Type 0
 AreSets t place sets = (number : ℕ) → number < length sets → IsSetOf t place number (slice_index_or sets number no_set)
-
--- the next glyph refuses each ligature that the first subtable of a lookup has for the glyph at a place
-abbrev pub IsRefused : Lookup → List Item → ℕ → Type 0
-IsRefused l items at = (start : ℕ) → first_start l.table.now l.place ≡ Some start
-    → IfSome (set_there l items at start) (λ set. AreOut l.table.now (second_glance l items at) set (count_of l.table.now set))

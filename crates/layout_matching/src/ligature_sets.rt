@@ -2,7 +2,7 @@
 //! follow its first one. Of most sets the glyph after the place refuses each ligature, and then
 //! nothing of the set is read.
 ghost use Rattle.std.specs.Prelude.{◌≡◌, Some, ◌<◌, ◌≤◌, ◌+◌, ◌-◌, ◌*◌, ◌^◌, ℕ, List, Bool, length, true, false};
-ghost use Rattle.std.specs.Option.{IfSome};
+ghost use Rattle.std.specs.Option.{IfSome, option_and_then};
 ghost use Rattle.layout_tables.specs.Lookups.{lookup_type_of};
 ghost use Rattle.layout_matching.specs.Firsts.{may_begin};
 ghost use Rattle.layout_matching.specs.LigatureSets as set_rules;
@@ -18,6 +18,7 @@ use crate::lookup::Lookup;
 use crate::nearest::ends_searches;
 use crate::passing::is_free_beside;
 use crate::rules::{rule_at, rules};
+use crate::sets::passed_charged;
 use crate::tally::{Tally, charged};
 use crate::work::SUBTABLE_WORK;
 use layout_buffer::ItemList;
@@ -151,8 +152,9 @@ fn is_refused(lookup: &Lookup<'_>, items: &ItemList<'_>, at: usize, stored: &Lig
     ends_searches(lookup, there) && !stored.seconds.has(there.glyph_id)
 }
 
-/// What is left after a subtable of ligatures with a set of which this is stored, where nothing is
-/// passed over beside the place; none otherwise, or if it doesn't suffice.
+/// What is left after a subtable of ligatures with a set of which this is stored, and after what its
+/// ligatures pass over beside a place. Nearly always that is nothing.
+#[tactic(auto, using(crate::proofs::PassingLemmas::passed_free))]
 #[inline(always)]
 fn left_beside(
     lookup: &Lookup<'_>,
@@ -162,19 +164,11 @@ fn left_beside(
     left: usize,
 ) -> Option<usize>
     requires { at < length items.now }
-    ensures paid { IfSome result (λ rest.
-        Work.charged (Work.SUBTABLE_WORK + stored.now.work) left ≡ Some rest) }
-    ensures free { IfSome result (λ rest. (listed : Bool)
-        → Work.passed lookup.now listed items.now at (record {
-          left = rest;
-          before = 1;
-          after = stored.now.after;
-          tries = stored.now.tries;
-        }) ≡ 0) }
+    ensures { result ≡ option_and_then (Work.passed_charged lookup.now false items.now at)
+        (set_rules.subtable_paid stored.now left) }
 {
-    let Some(left) = charged(SUBTABLE_WORK + stored.work as usize, left) else {
-        return None;
-    };
+    let left = charged(SUBTABLE_WORK, left)?;
+    let left = charged(stored.work as usize, left)?;
     let count = Tally {
         left,
         before: 1,
@@ -182,37 +176,58 @@ fn left_beside(
         tries: stored.tries as usize,
     };
     if is_free_beside(lookup, items, at, count) {
-        Some(left)
-    } else {
-        None
+        return Some(left);
     }
+    passed_charged(lookup, false, items, at, count)
 }
 
-/// What is left after the first subtable of a lookup of ligatures, where what is stored of the
-/// glyph's set says that none of it stands at the place; none if it doesn't say that.
-#[tactic(auto, using(crate::proofs::LigatureSetLemmas::refused_charged, crate::proofs::LigatureSetLemmas::refused_set))]
+/// What is left after the first subtable of a lookup of ligatures, where the subtable and the set
+/// of the glyph stand, and whether the glyph after the place refuses each ligature of the set.
+#[derive(Clone, Copy, PartialEq, Eq, Debug)]
+pub struct PaidSet {
+    pub start: usize,
+    pub set: usize,
+    pub left: usize,
+    pub is_refused: bool,
+}
+
+/// The set of the first subtable of a lookup of ligatures for the glyph at a place, charged for by
+/// what is stored of it; none if nothing is, or if what is left doesn't suffice.
+#[tactic(auto, using(crate::proofs::LigatureSetLemmas::stored_charged, crate::proofs::LigatureSetLemmas::covered_set))]
 #[inline(always)]
-pub fn left_if_refused(
+pub fn set_paid(
     indexed: &Indexed<'_>,
     items: &ItemList<'_>,
     at: usize,
     left: usize,
-) -> Option<usize>
+) -> Option<PaidSet>
     requires place { indexed.now.lookup.now.place < 2 ^ 17 }
     requires inside { at < length items.now }
     requires substitution { indexed.now.lookup.now.positioning ≡ false }
     requires four { lookup_type_of indexed.now.lookup.now.table.now indexed.now.lookup.now.place ≡ 4 }
-    ensures left { IfSome result (λ rest.
-        Work.charged_at_subtable indexed.now.lookup.now items.now at 0 left ≡ Some rest) }
-    ensures out { IfSome result (λ rest. set_rules.IsRefused indexed.now.lookup.now items.now at) }
+    ensures left { IfSome result (λ p. Work.charged_at_subtable indexed.now.lookup.now items.now at 0 left
+        ≡ Some p.left) }
+    ensures start { IfSome result (λ p. set_rules.first_start indexed.now.lookup.now.table.now
+        indexed.now.lookup.now.place ≡ Some p.start) }
+    ensures set { IfSome result (λ p. Sifting.set_there indexed.now.lookup.now items.now at p.start
+        ≡ Some p.set) }
+    ensures out { IfSome result (λ p. p.is_refused ≡ true
+        → Sifting.AreOut indexed.now.lookup.now.table.now
+        (Sifting.second_glance indexed.now.lookup.now items.now at) p.set
+        (set_rules.count_of indexed.now.lookup.now.table.now p.set)) }
+    ensures near { IfSome result (λ p. p.start < 2 ^ 35) }
+    ensures close { IfSome result (λ p. p.set < 2 ^ 36) }
 {
     let lookup = indexed.lookup;
     let start = offset16(lookup.table, lookup.place, lookup.place + 6)?;
     let number = number_in(lookup.table, start, items.at(at).glyph_id)?;
-    let _set = rules(lookup.table, start, 4, number)?;
+    let set = rules(lookup.table, start, 4, number)?;
     let stored = indexed.set_at(number)?;
-    if !is_refused(lookup, items, at, stored) {
-        return None;
-    }
-    left_beside(lookup, items, at, stored, left)
+    let left = left_beside(lookup, items, at, stored, left)?;
+    Some(PaidSet {
+        start,
+        set,
+        left,
+        is_refused: is_refused(lookup, items, at, stored),
+    })
 }

@@ -11,7 +11,7 @@ use Rattle.layout_tables.specs.Offsets.{offset16_of}
 use Rattle.layout_tables.specs.declared.lookups.LookupSubtable.{LookupSubtable}
 use Rattle.layout_matching.specs.Firsts.{begins, IsOut, AreOut}
 use Rattle.layout_matching.specs.Found.{number_of, subtable_at}
-use Rattle.layout_matching.specs.LigatureSets.{count_of, IsRefused}
+use Rattle.layout_matching.specs.LigatureSets.{count_of, first_start}
 use Rattle.layout_matching.specs.Loops.{first_some, steps}
 use Rattle.layout_matching.specs.Rules.{rules_at, rule_place}
 use Rattle.layout_matching.specs.Sifted as sifted
@@ -110,7 +110,7 @@ step_by_offset l b at i s o gsub type is =
     by_offset : (p : Option ℕ) → p ≡ o → at_offset p ≡ option_map_or (λ start. sought_by l b at start s) o (Some s)
     by_offset p e = by_value p ∙ ap (λ q. option_map_or (λ start. sought_by l b at start s) q (Some s)) e
 
--- ---- a first subtable whose ligatures are refused
+-- ---- a first subtable that is charged for by what is stored
 
 none-found : (l : Lookup) (b : Buffer) (at set : ℕ)
     → sifted.AreOut l.table.now (sifted.second_glance l b.items at) set (count_of l.table.now set) → ligature_found l b at set ≡ None
@@ -118,39 +118,35 @@ none-found l b at set out =
     found_after l b at set (count_of l.table.now set) (count_of l.table.now set) refl (omega arith) out
     ∙ first_some_end (ligature_in l b at set) (count_of l.table.now set) (count_of l.table.now set) (omega arith)
 
-none-by-set : (l : Lookup) (b : Buffer) (at : ℕ) (o : Option ℕ)
-    → IfSome o (λ set. sifted.AreOut l.table.now (sifted.second_glance l b.items at) set (count_of l.table.now set))
-    → option_and_then (ligature_found l b at) o ≡ None
-none-by-set l b at None out = refl
-none-by-set l b at (Some set) out = none-found l b at set out
+pub found_by_paid : (l : Lookup) (b : Buffer) (at start set : ℕ) → u16_of l.table.now start ≡ 1
+    → sifted.set_there l b.items at start ≡ Some set → found_by l b at start ≡ ligature_found l b at set
+found_by_paid l b at start set one there = found_by_set l b at start (Some set) one (sym there)
 
-none-by : (l : Lookup) (b : Buffer) (at start : ℕ)
-    → IfSome (sifted.set_there l b.items at start) (λ set. sifted.AreOut l.table.now (sifted.second_glance l b.items at) set (count_of l.table.now set))
-    → found_by l b at start ≡ None
-none-by l b at start out = by_format (nat_eq (u16_of l.table.now start) 1) refl
+pub none_if_out : (l : Lookup) (b : Buffer) (at start set : ℕ) → sifted.set_there l b.items at start ≡ Some set
+    → sifted.AreOut l.table.now (sifted.second_glance l b.items at) set (count_of l.table.now set) → found_by l b at start ≡ None
+none_if_out l b at start set there out = by_format (nat_eq (u16_of l.table.now start) 1) refl
   where
     by_format : (u : Bool) → nat_eq (u16_of l.table.now start) 1 ≡ u → found_by l b at start ≡ None
-    by_format true is =
-        ap (option_and_then (ligature_found l b at)) (set_of_format l b at start (grind (arith, nat_tests, is)))
-        ∙ none-by-set l b at (sifted.set_there l b.items at start) out
+    by_format true is = found_by_paid l b at start set (grind (arith, nat_tests, is)) there ∙ none-found l b at set out
     by_format false is = found_by_format l b at start is
 
-pub refused_step : (l : Lookup) (b : Buffer) (at i rest : ℕ) (s : SoughtLigature) → i ≡ 0
-    → charged_at_subtable l b.items at 0 s.left ≡ Some rest → IsRefused l b.items at
-    → sought_step l b at i s ≡ Some (record { left = rest; found = s.found })
-refused_step l b at i rest s first paid refused =
+pub paid_step : (l : Lookup) (b : Buffer) (at i start rest : ℕ) (s : SoughtLigature) → i ≡ 0 → first_start l.table.now l.place ≡ Some start
+    → charged_at_subtable l b.items at 0 s.left ≡ Some rest
+    → sought_step l b at i s ≡ Some (with_found s.found (found_by l b at start) rest)
+paid_step l b at i start rest s first there paid =
+    let place : l.place + 6 + 2 * 0 ≡ l.place + 6 = omega arith in
     ap (λ k. sought_step l b at k s) first
     ∙ ap (option_map (with_found s.found (found_in l b at 0))) paid
-    ∙ ap (λ f. Some (with_found s.found f rest)) (by_offset (offset16_of l.table.now l.place (l.place + 6)) refl)
-    ∙ ap (λ f. Some (record { left = rest; found = f })) (or-none s.found)
-  where
-    place : l.place + 6 + 2 * 0 ≡ l.place + 6
-    place = omega arith
+    ∙ ap (λ o. Some (with_found s.found (option_and_then (found_by l b at) o) rest)) (ap (offset16_of l.table.now l.place) place ∙ there)
 
-    by_offset : (o : Option ℕ) → offset16_of l.table.now l.place (l.place + 6) ≡ o → found_in l b at 0 ≡ None
-    by_offset None e = ap (option_and_then (found_by l b at)) (ap (offset16_of l.table.now l.place) place ∙ e)
-    by_offset (Some start) e = ap (option_and_then (found_by l b at)) (ap (offset16_of l.table.now l.place) place ∙ e)
-        ∙ none-by l b at start (refused start e)
+pub refused_step : (l : Lookup) (b : Buffer) (at i start set rest : ℕ) (s : SoughtLigature) → i ≡ 0 → first_start l.table.now l.place ≡ Some start
+    → charged_at_subtable l b.items at 0 s.left ≡ Some rest → sifted.set_there l b.items at start ≡ Some set
+    → sifted.AreOut l.table.now (sifted.second_glance l b.items at) set (count_of l.table.now set)
+    → sought_step l b at i s ≡ Some (record { left = rest; found = s.found })
+refused_step l b at i start set rest s first there paid is out =
+    paid_step l b at i start rest s first there paid
+    ∙ ap (λ f. Some (with_found s.found f rest)) (none_if_out l b at start set is out)
+    ∙ ap (λ f. Some (record { left = rest; found = f })) (or-none s.found)
 
 -- ---- those that don't begin at the glyph
 
@@ -239,20 +235,22 @@ pub sought_whole : (l : Lookup) (b : Buffer) (at left : ℕ)
     ≡ all_sought l b at left
 sought_whole l b at left = all-sought l b at (subtable_count_of l.table.now l.place) 0 left None
 
--- one subtable alone, whose ligatures are refused
-refused_alone : (l : Lookup) (b : Buffer) (at left rest : ℕ) → subtable_count_of l.table.now l.place ≡ 1
-    → charged_at_subtable l b.items at 0 left ≡ Some rest → IsRefused l b.items at
-    → Some (with_found None None rest) ≡ all_sought l b at left
-refused_alone l b at left rest one paid refused =
+-- one subtable alone
+pub paid_alone : (l : Lookup) (b : Buffer) (at start left rest : ℕ) → subtable_count_of l.table.now l.place ≡ 1
+    → first_start l.table.now l.place ≡ Some start → charged_at_subtable l b.items at 0 left ≡ Some rest
+    → Some (with_found None (found_by l b at start) rest) ≡ all_sought l b at left
+paid_alone l b at start left rest one there paid =
     let before : SoughtLigature = record { left = left; found = None } in
-    sym (ap (λ o. option_and_then (λ s. Some s) o) (refused_step l b at 0 rest before refl paid refused))
+    sym (ap (λ o. option_and_then (λ s. Some s) o) (paid_step l b at 0 start rest before refl there paid))
     ∙ ap (λ n. steps (sought_step l b at) n 0 before) (sym one) ∙ sought_whole l b at left
 
-pub none_if_refused : (l : Lookup) (b : Buffer) (at left : ℕ) (o : Option ℕ) → subtable_count_of l.table.now l.place ≡ 1
-    → IfSome o (λ rest. charged_at_subtable l b.items at 0 left ≡ Some rest) → IfSome o (λ rest. IsRefused l b.items at)
-    → IfSome o (λ rest. Some (with_found None None rest) ≡ all_sought l b at left)
-none_if_refused l b at left None one paid refused = tt
-none_if_refused l b at left (Some rest) one paid refused = refused_alone l b at left rest one paid refused
+pub refused_alone : (l : Lookup) (b : Buffer) (at start set left rest : ℕ) → subtable_count_of l.table.now l.place ≡ 1
+    → first_start l.table.now l.place ≡ Some start → charged_at_subtable l b.items at 0 left ≡ Some rest
+    → sifted.set_there l b.items at start ≡ Some set
+    → sifted.AreOut l.table.now (sifted.second_glance l b.items at) set (count_of l.table.now set)
+    → Some (record { left = rest; found = None }) ≡ all_sought l b at left
+refused_alone l b at start set left rest one there paid is out =
+    ap (λ f. Some (with_found None f rest)) (sym (none_if_out l b at start set is out)) ∙ paid_alone l b at start left rest one there paid
 
 -- ---- what the lookup makes
 

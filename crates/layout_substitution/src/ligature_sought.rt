@@ -10,11 +10,11 @@ ghost use Rattle.layout_substitution.specs.Sought as Seeking;
 ghost use Rattle.layout_substitution.specs.Substitutes.{listed_count};
 
 use crate::apply::{Spot, make_ligature};
-use crate::ligature::{Components, matched_at};
+use crate::ligature::{Components, found, matched_at};
 use crate::substitutes::{count, ligature_at};
 use layout_buffer::GapBuffer;
 use layout_matching::indexed::Indexed;
-use layout_matching::ligature_sets::left_if_refused;
+use layout_matching::ligature_sets::{PaidSet, set_paid};
 use layout_matching::ligatures::{Charge, ligatures_paid};
 use layout_matching::lookup::Lookup;
 use layout_tables::lookups::subtable_count;
@@ -167,9 +167,32 @@ fn sought_step(
     }
 }
 
-/// After subtable `i`. Of the first one what is stored of the glyph's set mostly says that none of
-/// its ligatures stands there.
-#[tactic(auto, using(crate::proofs::SoughtLemmas::refused_step))]
+/// The first ligature of a set of the first subtable that stands at a place. A call of its own: at
+/// most places the next glyph refuses each of them.
+#[tactic(auto, using(crate::proofs::SoughtLemmas::found_by_format, crate::proofs::SoughtLemmas::found_by_paid))]
+#[inline(never)]
+fn found_first(
+    lookup: &Lookup<'_>,
+    buffer: &GapBuffer,
+    at: usize,
+    paid: PaidSet,
+) -> Option<Components>
+    requires near { paid.start < 2 ^ 35 }
+    requires close { paid.set < 2 ^ 36 }
+    requires inside { at < length buffer.now.items }
+    requires there { set_there lookup.now buffer.now.items at paid.start ≡ Some paid.set }
+    ensures value { result ≡ Seeking.found_by lookup.now buffer.now at paid.start }
+    ensures inside { IfSome result (λ m. m.last < length buffer.now.items) }
+    ensures near { IfSome result (λ m. m.ligature < 2 ^ 37) }
+{
+    if u16_at(lookup.table, paid.start) != 1 {
+        return None;
+    }
+    found(lookup, buffer, at, paid.set)
+}
+
+/// After subtable `i`. What is stored of the glyph's set mostly says what the first one costs.
+#[tactic(auto, using(crate::proofs::SoughtLemmas::paid_step))]
 #[inline(always)]
 fn sought_at(
     indexed: &Indexed<'_>,
@@ -190,35 +213,30 @@ fn sought_at(
     ensures far { IfSome result (λ s. IfSome s.found (λ m. m.ligature < 2 ^ 37)) }
 {
     if i == 0 {
-        if let Some(left) = left_if_refused(indexed, &buffer.items(), at, sought.left) {
+        if let Some(paid) = set_paid(indexed, &buffer.items(), at, sought.left) {
+            if paid.is_refused {
+                return Some(SoughtLigature {
+                    left: paid.left,
+                    found: sought.found,
+                });
+            }
+            let found = match sought.found {
+                Some(one) => Some(one),
+                None => found_first(indexed.lookup, buffer, at, paid),
+            };
             return Some(SoughtLigature {
-                left,
-                found: sought.found,
+                left: paid.left,
+                found,
             });
         }
     }
     sought_step(indexed.lookup, buffer, at, i, sought)
 }
 
-/// What is left after a lookup of one subtable, where what is stored of the glyph's set says that
-/// no ligature of it stands at a place; none if it doesn't say that. So it is at most places.
-#[inline(always)]
-fn left_if_none(indexed: &Indexed<'_>, buffer: &GapBuffer, at: usize, left: usize) -> Option<usize>
-    requires place { indexed.now.lookup.now.place < 2 ^ 17 }
-    requires inside { at < length buffer.now.items }
-    requires substitution { indexed.now.lookup.now.positioning ≡ false }
-    requires four { lookup_type_of indexed.now.lookup.now.table.now indexed.now.lookup.now.place ≡ 4 }
-    ensures { IfSome result (λ rest. Some (Seeking.with_found None None rest)
-        ≡ Seeking.all_sought indexed.now.lookup.now buffer.now at left) }
-{
-    if subtable_count(indexed.lookup.table, indexed.lookup.place) != 1 {
-        return None;
-    }
-    left_if_refused(indexed, &buffer.items(), at, left)
-}
-
 /// The ligature that a lookup of type 4 makes at a place, and what is left after all that it may
-/// look at there; none if what was left doesn't suffice.
+/// look at there; none if what was left doesn't suffice. Where the lookup has one subtable, what is
+/// stored of the glyph's set mostly says at once that no ligature stands there.
+#[tactic(auto, using(crate::proofs::SoughtLemmas::paid_alone))]
 #[inline(always)]
 pub fn seek_ligature(
     indexed: &Indexed<'_>,
@@ -234,10 +252,21 @@ pub fn seek_ligature(
     ensures last { IfSome result (λ s. IfSome s.found (λ m. m.last < length buffer.now.items)) }
     ensures far { IfSome result (λ s. IfSome s.found (λ m. m.ligature < 2 ^ 37)) }
 {
-    match left_if_none(indexed, buffer, at, left) {
-        Some(left) => Some(SoughtLigature { left, found: None }),
-        None => seek_in_each(indexed, buffer, at, left),
+    if subtable_count(indexed.lookup.table, indexed.lookup.place) == 1 {
+        if let Some(paid) = set_paid(indexed, &buffer.items(), at, left) {
+            if paid.is_refused {
+                return Some(SoughtLigature {
+                    left: paid.left,
+                    found: None,
+                });
+            }
+            return Some(SoughtLigature {
+                left: paid.left,
+                found: found_first(indexed.lookup, buffer, at, paid),
+            });
+        }
     }
+    seek_in_each(indexed, buffer, at, left)
 }
 
 /// The same, subtable by subtable. A call of its own: its registers are saved where it is needed

@@ -2,7 +2,7 @@
 use Rattle.std.specs.Prelude.{◌≡◌, ℕ, List, Some, None, true, false, refl}
 use Rattle.std.proofs.Common.{lit<}
 use Rattle.layout_matching.specs.Firsts.{has_bit, no_first}
-use Rattle.layout_matching.specs.LigatureSets.{ligatures_counted, count_of, set_paid, HasFirst, HasSet, first_start}
+use Rattle.layout_matching.specs.LigatureSets.{ligatures_counted, count_of, set_paid, subtable_paid, HasFirst, HasSet, first_start}
 use Rattle.layout_matching.specs.Rules.{rules_at}
 use Rattle.layout_matching.specs.Worked.Work.{shared_ligatures, no_subtables}
 use Rattle.layout_matching.specs.declared.firsts.First.{First}
@@ -25,6 +25,9 @@ pub record WorkedSets : Type 0 where
   pub paid : set_paid of_shared 9 ≡ Some (record { left = 2; before = 1; after = 1; tries = 3 })
   pub just_paid : set_paid of_shared 7 ≡ Some (record { left = 0; before = 1; after = 1; tries = 3 })
   pub unpaid : set_paid of_shared 6 ≡ None
+  -- and 8 for its subtable
+  pub subtable : subtable_paid of_shared 15 ≡ Some (record { left = 0; before = 1; after = 1; tries = 3 })
+  pub no_subtable : subtable_paid of_shared 14 ≡ None
   pub three : count_of shared_ligatures 22 ≡ 3
   -- the offset of the first subtable stands six bytes after the start of the lookup
   pub first : first_start shared_ligatures 0 ≡ Some 8
@@ -45,6 +48,8 @@ worked_sets = record {
   paid = refl;
   just_paid = refl;
   unpaid = refl;
+  subtable = refl;
+  no_subtable = refl;
   three = refl;
   first = refl;
   no_first_one = refl;
