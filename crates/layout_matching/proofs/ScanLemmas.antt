@@ -6,7 +6,7 @@ use Rattle.shape_items.specs.Items.{Item}
 use Rattle.layout_tables.specs.declared.lookups.LookupSubtable.{LookupSubtable}
 use Rattle.layout_matching.specs.Found.{is_chained}
 use Rattle.shape_font.specs.Bytes.{u16_of}
-use Rattle.layout_matching.specs.Glance.{Tells, glances_in, is_refused, chain_refused, refused_on, refuses}
+use Rattle.layout_matching.specs.Glance.{Tells, glances_in, is_refused, plain_refused, chain_refused, refused_on, refuses}
 use Rattle.layout_matching.specs.Loops.{steps}
 use Rattle.layout_matching.specs.Rules.{FAR, rule_place}
 use Rattle.layout_matching.specs.Scanning.{AreRefused, IsRefused}
@@ -20,10 +20,9 @@ use Rattle.layout_matching.proofs.LoopLemmas.{steps_next, steps_to}
 
 -- a refused rule costs nothing, and isn't found
 pub refused_sought : (l : Lookup) (items : List Item) (origin : Origin) (subtable : LookupSubtable) (set k left : ℕ)
-    → is_chained l subtable ≡ true
-    → ((place : ℕ) → rule_place l.table.now set k ≡ Some place → chain_refused l.table.now (glances_in l items origin subtable) place ≡ true)
+    → IsRefused l.table.now set (glances_in l items origin subtable) (is_chained l subtable) k
     → rule_sought l items origin subtable set k left ≡ Some (unfound left)
-refused_sought l items origin subtable set k left chained refused = by_place (rule_place l.table.now set k) refl
+refused_sought l items origin subtable set k left refused = by_place (rule_place l.table.now set k) refl
   where
     glances : Glances
     glances = glances_in l items origin subtable
@@ -34,7 +33,7 @@ refused_sought l items origin subtable set k left chained refused = by_place (ru
 
     idle : (place : ℕ) → rule_place l.table.now set k ≡ Some place → is_idle l items origin subtable place ≡ true
     idle place e = either (not (nat_le (place + 4) (length l.table.now))) (is_refused l.table.now glances (is_chained l subtable) place)
-        (ap (λ t. is_refused l.table.now glances t place) chained ∙ refused place e)
+        (refused place e)
 
     by_idle : (t : Bool) (x : Option Sought) → t ≡ true → (if t then Some (unfound left) else x) ≡ Some (unfound left)
     by_idle true x is = refl
@@ -73,6 +72,12 @@ refused-at : (t : List ℕ) (v at : ℕ) (g : Glance) → Tells v g → at < 2 ^
 refused-at t v at g tells near other =
     let same : at ≡ min at FAR = omega (arith, near) in
     subst (λ n. refuses t n g ≡ true) same (tells t at other)
+
+pub told_second : (t : List ℕ) (v place : ℕ) (g : Glances) → Tells v g.input → place < 2 ^ 37 → 1 < u16_of t place
+    → nat_eq v (u16_of t (place + 4)) ≡ false → plain_refused t g place ≡ true
+told_second t v place g tells near two other =
+    both (nat_lt 1 (u16_of t place)) (refuses t (min (place + 4) FAR) g.input) (grind (arith, nat_tests, two))
+    (refused-at t v (place + 4) g.input tells (omega (arith, near)) other)
 
 pub told_before : (t : List ℕ) (v place : ℕ) (g : Glances) → Tells v g.before → place < 2 ^ 37 → 0 < u16_of t place
     → nat_eq v (u16_of t (place + 2)) ≡ false → chain_refused t g place ≡ true
@@ -121,23 +126,21 @@ placed t set r place = by_offset (nat_eq (u16_of t (set + 2 + 2 * r)) 0)
     by_offset true is = cc
     by_offset false is = ap (λ (o : Option ℕ). option_map_or (λ n. n) o 0) is
 
-pub one_refused : (t : List ℕ) (set : ℕ) (g : Glances) (i j : ℕ) → AreRefused t set g i j → IsRefused t set g j → AreRefused t set g i (j + 1)
-one_refused t set g i j before new k from below = by_last (nat_eq k j) refl
+pub one_refused : (t : List ℕ) (set : ℕ) (g : Glances) (is_chain : Bool) (i j : ℕ) → AreRefused t set g is_chain i j → IsRefused t set g is_chain j
+    → AreRefused t set g is_chain i (j + 1)
+one_refused t set g is_chain i j before new k from below = by_last (nat_eq k j) refl
   where
-    by_last : (b : Bool) → nat_eq k j ≡ b → IsRefused t set g k
-    by_last true is = let same : j ≡ k = grind (arith, nat_tests, is) in subst (λ n. IsRefused t set g n) same new
+    by_last : (b : Bool) → nat_eq k j ≡ b → IsRefused t set g is_chain k
+    by_last true is = let same : j ≡ k = grind (arith, nat_tests, is) in subst (λ n. IsRefused t set g is_chain n) same new
     by_last false is = before k from (grind (arith, nat_tests, is, below))
 
 -- those of which the next rule is told
 pub passed_rules : (l : Lookup) (items : List Item) (origin : Origin) (subtable : LookupSubtable) (set r next : ℕ) (o : Option Glances)
-    → IfSome o (λ g. g ≡ glances_in l items origin subtable) → (o ≡ None → next ≡ r) → (is_chained l subtable ≡ false → next ≡ r)
-    → ((g : Glances) → o ≡ Some g → AreRefused l.table.now set g r next)
+    → IfSome o (λ g. g ≡ glances_in l items origin subtable) → (o ≡ None → next ≡ r)
+    → ((g : Glances) → o ≡ Some g → AreRefused l.table.now set g (is_chained l subtable) r next)
     → (k left : ℕ) → r ≤ k → k < next → rule_sought l items origin subtable set k left ≡ Some (unfound left)
-passed_rules l items origin subtable set r next None known none plain refused k left from below =
+passed_rules l items origin subtable set r next None known none refused k left from below =
     let same : next ≡ r = none refl in absurd (omega (arith, same, from, below))
-passed_rules l items origin subtable set r next (Some g) known none plain refused k left from below = by_kind (is_chained l subtable) refl
-  where
-    by_kind : (b : Bool) → is_chained l subtable ≡ b → rule_sought l items origin subtable set k left ≡ Some (unfound left)
-    by_kind false is = let same : next ≡ r = plain is in absurd (omega (arith, same, from, below))
-    by_kind true is = refused_sought l items origin subtable set k left is
-        (subst (λ (h : Glances). IsRefused l.table.now set h k) known (refused g refl k from below))
+passed_rules l items origin subtable set r next (Some g) known none refused k left from below =
+    refused_sought l items origin subtable set k left
+    (subst (λ (h : Glances). IsRefused l.table.now set h (is_chained l subtable) k) known (refused g refl k from below))

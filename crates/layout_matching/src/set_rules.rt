@@ -140,15 +140,16 @@ fn next_rule(
     ensures from { r ≤ result }
     ensures few { result ≤ count }
     ensures none { around.now ≡ None → result ≡ r }
-    ensures plain { is_chained_in lookup.now set.now.subtable ≡ false → result ≡ r }
     ensures refused { (g : TheGlances) → around.now ≡ Some g
-        → AreRefused lookup.now.table.now set.now.place g r result }
+        → AreRefused lookup.now.table.now set.now.place g
+        (is_chained_in lookup.now set.now.subtable) r result }
 {
     match around {
-        Some(around) if is_chained(lookup, set.subtable) => {
-            next_unrefused(lookup.table, set.place, around, r, count)
+        Some(around) => {
+            let is_chain = is_chained(lookup, set.subtable);
+            next_unrefused(lookup.table, set.place, around, is_chain, r, count)
         }
-        _ => r,
+        None => r,
     }
 }
 

@@ -5,7 +5,7 @@ use Rattle.layout_matching.proofs.scanning.next_by.Goals as goal
 
 pub loop-k-preserved : goal.loop-k-preserved
 loop-k-preserved c = λ g tells.
-    one_refused c.args.table.now c.args.set g c.args.r c.loop-k.k (c.loop-k.invariant g tells)
+    one_refused c.args.table.now c.args.set g c.args.is_chain c.args.r c.loop-k.k (c.loop-k.invariant g tells)
     (c.rule_is_refused.ensures c.if-not-rule_is_refused.false g tells)
 
 pub returns-clause-refused : goal.returns-clause-refused

@@ -24,7 +24,7 @@ loop-r-preserved-in_default c =
           ∙ rules_next (rule_sought l items origin subtable set) c.args.count c.loop-r.r c.next_rule-r.result left left more
           (c.in_default.ensures.value left) c.next_rule-r.ensures.from c.next_rule-r.ensures.few
           (λ k from below. passed_rules l items origin subtable set (c.loop-r.r + 1) c.next_rule-r.result c.unrefused.new.known
-          c.in_default.ensures.known c.next_rule-r.ensures.none c.next_rule-r.ensures.plain c.next_rule-r.ensures.refused k left from below);
+          c.in_default.ensures.known c.next_rule-r.ensures.none c.next_rule-r.ensures.refused k left from below);
       around = c.in_default.ensures.known;
       known = c.loop-r.invariant.known;
     }
@@ -49,8 +49,8 @@ loop-r-preserved c =
           ∙ rules_next (rule_sought l items origin subtable set) c.args.count c.loop-r.r c.next_rule-r-in-loop-r.result c.loop-r.paid.left
           rest more is c.next_rule-r-in-loop-r.ensures.from c.next_rule-r-in-loop-r.ensures.few
           (λ k from below. passed_rules l items origin subtable set (c.loop-r.r + 1) c.next_rule-r-in-loop-r.result c.unrefused.new.known
-          c.in-Some.ensures.known c.next_rule-r-in-loop-r.ensures.none c.next_rule-r-in-loop-r.ensures.plain
-          c.next_rule-r-in-loop-r.ensures.refused k rest from below);
+          c.in-Some.ensures.known c.next_rule-r-in-loop-r.ensures.none c.next_rule-r-in-loop-r.ensures.refused k rest
+          from below);
       around = c.in-Some.ensures.known;
       known = c.in-Some-rule_paid.ensures.known;
     }
