@@ -26,7 +26,7 @@ use Rattle.layout_matching.proofs.LoopLemmas.{steps_next, steps_to}
 use Rattle.layout_matching.proofs.PastLemmas.{found_past}
 use Rattle.layout_matching.proofs.RefusalLemmas.{refused_rule}
 
-none_of : {X : Type 0} (o : Option X) → is_some o ≡ false → o ≡ None
+pub none_of : {X : Type 0} (o : Option X) → is_some o ≡ false → o ≡ None
 none_of None e = refl
 none_of (Some x) e = cc
 

@@ -1,7 +1,8 @@
 //! The rule of a set that applies at a place, and what is left after looking for it. Most rules of
 //! a set are refused by the glyphs beside the place, and cost nothing more than their part of the
 //! set.
-ghost use Rattle.std.specs.Prelude.{◌≡◌, ℕ, None, Some, ◌<◌, ◌≤◌, ◌^◌, length, false};
+ghost use Rattle.std.specs.Prelude.{◌≡◌, ℕ, None, Some, ◌<◌, ◌≤◌, ◌+◌, ◌^◌, length, true, false};
+ghost use Rattle.shape_font.specs.Bytes.{u16_of, fitting};
 ghost use Rattle.std.specs.Option.{IfSome, option_map, option_map_or};
 ghost use Rattle.layout_matching.specs.Found.{is_chained as is_chained_in};
 ghost use Rattle.layout_matching.specs.Glance as glances;
@@ -19,7 +20,7 @@ use crate::remembered::{Beside, passed_charged_again};
 use crate::rules::{begins_inside, rule_at};
 use crate::scanning::next_unrefused;
 use crate::sets::has_classes;
-use crate::sought::{Sought, unfound};
+use crate::sought::Sought;
 use crate::spans::Origin;
 use crate::tally::{beside, charged, counted, counts_at, uncounted};
 use crate::work::SUBTABLE_WORK;
@@ -83,6 +84,16 @@ fn unrefused(
         Some(place) if !is_idle(lookup, items, origin, set, place, known) => Some(place),
         _ => None,
     }
+}
+
+/// How many rules the set at a place of the table has.
+#[inline(always)]
+fn rules_in(table: &[u8], set: usize) -> u32
+    requires { set < 2 ^ 36 }
+    ensures value { result ≡ fitting table.now (u16_of table.now set) (set + 2) 2 }
+    ensures few { result < 2 ^ 16 }
+{
+    records(table, u32::from(u16_at(table, set)), set + 2, 2)
 }
 
 /// What is left, and what is known of the glyphs beside the place.
@@ -153,29 +164,31 @@ fn next_rule(
     }
 }
 
-/// The first rule of the set that applies.
+/// Looks for the first rule of the set that applies. Returns whether what was left sufficed.
 #[tactic(auto, using(crate::proofs::LoopLemmas::steps_next, crate::proofs::LoopLemmas::steps_none, crate::proofs::LoopLemmas::steps_end))]
-fn rules_sought(
+fn seek_in_rules(
     lookup: &Lookup<'_>,
     items: &ItemList<'_>,
     origin: Origin,
     set: &GlancedSet,
-    count: u32,
     paid: Paid,
-) -> Option<Sought>
+    sought: &mut Sought,
+) -> bool
     requires near { set.now.subtable.start < 2 ^ 35 }
     requires set { set.now.place < 2 ^ 36 }
-    requires count { count ≡ sought_rules.rules_in lookup.now set.now.place }
-    requires few { count < 2 ^ 16 }
     requires inside { origin.at < length items.now }
     requires before { set.now.before
         ≡ (glances.glances_in lookup.now items.now origin set.now.subtable).before }
     requires known { IfSome paid.known
         (Work.IsBeside lookup.now (Work.has_classes lookup.now set.now.subtable) items.now origin.at) }
-    ensures value { result
-        ≡ sought_rules.rules_sought lookup.now items.now origin set.now.subtable set.now.place paid.left }
-    ensures last { IfSome result (λ s. IfSome s.found (λ f. f.span.last < length items.now)) }
+    requires none { sought.old.found ≡ None }
+    ensures paid { result ≡ true → sought_rules.rules_sought lookup.now items.now origin set.now.subtable
+        set.now.place paid.left ≡ Some sought.new }
+    ensures unpaid { result ≡ false → sought_rules.rules_sought lookup.now items.now origin
+        set.now.subtable set.now.place paid.left ≡ None }
+    ensures last { IfSome sought.new.found (λ f. f.span.last < length items.now) }
 {
+    let count = rules_in(lookup.table, set.place);
     let mut paid = paid;
     let mut around = None;
     let mut r = 0;
@@ -186,80 +199,93 @@ fn rules_sought(
         };
         match rule_paid(lookup, items, origin.at, set, place, paid) {
             Some(next) => paid = next,
-            None => return None,
+            None => return false,
         }
         if let Some(found) = found_at(lookup, items, origin, set.subtable, place) {
-            return Some(Sought {
-                left: paid.left,
-                found: Some(found),
-            });
+            sought.left = paid.left;
+            sought.found = Some(found);
+            return true;
         }
         r = next_rule(lookup, set, &around, r + 1, count);
     }
-    Some(unfound(paid.left))
+    sought.left = paid.left;
+    true
 }
 
-/// The first rule of the set at `set` that applies.
-fn set_sought(
+/// Looks for the first rule of the set at `set` that applies. Returns whether what was left
+/// sufficed.
+fn seek_in_set(
     lookup: &Lookup<'_>,
     items: &ItemList<'_>,
     origin: Origin,
     subtable: LookupSubtable,
-    left: usize,
     set: usize,
-) -> Option<Sought>
+    sought: &mut Sought,
+) -> bool
     requires near { subtable.start < 2 ^ 35 }
     requires set { set < 2 ^ 36 }
     requires inside { origin.at < length items.now }
-    ensures value { result ≡ sought_rules.set_sought lookup.now items.now origin subtable left set }
-    ensures last { IfSome result (λ s. IfSome s.found (λ f. f.span.last < length items.now)) }
+    requires none { sought.old.found ≡ None }
+    ensures paid { result ≡ true
+        → sought_rules.set_sought lookup.now items.now origin subtable sought.old.left set
+        ≡ Some sought.new }
+    ensures unpaid { result ≡ false
+        → sought_rules.set_sought lookup.now items.now origin subtable sought.old.left set ≡ None }
+    ensures last { IfSome sought.new.found (λ f. f.span.last < length items.now) }
 {
-    let count = records(
-        lookup.table,
-        u32::from(u16_at(lookup.table, set)),
-        set + 2,
-        2,
-    );
-    let Some(rest) = charged(count as usize, left) else {
-        return None;
+    let Some(rest) = charged(rules_in(lookup.table, set) as usize, sought.left) else {
+        return false;
     };
     let listed = has_classes(lookup, subtable);
     let mut known = None;
-    let count_beside = beside(rest);
-    match passed_charged_again(lookup, listed, items, origin.at, count_beside, &mut known) {
+    let count = beside(rest);
+    match passed_charged_again(lookup, listed, items, origin.at, count, &mut known) {
         Some(left) => {
             let glanced = glanced(lookup, items, origin, subtable, set);
-            rules_sought(lookup, items, origin, &glanced, count, Paid { left, known })
+            seek_in_rules(
+                lookup,
+                items,
+                origin,
+                &glanced,
+                Paid { left, known },
+                sought,
+            )
         }
-        None => None,
+        None => false,
     }
 }
 
-/// The first rule of a subtable of format 1 or 2 that applies. A call of its own, as what it
-/// returns would be copied.
+/// Looks for the first rule of a subtable of format 1 or 2 that applies. Returns whether what was
+/// left sufficed. A call of its own: most subtables of a lookup have no rule for the glyph.
 #[inline(never)]
-pub(crate) fn sets_sought(
+pub(crate) fn seek_in_sets(
     lookup: &Lookup<'_>,
     items: &ItemList<'_>,
     origin: Origin,
     subtable: LookupSubtable,
-    left: usize,
-) -> Option<Sought>
+    sought: &mut Sought,
+) -> bool
     requires near { subtable.start < 2 ^ 35 }
     requires inside { origin.at < length items.now }
-    ensures value { result ≡ sought_rules.sets_sought lookup.now items.now origin subtable left }
-    ensures last { IfSome result (λ s. IfSome s.found (λ f. f.span.last < length items.now)) }
+    requires none { sought.old.found ≡ None }
+    ensures paid { result ≡ true
+        → sought_rules.sets_sought lookup.now items.now origin subtable sought.old.left
+        ≡ Some sought.new }
+    ensures unpaid { result ≡ false
+        → sought_rules.sets_sought lookup.now items.now origin subtable sought.old.left ≡ None }
+    ensures last { IfSome sought.new.found (λ f. f.span.last < length items.now) }
 {
     let glyph = items.at(origin.at).glyph_id;
     let Some(number) = number_in(lookup.table, subtable.start, glyph) else {
-        return Some(unfound(left));
+        return true;
     };
-    let Some(left) = charged(SUBTABLE_WORK, left) else {
-        return None;
+    let Some(left) = charged(SUBTABLE_WORK, sought.left) else {
+        return false;
     };
+    sought.left = left;
     let is_chain = is_chained(lookup, subtable);
     match set_for(lookup.table, is_chain, subtable.start, glyph, number) {
-        Some(set) => set_sought(lookup, items, origin, subtable, left, set),
-        None => Some(unfound(left)),
+        Some(set) => seek_in_set(lookup, items, origin, subtable, set, sought),
+        None => true,
     }
 }

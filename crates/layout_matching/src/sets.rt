@@ -25,7 +25,7 @@ const MARKS_PART: usize = 4;
 
 /// What a rule or a set passes over beside a place, by glyphs that are `listed` or aren't. Nearly
 /// always that is nothing.
-#[inline(never)]
+#[inline(always)]
 pub(crate) fn passed(
     lookup: &Lookup<'_>,
     listed: bool,

@@ -16,7 +16,7 @@ use crate::indexed::Indexed;
 use crate::lookup::Lookup;
 use crate::nearest::is_missed;
 use crate::remembered::{Beside, rule_charged_again};
-use crate::set_rules::sets_sought;
+use crate::set_rules::seek_in_sets;
 use crate::sets::rule_charged;
 use crate::spans::Origin;
 use crate::tally::charged;
@@ -155,61 +155,73 @@ fn begun_at(
     }
 }
 
-/// The one rule of a subtable of format 3 that begins with the glyph, if it applies. It is read
-/// once. A call of its own, as what it returns would be copied.
+/// Looks at the one rule of a subtable of format 3 that begins with the glyph. Returns whether what
+/// was left sufficed. It is read once.
 #[inline(never)]
-fn whole_sought(
+fn seek_whole(
     lookup: &Lookup<'_>,
     items: &ItemList<'_>,
     origin: Origin,
     subtable: LookupSubtable,
-    left: usize,
-) -> Option<Sought>
+    sought: &mut Sought,
+) -> bool
     requires near { subtable.start < 2 ^ 35 }
     requires inside { origin.at < length items.now }
-    ensures value { result ≡ option_and_then
+    requires none { sought.old.found ≡ None }
+    ensures paid { result ≡ true → option_and_then
         (sought_rules.first_sought lookup.now items.now origin subtable)
-        (Work.charged Work.SUBTABLE_WORK left) }
-    ensures last { IfSome result (λ s. IfSome s.found (λ f. f.span.last < length items.now)) }
+        (Work.charged Work.SUBTABLE_WORK sought.old.left) ≡ Some sought.new }
+    ensures unpaid { result ≡ false → option_and_then
+        (sought_rules.first_sought lookup.now items.now origin subtable)
+        (Work.charged Work.SUBTABLE_WORK sought.old.left) ≡ None }
+    ensures last { IfSome sought.new.found (λ f. f.span.last < length items.now) }
 {
     let is_chain = is_chained(lookup, subtable);
-    let Some(left) = charged(SUBTABLE_WORK, left) else {
-        return None;
+    let Some(left) = charged(SUBTABLE_WORK, sought.left) else {
+        return false;
     };
     let rule = whole_rule(lookup.table, is_chain, subtable.start);
     match rule_charged(lookup, items, origin.at, &rule, left) {
-        Some(left) => Some(Sought {
-            left,
-            found: found_if(lookup, items, origin, rule),
-        }),
-        None => None,
+        Some(left) => {
+            sought.left = left;
+            sought.found = found_if(lookup, items, origin, rule);
+            true
+        }
+        None => false,
     }
 }
 
-/// The first rule of a subtable that begins with the glyph, or has sets of rules, that applies.
-fn begun_sought(
+/// Looks for the first rule of a subtable that begins with the glyph, or has sets of rules, that
+/// applies. Returns whether what was left sufficed.
+fn seek_begun(
     lookup: &Lookup<'_>,
     items: &ItemList<'_>,
     origin: Origin,
     subtable: LookupSubtable,
-    left: usize,
-) -> Option<Sought>
+    sought: &mut Sought,
+) -> bool
     requires near { subtable.start < 2 ^ 35 }
     requires inside { origin.at < length items.now }
-    ensures value { result ≡ sought_rules.begun_sought lookup.now items.now origin left subtable }
-    ensures last { IfSome result (λ s. IfSome s.found (λ f. f.span.last < length items.now)) }
+    requires none { sought.old.found ≡ None }
+    ensures paid { result ≡ true
+        → sought_rules.begun_sought lookup.now items.now origin sought.old.left subtable
+        ≡ Some sought.new }
+    ensures unpaid { result ≡ false
+        → sought_rules.begun_sought lookup.now items.now origin sought.old.left subtable ≡ None }
+    ensures last { IfSome sought.new.found (λ f. f.span.last < length items.now) }
 {
     if u16_at(lookup.table, subtable.start) == 3 {
-        whole_sought(lookup, items, origin, subtable, left)
+        seek_whole(lookup, items, origin, subtable, sought)
     } else {
-        sets_sought(lookup, items, origin, subtable, left)
+        seek_in_sets(lookup, items, origin, subtable, sought)
     }
 }
 
 /// The first rule of a lookup of context that applies at `origin`, and what is left after looking
 /// for it; none if what is left doesn't suffice. Subtables that don't begin with the glyph there
-/// cost nothing.
+/// cost nothing. Inlined, as what it returns would be copied.
 #[tactic(auto, using(crate::proofs::LoopLemmas::steps_next, crate::proofs::LoopLemmas::steps_none, crate::proofs::LoopLemmas::steps_end, crate::proofs::SoughtLemmas::found_there))]
+#[inline(always)]
 pub fn seek_rule(
     indexed: &Indexed<'_>,
     items: &ItemList<'_>,
@@ -224,23 +236,22 @@ pub fn seek_rule(
 {
     let glyph = items.at(origin.at).glyph_id;
     let count = subtable_count(indexed.lookup.table, indexed.lookup.place);
-    let mut left = left;
+    let mut sought = unfound(left);
     let mut known = None;
     let mut i = indexed.next_begun(0, count, glyph);
     while i < count {
-        let begun = begun_at(indexed, items, origin, i, &mut left, &mut known);
+        let begun = begun_at(indexed, items, origin, i, &mut sought.left, &mut known);
         let Some(subtable) = begun else {
             i = indexed.next_begun(i + 1, count, glyph);
             continue;
         };
-        let Some(next) = begun_sought(indexed.lookup, items, origin, subtable, left) else {
+        if !seek_begun(indexed.lookup, items, origin, subtable, &mut sought) {
             return None;
-        };
-        if next.found.is_some() {
-            return Some(next);
         }
-        left = next.left;
+        if sought.found.is_some() {
+            return Some(sought);
+        }
         i = indexed.next_begun(i + 1, count, glyph);
     }
-    Some(unfound(left))
+    Some(sought)
 }
