@@ -9,7 +9,6 @@ ghost use Rattle.layout_context.specs.Nested;
 
 use crate::nested::{Tried, apply_nested, apply_sought, with_left};
 use layout_buffer::GapBuffer;
-use layout_matching::found::is_context;
 use layout_matching::indexed::Indexed;
 use layout_matching::lookup::Lookup;
 use layout_matching::work::lookup_charged;
@@ -67,23 +66,26 @@ fn apply_ligatures(
     Some(Tried { left, next })
 }
 
-/// Applies a lookup at a place of its walk, if what is left suffices for what it may try there.
+/// Applies a lookup at a place of its walk, if what is left suffices for what it may try there. The
+/// walk says whether it is one of context.
 #[tactic(auto, using(crate::proofs::AttemptLemmas::place_context, crate::proofs::AttemptLemmas::place_plain))]
 pub fn apply_charged(
     alloc: Global,
     level: u32,
     indexed: &Indexed<'_>,
+    is_context: bool,
     buffer: &mut GapBuffer,
     spot: Spot,
 ) -> Result<Option<Tried>, ShapeError>
     requires near { indexed.now.lookup.now.place < 2 ^ 17 }
     requires inside { spot.at < length buffer.old.items }
+    requires context { is_context ≡ found_rules.is_context indexed.now.lookup.now }
     ensures ok { IfOk result (λ t. record { buffer = buffer.new; tried = t }
         ≡ Nested.place_attempt level indexed.now.lookup.now spot buffer.old) }
     ensures length { IsErrOf result Length
         → is_past (Nested.place_attempt level indexed.now.lookup.now spot buffer.old).buffer ≡ true }
 {
-    if is_context(indexed.lookup) {
+    if is_context {
         return apply_sought(alloc, level, indexed, buffer, spot);
     }
     if is_sought_once(level, indexed.lookup, buffer) {

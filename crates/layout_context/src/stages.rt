@@ -2,6 +2,7 @@
 ghost use Rattle.std.specs.Prelude.{◌≡◌, ℕ, ◌<◌, ◌≤◌, ◌-◌, ◌^◌, None, length, true, false, IfOk, IsErrOf};
 ghost use Rattle.std.specs.Option.{unwrap_or};
 ghost use Rattle.shape_buffer.specs.declared.buffer.error.ShapeError.TheVariants.{Length};
+ghost use Rattle.layout_matching.specs.Found as found_rules;
 ghost use Rattle.layout_matching.specs.Loops.{times};
 ghost use Rattle.layout_matching.specs.LigatureSets.{AreSets};
 ghost use Rattle.layout_matching.specs.Skipping.{is_on};
@@ -17,6 +18,7 @@ use crate::nested::{Tried, with_left};
 use crate::reverse::{is_reverse, reverse};
 use layout_buffer::GapBuffer;
 use layout_digests::Digested;
+use layout_matching::found::is_context;
 use layout_matching::indexed::Indexed;
 use layout_matching::ligature_sets::LigatureSet;
 use layout_substitution::apply::Spot;
@@ -74,11 +76,13 @@ fn try_at(
     alloc: Global,
     levels: u32,
     indexed: &Indexed<'_>,
+    is_context: bool,
     buffer: &mut GapBuffer,
     spot: Spot,
 ) -> Result<Looked, ShapeError>
     requires near { indexed.now.lookup.now.place < 2 ^ 17 }
     requires inside { spot.at < length buffer.old.items }
+    requires context { is_context ≡ found_rules.is_context indexed.now.lookup.now }
     ensures ok { IfOk result (λ next. record { buffer = buffer.new; spot = next.spot }
         ≡ Stages.tried (nested_applied levels indexed.now.lookup.now) indexed.now.lookup.now
         (record { buffer = buffer.old; spot = spot })) }
@@ -89,7 +93,7 @@ fn try_at(
         (record { buffer = buffer.old; spot = spot })).buffer ≡ true }
 {
     let next = next_spot(spot, buffer.len());
-    match apply_charged(alloc, levels, indexed, buffer, spot) {
+    match apply_charged(alloc, levels, indexed, is_context, buffer, spot) {
         Err(error) => Err(error),
         Ok(None) => Ok(Looked {
             spot: with_left(next, 0),
@@ -105,10 +109,12 @@ fn step_met(
     alloc: Global,
     levels: u32,
     indexed: &Indexed<'_>,
+    is_context: bool,
     buffer: &mut GapBuffer,
     spot: Spot,
 ) -> Result<Looked, ShapeError>
     requires near { indexed.now.lookup.now.place < 2 ^ 17 }
+    requires context { is_context ≡ found_rules.is_context indexed.now.lookup.now }
     requires within { is_past buffer.old ≡ false }
     requires inside { is_inside spot.at buffer.old ≡ true }
     requires on { is_on indexed.now.lookup.now (item_at buffer.old spot.at) ≡ true }
@@ -121,7 +127,7 @@ fn step_met(
         → is_past (Stages.lookup_step (nested_applied levels indexed.now.lookup.now) indexed.now.lookup.now
         (record { buffer = buffer.old; spot = spot })).buffer ≡ true }
 {
-    try_at(alloc, levels, indexed, buffer, spot)
+    try_at(alloc, levels, indexed, is_context, buffer, spot)
 }
 
 /// Where a walk stands after some steps, and whether the lookup meets the item there.
@@ -190,6 +196,7 @@ fn walk(
 {
     let count = buffer.len();
     let indexed = Indexed::with_sets(&named.lookup, named.firsts, sets);
+    let is_context = is_context(&named.lookup);
     let mut is_kept = !asks_for_concat(buffer);
     let mut spot = Spot {
         at: 0,
@@ -203,7 +210,7 @@ fn walk(
         spot = passed.spot;
         done += passed.steps;
         if passed.is_met {
-            match step_met(alloc, levels, &indexed, buffer, spot) {
+            match step_met(alloc, levels, &indexed, is_context, buffer, spot) {
                 Err(error) => return Err(error),
                 Ok(next) => {
                     spot = next.spot;
