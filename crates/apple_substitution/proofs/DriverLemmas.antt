@@ -1,6 +1,6 @@
 -- A walk step by step: a refused step leaves a list past its limit to the end, and a walk that has ended stays.
 use Prim.Native.Nat.{zero}
-use Rattle.std.proofs.Common.{◌≡◌, ℕ, suc, ◌+◌, ◌-◌, ◌<◌, ◌≤◌, Bool, true, false, ◌||◌, refl, sym, ap, ◌∙◌, arith, if◌then◌else◌}
+use Rattle.std.proofs.Common.{◌≡◌, ℕ, suc, ◌+◌, ◌-◌, ◌<◌, ◌≤◌, true, false, ◌||◌, refl, sym, ap, ◌∙◌, arith, if◌then◌else◌}
 use Rattle.apple_tables.specs.declared.states.Entry.{Entry}
 use Rattle.shape_items.specs.Buffer.{Buffer}
 use Rattle.apple_substitution.specs.Driver.{Actions, Rules}

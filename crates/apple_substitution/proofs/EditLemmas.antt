@@ -1,5 +1,6 @@
 -- Items written one after the other, and spans that grow.
-use Rattle.std.proofs.Common.{◌≡◌, ℕ, suc, ◌+◌, ◌-◌, ◌≤◌, ◌<◌, Bool, true, false, List, [], ◌∷◌, ◌++◌, drop, take, length, nat_lt, slice_index_or, slice_range, slice_set, refl, sym, ap, ◌∙◌, arith, if◌then◌else◌}
+use Rattle.std.proofs.Common.{◌≡◌, ℕ, ◌+◌, ◌-◌, ◌≤◌, ◌<◌, true, false, List, [], ◌∷◌, ◌++◌}
+use Rattle.std.proofs.Common.{drop, length, nat_lt, slice_index_or, slice_range, slice_set, refl, sym, ap, ◌∙◌, arith, if◌then◌else◌}
 use Rattle.std.proofs.lemmas.List.{drop_more, drop_all, get_or_default, append-nil, append_assoc, length-set}
 use Rattle.shape_items.specs.Buffer.{Buffer}
 use Rattle.shape_items.specs.Items.{Item, new_item}

@@ -1,5 +1,5 @@
 -- A reversed list is as long as it was.
-use Rattle.std.proofs.Common.{◌≡◌, true, nat_lt, reverse, ap, ◌∙◌}
+use Rattle.std.proofs.Common.{◌≡◌, true, nat_lt, ap, ◌∙◌}
 use Rattle.std.proofs.lemmas.List.{length-reverse}
 use Rattle.shape_items.specs.Buffer.{Buffer, limit_of}
 use Rattle.apple_substitution.specs.Edits.{is_past}

@@ -1,7 +1,7 @@
 -- Glyphs put in place of others.
-use Rattle.std.specs.Prelude.{ℕ, List, Option, ◌/◌, ◌*◌, ◌+◌, false, min, if◌then◌else◌}
+use Rattle.std.specs.Prelude.{ℕ, List, Option, ◌/◌, false, if◌then◌else◌}
 use Rattle.std.specs.Int.RustNames.{bit_and}
-use Rattle.std.specs.Option.{option_map, option_map_or}
+use Rattle.std.specs.Option.{option_map}
 use Rattle.shape_font.specs.Bytes.{u16_of}
 use Rattle.shape_items.specs.Items.{Item}
 use Rattle.layout_tables.specs.Gdef.{has_glyph_classes, glyph_props}

@@ -1,7 +1,8 @@
 -- Insertion subtables (TrueType Reference Manual, "The 'morx' table", "Glyph Insertion Subtable"): glyphs of a list are inserted before
 -- or after a marked glyph, and before or after the current one.
 use Prim.Native.Nat.{zero}
-use Rattle.std.specs.Prelude.{ℕ, suc, List, Bool, ◌+◌, ◌-◌, ◌*◌, ◌/◌, ◌%◌, ◌&&◌, ◌||◌, not, insert, min, length, nat_eq, nat_le, nat_lt, if◌then◌else◌}
+use Rattle.std.specs.Prelude.{ℕ, suc, List, Bool, ◌+◌, ◌-◌, ◌*◌, ◌/◌, ◌%◌, ◌&&◌, ◌||◌, not}
+use Rattle.std.specs.Prelude.{insert, min, length, nat_eq, nat_le, nat_lt, if◌then◌else◌}
 use Rattle.shape_common.specs.Positions.{zero_position}
 use Rattle.shape_font.specs.Bytes.{u16_of, u32_of}
 use Rattle.shape_items.specs.Buffer.{Buffer, most_countable}

@@ -2,7 +2,8 @@
 -- components, and lead to a list of actions. Each action pops a component, and adds up what a table has for its glyph; the ligature of
 -- the sum stands in place of the component that was popped last, and the others are deleted.
 use Prim.Native.Nat.{zero}
-use Rattle.std.specs.Prelude.{ℕ, suc, List, Bool, true, false, Option, Some, None, ◌+◌, ◌-◌, ◌*◌, ◌%◌, ◌&&◌, min, length, nat_eq, nat_le, nat_lt, slice_index, slice_set, if◌then◌else◌}
+use Rattle.std.specs.Prelude.{ℕ, suc, List, Bool, true, false, Option, Some, None, ◌+◌, ◌-◌, ◌*◌, ◌%◌, ◌&&◌}
+use Rattle.std.specs.Prelude.{min, length, nat_eq, nat_le, nat_lt, slice_index, slice_set, if◌then◌else◌}
 use Rattle.std.specs.Option.{option_map_or}
 use Rattle.shape_common.specs.declared.text_types.BufferClusterLevel.TheVariants.{MonotoneGraphemes, MonotoneCharacters, Characters}
 use Rattle.shape_font.specs.Bytes.{u16_of, u32_of}

@@ -1,6 +1,7 @@
 -- Rearrangement subtables (TrueType Reference Manual, "The 'morx' table", "Glyph Rearrangement Subtable"): glyphs at both ends of a
 -- marked span change sides.
-use Rattle.std.specs.Prelude.{ℕ, List, ◌++◌, Bool, true, false, ◌+◌, ◌-◌, ◌%◌, ◌&&◌, not, min, length, nat_eq, nat_le, nat_lt, slice_index_or, slice_range, if◌then◌else◌}
+use Rattle.std.specs.Prelude.{ℕ, List, ◌++◌, Bool, true, false, ◌+◌, ◌-◌, ◌%◌, ◌&&◌, not}
+use Rattle.std.specs.Prelude.{min, length, nat_eq, nat_le, nat_lt, slice_index_or, slice_range, if◌then◌else◌}
 use Rattle.shape_items.specs.Buffer.{Buffer}
 use Rattle.shape_items.specs.Items.{Item}
 use Rattle.apple_tables.specs.declared.states.Entry.{Entry}

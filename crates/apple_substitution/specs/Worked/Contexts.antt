@@ -1,9 +1,8 @@
 -- Contextual substitution, computed by hand on a table of 16-bit words.
-use Rattle.std.specs.Prelude.{◌≡◌, ℕ, Bool, List, [], ◌∷◌, Some, None, true, false, refl}
+use Rattle.std.specs.Prelude.{◌≡◌, ℕ, Bool, [], ◌∷◌, Some, None, true, false, refl}
 use Rattle.shape_font.specs.Worked.Glyphs.{words}
 use Rattle.shape_items.specs.Buffer.{Buffer}
 use Rattle.apple_substitution.specs.Contextual.{Source, glyph_in, is_actionable, lookup_of, mark_after, transition}
-use Rattle.apple_substitution.specs.Driver.{Spot}
 use Rattle.apple_substitution.specs.Worked.Driving.{entry, glyph, glyphs_of, masks_of, text}
 use Rattle.apple_substitution.specs.declared.contextual.Mark.{Mark}
 

@@ -1,5 +1,5 @@
 -- Walks of a driver over a few glyphs, computed by hand.
-use Rattle.std.specs.Prelude.{◌≡◌, ℕ, Bool, List, [], ◌∷◌, ◌+◌, Some, true, false, map, not, nat_eq, refl, ◌&&◌, if◌then◌else◌}
+use Rattle.std.specs.Prelude.{◌≡◌, ℕ, List, [], ◌∷◌, ◌+◌, Some, true, false, map, not, nat_eq, refl, ◌&&◌, if◌then◌else◌}
 use Rattle.shape_items.specs.Buffer.{Buffer, new_buffer}
 use Rattle.shape_items.specs.Items.{Item, new_item}
 use Rattle.apple_tables.specs.declared.states.Entry.{Entry}

@@ -1,6 +1,5 @@
 -- Rearrangement, computed by hand.
-use Rattle.std.specs.Prelude.{◌≡◌, ℕ, Bool, List, [], ◌∷◌, true, false, length, map, refl}
-use Rattle.shape_items.specs.Buffer.{Buffer}
+use Rattle.std.specs.Prelude.{◌≡◌, ℕ, List, [], ◌∷◌, true, false, length, map, refl}
 use Rattle.shape_items.specs.Clusters.{clusters, merge}
 use Rattle.apple_substitution.specs.Driver.{Spot}
 use Rattle.apple_substitution.specs.Rearrangement.{is_actionable, is_fitting, marks_of, moved, transition}
