@@ -18,20 +18,11 @@ pub struct Feature {
     pub setting: u16,
 }
 
-/// Whether a feature has this type and this setting.
-fn is_feature(kind: u16, setting: u16, feature: &Feature) -> bool
-    ensures { result ≡ Chains.is_feature kind setting feature.now }
-{
-    feature.kind == kind && feature.setting == setting
-}
-
 /// Whether a feature is among those that are asked for.
 fn is_requested(features: &[Feature], kind: u16, setting: u16) -> bool
     ensures { result ≡ Chains.is_requested features.now kind setting }
 {
-    features
-        .iter()
-        .any(|feature| is_feature(kind, setting, feature))
+    features.iter().any(|feature| feature.kind == kind && feature.setting == setting)
 }
 
 /// Whether an entry for this type and this setting counts. Small capitals were setting 3 of type 3,
@@ -55,6 +46,14 @@ fn flags_after(morx: &[u8], features: &[Feature], at: usize, flags: u32) -> u32
     }
 }
 
+/// How many entries of features a chain has, and the table has room for.
+pub(crate) fn entry_count(morx: &[u8], chain: u32) -> u32
+    ensures { result ≡ Chains.entry_count morx.now chain }
+{
+    let chain = chain as usize;
+    records(morx, u32_at(morx, chain + 8), chain + 16, 12)
+}
+
 /// The flags of the chain that begins at `chain`, by the features that are asked for (TrueType
 /// Reference Manual, "The 'morx' table", "Feature subtables"). Takes time in step with the entries
 /// that the chain has for features, and with the features.
@@ -63,7 +62,7 @@ pub fn chain_flags(morx: &[u8], features: &[Feature], chain: u32) -> u32
     ensures { result ≡ Chains.chain_flags morx.now features.now chain }
 {
     let first = chain as usize + 16;
-    let count = records(morx, u32_at(morx, chain as usize + 8), first, 12);
+    let count = entry_count(morx, chain);
     let mut flags = u32_at(morx, chain as usize);
     for i in 0..count {
         flags = flags_after(morx, features, first + 12 * i as usize, flags);

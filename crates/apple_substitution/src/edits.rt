@@ -29,9 +29,11 @@ pub(crate) fn write(buffer: &mut GapBuffer, at: usize, items: &[hb_glyph_info_t]
     requires { at + length items.now ≤ length buffer.old.items }
     ensures { buffer.new ≡ Edits.written at items.now buffer.old }
 {
+    // each place is one of the list, and so a number that fits
     let count = buffer.len();
+    prove!(at <= count);
     for i in 0..items.len() {
-        put(buffer, place_at(count, at, i), items[i]);
+        put(buffer, at + i, items[i]);
     }
 }
 
@@ -104,12 +106,4 @@ pub(crate) fn charge(buffer: &mut GapBuffer, work: usize) -> bool
     let left = buffer.max_ops();
     buffer.set_max_ops(left.saturating_sub(work));
     work <= left
-}
-
-/// A place so far after another, in a list of so many.
-fn place_at(count: usize, at: usize, i: usize) -> usize
-    requires { at + i ≤ count }
-    ensures { result ≡ at + i }
-{
-    at + i
 }

@@ -99,15 +99,6 @@ fn push(at: usize, stack: &mut Stack)
     stack.count = n.saturating_add(1);
 }
 
-/// Pushes the current glyph, if an entry says so.
-fn push_current(entry: &Entry, at: usize, stack: &mut Stack)
-    ensures { stack.new ≡ ligature_rules.stack_after entry.now at stack.old }
-{
-    if entry.flags & 0x8000 != 0 {
-        push(at, stack);
-    }
-}
-
 /// Four bytes of a table, if it has them all.
 fn long_in(table: &[u8], at: usize) -> Option<u32>
     ensures value { result ≡ ligature_rules.long_in table.now at }
@@ -383,7 +374,9 @@ impl<'a> Subtable for Ligature<'a> {
         memory: &mut Stack,
         entry: &Entry,
     ) -> Result<usize, ShapeError> {
-        push_current(entry, at, memory);
+        if entry.flags & 0x8000 != 0 {
+            push(at, memory);
+        }
         if entry.flags & 0x2000 != 0 && at < buffer.len() {
             self.perform(buffer, entry, memory);
         }

@@ -25,20 +25,11 @@ pub struct Ranges<'a> {
     pub wanted: u32,
 }
 
-/// Whether a range ends before a cluster.
-fn ends_before(cluster: u32, range: &FlagRange) -> bool
-    ensures { result ≡ range_rules.ends_before cluster range.now }
-{
-    range.last < cluster
-}
-
 /// Which range is the first that doesn't end before a cluster.
 fn place_of(list: &[FlagRange], cluster: u32) -> usize
     ensures { result ≡ range_rules.place_of list.now cluster }
 {
-    list.iter()
-        .take_while(|range| ends_before(cluster, range))
-        .count()
+    list.iter().take_while(|range| range.last < cluster).count()
 }
 
 /// The flags of a range, none past the last one.

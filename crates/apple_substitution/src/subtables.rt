@@ -22,7 +22,7 @@ use shape_font::bytes::u32_at;
 use std::alloc::Global;
 
 /// How many bytes the header of a subtable has.
-const HEADER: u32 = 12;
+pub(crate) const HEADER: u32 = 12;
 
 /// A chain as its subtables see it.
 #[derive(Clone, Copy)]
@@ -47,18 +47,11 @@ fn wanted_of(morx: &[u8], at: u32) -> u32
     u32_at(morx, at as usize + 8)
 }
 
-/// Whether a range has a flag on that has a subtable on.
-fn is_on_in(wanted: u32, range: &FlagRange) -> bool
-    ensures { result ≡ Subtables.is_on_in wanted range.now }
-{
-    range.flags & wanted != 0
-}
-
 /// Whether some range has a flag on that has a subtable on.
 fn is_wanted(ranges: &[FlagRange], wanted: u32) -> bool
     ensures { result ≡ Subtables.is_wanted ranges.now wanted }
 {
-    ranges.iter().any(|range| is_on_in(wanted, range))
+    ranges.iter().any(|range| range.flags & wanted != 0)
 }
 
 /// Whether a subtable runs over text of a direction.
