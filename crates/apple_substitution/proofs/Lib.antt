@@ -4,3 +4,4 @@ pub mod LigatureLemmas
 pub mod InsertionLemmas
 pub mod ChainLemmas
 pub mod SubtableLemmas
+pub mod PartLemmas

@@ -10,4 +10,8 @@ pub mod Ligature
 pub mod Insertion
 pub mod Chains
 pub mod Subtables
+pub mod Parts
+pub mod FeatureRanges
+pub mod ChainRuns
+pub mod Metamorphosis
 pub mod Worked

@@ -5,20 +5,26 @@
 //! marked glyph and the current one, [`ligature`] joins components, and [`insertion`] inserts glyphs
 //! of a list. [`noncontextual`] replaces each glyph by itself, with the class that [`glyphs`] gives.
 //! [`ranges`] says where features have a subtable on, [`chains`] by which flags, and over which text;
-//! [`subtables`] runs one by its header. Any bytes are taken, and a walk ends for each: what it may
-//! cost is charged to the buffer. [`worked`] has the definitions computed by hand.
+//! [`subtables`] runs one by its header. [`chain_runs`] runs those of a chain, with the flags of
+//! [`feature_ranges`], and [`metamorphosis`] the chains of the table. Any bytes are taken, and a walk
+//! ends for each: what it may cost is charged to the buffer. [`worked`] has the definitions computed
+//! by hand.
 #![tactic(auto)]
 #![allow(non_camel_case_types)]
 
 mod breaking;
+pub mod chain_runs;
 pub mod chains;
 pub mod contextual;
 pub mod driver;
 mod edits;
+pub mod feature_ranges;
 pub mod glyphs;
 pub mod insertion;
 pub mod ligature;
+pub mod metamorphosis;
 pub mod noncontextual;
+mod parts;
 pub mod ranges;
 pub mod rearrangement;
 pub mod subtables;
@@ -26,6 +32,9 @@ pub mod subtables;
 mod tests;
 pub mod worked;
 
+pub use chain_runs::Metamorphosis;
 pub use driver::{Machine, Subtable};
+pub use feature_ranges::FeatureRange;
+pub use metamorphosis::run_table;
 pub use ranges::{FlagRange, Ranges};
 pub use subtables::{Chain, run_subtable};

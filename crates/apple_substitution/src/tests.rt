@@ -1,6 +1,7 @@
 //! A walk of a subtable of each kind over glyphs 5, 6 and 7.
 ghost use Rattle.std.specs.Prelude.{◌≤◌};
 
+use crate::chains::Feature;
 use crate::contextual::{Contextual, Mark};
 use crate::driver::{Subtable, drive};
 use crate::glyphs::Tables;
@@ -8,7 +9,9 @@ use crate::insertion::Insertion;
 use crate::ligature::{Ligature, Stack};
 use crate::noncontextual::{Noncontextual, substitute_all};
 use crate::rearrangement::{Marks, Rearrangement};
-use crate::{Chain, FlagRange, Machine, Ranges, run_subtable};
+use crate::{
+    Chain, FeatureRange, FlagRange, Machine, Metamorphosis, Ranges, run_subtable, run_table,
+};
 use apple_tables::StateTable;
 use layout_buffer::GapBuffer;
 use shape_buffer::{Direction, ShapeError, hb_buffer_t, hb_glyph_info_t};
@@ -75,6 +78,19 @@ const INSERTS: &[u8] = &[
 
 /// A lookup table of format 8: in place of glyph 6 stands glyph 9.
 const NINE_FOR_SIX: &[u8] = &[0, 8, 0, 6, 0, 1, 0, 9];
+
+/// Two chains: in place of glyph 6 stands glyph 9, then glyph 8 in place of that one. The second
+/// chain has its flag by type 1 with setting 2.
+const TWO_CHAINS: &[u8] = &[
+    0, 2, 0, 0, 0, 0, 0, 2, // its version, and how many chains
+    0, 0, 0, 1, 0, 0, 0, 36, 0, 0, 0, 0, 0, 0, 0, 1, // flags, length, and how many of both
+    0, 0, 0, 20, 0, 0, 0, 4, 0, 0, 0, 1, // a subtable's length, its coverage, and its flags
+    0, 8, 0, 6, 0, 1, 0, 9, //
+    0, 0, 0, 0, 0, 0, 0, 48, 0, 0, 0, 1, 0, 0, 0, 1, //
+    0, 1, 0, 2, 0, 0, 0, 1, 255, 255, 255, 255, // sets the flag, and leaves the others
+    0, 0, 0, 20, 0, 0, 0, 4, 0, 0, 0, 1, //
+    0, 8, 0, 9, 0, 1, 0, 8,
+];
 
 const ON: &[FlagRange] = &[FlagRange {
     last: 0xFFFF_FFFF,
@@ -174,6 +190,25 @@ fn run(alloc: Global, direction: Direction) -> Result<hb_buffer_t, ShapeError> {
     Ok(buffer)
 }
 
+/// The glyphs after a table, with features that are asked for in the whole text.
+fn after_chains(alloc: Global, features: &[Feature]) -> Result<hb_buffer_t, ShapeError> {
+    let ranges = [FeatureRange {
+        last: 0xFFFF_FFFF,
+        features,
+    }];
+    let table = Metamorphosis {
+        tables: Tables {
+            morx: TWO_CHAINS,
+            gdef: &[],
+            glyphs: 10,
+        },
+        features: &ranges,
+    };
+    let mut buffer = three(alloc)?;
+    run_table(alloc, &table, &mut buffer)?;
+    Ok(buffer)
+}
+
 /// The first three glyphs of a list.
 fn glyphs(buffer: &hb_buffer_t) -> (u32, u32, u32) {
     match buffer.infos() {
@@ -233,4 +268,16 @@ fn a_subtable_runs_over_a_text(rt: HostRuntime) {
     assert_eq!(rt; glyphs(&on), (6, 5, 7));
     assert_eq!(rt; glyphs(&from_the_end), (5, 7, 6));
     assert_eq!(rt; glyphs(&vertical), (5, 6, 7));
+}
+
+#[test]
+fn chains_run_over_a_text(rt: HostRuntime) {
+    let feature = Feature {
+        kind: 1,
+        setting: 2,
+    };
+    let one = after_chains(rt.alloc(), &[]).expect(&rt, "memory");
+    let both = after_chains(rt.alloc(), &[feature]).expect(&rt, "memory");
+    assert_eq!(rt; glyphs(&one), (5, 9, 7));
+    assert_eq!(rt; glyphs(&both), (5, 8, 7));
 }
