@@ -1,4 +1,4 @@
--- Walks of a driver, ranges, and subtables, computed by hand.
+-- Walks of a driver, ranges, subtables, and chains, computed by hand.
 pub mod Driving
 pub mod Replacing
 pub mod Rearranging
@@ -7,3 +7,5 @@ pub mod Ligating
 pub mod Inserting
 pub mod Chaining
 pub mod Running
+pub mod Parts
+pub mod Metamorphoses

@@ -4,13 +4,16 @@ ghost use Rattle.apple_substitution.specs.Worked.Contexts.{WorkedContexts, Worke
 ghost use Rattle.apple_substitution.specs.Worked.Contexts.{WorkedBoth, WorkedMarkCharges};
 ghost use Rattle.apple_substitution.specs.Worked.Ligating.{WorkedStack, WorkedNumbers, WorkedLigature};
 ghost use Rattle.apple_substitution.specs.Worked.Ligating.{WorkedLeft, WorkedTooLittle};
-ghost use Rattle.apple_substitution.specs.Worked.Ligating.{WorkedStores, WorkedNoLigature};
-ghost use Rattle.apple_substitution.specs.Worked.Inserting.{WorkedWanted, WorkedCurrentInserted};
+ghost use Rattle.apple_substitution.specs.Worked.Ligating.{WorkedActions, WorkedStores, WorkedNoLigature};
+ghost use Rattle.apple_substitution.specs.Worked.Inserting.{WorkedWanted, WorkedInsertAt, WorkedCurrentInserted};
 ghost use Rattle.apple_substitution.specs.Worked.Inserting.{WorkedPassed, WorkedMarkedInserted};
 ghost use Rattle.apple_substitution.specs.Worked.Inserting.{WorkedBothInserted};
-ghost use Rattle.apple_substitution.specs.Worked.Chaining.{WorkedFlags, WorkedCoverage};
+ghost use Rattle.apple_substitution.specs.Worked.Chaining.{WorkedFlags, WorkedRanges, WorkedCoverage};
 ghost use Rattle.apple_substitution.specs.Worked.Replacing.{WorkedReplacing};
 ghost use Rattle.apple_substitution.specs.Worked.Running.{WorkedKinds, WorkedOrders, WorkedRuns};
+ghost use Rattle.apple_substitution.specs.Worked.Parts.{WorkedPlaces, WorkedEnds, WorkedPartRuns};
+ghost use Rattle.apple_substitution.specs.Worked.Metamorphoses.{WorkedSubtables, WorkedChainCosts};
+ghost use Rattle.apple_substitution.specs.Worked.Metamorphoses.{WorkedChains, WorkedLimits, WorkedConcat};
 ghost use Rattle.apple_substitution.specs.Worked.Rearranging.{WorkedVerbs, WorkedSpans};
 
 /// Walks of a driver, where they leave a text unsafe to break, and what they cost.
@@ -43,6 +46,7 @@ pub fn contexts_meet_worked_cases()
 pub fn ligating_meets_worked_cases()
     ensures stack { WorkedStack }
     ensures numbers { WorkedNumbers }
+    ensures actions { WorkedActions }
     ensures ligature { WorkedLigature }
     ensures left { WorkedLeft }
     ensures too_little { WorkedTooLittle }
@@ -53,15 +57,17 @@ pub fn ligating_meets_worked_cases()
 /// Glyphs that are inserted.
 pub fn inserting_meets_worked_cases()
     ensures wanted { WorkedWanted }
+    ensures insert_at { WorkedInsertAt }
     ensures current { WorkedCurrentInserted }
     ensures passed { WorkedPassed }
     ensures marked { WorkedMarkedInserted }
     ensures both { WorkedBothInserted }
 {}
 
-/// The flags of a chain, and how its subtables run.
+/// The flags of a chain, by itself and in ranges of a text, and how its subtables run.
 pub fn chaining_meets_worked_cases()
     ensures flags { WorkedFlags }
+    ensures ranges { WorkedRanges }
     ensures coverage { WorkedCoverage }
 {}
 
@@ -70,4 +76,20 @@ pub fn running_meets_worked_cases()
     ensures runs { WorkedRuns }
     ensures kinds { WorkedKinds }
     ensures orders { WorkedOrders }
+{}
+
+/// Where chains and subtables stand, and how they run one after the other.
+pub fn parts_meet_worked_cases()
+    ensures places { WorkedPlaces }
+    ensures ends { WorkedEnds }
+    ensures runs { WorkedPartRuns }
+{}
+
+/// Chains that run over a text.
+pub fn metamorphoses_meet_worked_cases()
+    ensures subtables { WorkedSubtables }
+    ensures costs { WorkedChainCosts }
+    ensures chains { WorkedChains }
+    ensures limits { WorkedLimits }
+    ensures concat { WorkedConcat }
 {}

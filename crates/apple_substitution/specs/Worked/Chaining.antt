@@ -1,8 +1,9 @@
--- Flags of a chain, directions, and deleted glyphs, computed by hand on a table of 16-bit words.
+-- Flags of a chain, by itself and in ranges, directions, and deleted glyphs, computed by hand on a table of 16-bit words.
 use Rattle.std.specs.Prelude.{◌≡◌, ℕ, List, [], ◌∷◌, true, false, refl}
 use Rattle.shape_common.specs.declared.text_types.Direction.TheVariants.{LeftToRight, RightToLeft, TopToBottom, BottomToTop}
 use Rattle.shape_font.specs.Worked.Glyphs.{words}
-use Rattle.apple_substitution.specs.Chains.{chain_flags, covers, is_deleted, is_reversed}
+use Rattle.apple_substitution.specs.Chains.{chain_flags, covers, entry_count, flags_after, is_deleted, is_reversed}
+use Rattle.apple_substitution.specs.FeatureRanges.{Request, flags_in, flags_of, flags_work, looks, looks_in}
 use Rattle.apple_substitution.specs.Worked.Driving.{glyph}
 use Rattle.apple_substitution.specs.declared.chains.Feature.{Feature}
 
@@ -13,7 +14,7 @@ chain = 0 ∷ 0 ∷ words (0 ∷ 3 ∷ 0 ∷ 40 ∷ 0 ∷ 3 ∷ 0 ∷ 0 ∷
     3 ∷ 3 ∷ 0 ∷ 4 ∷ 0xFFFF ∷ 0xFFFE ∷
     37 ∷ 1 ∷ 0 ∷ 8 ∷ 0xFFFF ∷ 0xFFFD ∷ [])
 
-abbrev feature : ℕ → ℕ → Feature
+abbrev pub feature : ℕ → ℕ → Feature
 feature kind setting = record { kind = kind; setting = setting }
 
 pub record WorkedFlags : Type 0 where
@@ -22,10 +23,49 @@ pub record WorkedFlags : Type 0 where
   pub one : chain_flags chain (feature 1 1 ∷ feature 3 3 ∷ []) 2 ≡ 6
   -- small capitals have both numbers
   pub capitals : chain_flags chain (feature 37 1 ∷ []) 2 ≡ 12
+  pub entries : entry_count chain 2 ≡ 2
+  pub entry : flags_after chain (feature 3 3 ∷ []) 18 9 ≡ 12
+  pub entry_not_asked : flags_after chain (feature 3 1 ∷ []) 18 9 ≡ 9
+  -- an entry that leaves none of the flags has those that it sets
+  pub sets_last : flags_after (words (1 ∷ 1 ∷ 0 ∷ 5 ∷ 0 ∷ 0 ∷ [])) (feature 1 1 ∷ []) 0 7 ≡ 5
 
 pub worked_flags : WorkedFlags
 unfolding chain_flags
-worked_flags = record { none = refl; other_setting = refl; one = refl; capitals = refl }
+worked_flags = record {
+  none = refl;
+  other_setting = refl;
+  one = refl;
+  capitals = refl;
+  entries = refl;
+  entry = refl;
+  entry_not_asked = refl;
+  sets_last = refl;
+}
+
+-- two features up to cluster 3, and none after it
+abbrev ranges : List Request
+ranges = record { last = 3; features = feature 3 3 ∷ feature 1 1 ∷ [] } ∷ record { last = 9; features = [] } ∷ []
+
+pub record WorkedRanges : Type 0 where
+  pub flags : flags_of chain 2 ranges ≡ record { last = 3; flags = 6 } ∷ record { last = 9; flags = 3 } ∷ []
+  pub flags_of_one : flags_in chain 2 (record { last = 3; features = feature 3 3 ∷ [] }) ≡ record { last = 3; flags = 6 }
+  pub looks_of_one : looks_in (record { last = 3; features = feature 3 3 ∷ [] }) ≡ 2
+  -- of each range, and of its features
+  pub looks_of_all : looks ranges ≡ 4
+  pub looks_of_none : looks [] ≡ 0
+  -- sixteen, and for each of two entries four
+  pub work : flags_work chain 2 ranges ≡ 24
+
+pub worked_ranges : WorkedRanges
+unfolding chain_flags
+worked_ranges = record {
+  flags = refl;
+  flags_of_one = refl;
+  looks_of_one = refl;
+  looks_of_all = refl;
+  looks_of_none = refl;
+  work = refl;
+}
 
 pub record WorkedCoverage : Type 0 where
   pub any_direction : covers 0xA0000000 LeftToRight ≡ true

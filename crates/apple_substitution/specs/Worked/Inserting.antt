@@ -1,9 +1,13 @@
 -- Glyphs inserted, computed by hand on a table of 16-bit words.
-use Rattle.std.specs.Prelude.{◌≡◌, ℕ, Bool, List, [], ◌∷◌, true, false, refl}
+use Rattle.std.specs.Prelude.{◌≡◌, ℕ, pos, Bool, List, [], ◌∷◌, true, false, refl}
+use Rattle.shape_common.specs.Positions.{zero_position}
+use Rattle.shape_common.specs.declared.positions.GlyphPosition.{GlyphPosition}
 use Rattle.shape_font.specs.Worked.Glyphs.{words}
+use Rattle.shape_items.specs.Buffer.{Buffer}
 use Rattle.shape_items.specs.Clusters.{clusters}
 use Rattle.apple_substitution.specs.Driver.{Spot}
-use Rattle.apple_substitution.specs.Insertion.{count_of, current_done, current_of, inserted_beside, is_actionable, mark_after, marked_of, transition}
+use Rattle.apple_substitution.specs.Insertion.{count_of, current_done, current_of, insert_at, inserted_beside}
+use Rattle.apple_substitution.specs.Insertion.{is_actionable, mark_after, marked_of, transition}
 use Rattle.apple_substitution.specs.Worked.Driving.{entry, glyph, glyphs_of, masks_of, text}
 use Rattle.apple_substitution.specs.declared.insertion.Wanted.{Wanted}
 
@@ -48,6 +52,22 @@ worked_wanted = record {
   marks = refl;
   does_not_mark = refl;
 }
+
+abbrev far : GlyphPosition
+far = record zero_position { x_advance = pos 9 }
+
+-- glyphs 5 and 6, with their positions
+abbrev placed : Buffer
+placed = record (text (glyph 5 0 ∷ glyph 6 1 ∷ []) 0) { positions = far ∷ far ∷ [] }
+
+pub record WorkedInsertAt : Type 0 where
+  pub between : glyphs_of (insert_at 1 (glyph 9 0) placed) ≡ 5 ∷ 9 ∷ 6 ∷ []
+  pub at_a_position_of_zeros : (insert_at 1 (glyph 9 0) placed).positions ≡ far ∷ zero_position ∷ far ∷ []
+  pub at_the_end : glyphs_of (insert_at 2 (glyph 9 0) placed) ≡ 5 ∷ 6 ∷ 9 ∷ []
+  pub past_the_end : glyphs_of (insert_at 3 (glyph 9 0) placed) ≡ 5 ∷ 6 ∷ []
+
+pub worked_insert_at : WorkedInsertAt
+worked_insert_at = record { between = refl; at_a_position_of_zeros = refl; at_the_end = refl; past_the_end = refl }
 
 -- glyphs 5 and 6 after an entry at a place, with the first one marked
 abbrev after : ℕ → ℕ → ℕ → ℕ → Spot ℕ

@@ -1,13 +1,15 @@
 -- Ligatures of components, computed by hand on a table of 16-bit words.
-use Rattle.std.specs.Prelude.{◌≡◌, ℕ, List, [], ◌∷◌, Some, None, true, false, refl}
+use Rattle.std.specs.Prelude.{◌≡◌, ℕ, Bool, List, [], ◌∷◌, Some, None, true, false, refl}
 use Rattle.shape_common.specs.declared.text_types.BufferClusterLevel.TheVariants.{Characters}
 use Rattle.shape_font.specs.Worked.Glyphs.{words}
 use Rattle.shape_items.specs.Buffer.{Buffer}
 use Rattle.shape_items.specs.Clusters.{clusters, merge}
+use Rattle.apple_tables.specs.declared.states.Entry.{Entry}
 use Rattle.apple_substitution.specs.Driver.{Spot}
-use Rattle.apple_substitution.specs.Ligature.{added, component_of, deleted, distance_of, is_actionable, ligated, ligature_of}
-use Rattle.apple_substitution.specs.Ligature.{place_in, popped_one, pushed, stack_after, transition}
+use Rattle.apple_substitution.specs.Ligature.{Popped, added, component_of, deleted, distance_of, is_actionable, ligated, ligature_of}
+use Rattle.apple_substitution.specs.Ligature.{next_pop, performed, place_in, popped_one, pushed, stack_after, transition}
 use Rattle.apple_substitution.specs.Worked.Driving.{entry, glyph, glyphs_of, text}
+use Rattle.apple_substitution.specs.declared.ligature.Popping.{Popping}
 use Rattle.apple_substitution.specs.declared.ligature.Stack.{Stack}
 
 abbrev stack_of : ℕ → List ℕ → Stack
@@ -80,6 +82,28 @@ four left = text (glyph 5 0 ∷ glyph 8 1 ∷ glyph 6 2 ∷ glyph 7 3 ∷ []) le
 abbrev ligating : ℕ → ℕ → Buffer → Spot Stack
 ligating flags «data» b = transition ligatures 0 (entry 0 flags «data»)
     (record { buffer = b; at = 2; memory = stack_of 1 (0 ∷ 9 ∷ []) })
+
+-- actions under way
+abbrev pops : ℕ → ℕ → ℕ → ℕ → Bool → Popping
+pops cursor count action sum has_ended =
+    record { cursor = cursor; count = count; action = action; sum = sum; has_ended = has_ended }
+
+-- the actions of an entry with a component at each place
+abbrev both : Entry → Popped
+both e = performed ligatures 0 e (stack_of 2 (0 ∷ 2 ∷ [])) (four 100)
+
+pub record WorkedActions : Type 0 where
+  pub next : next_pop (pops 2 2 28 1 false) ≡ pops 1 2 32 1 false
+  pub none_below : next_pop (pops 0 1 28 1 false) ≡ pops 0 1 32 1 false
+  pub made : glyphs_of (both (entry 0 0xA000 56)).buffer ≡ 73 ∷ 8 ∷ 0xFFFF ∷ 7 ∷ []
+  -- of two components the ligature of the sum is left, and two actions are past
+  pub done : (both (entry 0 0xA000 56)).popping ≡ pops 0 1 36 3 true
+  -- the table has no action 70
+  pub no_action : (both (entry 0 0xA000 48)).popping ≡ pops 2 2 308 0 true
+
+pub worked_actions : WorkedActions
+unfolding added ligated popped_one merge
+worked_actions = record { next = refl; none_below = refl; made = refl; done = refl; no_action = refl }
 
 abbrev third : ℕ → ℕ → Spot Stack
 third «data» left = ligating 0xA000 «data» (four left)

@@ -24,10 +24,10 @@ run table direction items = glyphs_of (ran (record {
 }) 2 (record (text items 100) { direction = direction }))
 
 -- 50 in place of 5 and 60 in place of 6, with a coverage, and flags that have it on
-abbrev replaces : ℕ → ℕ → List ℕ
+abbrev pub replaces : ℕ → ℕ → List ℕ
 replaces coverage wanted = words (0 ∷ 22 ∷ 0 ∷ coverage ∷ 0 ∷ wanted ∷ []) ++ five_and_six
 
-abbrev both : List Item
+abbrev pub both : List Item
 both = glyph 5 0 ∷ glyph 6 1 ∷ []
 
 pub record WorkedRuns : Type 0 where
@@ -65,7 +65,7 @@ ligatures = table_of 2 112 (0 ∷ 28 ∷ 0 ∷ 38 ∷ 0 ∷ 62 ∷ 0 ∷ 80 ∷ 
     0x3FFF ∷ 0xFFFA ∷ 0xBFFF ∷ 0xFFFC ∷ 1 ∷ 2 ∷ 70 ∷ 71 ∷ 72 ∷ 73 ∷ [])
 
 -- glyph 6 has two glyphs inserted before it
-abbrev insertions : List ℕ
+abbrev pub insertions : List ℕ
 insertions = table_of 5 94 (0 ∷ 20 ∷ 0 ∷ 30 ∷ 0 ∷ 54 ∷ 0 ∷ 78 ∷ [])
     (0 ∷ 0 ∷ 0xFFFF ∷ 0xFFFF ∷ 0 ∷ 0 ∷ 0xFFFF ∷ 0xFFFF ∷ 0 ∷ 0x0840 ∷ 0 ∷ 0xFFFF ∷ 80 ∷ 81 ∷ [])
 

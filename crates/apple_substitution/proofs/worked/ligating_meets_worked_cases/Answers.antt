@@ -1,5 +1,5 @@
 use Rattle.apple_substitution.specs.Worked.Ligating.{worked_stack, worked_numbers, worked_ligature, worked_left}
-use Rattle.apple_substitution.specs.Worked.Ligating.{worked_too_little, worked_stores, worked_no_ligature}
+use Rattle.apple_substitution.specs.Worked.Ligating.{worked_actions, worked_too_little, worked_stores, worked_no_ligature}
 use Rattle.apple_substitution.proofs.worked.ligating_meets_worked_cases.Goals as goal
 
 pub returns-clause-stack : goal.returns-clause-stack
@@ -7,6 +7,9 @@ returns-clause-stack c = worked_stack
 
 pub returns-clause-numbers : goal.returns-clause-numbers
 returns-clause-numbers c = worked_numbers
+
+pub returns-clause-actions : goal.returns-clause-actions
+returns-clause-actions c = worked_actions
 
 pub returns-clause-ligature : goal.returns-clause-ligature
 returns-clause-ligature c = worked_ligature
