@@ -14,7 +14,7 @@ pub record Request : Type 0 where
   pub features : List Feature
 
 abbrev pub request_of : FeatureRange → Request
-request_of range = record { last = range.last; features = range.features.now }
+request_of range = record { last = range.last; features = range.features.items }
 
 -- there the chain has the flags of these features
 abbrev pub flags_in : List ℕ → ℕ → Request → FlagRange

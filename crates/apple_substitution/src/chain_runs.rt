@@ -21,7 +21,7 @@ pub struct Metamorphosis<'a> {
     pub tables: Tables<'a>,
     /// The features that are asked for, in ranges of the text in their order. The last range ends
     /// with the greatest cluster.
-    pub features: &'a [FeatureRange<'a>],
+    pub features: &'a [FeatureRange],
 }
 
 /// Runs so many subtables of a chain from a place on.

@@ -14,12 +14,12 @@ use shape_font::bytes::{records, u16_at, u32_at};
 pub struct Feature {
     /// Its type.
     pub kind: u16,
-    /// The setting of that type.
-    pub setting: u16,
+    /// The setting of that type. A font names none from 2^16 on.
+    pub setting: u32,
 }
 
 /// Whether a feature is among those that are asked for.
-fn is_requested(features: &[Feature], kind: u16, setting: u16) -> bool
+fn is_requested(features: &[Feature], kind: u16, setting: u32) -> bool
     ensures { result ≡ Chains.is_requested features.now kind setting }
 {
     features.iter().any(|feature| feature.kind == kind && feature.setting == setting)
@@ -27,7 +27,7 @@ fn is_requested(features: &[Feature], kind: u16, setting: u16) -> bool
 
 /// Whether an entry for this type and this setting counts. Small capitals were setting 3 of type 3,
 /// see <https://github.com/harfbuzz/harfbuzz/issues/1342>.
-fn is_on(features: &[Feature], kind: u16, setting: u16) -> bool
+fn is_on(features: &[Feature], kind: u16, setting: u32) -> bool
     ensures { result ≡ Chains.is_on features.now kind setting }
 {
     is_requested(features, kind, setting)
@@ -39,7 +39,7 @@ fn flags_after(morx: &[u8], features: &[Feature], at: usize, flags: u32) -> u32
     requires { at < 2 ^ 39 }
     ensures { result ≡ Chains.flags_after morx.now features.now at flags }
 {
-    if is_on(features, u16_at(morx, at), u16_at(morx, at + 2)) {
+    if is_on(features, u16_at(morx, at), u32::from(u16_at(morx, at + 2))) {
         flags & u32_at(morx, at + 8) | u32_at(morx, at + 4)
     } else {
         flags

@@ -9,12 +9,12 @@ use shape_buffer::ShapeError;
 use std::alloc::Global;
 
 /// Features that are asked for in a range of a text, which begins after the range before.
-#[derive(Clone, Copy)]
-pub struct FeatureRange<'a> {
+#[derive(Drop, Debug)]
+pub struct FeatureRange {
     /// The last cluster of the range.
     pub last: u32,
     /// The features.
-    pub features: &'a [Feature],
+    pub features: Vec<Feature>,
 }
 
 /// The flags of a chain in ranges of the text. Refuses with `Memory` alone, if a growth was
@@ -23,7 +23,7 @@ pub(crate) fn flags_of(
     alloc: Global,
     morx: &[u8],
     chain: u32,
-    features: &[FeatureRange<'_>],
+    features: &[FeatureRange],
 ) -> Result<Vec<FlagRange>, ShapeError>
     ensures ok { IfOk result (λ flags. flags.items
         ≡ feature_rules.flags_of morx.now chain (map request_of features.now)) }
@@ -31,17 +31,17 @@ pub(crate) fn flags_of(
 {
     let mut flags = Vec::new(alloc);
     for i in 0..features.len() {
-        let range = features[i];
+        let range = &features[i];
         flags.push(FlagRange {
             last: range.last,
-            flags: chain_flags(morx, range.features, chain),
+            flags: chain_flags(morx, range.features.as_slice(), chain),
         })?;
     }
     Ok(flags)
 }
 
 /// How many looks at a feature an entry of a chain takes, with one at each range.
-fn looks(features: &[FeatureRange<'_>]) -> usize
+fn looks(features: &[FeatureRange]) -> usize
     ensures { result ≡ feature_rules.looks (map request_of features.now) }
 {
     let mut looks: usize = 0;
@@ -54,7 +54,7 @@ fn looks(features: &[FeatureRange<'_>]) -> usize
 }
 
 /// What the flags of a chain cost.
-pub(crate) fn flags_work(morx: &[u8], chain: u32, features: &[FeatureRange<'_>]) -> usize
+pub(crate) fn flags_work(morx: &[u8], chain: u32, features: &[FeatureRange]) -> usize
     ensures { result ≡ feature_rules.flags_work morx.now chain (map request_of features.now) }
 {
     let entries = entry_count(morx, chain) as usize;

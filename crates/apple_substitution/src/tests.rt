@@ -191,7 +191,7 @@ fn run(alloc: Global, direction: Direction) -> Result<hb_buffer_t, ShapeError> {
 }
 
 /// The glyphs after a table, with features that are asked for in the whole text.
-fn after_chains(alloc: Global, features: &[Feature]) -> Result<hb_buffer_t, ShapeError> {
+fn after_chains(alloc: Global, features: Vec<Feature>) -> Result<hb_buffer_t, ShapeError> {
     let ranges = [FeatureRange {
         last: 0xFFFF_FFFF,
         features,
@@ -276,8 +276,11 @@ fn chains_run_over_a_text(rt: HostRuntime) {
         kind: 1,
         setting: 2,
     };
-    let one = after_chains(rt.alloc(), &[]).expect(&rt, "memory");
-    let both = after_chains(rt.alloc(), &[feature]).expect(&rt, "memory");
+    let alloc = rt.alloc();
+    let mut features = Vec::new(alloc);
+    features.push(feature).expect(&rt, "memory");
+    let one = after_chains(alloc, Vec::new(alloc)).expect(&rt, "memory");
+    let both = after_chains(alloc, features).expect(&rt, "memory");
     assert_eq!(rt; glyphs(&one), (5, 9, 7));
     assert_eq!(rt; glyphs(&both), (5, 8, 7));
 }
