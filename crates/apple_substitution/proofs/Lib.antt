@@ -5,3 +5,4 @@ pub mod InsertionLemmas
 pub mod ChainLemmas
 pub mod SubtableLemmas
 pub mod PartLemmas
+pub mod MapLemmas

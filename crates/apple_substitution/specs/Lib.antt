@@ -14,4 +14,7 @@ pub mod Parts
 pub mod FeatureRanges
 pub mod ChainRuns
 pub mod Metamorphosis
+pub mod Feat
+pub mod Registry
+pub mod FeatureMap
 pub mod Worked

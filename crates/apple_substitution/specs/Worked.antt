@@ -9,3 +9,5 @@ pub mod Chaining
 pub mod Running
 pub mod Parts
 pub mod Metamorphoses
+pub mod Features
+pub mod FeatureMaps

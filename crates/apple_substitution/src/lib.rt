@@ -18,6 +18,8 @@ pub mod chains;
 pub mod contextual;
 pub mod driver;
 mod edits;
+pub mod feat;
+pub mod feature_map;
 pub mod feature_ranges;
 pub mod glyphs;
 pub mod insertion;
@@ -27,6 +29,7 @@ pub mod noncontextual;
 mod parts;
 pub mod ranges;
 pub mod rearrangement;
+pub mod registry;
 pub mod subtables;
 #[cfg(test)]
 mod tests;

@@ -4,6 +4,7 @@ ghost use Rattle.std.specs.Prelude.{◌≤◌};
 use crate::chains::Feature;
 use crate::contextual::{Contextual, Mark};
 use crate::driver::{Subtable, drive};
+use crate::feature_map::feature_ranges;
 use crate::glyphs::Tables;
 use crate::insertion::Insertion;
 use crate::ligature::{Ligature, Stack};
@@ -15,6 +16,7 @@ use crate::{
 use apple_tables::StateTable;
 use layout_buffer::GapBuffer;
 use shape_buffer::{Direction, ShapeError, hb_buffer_t, hb_glyph_info_t};
+use shape_common::hb_tag_t;
 use std::alloc::Global;
 
 /// A state table of six classes: glyph 5 has class 4, and marks the first of a span; glyph 6 has
@@ -90,6 +92,13 @@ const TWO_CHAINS: &[u8] = &[
     0, 1, 0, 2, 0, 0, 0, 1, 255, 255, 255, 255, // sets the flag, and leaves the others
     0, 0, 0, 20, 0, 0, 0, 4, 0, 0, 0, 1, //
     0, 8, 0, 9, 0, 1, 0, 8,
+];
+
+/// A table `feat` that has type 1, whose settings don't exclude each other.
+const FEAT: &[u8] = &[
+    0, 1, 0, 0, 0, 1, 0, 0, 0, 0, 0, 0, // version 1, and how many types
+    0, 1, 0, 2, 0, 0, 0, 24, 0, 0, 1, 0, // type 1 with two settings
+    0, 2, 1, 1, 0, 3, 1, 2, // the settings with their names
 ];
 
 const ON: &[FlagRange] = &[FlagRange {
@@ -209,6 +218,20 @@ fn after_chains(alloc: Global, features: Vec<Feature>) -> Result<hb_buffer_t, Sh
     Ok(buffer)
 }
 
+/// The last clusters of three ranges.
+fn lasts(ranges: &[FeatureRange]) -> (u32, u32, u32) {
+    match ranges {
+        [a, b, c] => (a.last, b.last, c.last),
+        _ => (0, 0, 0),
+    }
+}
+
+/// The first setting in a range.
+fn first_setting(ranges: &[FeatureRange], i: usize) -> Option<u32> {
+    let feature = ranges.get(i)?.features.first()?;
+    Some(feature.setting)
+}
+
 /// The first three glyphs of a list.
 fn glyphs(buffer: &hb_buffer_t) -> (u32, u32, u32) {
     match buffer.infos() {
@@ -283,4 +306,19 @@ fn chains_run_over_a_text(rt: HostRuntime) {
     let both = after_chains(alloc, features).expect(&rt, "memory");
     assert_eq!(rt; glyphs(&one), (5, 9, 7));
     assert_eq!(rt; glyphs(&both), (5, 8, 7));
+}
+
+#[test]
+fn features_choose_settings_in_ranges(rt: HostRuntime) {
+    let off = shape_common::Feature {
+        tag: hb_tag_t(0x6C69_6761),
+        value: 0,
+        start: 1,
+        end: 3,
+    };
+    let ranges = feature_ranges(rt.alloc(), FEAT, &[off]).expect(&rt, "memory");
+    assert_eq!(rt; ranges.len(), 3);
+    assert_eq!(rt; lasts(ranges.as_slice()), (0, 2, 0xFFFF_FFFF));
+    assert_eq!(rt; first_setting(ranges.as_slice(), 0), None);
+    assert_eq!(rt; first_setting(ranges.as_slice(), 1), Some(3));
 }

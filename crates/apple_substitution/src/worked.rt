@@ -14,6 +14,9 @@ ghost use Rattle.apple_substitution.specs.Worked.Running.{WorkedKinds, WorkedOrd
 ghost use Rattle.apple_substitution.specs.Worked.Parts.{WorkedPlaces, WorkedEnds, WorkedPartRuns};
 ghost use Rattle.apple_substitution.specs.Worked.Metamorphoses.{WorkedSubtables, WorkedChainCosts};
 ghost use Rattle.apple_substitution.specs.Worked.Metamorphoses.{WorkedChains, WorkedLimits, WorkedConcat};
+ghost use Rattle.apple_substitution.specs.Worked.Features.{WorkedFeat, WorkedRegistry};
+ghost use Rattle.apple_substitution.specs.Worked.FeatureMaps.{WorkedChoices, WorkedMapped, WorkedAgainst};
+ghost use Rattle.apple_substitution.specs.Worked.FeatureMaps.{WorkedEdges, WorkedTextRanges};
 ghost use Rattle.apple_substitution.specs.Worked.Rearranging.{WorkedVerbs, WorkedSpans};
 
 /// Walks of a driver, where they leave a text unsafe to break, and what they cost.
@@ -92,4 +95,19 @@ pub fn metamorphoses_meet_worked_cases()
     ensures chains { WorkedChains }
     ensures limits { WorkedLimits }
     ensures concat { WorkedConcat }
+{}
+
+/// Types of features that a font has, and OpenType's features in the registry.
+pub fn features_meet_worked_cases()
+    ensures feat { WorkedFeat }
+    ensures registry { WorkedRegistry }
+{}
+
+/// Settings that features choose, and ranges of a text.
+pub fn feature_maps_meet_worked_cases()
+    ensures choices { WorkedChoices }
+    ensures mapped { WorkedMapped }
+    ensures against { WorkedAgainst }
+    ensures edges { WorkedEdges }
+    ensures ranges { WorkedTextRanges }
 {}
