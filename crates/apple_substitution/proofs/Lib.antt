@@ -6,3 +6,5 @@ pub mod ChainLemmas
 pub mod SubtableLemmas
 pub mod PartLemmas
 pub mod MapLemmas
+pub mod EdgeLemmas
+pub mod MapLaws

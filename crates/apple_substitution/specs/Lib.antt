@@ -17,4 +17,5 @@ pub mod Metamorphosis
 pub mod Feat
 pub mod Registry
 pub mod FeatureMap
+pub mod FeatureMapLaws
 pub mod Worked

@@ -23,6 +23,7 @@ pub mod feature_map;
 pub mod feature_ranges;
 pub mod glyphs;
 pub mod insertion;
+pub mod laws;
 pub mod ligature;
 pub mod metamorphosis;
 pub mod noncontextual;
