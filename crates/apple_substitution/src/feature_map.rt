@@ -210,7 +210,7 @@ fn ranges_of(alloc: Global, choices: &[Choice]) -> Result<Vec<FeatureRange>, Sha
 /// font. The last range ends with the greatest cluster. Takes time in step with the ranges, twice as
 /// many as features at most, and the features. Refuses with `Memory` alone, if a growth was refused.
 #[tactic(auto, unfolding(crate::specs::FeatureMap::requests_of))]
-pub fn feature_ranges(
+pub fn map_features(
     alloc: Global,
     feat: &[u8],
     features: &[shape_common::Feature],

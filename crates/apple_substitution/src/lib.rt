@@ -6,9 +6,9 @@
 //! of a list. [`noncontextual`] replaces each glyph by itself, with the class that [`glyphs`] gives.
 //! [`ranges`] says where features have a subtable on, [`chains`] by which flags, and over which text;
 //! [`subtables`] runs one by its header. [`chain_runs`] runs those of a chain, with the flags of
-//! [`feature_ranges`], and [`metamorphosis`] the chains of the table. Any bytes are taken, and a walk
-//! ends for each: what it may cost is charged to the buffer. [`worked`] has the definitions computed
-//! by hand.
+//! [`feature_ranges`], and [`metamorphosis`] the chains of the table; [`feature_map`] makes the ranges
+//! of what is asked for. Any bytes are taken, and a walk ends for each: what it may cost is charged to
+//! the buffer. [`worked`] has the definitions computed by hand.
 #![tactic(auto)]
 #![allow(non_camel_case_types)]
 
@@ -38,6 +38,7 @@ pub mod worked;
 
 pub use chain_runs::Metamorphosis;
 pub use driver::{Machine, Subtable};
+pub use feature_map::map_features;
 pub use feature_ranges::FeatureRange;
 pub use metamorphosis::run_table;
 pub use ranges::{FlagRange, Ranges};

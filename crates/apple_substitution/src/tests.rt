@@ -4,14 +4,14 @@ ghost use Rattle.std.specs.Prelude.{◌≤◌};
 use crate::chains::Feature;
 use crate::contextual::{Contextual, Mark};
 use crate::driver::{Subtable, drive};
-use crate::feature_map::feature_ranges;
 use crate::glyphs::Tables;
 use crate::insertion::Insertion;
 use crate::ligature::{Ligature, Stack};
 use crate::noncontextual::{Noncontextual, substitute_all};
 use crate::rearrangement::{Marks, Rearrangement};
 use crate::{
-    Chain, FeatureRange, FlagRange, Machine, Metamorphosis, Ranges, run_subtable, run_table,
+    Chain, FeatureRange, FlagRange, Machine, Metamorphosis, Ranges, map_features, run_subtable,
+    run_table,
 };
 use apple_tables::StateTable;
 use layout_buffer::GapBuffer;
@@ -316,7 +316,7 @@ fn features_choose_settings_in_ranges(rt: HostRuntime) {
         start: 1,
         end: 3,
     };
-    let ranges = feature_ranges(rt.alloc(), FEAT, &[off]).expect(&rt, "memory");
+    let ranges = map_features(rt.alloc(), FEAT, &[off]).expect(&rt, "memory");
     assert_eq!(rt; ranges.len(), 3);
     assert_eq!(rt; lasts(ranges.as_slice()), (0, 2, 0xFFFF_FFFF));
     assert_eq!(rt; first_setting(ranges.as_slice(), 0), None);
