@@ -1,5 +1,5 @@
-//! Which settings of Apple's registry the features that are asked for choose, and in which ranges of
-//! a text, as HarfBuzz's `hb-aat-map.cc` has it.
+//! Which settings of Apple's registry the features that are asked for choose, and in which ranges
+//! of a text, as HarfBuzz's `hb-aat-map.cc` has it.
 //!
 //! A feature of OpenType has a type in the registry, and a setting for on and for off; it chooses
 //! one if the table `feat` of the font has the type.
@@ -113,8 +113,8 @@ fn is_decided(features: &[Feature], choice: &Choice) -> bool
     })
 }
 
-/// Adds a setting to those of a cluster, if it is chosen there, and none is against it. Refuses with
-/// `Memory` alone, if a growth was refused.
+/// Adds a setting to those of a cluster, if it is chosen there, and none is against it. Refuses
+/// with `Memory` alone, if a growth was refused.
 fn add(features: &mut Vec<Feature>, cluster: u32, choice: &Choice) -> Result<(), ShapeError>
     ensures ok { OnOk result (features.new.items
         ≡ map_rules.added cluster features.old.items choice.now) }
@@ -163,8 +163,8 @@ fn edge_after(cluster: u32, choices: &[Choice]) -> u32
     nearest
 }
 
-/// The range from a cluster up to the next one where a choice begins or ends. Refuses with `Memory`
-/// alone, if a growth was refused.
+/// The range from a cluster up to the next one where a choice begins or ends. Refuses with
+/// `Memory` alone, if a growth was refused.
 fn range_at(
     alloc: Global,
     choices: &[Choice],
@@ -207,8 +207,9 @@ fn ranges_of(alloc: Global, choices: &[Choice]) -> Result<Vec<FeatureRange>, Sha
 }
 
 /// The ranges of a text with the settings that features choose there, by the table `feat` of the
-/// font. The last range ends with the greatest cluster. Takes time in step with the ranges, twice as
-/// many as features at most, and the features. Refuses with `Memory` alone, if a growth was refused.
+/// font. The last range ends with the greatest cluster. There are at most two ranges for each
+/// feature, and one; each takes a look at all features, and for each at the settings that are on
+/// there. Refuses with `Memory` alone, if a growth was refused.
 #[tactic(auto, unfolding(crate::specs::FeatureMap::requests_of))]
 pub fn map_features(
     alloc: Global,

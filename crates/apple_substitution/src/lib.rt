@@ -1,14 +1,15 @@
 //! Substitution by Apple's tables.
 //!
 //! [`driver`] drives an extended state table over a list of glyphs; what its entries do is a kind
-//! of subtable's, a [`Subtable`]: [`rearrangement`] moves glyphs of a span, [`contextual`] replaces a
-//! marked glyph and the current one, [`ligature`] joins components, and [`insertion`] inserts glyphs
-//! of a list. [`noncontextual`] replaces each glyph by itself, with the class that [`glyphs`] gives.
-//! [`ranges`] says where features have a subtable on, [`chains`] by which flags, and over which text;
-//! [`subtables`] runs one by its header. [`chain_runs`] runs those of a chain, with the flags of
-//! [`feature_ranges`], and [`metamorphosis`] the chains of the table; [`feature_map`] makes the ranges
-//! of what is asked for. Any bytes are taken, and a walk ends for each: what it may cost is charged to
-//! the buffer. [`worked`] has the definitions computed by hand.
+//! of subtable's, a [`Subtable`]: [`rearrangement`] moves glyphs of a span, [`contextual`]
+//! replaces a marked glyph and the current one, [`ligature`] joins components, and [`insertion`]
+//! inserts glyphs of a list. [`noncontextual`] replaces each glyph by itself, with the class that
+//! [`glyphs`] gives. [`ranges`] says where features have a subtable on, [`chains`] by which
+//! flags, and over which text; [`subtables`] runs one by its header. [`chain_runs`] runs those of
+//! a chain, with the flags of [`feature_ranges`], and [`metamorphosis`] the chains of the table;
+//! [`feature_map`] makes the ranges of what is asked for. Any bytes are taken, and a walk ends
+//! for each: what it may cost is charged to the buffer. [`worked`] has the definitions computed
+//! by hand.
 #![tactic(auto)]
 #![allow(non_camel_case_types)]
 
