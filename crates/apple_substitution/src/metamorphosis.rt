@@ -45,9 +45,9 @@ fn run_chains(
 
 /// Runs the chains of the table over a text, as HarfBuzz's `hb_aat_layout_substitute` does. What
 /// they cost is taken of the buffer's `max_ops`; a chain or a subtable that what is left doesn't
-/// suffice for is the end. Refuses with `Length` exactly if the list is past the limit of the run
-/// then, and otherwise with `Memory` alone, if a growth was refused. After a refusal the buffer may
-/// have lost its items.
+/// suffice for is the end. Refuses with `Length` if the list is past the limit of the run then, and
+/// in no other case, and with `Memory` if a growth was refused. After a refusal the buffer may have
+/// lost its items.
 #[tactic(auto, unfolding(crate::specs::Metamorphosis::metamorphosed))]
 pub fn run_table(
     alloc: Global,
