@@ -1,6 +1,6 @@
 //! Lookups over a buffer, nested ones included, and stages of lookups.
 ghost use Rattle.std.specs.Prelude.{◌≡◌, ℕ, ◌<◌, ◌≤◌, ◌-◌, ◌^◌, None, length, true, false, IfOk, IsErrOf};
-ghost use Rattle.std.specs.Option.{unwrap_or};
+ghost use Rattle.std.specs.Option.{ForSome, unwrap_or};
 ghost use Rattle.shape_buffer.specs.declared.buffer.error.ShapeError.TheVariants.{Length};
 ghost use Rattle.layout_matching.specs.Found as found_rules;
 ghost use Rattle.layout_matching.specs.Loops.{times};
@@ -20,7 +20,7 @@ use layout_buffer::GapBuffer;
 use layout_digests::Digested;
 use layout_matching::found::is_context;
 use layout_matching::indexed::Indexed;
-use layout_matching::ligature_sets::LigatureSet;
+use layout_matching::ligature_sets::StoredSets;
 use layout_substitution::apply::Spot;
 use layout_substitution::edits::asks_for_concat;
 use shape_buffer::ShapeError;
@@ -180,12 +180,13 @@ fn walk(
     alloc: Global,
     levels: u32,
     named: &Digested<'_>,
-    sets: &[LigatureSet],
+    sets: Option<&StoredSets>,
     buffer: &mut GapBuffer,
     spot: Spot,
 ) -> Result<Looked, ShapeError>
     requires said { IsDigested named.now }
-    requires sets { AreSets named.now.lookup.table.now named.now.lookup.place sets.now }
+    requires sets { ForSome sets
+        (λ s. AreSets named.now.lookup.table.now named.now.lookup.place s.now) }
     ensures ok { IfOk result (λ next. record { buffer = buffer.new; spot = next.spot }
         ≡ Stages.walked (nested_applied levels named.now.lookup) named.now.lookup
         (record { buffer = buffer.old; spot = spot })) }
@@ -228,12 +229,13 @@ fn go_over(
     alloc: Global,
     levels: u32,
     named: &Digested<'_>,
-    sets: &[LigatureSet],
+    sets: Option<&StoredSets>,
     buffer: &mut GapBuffer,
     spot: Spot,
 ) -> Result<Looked, ShapeError>
     requires said { IsDigested named.now }
-    requires sets { AreSets named.now.lookup.table.now named.now.lookup.place sets.now }
+    requires sets { ForSome sets
+        (λ s. AreSets named.now.lookup.table.now named.now.lookup.place s.now) }
     ensures ok { IfOk result (λ next. record { buffer = buffer.new; spot = next.spot }
         ≡ Stages.gone_over levels named.now.lookup (record { buffer = buffer.old; spot = spot })) }
     ensures kept { IfOk result (λ next. next.is_kept ≡ true → buffer.new ≡ buffer.old) }
@@ -273,13 +275,14 @@ fn levels() -> u32
 pub fn look_up(
     alloc: Global,
     named: &Digested<'_>,
-    sets: &[LigatureSet],
+    sets: Option<&StoredSets>,
     work: usize,
     buffer: &mut GapBuffer,
     spot: Spot,
 ) -> Result<Looked, ShapeError>
     requires said { IsDigested named.now }
-    requires sets { AreSets named.now.lookup.table.now named.now.lookup.place sets.now }
+    requires sets { ForSome sets
+        (λ s. AreSets named.now.lookup.table.now named.now.lookup.place s.now) }
     requires work { work ≡ walk_work named.now.lookup (length buffer.old.items) }
     ensures ok { IfOk result (λ next. record { buffer = buffer.new; spot = next.spot }
         ≡ Stages.looked_up Stages.most_levels named.now.lookup

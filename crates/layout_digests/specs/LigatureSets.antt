@@ -1,20 +1,19 @@
 -- what is stored of the sets of ligatures of a table
-use Rattle.std.specs.Prelude.{◌≡◌, ℕ, List, Some, ◌<◌, length, slice_index_or}
-use Rattle.std.specs.Global.{Vec}
+use Rattle.std.specs.Prelude.{◌≡◌, ℕ, List, Some, None, ◌<◌, length, slice_index_or}
+use Rattle.std.specs.Option.{ForSome}
 use Rattle.layout_tables.specs.Lookups.{lookup_of}
-use Rattle.layout_matching.specs.LigatureSets.{AreSets, HasSet, no_set}
-use Rattle.layout_matching.specs.Rules.{rules_at}
-use Rattle.layout_matching.specs.declared.ligature_sets.LigatureSet.{LigatureSet}
+use Rattle.layout_matching.specs.LigatureSets.{AreSets}
+use Rattle.layout_matching.specs.declared.ligature_sets.StoredSets.{StoredSets}
 
--- of the sets of the subtable at `start`, in the order of its Coverage
-abbrev pub AreSetsOf : List ℕ → ℕ → List LigatureSet → Type 0
-AreSetsOf t start sets = (number set : ℕ) → number < length sets → rules_at t start 4 number ≡ Some set
-    → HasSet t set (slice_index_or sets number no_set)
+-- the numbers that are stored are those of sets
+abbrev pub AreBelow : StoredSets → Type 0
+AreBelow stored = (i : ℕ) → i < length stored.numbers.items → ForSome (slice_index_or stored.numbers.items i None)
+    (λ n. n < length stored.sets.items)
 
 -- of the first subtable of the lookup with an index
-abbrev pub AreSetsAt : List ℕ → ℕ → List LigatureSet → Type 0
-AreSetsAt t index sets = (place : ℕ) → lookup_of t index ≡ Some place → AreSets t place sets
+abbrev pub AreSetsAt : List ℕ → ℕ → StoredSets → Type 0
+AreSetsAt t index stored = (place : ℕ) → lookup_of t index ≡ Some place → AreSets t place stored
 
 -- of each lookup, by its index
-abbrev pub HoldSets : List ℕ → List (Vec LigatureSet) → Type 0
-HoldSets t all = (index : ℕ) (none : Vec LigatureSet) → index < length all → AreSetsAt t index (slice_index_or all index none).items
+abbrev pub HoldSets : List ℕ → List StoredSets → Type 0
+HoldSets t all = (index : ℕ) (none : StoredSets) → index < length all → AreSetsAt t index (slice_index_or all index none)

@@ -22,7 +22,7 @@ const SUBTABLE_BYTES: usize = 8;
 /// The glyphs that a list covers, or more; every glyph once too much was read, and none if there is
 /// no list.
 #[tactic(auto, using(crate::proofs::WholeRuleLemmas::held_list))]
-fn nearest(table: &[u8], list: Option<usize>, left: &mut usize) -> First
+pub(crate) fn glyphs_of(table: &[u8], list: Option<usize>, left: &mut usize) -> First
     requires { IfSome list (λ place. place < 2 ^ 40) }
     ensures { whole_rules.HoldsList table.now list result }
 {
@@ -59,8 +59,8 @@ fn whole_at(lookups: Lookups<'_>, place: usize, i: u32, left: &mut usize) -> Opt
     let is_chain = is_chained_kind(positioning, subtable.kind);
     let mut rule = stored_rule(table, is_chain, subtable)?;
     let lists = nearest_lists(table, is_chain, subtable.start);
-    rule.nearest_before = nearest(table, lists.before, left);
-    rule.nearest_after = nearest(table, lists.after, left);
+    rule.nearest_before = glyphs_of(table, lists.before, left);
+    rule.nearest_after = glyphs_of(table, lists.after, left);
     Some(rule)
 }
 

@@ -1,7 +1,8 @@
 -- what is stored of sets of ligatures: made one ligature after the other, and what it says at a place
 use Prim.Native.Nat.{zero}
-use Rattle.std.proofs.Common.{◌≡◌, ℕ, suc, ◌+◌, ◌-◌, ◌*◌, ◌^◌, ◌<◌, ◌≤◌, ◌&&◌, not, Bool, true, false, List, Option, Some, None, length, max, min, nat_eq, nat_lt, refl, sym, ap, subst, ◌∙◌, arith, if◌then◌else◌}
+use Rattle.std.proofs.Common.{◌≡◌, ℕ, suc, ◌+◌, ◌-◌, ◌*◌, ◌^◌, ◌<◌, ◌≤◌, ◌&&◌, not, Bool, true, false, List, Option, Some, None, length, slice_index_or, max, min, nat_eq, nat_lt, refl, sym, ap, subst, ◌∙◌, arith, if◌then◌else◌}
 use Rattle.std.proofs.lemmas.Bool.Decides.{nat_tests}
+use Rattle.std.proofs.lemmas.List.{get_or_default}
 use Rattle.std.specs.Option.{option_and_then, option_map, option_map_or}
 use Rattle.shape_font.specs.Bytes.{u16_of}
 use Rattle.shape_items.specs.Buffer.{most_countable}
@@ -13,11 +14,11 @@ use Rattle.layout_matching.specs.Firsts.{may_begin}
 use Rattle.layout_matching.specs.Found.{number_of, subtable_at}
 use Rattle.layout_matching.specs.Glance.{any_glyph, glance_at, refuses}
 use Rattle.layout_matching.specs.Input.{seek_input}
-use Rattle.layout_matching.specs.LigatureSets.{ligature_counted, ligatures_counted, count_of, set_paid, subtable_paid, HasFirst, HasSet, first_start, IsSetOf}
+use Rattle.layout_matching.specs.LigatureSets.{ligature_counted, ligatures_counted, count_of, set_paid, subtable_paid, HasFirst, IsSetFor, AreSets, no_set}
 use Rattle.layout_matching.specs.Loops.{along, steps}
 use Rattle.layout_matching.specs.Rules.{FAR, row, rules_at, rule_place}
 use Rattle.layout_matching.specs.Seeking.{fits}
-use Rattle.layout_matching.specs.Sifted.{nearest_glance, second_glance, begins_with_another, is_out, AreOut, set_there}
+use Rattle.layout_matching.specs.Sifted.{nearest_glance, second_glance, begins_with_another, is_out, AreOut}
 use Rattle.layout_matching.specs.Skipping.{nth, is_skipped}
 use Rattle.layout_matching.specs.Work.{glances_at, has_classes, rule_tried, set_tries, tries_made, tries_step}
 use Rattle.layout_matching.specs.Work.{charged, counts_tallied, counts_work, counted, ligature_counts, null_counted, beside, part_counts, part_counted, part_rule, rule_counted, passed, passed_charged, set_counted, set_passed, set_charged, SUBTABLE_WORK, whole_list, begun_charged, parts_charged, numbered_charged, subtable_charged, charged_at_subtable}
@@ -25,6 +26,7 @@ use Rattle.layout_matching.specs.declared.firsts.First.{First}
 use Rattle.layout_matching.specs.declared.glance.Glance.{Glance}
 use Rattle.layout_matching.specs.declared.glance.Glance.TheVariants.{Closed, Only}
 use Rattle.layout_matching.specs.declared.ligature_sets.LigatureSet.{LigatureSet}
+use Rattle.layout_matching.specs.declared.ligature_sets.StoredSets.{StoredSets}
 use Rattle.layout_matching.specs.declared.lookup.Lookup.{Lookup}
 use Rattle.layout_matching.specs.declared.rules.Test.TheVariants.{Glyph}
 use Rattle.layout_matching.specs.declared.seeking.Seek.{Seek}
@@ -281,61 +283,73 @@ ligatures-passed l items at start set less s gsub made =
     ap (λ u. passed_charged l u items at (record s { tries = tries_made (set_tries l items at subtable set) })) listed
     ∙ ap (λ n. passed_charged l false items at (record s { tries = n })) (sym same)
 
-pub stored_charged : (l : Lookup) (items : List Item) (at start number set left rest : ℕ) (s : LigatureSet) → l.positioning ≡ false
-    → lookup_type_of l.table.now l.place ≡ 4 → first_start l.table.now l.place ≡ Some start
-    → number_of l.table.now start (nth items at).glyph_id ≡ Some number → rules_at l.table.now start 4 number ≡ Some set
-    → IsSetOf l.table.now l.place number s
-    → Some rest ≡ option_and_then (passed_charged l false items at) (subtable_paid s left)
-    → charged_at_subtable l items at 0 left ≡ Some rest
-stored_charged l items at start number set left rest s gsub type there covered is has paid =
-    ap (λ o. option_map_or (subtable_charged l items at left) o (Some left)) first
-    ∙ ligature_charged l items at left start gsub
-    ∙ ap (λ o. option_map_or (numbered_charged l items at subtable left) o (Some left)) covered
-    ∙ ap (option_and_then (parts_charged l items at subtable number)) begun
-    ∙ by_begun (charged SUBTABLE_WORK left) (sym paid)
-  where
-    subtable : LookupSubtable
-    subtable = record { kind = 4; start = start }
+-- what is stored for a number is of the glyph that has it
+pub set_of_glyph : (t : List ℕ) (place glyph i n : ℕ) (stored : StoredSets) (number : Option ℕ) (s : LigatureSet) → AreSets t place stored
+    → stored.first ≤ glyph → i ≡ glyph - stored.first → i < length stored.numbers.items
+    → number ≡ slice_index_or stored.numbers.items i number → number ≡ Some n → n < length stored.sets.items
+    → s ≡ slice_index_or stored.sets.items n s → IsSetFor t place glyph s
+set_of_glyph t place glyph i n stored number s are from is inside numbered some held here =
+    let there : slice_index_or stored.numbers.items i None ≡ Some n =
+    get_or_default stored.numbers.items i None number inside ∙ sym numbered ∙ some in
+    let same : stored.first + i ≡ glyph = omega (arith, from, is) in
+    subst (λ (x : LigatureSet). IsSetFor t place glyph x) (get_or_default stored.sets.items n no_set s held ∙ sym here)
+    (subst (λ g. IsSetFor t place g (slice_index_or stored.sets.items n no_set)) same (are i inside n there held))
 
-    place : l.place + 6 + 2 * 0 ≡ l.place + 6
-    place = omega arith
+module _ (l : Lookup) (items : List Item) (at left rest : ℕ) (s : LigatureSet) (gsub : l.positioning ≡ false)
+    (type : lookup_type_of l.table.now l.place ≡ 4) (stored : IsSetFor l.table.now l.place (nth items at).glyph_id s)
+    (paid : Some rest ≡ option_and_then (passed_charged l false items at) (subtable_paid s left)) where
+  abbrev subtable : LookupSubtable
+  subtable = record { kind = 4; start = s.start }
 
-    first : subtable_at l 0 ≡ Some subtable
-    first = ligature_subtable l 0 gsub type
-        ∙ ap (option_map (λ start. record { kind = 4; start = start })) (ap (offset16_of l.table.now l.place) place ∙ there)
+  first : subtable_at l 0 ≡ Some subtable
+  first =
+      let place : l.place + 6 + 2 * 0 ≡ l.place + 6 = omega arith in
+      ligature_subtable l 0 gsub type
+      ∙ ap (option_map (λ start. record { kind = 4; start = start })) (ap (offset16_of l.table.now l.place) place ∙ stored.first)
 
-    nothing : charged 0 left ≡ Some left
-    nothing = let e : nat_lt left 0 ≡ false = grind (arith, nat_tests) in
-        let rest : left - 0 ≡ left = omega arith in rw (e, rest) refl
+  nothing : charged 0 left ≡ Some left
+  nothing = let e : nat_lt left 0 ≡ false = grind (arith, nat_tests) in
+      let rest : left - 0 ≡ left = omega arith in rw (e, rest) refl
 
-    begun : begun_charged l items subtable left ≡ charged SUBTABLE_WORK left
-    begun = ap (option_and_then (charged SUBTABLE_WORK)) (no-list l.positioning ∙ nothing)
-      where
-        no-list : (p : Bool) → charged (if not p && false && l.random then length items else 0) left ≡ charged 0 left
-        no-list true = refl
-        no-list false = refl
+  begun : begun_charged l items subtable left ≡ charged SUBTABLE_WORK left
+  begun = ap (option_and_then (charged SUBTABLE_WORK)) (no-list l.positioning ∙ nothing)
+    where
+      no-list : (p : Bool) → charged (if not p && false && l.random then length items else 0) left ≡ charged 0 left
+      no-list true = refl
+      no-list false = refl
 
-    parts : (less : ℕ) → parts_charged l items at subtable number less ≡ set_charged l items at subtable less set
-    parts less = ligature_parts l items at subtable number less gsub refl
-        ∙ ap (λ o. option_map_or (set_charged l items at subtable less) o (passed_charged l false items at (beside less))) is
+  counted_so : (less : ℕ) → ligatures_counted l.table.now s.set (count_of l.table.now s.set) less ≡ set_paid s less
+  counted_so less = stored.held.has.paid less
 
-    counted_so : (less : ℕ) → ligatures_counted l.table.now set (count_of l.table.now set) less ≡ set_paid s less
-    counted_so less = (has start set there is).paid less
+  by_left : (less : ℕ) (o : Option ℕ) → set_paid s less ≡ option_map (tallied s) o
+      → option_and_then (passed_charged l false items at) (option_map (tallied s) o) ≡ Some rest
+      → option_and_then (set_passed l items at subtable s.set) (option_map (tallied s) o) ≡ Some rest
+  by_left less None e this = cc
+  by_left less (Some n) e this = ligatures-passed l items at s.start s.set less (tallied s n) gsub (counted_so less ∙ e) ∙ this
 
-    by_left : (less : ℕ) (o : Option ℕ) → set_paid s less ≡ option_map (tallied s) o
-        → option_and_then (passed_charged l false items at) (option_map (tallied s) o) ≡ Some rest
-        → option_and_then (set_passed l items at subtable set) (option_map (tallied s) o) ≡ Some rest
-    by_left less None e this = cc
-    by_left less (Some n) e this = ligatures-passed l items at start set less (tallied s n) gsub (counted_so less ∙ e) ∙ this
+  parts : (number less : ℕ) → rules_at l.table.now s.start 4 number ≡ Some s.set
+      → parts_charged l items at subtable number less ≡ set_charged l items at subtable less s.set
+  parts number less is = ligature_parts l items at subtable number less gsub refl
+      ∙ ap (λ o. option_map_or (set_charged l items at subtable less) o (passed_charged l false items at (beside less))) is
 
-    by_begun : (o : Option ℕ) → option_and_then (passed_charged l false items at) (option_and_then (set_paid s) o) ≡ Some rest
-        → option_and_then (parts_charged l items at subtable number) o ≡ Some rest
-    by_begun None this = cc
-    by_begun (Some less) this =
-        parts less
-        ∙ ap (option_and_then (set_passed l items at subtable set)) (set-by-table l start less set gsub ∙ counted_so less)
-        ∙ by_left less (charged s.work less) refl this
+  by_begun : (number : ℕ) → rules_at l.table.now s.start 4 number ≡ Some s.set → (o : Option ℕ)
+      → option_and_then (passed_charged l false items at) (option_and_then (set_paid s) o) ≡ Some rest
+      → option_and_then (parts_charged l items at subtable number) o ≡ Some rest
+  by_begun number is None this = cc
+  by_begun number is (Some less) this =
+      parts number less is
+      ∙ ap (option_and_then (set_passed l items at subtable s.set)) (set-by-table l s.start less s.set gsub ∙ counted_so less)
+      ∙ by_left less (charged s.work less) refl this
 
-pub covered_set : (l : Lookup) (items : List Item) (at start number set : ℕ) → number_of l.table.now start (nth items at).glyph_id ≡ Some number
-    → rules_at l.table.now start 4 number ≡ Some set → set_there l items at start ≡ Some set
-covered_set l items at start number set covered has = ap (option_and_then (rules_at l.table.now start 4)) covered ∙ has
+  by_number : (o : Option ℕ) → option_and_then (rules_at l.table.now s.start 4) o ≡ Some s.set
+      → option_map_or (numbered_charged l items at subtable left) o (Some left) ≡ Some rest
+  by_number None is = cc
+  by_number (Some number) is =
+      ap (option_and_then (parts_charged l items at subtable number)) begun
+      ∙ by_begun number is (charged SUBTABLE_WORK left) (sym paid)
+
+  pub stored_charged : charged_at_subtable l items at 0 left ≡ Some rest
+  stored_charged =
+      ap (λ o. option_map_or (subtable_charged l items at left) o (Some left)) first
+      ∙ ligature_charged l items at left s.start gsub
+      ∙ by_number (number_of l.table.now s.start (nth items at).glyph_id) stored.held.set

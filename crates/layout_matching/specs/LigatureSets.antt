@@ -1,15 +1,17 @@
 -- What is stored of a set of ligatures: what it costs, and which glyphs may follow the first one.
-use Rattle.std.specs.Prelude.{◌≡◌, ℕ, List, Bool, true, false, Option, Some, ◌+◌, ◌<◌, slice_index_or, length}
-use Rattle.std.specs.Option.{option_and_then, option_map, option_map_or}
+use Rattle.std.specs.Prelude.{◌≡◌, ℕ, List, Bool, true, false, Option, Some, None, ◌+◌, ◌<◌, ◌^◌, slice_index_or, length}
+use Rattle.std.specs.Option.{ForSome, option_and_then, option_map, option_map_or}
 use Rattle.shape_font.specs.Bytes.{u16_of, fitting}
 use Rattle.layout_tables.specs.Offsets.{offset16_of}
 use Rattle.layout_matching.specs.Firsts.{may_begin, no_first}
+use Rattle.layout_matching.specs.Found.{number_of}
 use Rattle.layout_matching.specs.Loops.{steps}
 use Rattle.layout_matching.specs.Rules.{rules_at, rule_place}
 use Rattle.layout_matching.specs.Sifted.{AreOut}
 use Rattle.layout_matching.specs.Work.{beside, charged, counted, ligature_counts, null_counted, SUBTABLE_WORK}
 use Rattle.layout_matching.specs.declared.glance.Glance.TheVariants.{Closed, Only}
 use Rattle.layout_matching.specs.declared.ligature_sets.LigatureSet.{LigatureSet}
+use Rattle.layout_matching.specs.declared.ligature_sets.StoredSets.{StoredSets}
 use Rattle.layout_matching.specs.declared.lookup.Lookup.{Lookup}
 use Rattle.layout_matching.specs.declared.tally.Tally.{Tally}
 
@@ -43,16 +45,26 @@ abbrev pub HasSet : List ℕ → ℕ → LigatureSet → Type 0
 HasSet t set s = HasFirst t set (count_of t set) s
 
 abbrev pub no_set : LigatureSet
-no_set = record { work = 0; after = 0; tries = 0; seconds = no_first; is_closed = false }
+no_set = record { start = 0; set = 0; work = 0; after = 0; tries = 0; seconds = no_first; is_closed = false }
 
 -- where the first subtable of a lookup at a place stands
 abbrev pub first_start : List ℕ → ℕ → Option ℕ
 first_start t place = offset16_of t place (place + 6)
 
--- what is stored of set number `number` of the first subtable of a lookup at a place
-abbrev pub IsSetOf : List ℕ → ℕ → ℕ → LigatureSet → Type 0
-IsSetOf t place number s = (start set : ℕ) → first_start t place ≡ Some start → rules_at t start 4 number ≡ Some set → HasSet t set s
+-- what is stored of the set of a glyph in the subtable at a place
+pub record IsSetIn (t : List ℕ) (at glyph : ℕ) (s : LigatureSet) : Type 0 where
+  pub start : s.start ≡ at
+  pub near : s.start < 2 ^ 35
+  pub close : s.set < 2 ^ 36
+  pub set : option_and_then (rules_at t s.start 4) (number_of t s.start glyph) ≡ Some s.set
+  pub has : HasSet t s.set s
 
--- and of all of its sets, in the order of its Coverage
-abbrev pub AreSets : List ℕ → ℕ → List LigatureSet → Type 0
-AreSets t place sets = (number : ℕ) → number < length sets → IsSetOf t place number (slice_index_or sets number no_set)
+-- in the first subtable of a lookup at a place
+pub record IsSetFor (t : List ℕ) (place glyph : ℕ) (s : LigatureSet) : Type 0 where
+  pub first : first_start t place ≡ Some s.start
+  pub held : IsSetIn t s.start glyph s
+
+-- and of the glyphs from the first one on
+abbrev pub AreSets : List ℕ → ℕ → StoredSets → Type 0
+AreSets t place stored = (i : ℕ) → i < length stored.numbers.items → ForSome (slice_index_or stored.numbers.items i None)
+    (λ n. n < length stored.sets.items → IsSetFor t place (stored.first + i) (slice_index_or stored.sets.items n no_set))

@@ -1,13 +1,13 @@
 //! A lookup with what is stored of its subtables, so that those are passed over that don't begin
 //! at a glyph: nothing of them is read. What the lookup does is the same.
 ghost use Rattle.std.specs.Prelude.{◌≡◌, ◌≤◌, ◌<◌, ◌+◌, ℕ, length, false};
-ghost use Rattle.std.specs.Option.{IfSome};
+ghost use Rattle.std.specs.Option.{ForSome, IfSome};
 ghost use Rattle.layout_matching.specs.Firsts.{AreFirsts, AreOut, IsOut};
-ghost use Rattle.layout_matching.specs.LigatureSets.{AreSets, IsSetOf};
+ghost use Rattle.layout_matching.specs.LigatureSets.{AreSets, IsSetFor};
 ghost use Rattle.layout_matching.specs.WholeRules.{AreWholesOf, IsWholeOf};
 
 use crate::firsts::Firsts;
-use crate::ligature_sets::LigatureSet;
+use crate::ligature_sets::{LigatureSet, StoredSets};
 use crate::lookup::Lookup;
 use crate::whole_rules::WholeRule;
 
@@ -17,10 +17,10 @@ use crate::whole_rules::WholeRule;
 pub struct Indexed<'a> {
     pub lookup: &'a Lookup<'a>,
     firsts: Firsts<'a>,
-    sets: &'a [LigatureSet],
+    sets: Option<&'a StoredSets>,
     ghost stored: { AreFirsts lookup.now firsts },
     ghost ruled: { AreWholesOf lookup.now firsts },
-    ghost said: { AreSets lookup.now.table.now lookup.now.place sets.now },
+    ghost said: { ForSome sets (λ s. AreSets lookup.now.table.now lookup.now.place s.now) },
 }
 
 impl<'a> Indexed<'a> {
@@ -34,7 +34,7 @@ impl<'a> Indexed<'a> {
         Indexed {
             lookup,
             firsts,
-            sets: &[],
+            sets: None,
         }
     }
 
@@ -43,11 +43,11 @@ impl<'a> Indexed<'a> {
     pub fn with_sets(
         lookup: &'a Lookup<'a>,
         firsts: Firsts<'a>,
-        sets: &'a [LigatureSet],
+        sets: Option<&'a StoredSets>,
     ) -> Indexed<'a>
         requires firsts { AreFirsts lookup.now firsts }
         requires wholes { AreWholesOf lookup.now firsts }
-        requires sets { AreSets lookup.now.table.now lookup.now.place sets.now }
+        requires sets { ForSome sets (λ s. AreSets lookup.now.table.now lookup.now.place s.now) }
         ensures { result.lookup.now ≡ lookup.now }
     {
         Indexed {
@@ -72,23 +72,17 @@ impl<'a> Indexed<'a> {
         Indexed {
             lookup,
             firsts,
-            sets: &[],
+            sets: None,
         }
     }
 
-    /// What is stored of the set of ligatures for the glyph with this number in the Coverage of the
-    /// first subtable.
+    /// What is stored of the set of ligatures of a glyph in the first subtable.
     #[inline(always)]
-    pub fn set_at(&self, number: u32) -> Option<&'a LigatureSet>
-        ensures { IfSome result (λ s. IsSetOf self.now.lookup.now.table.now self.now.lookup.now.place
-            number s.now) }
+    pub fn set_for(&self, glyph: u32) -> Option<&'a LigatureSet>
+        ensures { IfSome result (λ s. IsSetFor self.now.lookup.now.table.now self.now.lookup.now.place
+            glyph s.now) }
     {
-        let number = number as usize;
-        if number < self.sets.len() {
-            Some(&self.sets[number])
-        } else {
-            None
-        }
+        self.sets?.for_glyph(glyph)
     }
 
     /// What is stored of the one rule of subtable `i`.

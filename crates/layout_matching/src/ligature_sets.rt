@@ -1,12 +1,11 @@
-//! What is stored of the sets of ligatures of a font, once: what each costs, and which glyphs may
-//! follow its first one. Of most sets the glyph after the place refuses each ligature, and then
-//! nothing of the set is read.
+//! What is stored of the sets of ligatures of a font, once, by the glyphs that they begin with: what
+//! each costs, and which glyphs may follow its first one. Of most sets the glyph after the place
+//! refuses each ligature, and then nothing of the table is read.
 ghost use Rattle.std.specs.Prelude.{◌≡◌, Some, ◌<◌, ◌≤◌, ◌+◌, ◌-◌, ◌*◌, ◌^◌, ℕ, List, Bool, length, true, false};
 ghost use Rattle.std.specs.Option.{IfSome, option_and_then};
 ghost use Rattle.layout_tables.specs.Lookups.{lookup_type_of};
 ghost use Rattle.layout_matching.specs.Firsts.{may_begin};
 ghost use Rattle.layout_matching.specs.LigatureSets as set_rules;
-ghost use Rattle.layout_matching.specs.Rules.{rules_at};
 ghost use Rattle.layout_matching.specs.Sifted as Sifting;
 ghost use Rattle.layout_matching.specs.Work;
 ghost use Rattle.layout_matching.specs.declared.glance.Glance.TheVariants.{Only};
@@ -22,14 +21,16 @@ use crate::sets::passed_charged;
 use crate::tally::{Tally, charged};
 use crate::work::SUBTABLE_WORK;
 use layout_buffer::ItemList;
-use layout_tables::offsets::offset16;
 use shape_font::bytes::{records, u16_at};
+use std::alloc::Global;
 
-/// What is stored of a set of ligatures: what they cost, how many glyphs after the first one the
-/// longest has, how often they look beside a place, which glyphs may be a second component, and
-/// whether each ligature has one.
+/// What is stored of a set of ligatures: where its subtable and itself stand, what they cost, how
+/// many glyphs after the first one the longest has, how often they look beside a place, which glyphs
+/// may be a second component, and whether each ligature has one.
 #[derive(Clone, Copy, PartialEq, Eq, Debug)]
 pub struct LigatureSet {
+    pub start: usize,
+    pub set: usize,
     pub work: u32,
     pub after: u32,
     pub tries: u32,
@@ -37,14 +38,61 @@ pub struct LigatureSet {
     pub is_closed: bool,
 }
 
-/// Before the first ligature.
-fn no_ligature() -> LigatureSet
+/// What is stored of the sets of ligatures of a lookup's first subtable, by the glyphs that they
+/// begin with: for each glyph from the first one on the number of its set, if that is stored.
+#[derive(Drop)]
+pub struct StoredSets {
+    pub first: u32,
+    pub numbers: Vec<Option<u16>>,
+    pub sets: Vec<LigatureSet>,
+}
+
+impl StoredSets {
+    /// Nothing is stored.
+    pub fn none(alloc: Global) -> StoredSets
+        ensures { (t : List ℕ) (place : ℕ) → set_rules.AreSets t place result }
+    {
+        StoredSets {
+            first: 0,
+            numbers: Vec::new(alloc),
+            sets: Vec::new(alloc),
+        }
+    }
+
+    /// What is stored of the set of a glyph.
+    #[inline(always)]
+    pub fn for_glyph(&self, glyph: u32) -> Option<&LigatureSet>
+        ensures { (t : List ℕ) (place : ℕ) → set_rules.AreSets t place self.now
+            → IfSome result (λ s. set_rules.IsSetFor t place glyph s.now) }
+    {
+        if glyph < self.first {
+            return None;
+        }
+        let i = (glyph - self.first) as usize;
+        if self.numbers.len() <= i {
+            return None;
+        }
+        let number = usize::from(self.numbers[i]?);
+        if number < self.sets.len() {
+            Some(&self.sets[number])
+        } else {
+            None
+        }
+    }
+}
+
+/// Before the first ligature of a set.
+fn no_ligature(start: usize, set: usize) -> LigatureSet
+    ensures start { result.start ≡ start }
+    ensures set { result.set ≡ set }
     ensures has { (t : List ℕ) (set : ℕ) → set_rules.HasFirst t set 0 result }
     ensures work { result.work ≡ 0 }
     ensures after { result.after ≡ 1 }
     ensures tries { result.tries ≡ 1 }
 {
     LigatureSet {
+        start,
+        set,
         work: 0,
         after: 1,
         tries: 1,
@@ -76,6 +124,8 @@ fn with_ligature(table: &[u8], set: usize, r: u32, before: LigatureSet) -> Ligat
     requires work { before.work ≤ r * 2 ^ 16 }
     requires after { before.after < 2 ^ 16 }
     requires tries { before.tries ≤ r + 1 }
+    ensures start { result.start ≡ before.start }
+    ensures set { result.set ≡ before.set }
     ensures has { set_rules.HasFirst table.now set r before
         → set_rules.HasFirst table.now set (r + 1) result }
     ensures work { result.work ≤ (r + 1) * 2 ^ 16 }
@@ -96,40 +146,30 @@ fn with_ligature(table: &[u8], set: usize, r: u32, before: LigatureSet) -> Ligat
     next
 }
 
-/// What is stored of the set of ligatures at a place of the table.
-pub fn stored_set(table: &[u8], set: usize) -> LigatureSet
+/// What is stored of the set of ligatures at a place of the table, of the subtable at `start`.
+fn stored_set(table: &[u8], start: usize, set: usize) -> LigatureSet
     requires { set < 2 ^ 36 }
-    ensures { set_rules.HasSet table.now set result }
+    ensures start { result.start ≡ start }
+    ensures set { result.set ≡ set }
+    ensures has { set_rules.HasSet table.now set result }
 {
-    let mut stored = no_ligature();
+    let mut stored = no_ligature(start, set);
     for r in 0..records(table, u32::from(u16_at(table, set)), set + 2, 2) {
         stored = with_ligature(table, set, r, stored);
     }
     stored
 }
 
-/// What is stored of set number `number` of the subtable at `start`; of one without ligatures, if
-/// there is none.
-pub fn stored_at(table: &[u8], start: usize, number: u32) -> LigatureSet
+/// What is stored of the set of a glyph in the subtable at `start`, if it has one, and what is left
+/// suffices: a step for the set and each of its ligatures.
+pub fn stored_for(table: &[u8], start: usize, glyph: u32, left: &mut usize) -> Option<LigatureSet>
     requires { start < 2 ^ 35 }
-    ensures { (set : ℕ) → rules_at table.now start 4 number ≡ Some set
-        → set_rules.HasSet table.now set result }
+    ensures { IfSome result (set_rules.IsSetIn table.now start glyph) }
 {
-    match rules(table, start, 4, number) {
-        Some(set) => stored_set(table, set),
-        None => no_ligature(),
-    }
-}
-
-/// How many ligatures that set has.
-pub fn ligatures_in(table: &[u8], start: usize, number: u32) -> usize
-    requires { start < 2 ^ 35 }
-    ensures { result < 2 ^ 16 }
-{
-    match rules(table, start, 4, number) {
-        Some(set) => usize::from(u16_at(table, set)),
-        None => 0,
-    }
+    let number = number_in(table, start, glyph)?;
+    let set = rules(table, start, 4, number)?;
+    *left = charged(1 + usize::from(u16_at(table, set)), *left)?;
+    Some(stored_set(table, start, set))
 }
 
 /// Whether the glyph right after a place, or the end of the list, refuses each ligature of a set of
@@ -193,7 +233,7 @@ pub struct PaidSet {
 
 /// The set of the first subtable of a lookup of ligatures for the glyph at a place, charged for by
 /// what is stored of it; none if nothing is, or if what is left doesn't suffice.
-#[tactic(auto, using(crate::proofs::LigatureSetLemmas::stored_charged, crate::proofs::LigatureSetLemmas::covered_set))]
+#[tactic(auto, using(crate::proofs::LigatureSetLemmas::stored_charged))]
 #[inline(always)]
 pub fn set_paid(
     indexed: &Indexed<'_>,
@@ -201,7 +241,6 @@ pub fn set_paid(
     at: usize,
     left: usize,
 ) -> Option<PaidSet>
-    requires place { indexed.now.lookup.now.place < 2 ^ 17 }
     requires inside { at < length items.now }
     requires substitution { indexed.now.lookup.now.positioning ≡ false }
     requires four { lookup_type_of indexed.now.lookup.now.table.now indexed.now.lookup.now.place ≡ 4 }
@@ -219,14 +258,11 @@ pub fn set_paid(
     ensures close { IfSome result (λ p. p.set < 2 ^ 36) }
 {
     let lookup = indexed.lookup;
-    let start = offset16(lookup.table, lookup.place, lookup.place + 6)?;
-    let number = number_in(lookup.table, start, items.at(at).glyph_id)?;
-    let set = rules(lookup.table, start, 4, number)?;
-    let stored = indexed.set_at(number)?;
+    let stored = indexed.set_for(items.at(at).glyph_id)?;
     let left = left_beside(lookup, items, at, stored, left)?;
     Some(PaidSet {
-        start,
-        set,
+        start: stored.start,
+        set: stored.set,
         left,
         is_refused: is_refused(lookup, items, at, stored),
     })

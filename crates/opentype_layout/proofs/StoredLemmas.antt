@@ -14,7 +14,7 @@ use Rattle.layout_digests.specs.declared.digested.Digested.{Digested}
 use Rattle.layout_digests.specs.declared.stored.Head.{Head}
 use Rattle.layout_digests.specs.declared.stored.StoredLookup.{StoredLookup}
 use Rattle.layout_matching.specs.LigatureSets.{AreSets}
-use Rattle.layout_matching.specs.declared.ligature_sets.LigatureSet.{LigatureSet}
+use Rattle.layout_matching.specs.declared.ligature_sets.StoredSets.{StoredSets}
 use Rattle.layout_digests.specs.LigatureSets.{AreSetsAt}
 use Rattle.layout_digests.specs.Stored.{IsHead, IsStored, IsStoredAt}
 use Rattle.layout_digests.specs.WholeRules.{AreWholesAt, HoldWholes, IsWholeAt}
@@ -81,7 +81,7 @@ known_said t m stored s h known held is =
     })
 
 -- the sets that are stored for an index are those of the lookup there
-pub sets_of_lookup : (t : LookupTables) (m : LookupMap) (l : Lookup) (sets : List LigatureSet) → Some l ≡ lookup_of t m
+pub sets_of_lookup : (t : LookupTables) (m : LookupMap) (l : Lookup) (sets : StoredSets) → Some l ≡ lookup_of t m
     → AreSetsAt t.table.now m.index sets → AreSets l.table.now l.place sets
 sets_of_lookup t m l sets is held = by_place (tables.lookup_of t.table.now m.index) refl
   where

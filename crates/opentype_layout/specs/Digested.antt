@@ -3,7 +3,7 @@ use Rattle.std.specs.Prelude.{◌≡◌, ℕ, Bool, true, false, List, ◌<◌, 
 use Rattle.std.specs.Global.{Vec}
 use Rattle.layout_matching.specs.Firsts.{AreFirsts}
 use Rattle.layout_matching.specs.WholeRules.{AreWholesOf}
-use Rattle.layout_matching.specs.declared.ligature_sets.LigatureSet.{LigatureSet}
+use Rattle.layout_matching.specs.declared.ligature_sets.StoredSets.{StoredSets}
 use Rattle.layout_digests.specs.LigatureSets.{HoldSets}
 use Rattle.layout_digests.specs.Lookups.{IsDigest}
 use Rattle.layout_digests.specs.Stored.{AreStored}
@@ -30,7 +30,7 @@ pub record AreStoredOf (t : List ℕ) (positioning : Bool) (s : StoredLookups) :
 -- the font of the face, opened, what is said of the first glyphs, and what is stored of each lookup of its tables and of its sets of
 -- ligatures
 pub record IsStored (opened : FontFace) (f : OpenTypeFace) (props : List ℕ) (substitution positioning : StoredLookups)
-    (sets : List (Vec LigatureSet)) : Type 0 where
+    (sets : List StoredSets) : Type 0 where
   pub font : opened ≡ f.font
   pub classes : AreProps f.gdef.now props
   pub gsub : AreStoredOf f.gsub.now false substitution

@@ -1,6 +1,6 @@
 //! The lookups of a plan, ready to be applied.
 ghost use Rattle.std.specs.Prelude.{◌≡◌, ◌<◌, ◌^◌, ℕ, List};
-ghost use Rattle.std.specs.Option.{IfSome, option_map};
+ghost use Rattle.std.specs.Option.{ForSome, IfSome, option_map};
 ghost use Rattle.layout_digests.specs.LigatureSets.{AreSetsAt, HoldSets};
 ghost use Rattle.layout_digests.specs.WholeRules.{HoldWholes};
 ghost use Rattle.layout_digests.specs.Stored.{AreStored, IsHead, IsStoredAt};
@@ -14,7 +14,7 @@ use layout_digests::stored::head_at;
 use layout_digests::{Digest, Digested, Head, StoredLookup};
 use layout_map::lookups::LookupMap;
 use layout_matching::firsts::{First, Firsts};
-use layout_matching::ligature_sets::LigatureSet;
+use layout_matching::ligature_sets::StoredSets;
 use layout_matching::lookup::Lookup;
 use layout_matching::whole_rules::WholeRule;
 use layout_tables::lookups::lookup_count;
@@ -37,22 +37,22 @@ pub struct LookupTables<'a> {
 pub struct Stored<'a> {
     pub lookups: &'a [StoredLookup],
     pub firsts: &'a [First],
-    pub sets: &'a [Vec<LigatureSet>],
+    pub sets: &'a [StoredSets],
     pub wholes: &'a [Vec<Option<WholeRule>>],
 }
 
 impl<'a> Stored<'a> {
     /// What is stored of the sets of ligatures of the lookup with this index.
     #[inline(always)]
-    pub(crate) fn sets_of(&self, index: u16) -> &'a [LigatureSet]
+    pub(crate) fn sets_of(&self, index: u16) -> Option<&'a StoredSets>
         ensures { (table : List ℕ) → HoldSets table self.now.sets.now
-            → AreSetsAt table index result.now }
+            → ForSome result (λ s. AreSetsAt table index s.now) }
     {
         let i = usize::from(index);
         if i < self.sets.len() {
-            self.sets[i].as_slice()
+            Some(&self.sets[i])
         } else {
-            &[]
+            None
         }
     }
 }

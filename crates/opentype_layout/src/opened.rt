@@ -14,7 +14,7 @@ use layout_digests::StoredLookups;
 use layout_digests::ligature_sets::stored_sets;
 use layout_digests::lookups::Lookups;
 use layout_digests::stored::stored;
-use layout_matching::ligature_sets::LigatureSet;
+use layout_matching::ligature_sets::StoredSets;
 use opened_face::OpenedFace;
 use shape_buffer::{GlyphId, ShapeError, hb_font_t, hb_glyph_extents_t, hb_tables_t};
 use std::alloc::Global;
@@ -33,7 +33,7 @@ pub struct OpenedOpenTypeFace<'a> {
     props: Vec<u16>,
     substitution: StoredLookups,
     positioning: StoredLookups,
-    sets: Vec<Vec<LigatureSet>>,
+    sets: Vec<StoredSets>,
 }
 
 impl<'a> Model for OpenedOpenTypeFace<'a> {

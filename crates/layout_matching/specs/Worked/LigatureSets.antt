@@ -2,7 +2,7 @@
 use Rattle.std.specs.Prelude.{◌≡◌, ℕ, List, Some, None, true, false, refl}
 use Rattle.std.proofs.Common.{lit<}
 use Rattle.layout_matching.specs.Firsts.{has_bit, no_first}
-use Rattle.layout_matching.specs.LigatureSets.{ligatures_counted, count_of, set_paid, subtable_paid, HasFirst, HasSet, first_start}
+use Rattle.layout_matching.specs.LigatureSets.{ligatures_counted, count_of, set_paid, subtable_paid, HasSet, first_start, IsSetFor}
 use Rattle.layout_matching.specs.Rules.{rules_at}
 use Rattle.layout_matching.specs.Worked.Work.{shared_ligatures, no_subtables}
 use Rattle.layout_matching.specs.declared.firsts.First.{First}
@@ -14,7 +14,7 @@ six = record { fine = 64; middle = 1; coarse = 1 }
 
 -- those three ligatures cost 3, 3 and, NULL, 1; the longest has one glyph after the first; the set looks once, and each of two again
 abbrev pub of_shared : LigatureSet
-of_shared = record { work = 7; after = 1; tries = 3; seconds = six; is_closed = true }
+of_shared = record { start = 8; set = 22; work = 7; after = 1; tries = 3; seconds = six; is_closed = true }
 
 pub record WorkedSets : Type 0 where
   pub none_counted : ligatures_counted shared_ligatures 22 0 100 ≡ Some (record { left = 100; before = 1; after = 1; tries = 1 })
@@ -36,6 +36,10 @@ pub record WorkedSets : Type 0 where
   -- less work than the ligatures cost, and a second glyph that is left out
   pub too_cheap : HasSet shared_ligatures 22 (record of_shared { work = 6 }) → ⊥
   pub left_out : HasSet shared_ligatures 22 (record of_shared { seconds = no_first }) → ⊥
+  -- of another set, of another subtable, and of a glyph that isn't covered
+  pub another_set : IsSetFor shared_ligatures 0 5 (record of_shared { set = 20 }) → ⊥
+  pub another_subtable : IsSetFor shared_ligatures 0 5 (record of_shared { start = 6 }) → ⊥
+  pub another_glyph : IsSetFor shared_ligatures 0 6 of_shared → ⊥
 
 pub worked_sets : WorkedSets
 unfolding has_bit
@@ -56,4 +60,7 @@ worked_sets = record {
   its_set = refl;
   too_cheap = λ has. let wrong : None ≡ Some (record { left = 0; before = 1; after = 1; tries = 3 }) = has.paid 6 in cc;
   left_out = λ has. let wrong : false ≡ true = has.seconds 6 refl 0 (lit< tt) in cc;
+  another_set = λ is. let wrong : Some 22 ≡ Some 20 = is.held.set in cc;
+  another_subtable = λ is. let wrong : Some 8 ≡ Some 6 = is.first in cc;
+  another_glyph = λ is. let wrong : None ≡ Some 22 = is.held.set in cc;
 }

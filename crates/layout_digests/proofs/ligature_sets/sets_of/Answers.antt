@@ -1,19 +1,19 @@
-use Rattle.std.proofs.Common.{◌≡◌, ◌+◌, ◌++◌, ◌∷◌, [], length, ap, sym, subst, ◌∙◌, arith}
-use Rattle.std.proofs.lemmas.List.{length-append}
-use Rattle.layout_digests.specs.LigatureSets.{AreSetsOf}
-use Rattle.layout_digests.proofs.LigatureSetLemmas.{one_set}
+use Rattle.std.proofs.Common.{◌≡◌, ◌≤◌, ◌+◌, length, ap, ◌∙◌, arith}
+use Rattle.layout_digests.proofs.LigatureSetLemmas.{some_for}
 use Rattle.layout_digests.proofs.ligature_sets.sets_of.Goals as goal
 
-pub loop-number-preserved : goal.loop-number-preserved
-loop-number-preserved c =
+pub loop-i-preserved : goal.loop-i-preserved
+loop-i-preserved c =
     let t = c.args.table.now in
-    let sets = c.loop-number.sets.items in
-    let s = c.stored_at.result in
-    let made : c.push.new.self.items ≡ sets ++ s ∷ [] = c.in_ok-push.ensures.items in
-    let more : length (sets ++ s ∷ []) ≡ length sets + 1 = length-append sets (s ∷ []) in
-    let longer : length (sets ++ s ∷ []) ≡ c.loop-number.number + 1 = omega (arith, more, c.loop-number.invariant.count) in
+    let stored = c.loop-i.stored in
+    let inv = c.loop-i.invariant in
+    let glyph : stored.first + length stored.numbers.items ≡ c.reach_of-reach.result.first + c.loop-i.i = omega (arith, inv.first, inv.count) in
     record {
-      held = subst (AreSetsOf t c.args.start) (sym made)
-          (one_set t c.args.start c.loop-number.number sets s c.loop-number.invariant.held c.loop-number.invariant.count c.stored_at.ensures);
-      count = ap length made ∙ longer;
+      held = λ place is. c.in_ok-add_glyph.ensures.held t place inv.below (inv.held place is)
+          (some_for t place c.args.start (c.reach_of-reach.result.first + c.loop-i.i) (stored.first + length stored.numbers.items)
+          c.set_among-set.result is glyph c.set_among-set.ensures);
+      below = c.in_ok-add_glyph.ensures.below inv.below;
+      first = c.in_ok-add_glyph.ensures.first ∙ inv.first;
+      count = c.in_ok-add_glyph.ensures.count ∙ ap (λ n. n + 1) inv.count;
+      few = omega (arith, c.in_ok-add_glyph.ensures.few, inv.few);
     }

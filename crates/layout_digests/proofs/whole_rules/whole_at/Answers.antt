@@ -17,8 +17,8 @@ returns c =
     let context : is_context_kind positioning s.kind ≡ true = sym c.is_context_kind.ensures ∙ c.if-not-is_context_kind.false in
     let near : s.start < 2 ^ 35 = omega (arith, c.in_ok-subtable.ensures.near) in
     let format : u16_of t s.start ≡ 3 = grind (arith, nat_tests, c.if-u16_at-ne3.false, c.u16_at.ensures) in
-    whole_held t positioning c.args.place c.args.i s c.is_chained_kind-is_chain.result c.in_ok-rule.rule c.nearest-rule.result
-    c.nearest-rule-2.result there context near format c.is_chained_kind-is_chain.ensures
+    whole_held t positioning c.args.place c.args.i s c.is_chained_kind-is_chain.result c.in_ok-rule.rule c.glyphs_of-rule.result
+    c.glyphs_of-rule-2.result there context near format c.is_chained_kind-is_chain.ensures
     c.in_ok-rule.ensures.subtable c.in_ok-rule.ensures.counted
-    (subst (λ (o : Option ℕ). HoldsList t o c.nearest-rule.result) c.nearest_lists-lists.ensures.before c.nearest-rule.ensures)
-    (subst (λ (o : Option ℕ). HoldsList t o c.nearest-rule-2.result) c.nearest_lists-lists.ensures.after c.nearest-rule-2.ensures)
+    (subst (λ (o : Option ℕ). HoldsList t o c.glyphs_of-rule.result) c.nearest_lists-lists.ensures.before c.glyphs_of-rule.ensures)
+    (subst (λ (o : Option ℕ). HoldsList t o c.glyphs_of-rule-2.result) c.nearest_lists-lists.ensures.after c.glyphs_of-rule-2.ensures)

@@ -15,8 +15,8 @@ look_up-requires c =
     c.in-Some.is in
     record {
       said = substitutes-one named (subst (λ (p : Bool). IsSaid p named) c.requires.kind c.made_ready-named.ensures.said);
-      sets = sets_of_lookup t m named.lookup c.sets_of-sets.result.now c.made_ready-named.ensures.value
-          (c.sets_of-sets.ensures t.table.now c.requires.sets);
+      sets = λ s is. sets_of_lookup t m named.lookup s.now c.made_ready-named.ensures.value
+          (c.sets_of-sets.ensures t.table.now c.requires.sets s is);
       work = walk_of t m h named.lookup (length c.args.buffer.now.items) c.steps_work_by.result c.saturating_mul-work.result head c.requires.kind
           c.made_ready-named.ensures.by c.steps_work_by.ensures
           (subst (λ n. c.saturating_mul-work.result ≡ min (n * c.steps_work_by.result) most_countable) c.len.ensures.items
