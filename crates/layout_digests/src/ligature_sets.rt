@@ -43,7 +43,8 @@ fn reach_of(table: &[u8], list: usize) -> Reach
     }
 }
 
-/// What is stored of the set of a glyph in the subtable at `start`; nothing, if it isn't among these.
+/// What is stored of the set of a glyph in the subtable at `start`; nothing, if it isn't among
+/// these.
 fn set_among(
     table: &[u8],
     start: usize,
@@ -85,8 +86,8 @@ fn add_glyph(stored: &mut StoredSets, set: Option<LigatureSet>) -> Result<(), Sh
     Ok(())
 }
 
-/// What is stored of the sets of the subtable at `start`, the first one of a lookup, of those before
-/// so many glyphs, sets and ligatures were read.
+/// What is stored of the sets of the subtable at `start`, the first one of a lookup, of those
+/// before too much was read.
 fn sets_of(
     alloc: Global,
     table: &[u8],
@@ -144,9 +145,10 @@ fn sets_at(
     }
 }
 
-/// What is stored of the sets of ligatures of each lookup of `GSUB`. Takes a step for each glyph, set
-/// and ligature, and no more steps than the bytes of the table, and one for each lookup. Refuses with
-/// `Memory` if a growth was refused.
+/// What is stored of the sets of ligatures of each lookup of `GSUB`. Takes a step for each entry of
+/// a Coverage table, each glyph between its first and its last one, each set and each ligature, and
+/// no more steps than the bytes of the table, and one for each lookup; a glyph is searched for in
+/// the Coverage in its step. Refuses with `Memory` if a growth was refused.
 #[tactic(auto, using(crate::proofs::LigatureSetLemmas::one_lookup))]
 pub fn stored_sets(alloc: Global, table: &[u8]) -> Result<Vec<StoredSets>, ShapeError>
     ensures ok { IfOk result (λ all. stored_rules.HoldSets table.now all.items) }

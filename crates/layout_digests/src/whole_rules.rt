@@ -109,9 +109,9 @@ fn wholes_at(
     Ok(Vec::new(alloc))
 }
 
-/// What is stored of the rules of format 3 of each lookup of a table. Takes a step for each entry of
-/// the lists of their nearest glyphs and eight for each subtable, and no more steps than the bytes
-/// of the table, and one for each lookup. Refuses with `Memory` if a growth was refused.
+/// What is stored of the rules of format 3 of each lookup of a table. Takes a step for each entry
+/// of the lists of their nearest glyphs and eight for each subtable, and no more steps than the
+/// bytes of the table, and one for each lookup. Refuses with `Memory` if a growth was refused.
 pub fn stored_wholes(
     alloc: Global,
     lookups: Lookups<'_>,

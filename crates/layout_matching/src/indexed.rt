@@ -11,8 +11,8 @@ use crate::ligature_sets::{LigatureSet, StoredSets};
 use crate::lookup::Lookup;
 use crate::whole_rules::WholeRule;
 
-/// A lookup, the glyphs that its subtables may begin at and their rules of format 3, as far as these
-/// are stored, and what is stored of the sets of ligatures of its first subtable.
+/// A lookup, the glyphs that its subtables may begin at and their rules of format 3, as far as
+/// these are stored, and what is stored of the sets of ligatures of its first subtable.
 #[derive(Clone, Copy)]
 pub struct Indexed<'a> {
     pub lookup: &'a Lookup<'a>,

@@ -1,6 +1,6 @@
-//! What is stored of the sets of ligatures of a font, once, by the glyphs that they begin with: what
-//! each costs, and which glyphs may follow its first one. Of most sets the glyph after the place
-//! refuses each ligature, and then nothing of the table is read.
+//! What is stored of the sets of ligatures of a font, once, by the glyphs that they begin with:
+//! what each costs, and which glyphs may follow its first one. Of most sets the glyph after the
+//! place refuses each ligature, and then nothing of the table is read.
 ghost use Rattle.std.specs.Prelude.{◌≡◌, Some, ◌<◌, ◌≤◌, ◌+◌, ◌-◌, ◌*◌, ◌^◌, ℕ, List, Bool, length, true, false};
 ghost use Rattle.std.specs.Option.{IfSome, option_and_then};
 ghost use Rattle.layout_tables.specs.Lookups.{lookup_type_of};
@@ -24,9 +24,9 @@ use layout_buffer::ItemList;
 use shape_font::bytes::{records, u16_at};
 use std::alloc::Global;
 
-/// What is stored of a set of ligatures: where its subtable and itself stand, what they cost, how
-/// many glyphs after the first one the longest has, how often they look beside a place, which glyphs
-/// may be a second component, and whether each ligature has one.
+/// What is stored of a set of ligatures: where its subtable stands and where it does, what its
+/// ligatures cost, how many glyphs after the first one the longest has, how often they look beside
+/// a place, which glyphs may be a second component, and whether each ligature has one.
 #[derive(Clone, Copy, PartialEq, Eq, Debug)]
 pub struct LigatureSet {
     pub start: usize,
@@ -192,8 +192,8 @@ fn is_refused(lookup: &Lookup<'_>, items: &ItemList<'_>, at: usize, stored: &Lig
     ends_searches(lookup, there) && !stored.seconds.has(there.glyph_id)
 }
 
-/// What is left after a subtable of ligatures with a set of which this is stored, and after what its
-/// ligatures pass over beside a place. Nearly always that is nothing.
+/// What is left after a subtable of ligatures with a set of which this is stored, and after what
+/// its ligatures pass over beside a place. Nearly always that is nothing.
 #[tactic(auto, using(crate::proofs::PassingLemmas::passed_free))]
 #[inline(always)]
 fn left_beside(

@@ -53,7 +53,8 @@ pub struct NearestLists {
     pub after: Option<usize>,
 }
 
-/// Where the list of the first glyph of a row stands; none if the row is empty, or no glyph fits it.
+/// Where the list of the first glyph of a row stands; none if the row is empty, or no glyph fits
+/// it.
 fn list_of(table: &[u8], start: usize, row: &Row) -> Option<usize>
     requires { start < 2 ^ 35 }
     ensures value { result ≡ whole_rules.list_of table.now start row.now }

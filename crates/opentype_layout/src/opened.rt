@@ -23,9 +23,10 @@ use std::marker::Model;
 /// A face over the bytes of a font file with tables beside it: those of [`OpenedFace`], for each
 /// glyph what `GDEF` says of it, in 2 bytes, for each lookup of `GSUB` and `GPOS` what it begins
 /// with and a digest of the glyphs that it may begin at, in 88 bytes with the place of those of its
-/// subtables, and for these 24 each, or 120 in lookups of context; and for each set of ligatures what
-/// it costs and the second components, in 40. It returns what the [`OpenTypeFace`] returns, and contracts
-/// see it as that face.
+/// subtables, and for these 24 each, or 120 in lookups of context; and for each set of ligatures
+/// where it stands, what it costs and the second components, in 64, with 4 for each glyph between
+/// the first and the last one that have such a set. It returns what the [`OpenTypeFace`] returns,
+/// and contracts see it as that face.
 #[derive(Drop)]
 pub struct OpenedOpenTypeFace<'a> {
     face: OpenTypeFace<'a>,

@@ -1,4 +1,4 @@
--- What is stored of rules of format 3, and which rules of a set are passed over, computed by hand.
+-- What is stored of rules of format 3, computed by hand.
 use Rattle.std.specs.Prelude.{◌≡◌, ℕ, List, [], ◌∷◌, Some, None, true, false, refl}
 use Rattle.std.proofs.Common.{ap, lit<}
 use Rattle.shape_font.specs.Worked.Glyphs.{words}
