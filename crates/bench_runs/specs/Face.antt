@@ -27,5 +27,7 @@ table_face glyphs advances boxes = record {
   v_origin = λ _. pos 0;
   extents = extents_of boxes;
   units_per_em = 1000;
+  x_scale = pos 1000;
+  y_scale = pos 1000;
   tables = record { gsub = false; gpos = false; morx = false; kerx = false; trak = false };
 }

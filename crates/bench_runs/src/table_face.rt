@@ -84,6 +84,14 @@ impl hb_font_t for TableFace<'_> {
         1000
     }
 
+    fn x_scale(&self) -> i32 {
+        1000
+    }
+
+    fn y_scale(&self) -> i32 {
+        1000
+    }
+
     fn tables(&self) -> hb_tables_t {
         hb_tables_t {
             gsub: false,

@@ -14,4 +14,7 @@ pub record FaceMeaning : Type 0 where
   pub v_origin : GlyphId → ℤ
   pub extents : GlyphId → Option hb_glyph_extents_t
   pub units_per_em : ℕ
+  -- how wide and high the em square is at the size of the face
+  pub x_scale : ℤ
+  pub y_scale : ℤ
   pub tables : hb_tables_t

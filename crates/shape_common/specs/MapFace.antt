@@ -33,5 +33,7 @@ map_face face = record {
   v_origin = λ _. pos face.units_per_em;
   extents = extents_of face;
   units_per_em = face.units_per_em;
+  x_scale = pos face.units_per_em;
+  y_scale = pos face.units_per_em;
   tables = record { gsub = false; gpos = false; morx = false; kerx = false; trak = false };
 }

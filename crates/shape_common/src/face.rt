@@ -24,7 +24,7 @@ pub struct hb_tables_t {
 }
 
 /// The character map of a face, the metrics of its glyphs, and which tables it has. Metrics are in
-/// units of the face.
+/// units of the face: those of the font, or of a size of it.
 pub trait hb_font_t {
     ghost use Rattle.shape_common.specs.Face.{FaceMeaning};
 
@@ -64,9 +64,17 @@ pub trait hb_font_t {
     fn glyph_extents(&self, glyph: GlyphId) -> Option<hb_glyph_extents_t>
         ensures { result ≡ (face self.now).extents glyph };
 
-    /// The side of the em square.
+    /// The side of the em square, in units of the font.
     fn units_per_em(&self) -> u16
         ensures { result ≡ (face self.now).units_per_em };
+
+    /// How wide the em square is in units of the face, negative if a size mirrors it.
+    fn x_scale(&self) -> i32
+        ensures { result ≡ (face self.now).x_scale };
+
+    /// How high it is, likewise.
+    fn y_scale(&self) -> i32
+        ensures { result ≡ (face self.now).y_scale };
 
     /// Which tables of lookups the face has.
     fn tables(&self) -> hb_tables_t

@@ -122,6 +122,14 @@ impl hb_font_t for MapFace {
         self.units_per_em
     }
 
+    fn x_scale(&self) -> i32 {
+        i32::from(self.units_per_em)
+    }
+
+    fn y_scale(&self) -> i32 {
+        i32::from(self.units_per_em)
+    }
+
     fn tables(&self) -> hb_tables_t {
         hb_tables_t {
             gsub: false,

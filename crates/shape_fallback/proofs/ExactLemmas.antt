@@ -1,10 +1,11 @@
 -- If all numbers fit, the exact ones are taken.
-use Rattle.std.proofs.Common.{◌≡◌, ℕ, ℤ, pos, ◌+ℤ◌, ◌-ℤ◌, ◌*ℤ◌, neg_ℤ, int_div, Bool, true, false, not, ◌&&◌, ◌||◌, ◌<◌, ◌≤◌, ◌+◌, ◌/◌, refl, ap, ◌∙◌, inl, inr, arith}
-use Rattle.std.specs.Prelude.{if◌then◌else◌, ◌==◌, int_le}
+use Rattle.std.proofs.Common.{◌≡◌, ℕ, suc, ℤ, pos, negsuc, ◌+ℤ◌, ◌-ℤ◌, ◌*ℤ◌, neg_ℤ, int_div, Bool, true, false, not, ◌&&◌, ◌||◌, ◌<◌, ◌≤◌, ◌+◌, ◌/◌, refl, ap, ◌∙◌, inl, inr, arith}
+use Prim.Native.Nat.{zero}
+use Rattle.std.specs.Prelude.{if◌then◌else◌, ◌==◌, ◌*◌, ◌≤ℤ◌, int_le, unsigned_abs}
 use Rattle.std.specs.Int.{w32, int_wrap}
 use Rattle.std.proofs.lemmas.Bool.{cases_Bool}
-use Rattle.std.proofs.lemmas.Int.{ints, int_wrap_fits, int_wrap-add_left, int_wrap-sub_right, int_wrap-add_same}
-use Rattle.std.proofs.Math.Nat.{div-le_self}
+use Rattle.std.proofs.lemmas.Int.{ints, SFits-int_wrap, int_wrap_fits, int_wrap-add_left, int_wrap-sub_right, int_wrap-add_same}
+use Rattle.std.proofs.lemmas.Nat.{div_below}
 use Rattle.shape_common.specs.Wrapping.{◌+ʷ◌, ◌-ʷ◌, neg_w, +ʷ-exact, -ʷ-exact, *ʷ-exact, neg_w-exact}
 use Rattle.shape_common.specs.Face.{FaceMeaning}
 use Rattle.shape_items.specs.Items.{Item}
@@ -262,22 +263,54 @@ round-exact = record {
 
 -- ---- spaces
 
--- a part of the em square is no more than the square and half of the type's number
-em_fraction-small : (u t : ℕ) → u < 65536 → t < 256 → em_fraction u t < 65792
+-- a quotient has a negative if the number lies nearer to 0 than 2^31 times the divisor
+quotient_turns : (s : ℤ) (t : ℕ) → 0 < t → unsigned_abs s < 2147483648 * t → Fits32 (neg_ℤ (int_div s (pos t)))
+quotient_turns (pos a) t some less =
+    let small : a / t < 2147483648 = div_below a t 2147483648 some less in
+    omega (arith, ints)
+quotient_turns (negsuc a) t some less =
+    let small : suc a / t < 2147483648 = div_below (suc a) t 2147483648 some less in
+    omega (arith, ints)
+
+four_times : (side : ℤ) → negsuc 2147483646 ≤ℤ side → side ≤ℤ pos 2147483647 → unsigned_abs (side *ℤ pos 4) < 2147483648 * 18
+four_times (pos a) low high = omega (arith, ints)
+four_times (negsuc a) low high = omega (arith, ints)
+
+near : (side : ℤ) → negsuc 2147483646 ≤ℤ side → side ≤ℤ pos 2147483647 → unsigned_abs side < 2147483648 * 1
+near (pos a) low high = omega (arith, ints)
+near (negsuc a) low high = omega (arith, ints)
+
+twice : (s : ℤ) (k : ℕ) → Fits32 s → unsigned_abs s < 2147483648 * suc (suc k)
+twice (pos a) k fits = omega (arith, ints)
+twice (negsuc a) k fits = omega (arith, ints)
+
+sum_fits : (a b : ℤ) → Fits32 (a +ʷ b)
+unfolding ◌+ʷ◌
+sum_fits a b = SFits-int_wrap w32 (a +ℤ b)
+
+-- the sum may wrap only where it is divided by more than 1
+part_added : (side : ℤ) (t : ℕ) → negsuc 2147483646 ≤ℤ side → side ≤ℤ pos 2147483647 → 0 < t
+    → unsigned_abs (side +ʷ pos (t / 2)) < 2147483648 * t
+part_added side zero low high some = absurd (omega arith)
+part_added side (suc zero) low high some =
+    let same : side +ʷ pos 0 ≡ side = +ʷ-exact side (pos 0) (omega (arith, ints)) ∙ omega (arith, ints) in
+    rw same (near side low high)
+part_added side (suc (suc k)) low high some =
+    twice (side +ʷ pos (suc (suc k) / 2)) k (sum_fits side (pos (suc (suc k) / 2)))
+
+-- a part of an em square is no further from 0 than the square is
+em_fraction-small : (side : ℤ) (t : ℕ) → negsuc 2147483646 ≤ℤ side → side ≤ℤ pos 2147483647 → 0 < t → Fits32 (neg_ℤ (em_fraction side t))
 unfolding em_fraction
-em_fraction-small u t units type =
-    let rounded : (u + t / 2) / t ≤ u + t / 2 = div-le_self (u + t / 2) t in
-    let half : t / 2 ≤ t = div-le_self t 2 in
+em_fraction-small side t low high some =
     elim (cases_Bool (t == 17)) [
-      | inl em_18 ↦ rw em_18 (omega arith)
-      | inr other ↦ rw other (omega arith)
+      | inl em_18 ↦ rw em_18 (quotient_turns (side *ℤ pos 4) 18 (omega arith) (four_times side low high))
+      | inr other ↦ rw other (quotient_turns (side +ʷ pos (t / 2)) t some (part_added side t low high some))
     ]
 
-pub down-exact : (u t : ℕ) → u < 65536 → t < 256 → em_advance false (em_fraction u t) ≡ neg_ℤ (pos (em_fraction u t))
+pub down-exact : (side : ℤ) (t : ℕ) → negsuc 2147483646 ≤ℤ side → side ≤ℤ pos 2147483647 → 0 < t
+    → em_advance false (em_fraction side t) ≡ neg_ℤ (em_fraction side t)
 unfolding em_advance
-down-exact u t units type =
-    let small = em_fraction-small u t units type in
-    neg_w-exact (pos (em_fraction u t)) (omega (arith, ints))
+down-exact side t low high some = neg_w-exact (em_fraction side t) (em_fraction-small side t low high some)
 
 pub spaces-exact : ExactSpaces
 spaces-exact = record { down = down-exact }

@@ -1,5 +1,5 @@
 -- All bases of a buffer, and their marks.
-use Rattle.std.specs.Prelude.{ℕ, pos, zero, suc, ◌+◌, ◌/◌, Bool, true, false, List, [], ◌∷◌, ◌++◌, Option, map, fold, drop, if◌then◌else◌}
+use Rattle.std.specs.Prelude.{ℕ, pos, zero, suc, ◌+◌, int_div, Bool, true, false, List, [], ◌∷◌, ◌++◌, Option, map, fold, drop, if◌then◌else◌}
 use Rattle.std.specs.List.{prefix_len}
 use Rattle.shape_items.specs.Buffer.{Buffer}
 use Rattle.shape_items.specs.BufferClusters.{unsafe_to_break}
@@ -82,13 +82,13 @@ unfoldable pub runs_to_right : UnicodeMeaning → Direction → Option Script �
 runs_to_right unicode direction script =
     is_left_to_right (if is_horizontal direction then direction else script_or_ltr unicode script)
 
--- the gap between marks is a sixteenth of the em square; the line's direction is the buffer's
+-- the gap between marks is a sixteenth of the height of the em square; the line's direction is the buffer's
 unfoldable pub frame_of : UnicodeMeaning → FaceMeaning → Direction → Option Script → Bool → Buffer → MarkFrame
 frame_of unicode face direction script adjust b = record {
   surroundings = record {
     horizontal = is_horizontal b.direction;
     forward = is_forward b.direction;
-    gap = pos (face.units_per_em / 16);
+    gap = int_div face.y_scale (pos 16);
   };
   left_to_right = runs_to_right unicode direction script;
   adjust = adjust;

@@ -1,5 +1,5 @@
 -- The exact numbers of fallback positions, if all of them fit an i32.
-use Rattle.std.specs.Prelude.{◌≡◌, ◌==◌, ℕ, ℤ, pos, ◌<◌, ◌+ℤ◌, ◌-ℤ◌, ◌*ℤ◌, neg_ℤ, int_div, int_le, Bool, true, false, ◌&&◌, ◌||◌, not, if◌then◌else◌}
+use Rattle.std.specs.Prelude.{◌≡◌, ◌==◌, ℕ, ℤ, pos, negsuc, ◌<◌, ◌≤ℤ◌, ◌+ℤ◌, ◌-ℤ◌, ◌*ℤ◌, neg_ℤ, int_div, int_le, Bool, true, false, ◌&&◌, ◌||◌, not, if◌then◌else◌}
 use Rattle.std.specs.Prelude.{FitsSigned}
 use Rattle.std.specs.Int.{w32}
 use Rattle.shape_common.specs.Face.{FaceMeaning}
@@ -123,6 +123,7 @@ pub record ExactMarks : Type 0 where
       → (component_extents base c).x_bearing
       ≡ base.extents.x_bearing +ℤ int_div (place_of base c *ℤ base.extents.width) (pos base.number_of_components)
 
--- a space's part of the em square always fits: down a line it is the exact negative
+-- a space's part of an em square always fits, unless the square is all of the least number: down a line it is the exact negative
 pub record ExactSpaces : Type 0 where
-  pub down : (u t : ℕ) → u < 65536 → t < 256 → em_advance false (em_fraction u t) ≡ neg_ℤ (pos (em_fraction u t))
+  pub down : (side : ℤ) (t : ℕ) → negsuc 2147483646 ≤ℤ side → side ≤ℤ pos 2147483647 → 0 < t
+      → em_advance false (em_fraction side t) ≡ neg_ℤ (em_fraction side t)

@@ -1,5 +1,5 @@
 -- Fallback spaces: how wide a space is that the face has no glyph for, by its remembered type.
-use Rattle.std.specs.Prelude.{ℕ, ℤ, pos, ◌+◌, ◌*◌, ◌/◌, ◌==◌, ◌||◌, ◌&&◌, not, nat_le, Bool, true, false, List, [], ◌∷◌, Option, None, if◌then◌else◌, int_div}
+use Rattle.std.specs.Prelude.{ℕ, ℤ, pos, ◌*ℤ◌, ◌/◌, ◌==◌, ◌||◌, ◌&&◌, not, nat_le, Bool, true, false, List, [], ◌∷◌, Option, None, if◌then◌else◌, int_div}
 use Rattle.std.specs.Option.{option_map_or, option_or}
 use Rattle.shape_items.specs.Buffer.{Buffer}
 use Rattle.shape_common.specs.Category.{is_space_category}
@@ -7,7 +7,7 @@ use Rattle.shape_common.specs.Direction.{is_horizontal}
 use Rattle.shape_common.specs.Face.{FaceMeaning}
 use Rattle.shape_items.specs.Items.{Item}
 use Rattle.shape_buffer.specs.PositionWalks.{positions_mapped}
-use Rattle.shape_common.specs.Wrapping.{neg_w}
+use Rattle.shape_common.specs.Wrapping.{◌+ʷ◌, neg_w}
 use Rattle.shape_common.specs.declared.positions.GlyphPosition.{GlyphPosition}
 use Rattle.shape_common.specs.declared.text_types.GlyphId.{GlyphId}
 use Rattle.shape_common.specs.declared.space_types.TheConstants.{SPACE_EM, SPACE_EM_6, SPACE_EM_16, SPACE_4_EM_18, SPACE_FIGURE, SPACE_PUNCTUATION}
@@ -17,13 +17,17 @@ use Rattle.shape_common.specs.declared.space_types.TheConstants.{SPACE_NARROW}
 unfoldable pub is_em_fraction : ℕ → Bool
 is_em_fraction t = (nat_le SPACE_EM t && nat_le t SPACE_EM_6) || t == SPACE_EM_16 || t == SPACE_4_EM_18
 
--- how much of an em square of side u: four eighteenths, or the part that the type names, rounded
-unfoldable pub em_fraction : ℕ → ℕ → ℕ
-em_fraction u t = if t == SPACE_4_EM_18 then u * 4 / 18 else (u + t / 2) / t
+-- how wide the em square is, or how high along vertical lines
+abbrev pub em_side : FaceMeaning → Bool → ℤ
+em_side face horizontal = if horizontal then face.x_scale else face.y_scale
+
+-- how much of an em square of a side: four eighteenths, or the part that the type names, rounded
+unfoldable pub em_fraction : ℤ → ℕ → ℤ
+em_fraction side t = if t == SPACE_4_EM_18 then int_div (side *ℤ pos 4) (pos 18) else int_div (side +ʷ pos (t / 2)) (pos t)
 
 -- vertical lines go down, so an advance along them is negative
-unfoldable pub em_advance : Bool → ℕ → ℤ
-em_advance horizontal n = if horizontal then pos n else neg_w (pos n)
+unfoldable pub em_advance : Bool → ℤ → ℤ
+em_advance horizontal n = if horizontal then n else neg_w n
 
 -- the glyph of the first of some characters that has one
 unfoldable pub first_glyph : FaceMeaning → List ℕ → Option GlyphId
@@ -48,7 +52,7 @@ as_wide_as face horizontal cs before = option_map_or (advance_along face horizon
 -- the advance of a space of a type: a narrow one takes half of what it was, and other types keep theirs
 unfoldable pub space_advance : FaceMeaning → Bool → ℕ → ℤ → ℤ
 space_advance face horizontal t before =
-    if is_em_fraction t then em_advance horizontal (em_fraction face.units_per_em t)
+    if is_em_fraction t then em_advance horizontal (em_fraction (em_side face horizontal) t)
     else if t == SPACE_FIGURE then as_wide_as face horizontal figures before
     else if t == SPACE_PUNCTUATION then as_wide_as face horizontal stops before
     else if t == SPACE_NARROW then int_div before (pos 2)

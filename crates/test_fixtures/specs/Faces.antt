@@ -1,5 +1,5 @@
 -- What the face of tests returns.
-use Rattle.std.specs.Prelude.{ℕ, ℤ, List, ◌==◌, ◌&&◌, Option, Some, None, find, if◌then◌else◌}
+use Rattle.std.specs.Prelude.{pos, ℕ, ℤ, List, ◌==◌, ◌&&◌, Option, Some, None, find, if◌then◌else◌}
 use Rattle.std.specs.Option.{option_map, option_flatten, option_or, unwrap_or}
 use Rattle.shape_common.specs.Face.{FaceMeaning}
 use Rattle.shape_common.specs.declared.face.hb_glyph_extents_t.{hb_glyph_extents_t}
@@ -45,5 +45,7 @@ test_face face = record {
   v_origin = λ _. face.v_origin;
   extents = λ glyph. option_flatten (extents_known face.known.now glyph);
   units_per_em = face.units_per_em;
+  x_scale = pos face.units_per_em;
+  y_scale = pos face.units_per_em;
   tables = face.tables;
 }

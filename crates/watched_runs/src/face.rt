@@ -73,6 +73,14 @@ impl<'a, F: hb_font_t, W> hb_font_t for WatchedFace<'a, F, W> {
         self.face.units_per_em()
     }
 
+    fn x_scale(&self) -> i32 {
+        self.face.x_scale()
+    }
+
+    fn y_scale(&self) -> i32 {
+        self.face.y_scale()
+    }
+
     fn tables(&self) -> hb_tables_t {
         self.face.tables()
     }

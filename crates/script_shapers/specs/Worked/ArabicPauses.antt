@@ -62,6 +62,8 @@ plain_face = record {
   v_origin = λ g. pos 0;
   extents = λ g. None;
   units_per_em = 1000;
+  x_scale = pos 1000;
+  y_scale = pos 1000;
   tables = record { gsub = false; gpos = false; morx = false; kerx = false; trak = false };
 }
 

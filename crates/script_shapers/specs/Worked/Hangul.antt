@@ -32,6 +32,8 @@ face chars = record {
   v_origin = λ _. pos 0;
   extents = λ _. None;
   units_per_em = 1000;
+  x_scale = pos 1000;
+  y_scale = pos 1000;
   tables = record { gsub = false; gpos = false; morx = false; kerx = false; trak = false };
 }
 

@@ -37,6 +37,8 @@ base_face u advance own = record (worked_face (λ c. false)) {
       else if g.0 == 3 then Some (extents (pos 50) (negsuc 49) (pos 200) (negsuc 99))
       else None;
   units_per_em = u;
+  x_scale = pos u;
+  y_scale = pos u;
 }
 
 -- of 1000 units, the base from 700 down to 0

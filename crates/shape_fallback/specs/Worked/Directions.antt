@@ -40,7 +40,7 @@ marks_without_ccc = record { forward = λ face. refl; backward = λ face. refl }
 -- what marks stand along in a buffer of a direction, under a plan of another one
 abbrev pub along : UnicodeMeaning → FaceMeaning → Direction → Direction → ℕ → Surroundings
 along unicode face plan buffer units =
-    (frame_of unicode (record face { units_per_em = units }) plan None false (record new_buffer { direction = buffer })).surroundings
+    (frame_of unicode (record face { y_scale = pos units }) plan None false (record new_buffer { direction = buffer })).surroundings
 
 pub record LinesOfMarks : Type 0 where
   pub rightward : (unicode : UnicodeMeaning) (face : FaceMeaning)
@@ -75,11 +75,12 @@ em_space flags =
 
 pub record FlagOfSpaces : Type 0 where
   pub seen : (face : FaceMeaning)
-      → (spaces_step (record face { units_per_em = 1000 }) (em_space 4)).positions ≡ at (pos 1000) (pos 0) (pos 0) (pos 0) ∷ []
-  pub unseen : (face : FaceMeaning) → (spaces_step (record face { units_per_em = 1000 }) (em_space 59)).positions ≡ zero_position ∷ []
+      → (spaces_step (record face { x_scale = pos 1000 }) (em_space 4)).positions ≡ at (pos 1000) (pos 0) (pos 0) (pos 0) ∷ []
+  pub unseen : (face : FaceMeaning) → (spaces_step (record face { x_scale = pos 1000 }) (em_space 59)).positions ≡ zero_position ∷ []
 
 flag_of_spaces : FlagOfSpaces
 unfolding spaces_step spaces_placed positions_mapped item_spaced is_lone_space space_positioned space_advance is_em_fraction em_fraction em_advance
+    ◌+ʷ◌ int_wrap
 flag_of_spaces = record { seen = λ face. refl; unseen = λ face. refl }
 
 pub record WorkedDirections : Type 0 where

@@ -6,7 +6,7 @@ use Rattle.shape_common.specs.Face.{FaceMeaning}
 use Rattle.shape_items.specs.Items.{Item, new_item}
 use Rattle.shape_buffer.specs.PositionWalks.{positions_mapped}
 use Rattle.shape_common.specs.Positions.{zero_position}
-use Rattle.shape_common.specs.Wrapping.{neg_w}
+use Rattle.shape_common.specs.Wrapping.{◌+ʷ◌, neg_w}
 use Rattle.shape_common.specs.declared.general_category.hb_unicode_general_category_t.{hb_unicode_general_category_t}
 use Rattle.shape_common.specs.declared.general_category.hb_unicode_general_category_t.TheVariants.{SpaceSeparator, LineSeparator}
 use Rattle.shape_common.specs.declared.positions.GlyphPosition.{GlyphPosition}
@@ -19,16 +19,19 @@ use Rattle.shape_fallback.specs.DueSteps.{spaces_step}
 
 -- parts of an em square of 1000 units: EM to EM_6, EM_16, 4_EM_18, and the greatest and least squares
 pub record EmParts : Type 0 where
-  pub of_1000 : map (em_fraction 1000) (1 ∷ 2 ∷ 3 ∷ 4 ∷ 5 ∷ 6 ∷ 16 ∷ 17 ∷ []) ≡ 1000 ∷ 500 ∷ 333 ∷ 250 ∷ 200 ∷ 167 ∷ 63 ∷ 222 ∷ []
-  pub of_1 : map (em_fraction 1) (1 ∷ 2 ∷ 3 ∷ 16 ∷ 17 ∷ []) ≡ 1 ∷ 1 ∷ 0 ∷ 0 ∷ 0 ∷ []
-  pub of_8 : map (em_fraction 8) (16 ∷ 17 ∷ []) ≡ 1 ∷ 1 ∷ []
-  pub of_65535 : map (em_fraction 65535) (1 ∷ 2 ∷ 16 ∷ 17 ∷ []) ≡ 65535 ∷ 32768 ∷ 4096 ∷ 14563 ∷ []
+  pub of_1000 : map (em_fraction (pos 1000)) (1 ∷ 2 ∷ 3 ∷ 4 ∷ 5 ∷ 6 ∷ 16 ∷ 17 ∷ [])
+      ≡ pos 1000 ∷ pos 500 ∷ pos 333 ∷ pos 250 ∷ pos 200 ∷ pos 167 ∷ pos 63 ∷ pos 222 ∷ []
+  pub of_1 : map (em_fraction (pos 1)) (1 ∷ 2 ∷ 3 ∷ 16 ∷ 17 ∷ []) ≡ pos 1 ∷ pos 1 ∷ pos 0 ∷ pos 0 ∷ pos 0 ∷ []
+  pub of_8 : map (em_fraction (pos 8)) (16 ∷ 17 ∷ []) ≡ pos 1 ∷ pos 1 ∷ []
+  pub of_65535 : map (em_fraction (pos 65535)) (1 ∷ 2 ∷ 16 ∷ 17 ∷ []) ≡ pos 65535 ∷ pos 32768 ∷ pos 4096 ∷ pos 14563 ∷ []
+  -- a mirrored square: -333.3 and -62.5 with the half part are rounded towards 0
+  pub mirrored : map (em_fraction (negsuc 999)) (1 ∷ 3 ∷ 16 ∷ 17 ∷ []) ≡ negsuc 999 ∷ negsuc 332 ∷ negsuc 61 ∷ negsuc 221 ∷ []
   pub named : map is_em_fraction (0 ∷ 1 ∷ 6 ∷ 7 ∷ 15 ∷ 16 ∷ 17 ∷ 18 ∷ 255 ∷ [])
       ≡ false ∷ true ∷ true ∷ false ∷ false ∷ true ∷ true ∷ false ∷ false ∷ []
 
 em_parts : EmParts
-unfolding em_fraction is_em_fraction
-em_parts = record { of_1000 = refl; of_1 = refl; of_8 = refl; of_65535 = refl; named = refl }
+unfolding em_fraction is_em_fraction ◌+ʷ◌ int_wrap
+em_parts = record { of_1000 = refl; of_1 = refl; of_8 = refl; of_65535 = refl; mirrored = refl; named = refl }
 
 -- a face of 1000 units in which some characters have the glyph of their own number, as wide as that
 abbrev pub worked_face : (ℕ → Bool) → FaceMeaning
@@ -67,6 +70,9 @@ pub record SpaceAdvances : Type 0 where
   pub em_spaces : map (λ t. space_advance (worked_face (λ c. false)) true t (pos 251)) (3 ∷ 16 ∷ 17 ∷ []) ≡ pos 333 ∷ pos 63 ∷ pos 222 ∷ []
   pub em_spaces_down : map (λ t. space_advance (worked_face (λ c. false)) false t (negsuc 250)) (3 ∷ 16 ∷ 17 ∷ [])
       ≡ negsuc 332 ∷ negsuc 62 ∷ negsuc 221 ∷ []
+  -- by the width along a line, and by the height down one
+  pub by_the_width : space_advance (record (worked_face (λ c. false)) { x_scale = pos 300; y_scale = pos 600 }) true 3 (pos 251) ≡ pos 100
+  pub by_the_height : space_advance (record (worked_face (λ c. false)) { x_scale = pos 300; y_scale = pos 600 }) false 3 (negsuc 250) ≡ negsuc 199
   pub figure : space_advance (worked_face (λ c. c == 0x37)) true 19 (pos 251) ≡ pos 0x37
   pub figure_down : space_advance (tall_face (λ c. c == 0x37)) false 19 (negsuc 250) ≡ negsuc 6
   pub no_figure : space_advance (worked_face (λ c. c == 0x2E)) true 19 (pos 251) ≡ pos 251
@@ -80,11 +86,13 @@ pub record SpaceAdvances : Type 0 where
       ≡ pos 251 ∷ pos 251 ∷ pos 251 ∷ pos 251 ∷ pos 251 ∷ pos 251 ∷ []
 
 space_advances : SpaceAdvances
-unfolding space_advance is_em_fraction em_fraction em_advance as_wide_as first_glyph neg_w int_wrap
+unfolding space_advance is_em_fraction em_fraction em_advance as_wide_as first_glyph neg_w int_wrap ◌+ʷ◌
 space_advances =
     record {
       em_spaces = refl;
       em_spaces_down = refl;
+      by_the_width = refl;
+      by_the_height = refl;
       figure = refl;
       figure_down = refl;
       no_figure = refl;
@@ -139,7 +147,7 @@ pub record SpacesOfBuffers : Type 0 where
 
 spaces_of_buffers : SpacesOfBuffers
 unfolding spaces_step spaces_placed positions_mapped item_spaced is_lone_space space_positioned space_advance is_em_fraction em_fraction
-    em_advance neg_w int_wrap
+    em_advance neg_w int_wrap ◌+ʷ◌
 spaces_of_buffers =
     record { line_separator = refl; ligated = refl; to_the_left = refl; down = refl; no_direction = refl; due = refl; not_due = refl }
 

@@ -7,10 +7,11 @@ use crate::ot_shape_fallback::marks::MarkFrame;
 use crate::ot_shape_fallback::one_mark::Surroundings;
 use shape_buffer::buffer::{Direction, Script, hb_buffer_t};
 use shape_buffer::interfaces::{hb_font_t, hb_unicode_funcs_t};
+use shape_buffer::wrapping::quotient;
 use shape_plan::ot_shape_plan::hb_ot_shape_plan_t;
 
-/// The gap between marks is the em square divided by this.
-const GAPS_IN_EM: u16 = 16;
+/// The gap between marks is the height of the em square divided by this.
+const GAPS_IN_EM: i32 = 16;
 
 /// Whether this is left to right.
 fn is_left_to_right(direction: Direction) -> bool
@@ -53,7 +54,7 @@ pub(crate) fn make_frame<U: hb_unicode_funcs_t, F: hb_font_t, S, P, D>(
         surroundings: Surroundings {
             horizontal: direction.is_horizontal(),
             forward: direction.is_forward(),
-            gap: i32::from(face.units_per_em() / GAPS_IN_EM),
+            gap: quotient(face.y_scale(), GAPS_IN_EM),
         },
         left_to_right: runs_to_right::<U>(plan.direction(), plan.script()),
         adjust,

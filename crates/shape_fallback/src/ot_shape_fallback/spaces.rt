@@ -3,7 +3,7 @@
 //!
 //! Normalising has put another glyph in the place of such a space and remembered how wide the space
 //! is meant to be; here the glyph gets that advance, along the line alone.
-ghost use Rattle.std.specs.Prelude.{◌≡◌, ◌<◌, false, neg_ℤ, pos};
+ghost use Rattle.std.specs.Prelude.{◌≡◌, ◌<◌, ◌≤ℤ◌, false, neg_ℤ, negsuc};
 ghost use Rattle.shape_buffer.specs.Outcome.{Made};
 ghost use Rattle.shape_fallback.specs.Spaces;
 
@@ -16,7 +16,7 @@ use shape_buffer::interfaces::space_types::{
     SPACE_EM_16, SPACE_FIGURE, SPACE_NARROW, SPACE_PUNCTUATION, space_t,
 };
 use shape_buffer::position_walks::update_positions;
-use shape_buffer::wrapping::{half, negative};
+use shape_buffer::wrapping::{half, negative, quotient, sum};
 
 /// The characters that a figure space may be as wide as.
 const FIGURES: [char; 10] = ['0', '1', '2', '3', '4', '5', '6', '7', '8', '9'];
@@ -42,31 +42,40 @@ fn is_em_fraction(space_type: space_t) -> bool
     )
 }
 
-/// How much of the em square such a space takes: four eighteenths, or the part that its type names,
+/// How wide the em square of a face is, or how high along vertical lines.
+fn em_side<F: hb_font_t>(face: &F, horizontal: bool) -> i32
+    ensures { result ≡ Spaces.em_side (F.face face.now) horizontal }
+{
+    if horizontal {
+        face.x_scale()
+    } else {
+        face.y_scale()
+    }
+}
+
+/// How much of an em square such a space takes: four eighteenths, or the part that its type names,
 /// rounded.
 #[tactic(auto, unfolding(crate::specs::Spaces::em_fraction))]
-fn em_fraction(units_per_em: u16, space_type: space_t) -> i32
+fn em_fraction(scale: i32, space_type: space_t) -> i32
     requires { 0 < space_type }
-    ensures { result ≡ pos (Spaces.em_fraction units_per_em space_type) }
+    ensures { result ≡ Spaces.em_fraction scale space_type }
 {
-    let units = u32::from(units_per_em);
-    let part = u32::from(space_type);
     if space_type == SPACE_4_EM_18 {
-        return (units * 4 / 18) as i32;
+        return (i64::from(scale) * 4 / 18) as i32;
     }
-    ((units + part / 2) / part) as i32
+    let part = i32::from(space_type);
+    quotient(sum(scale, part / 2), part)
 }
 
 /// That advance; along vertical lines, which go down, it is negative.
 #[tactic(auto, using(shape_common::proofs::WrappingLemmas::kept_bits), unfolding(crate::specs::Spaces::em_advance))]
-fn em_advance(horizontal: bool, units_per_em: u16, space_type: space_t) -> i32
+fn em_advance(horizontal: bool, scale: i32, space_type: space_t) -> i32
     requires { 0 < space_type }
-    ensures value { result ≡ Spaces.em_advance horizontal
-        (Spaces.em_fraction units_per_em space_type) }
-    ensures exact { horizontal ≡ false
-        → result ≡ neg_ℤ (pos (Spaces.em_fraction units_per_em space_type)) }
+    ensures value { result ≡ Spaces.em_advance horizontal (Spaces.em_fraction scale space_type) }
+    ensures exact { horizontal ≡ false → negsuc 2147483646 ≤ℤ scale
+        → result ≡ neg_ℤ (Spaces.em_fraction scale space_type) }
 {
-    let length = em_fraction(units_per_em, space_type);
+    let length = em_fraction(scale, space_type);
     if horizontal {
         return length;
     }
@@ -105,7 +114,7 @@ fn space_advance<F: hb_font_t>(face: &F, horizontal: bool, space_type: space_t, 
     ensures { result ≡ Spaces.space_advance (F.face face.now) horizontal space_type before }
 {
     if is_em_fraction(space_type) {
-        return em_advance(horizontal, face.units_per_em(), space_type);
+        return em_advance(horizontal, em_side(face, horizontal), space_type);
     }
     match space_type {
         SPACE_FIGURE => as_wide_as(face, horizontal, &FIGURES, before),

@@ -9,7 +9,7 @@ use Rattle.shape_buffer.specs.Outcome.{run_steps}
 use Rattle.shape_buffer.specs.PositionWalks.{positions_mapped}
 use Rattle.shape_buffer.specs.Walks.{items_mapped}
 use Rattle.shape_common.specs.Positions.{zero_position}
-use Rattle.shape_common.specs.Wrapping.{◌-ʷ◌}
+use Rattle.shape_common.specs.Wrapping.{◌+ʷ◌, ◌-ʷ◌}
 use Rattle.shape_common.specs.declared.general_category.hb_unicode_general_category_t.{hb_unicode_general_category_t}
 use Rattle.shape_common.specs.declared.general_category.hb_unicode_general_category_t.TheVariants.{NonspacingMark, SpaceSeparator}
 use Rattle.shape_plan.specs.Run.{Run}
@@ -104,7 +104,7 @@ pub record OrderOfPositions : Type 0 where
 order_of_positions : OrderOfPositions
 unfolding positions_mapped advanced marks_zeroed ignorables_zeroed spaces_step spaces_placed item_spaced is_lone_space space_positioned
     space_advance is_em_fraction em_fraction em_advance marks_adjusted marks_positioned frame_of runs_to_right bases_positioned bases
-    base_at position_span around_base zeroed zeroed_position is_nonspacing ◌-ʷ◌ int_wrap
+    base_at position_span around_base zeroed zeroed_position is_nonspacing ◌+ʷ◌ ◌-ʷ◌ int_wrap
 order_of_positions = record { space = λ run. refl; mark = λ run. refl; mark_not_placed = λ run. refl }
 
 pub record WorkedPhases : Type 0 where

@@ -50,6 +50,8 @@ face_of units = record bare_face {
   h_origin = λ _. pos 300;
   v_origin = λ _. pos units;
   units_per_em = units;
+  x_scale = pos units;
+  y_scale = pos units;
 }
 
 abbrev with_origins : ℤ → FaceMeaning
