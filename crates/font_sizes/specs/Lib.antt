@@ -1,3 +1,4 @@
 pub mod Factors
 pub mod Laws
+pub mod Scales
 pub mod Worked
