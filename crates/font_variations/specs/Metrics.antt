@@ -1,9 +1,11 @@
 -- What is added to the metrics of glyphs (OpenType, `HVAR`, `VVAR`) at some coordinates.
 use Rattle.std.specs.Prelude.{ℕ, ℤ, pos, List, Bool, Option, Some, None, ◌&&◌, min, nat_eq, nat_lt, if◌then◌else◌}
+use Rattle.std.specs.Float.{Float}
 use Rattle.font_bytes.specs.Bytes.{u16_of, u32_of}
 use Rattle.font_variations.specs.Deltas.{delta_within, row_steps, rounded}
 use Rattle.font_variations.specs.IndexMaps.{mapped}
 use Rattle.font_variations.specs.Parts.{part_at}
+use Rattle.font_variations.specs.Tents.{nothing}
 use Rattle.font_variations.specs.declared.metrics.TheConstants.{MOST_ROW_STEPS}
 
 -- a table of major version 1 is read; the store stands at an offset, and a map for each metric at others
@@ -34,3 +36,8 @@ bearing_delta t coordinates glyph = mapped_delta t coordinates 12 glyph
 
 abbrev pub origin_delta : List ℕ → List ℤ → ℕ → Option ℤ
 origin_delta t coordinates glyph = mapped_delta t coordinates 20 glyph
+
+-- the same of the origin before it is rounded; nothing without a map
+unfoldable pub origin_shift : List ℕ → List ℤ → ℕ → Float
+origin_shift t coordinates glyph = if has_metrics t && nat_lt 0 (u32_of t 20)
+    then delta_within MOST_ROW_STEPS (part_at t (u32_of t 4)) coordinates (mapped (part_at t (u32_of t 20)) glyph) else nothing

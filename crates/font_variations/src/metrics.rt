@@ -77,6 +77,20 @@ pub fn bearing_delta(table: &[u8], coordinates: &[i32], glyph: u32) -> Option<i3
     mapped_delta(table, coordinates, 12, glyph)
 }
 
+/// What is added to the height of a glyph's vertical origin, by `VVAR`, before it is rounded; 0 if
+/// the table has no map for it.
+#[tactic(auto, unfolding(crate::specs::Metrics::origin_shift))]
+pub fn origin_shift(vvar: &[u8], coordinates: &[i32], glyph: u32) -> f32
+    ensures { result ≡ Metrics.origin_shift vvar.now coordinates.now glyph }
+{
+    if !has_metrics(vvar) || u32_at(vvar, 20) == 0 {
+        return 0.0;
+    }
+    let store = part_at(vvar, u32_at(vvar, 4) as usize);
+    let map = part_at(vvar, u32_at(vvar, 20) as usize);
+    delta_within(MOST_ROW_STEPS, store, coordinates, mapped(map, glyph))
+}
+
 /// What is added to the height of a glyph's vertical origin, by `VVAR`; none if the table has no
 /// map for it.
 pub fn origin_delta(vvar: &[u8], coordinates: &[i32], glyph: u32) -> Option<i32>

@@ -4,7 +4,7 @@ use Rattle.std.specs.Prelude.{◌≡◌, ◌<◌, ◌≤◌, ℕ, suc, ℤ, pos,
 use Rattle.kern_table.specs.Sides.{HoldPairs}
 use Rattle.kern_table.specs.declared.sides.PairGlyphs.{PairGlyphs}
 use Rattle.shape_font.specs.Cmap.{mapped_glyph}
-use Rattle.shape_font.specs.Face.{h_advance_of}
+use Rattle.shape_font.specs.Face.{sized_h_advance}
 use Rattle.shape_font.specs.Steps.{advance_steps}
 use Rattle.shape_font.specs.declared.face.FontFace.{FontFace}
 use Rattle.opened_face.specs.declared.advances.TheConstants.{MOST_STEPS}
@@ -30,7 +30,7 @@ AreStored f index glyphs = (c : ℕ) → c / 256 < length index
 -- each stored advance is that of its glyph
 abbrev pub AreAdvances : FontFace → List ℤ → Type 0
 AreAdvances f advances = (g : ℕ) → g < length advances
-    → slice_index_or advances g (pos 0) ≡ h_advance_of f (record { 0 = g })
+    → slice_index_or advances g (pos 0) ≡ sized_h_advance f (record { 0 = g })
 
 -- how many steps the advances of the first `n` glyphs take at coordinates, at most
 abbrev pub steps_below : FontFace → ℕ → ℕ

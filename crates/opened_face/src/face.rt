@@ -100,7 +100,7 @@ impl<'a> OpenedFace<'a> {
 
     /// The advance of a glyph.
     fn advance(&self, glyph: GlyphId) -> i32
-        ensures { result ≡ Face.h_advance_of self.now glyph }
+        ensures { result ≡ Face.sized_h_advance self.now glyph }
     {
         let at = glyph.0 as usize;
         if at < self.advances.len() {
@@ -148,6 +148,14 @@ impl<'a> hb_font_t for OpenedFace<'a> {
 
     fn units_per_em(&self) -> u16 {
         self.face.units_per_em()
+    }
+
+    fn x_scale(&self) -> i32 {
+        self.face.x_scale()
+    }
+
+    fn y_scale(&self) -> i32 {
+        self.face.y_scale()
     }
 
     fn tables(&self) -> hb_tables_t {

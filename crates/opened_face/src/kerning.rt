@@ -50,8 +50,9 @@ impl<'a> KernsOpened<'a, KernTable> for ByStoredPairs {
         face: &OpenedFace<'a>,
         buffer: &mut hb_buffer_t,
     ) -> Result<(), ShapeError> {
-        let kern = face.face().kern_table();
-        kern_table_by(kern, face.pair_sides(), kern_mask, buffer);
+        let font = face.face();
+        let (kern, sides) = (font.kern_table(), face.pair_sides());
+        kern_table_by(kern, sides, font.scale(), kern_mask, buffer);
         Ok(())
     }
 }

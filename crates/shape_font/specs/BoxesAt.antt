@@ -27,6 +27,7 @@ use Rattle.shape_font.specs.declared.placed.Place.{Place}
 use Rattle.shape_font.specs.declared.face.boxes.Gathering.{Gathering}
 use Rattle.shape_font.specs.declared.face.boxes.MovedPoints.{MovedPoints}
 use Rattle.shape_font.specs.declared.face.boxes.TheConstants.{MOST_BOX_STEPS}
+use Rattle.shape_font.specs.declared.face.boxes.Walked.{Walked}
 
 -- ---- points of a glyph, or offsets of its components, along the line and then up
 
@@ -165,13 +166,21 @@ left_at f glyph = option_and_then (λ t. left_by f glyph t) (outline_of f glyph)
 abbrev pub shift_of : FontFace → ℕ → Place
 shift_of f glyph = record { x = sub binary32 nothing (unwrap_or (left_at f (metrics_glyph f glyph)) nothing); y = nothing }
 
-abbrev pub begun : ℕ → Place → Gathered
-begun glyph shift = record {
+abbrev pub begun : ℕ → ℕ → Place → Gathered
+begun left glyph shift = record {
   parts = record { glyph = glyph; depth = 0; frame = no_frame } ∷ [];
-  left = MOST_BOX_STEPS;
+  left = left;
   shift = shift;
   bounds = None;
 }
 
+-- the least box that holds all points, none without points, and how much is left to be read
+abbrev pub walked : Gathered → Walked
+walked g = record { bounds = g.bounds; left = g.left }
+
+unfoldable pub bounds_there : FontFace → ℕ → ℕ → Option Walked
+bounds_there f left glyph =
+    if has_place f glyph then option_map walked (parts_from f most_parts 0 (begun left glyph (shift_of f glyph))) else None
+
 unfoldable pub box_at : FontFace → ℕ → Option hb_glyph_extents_t
-box_at f glyph = if has_place f glyph then option_map (λ g. extents_by g.bounds) (parts_from f most_parts 0 (begun glyph (shift_of f glyph))) else None
+box_at f glyph = option_map (λ (w : Walked). extents_by w.bounds) (bounds_there f MOST_BOX_STEPS glyph)

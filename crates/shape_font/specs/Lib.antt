@@ -13,6 +13,8 @@ pub mod PointsAt
 pub mod LinesAt
 pub mod PlacesAt
 pub mod BoxesAt
+pub mod Colors
+pub mod Layers
 pub mod Face
 pub mod Steps
 pub mod Worked

@@ -8,3 +8,5 @@ pub mod Face
 pub mod Instances
 pub mod PointsAt
 pub mod BoxesAt
+pub mod Sizes
+pub mod Colors

@@ -1,5 +1,5 @@
 //! The face that shaping asks.
-ghost use Rattle.std.specs.Prelude.{◌≡◌, ◌≤ℤ◌, ◌&&◌, [], pos, negsuc, is_some, nat_lt};
+ghost use Rattle.std.specs.Prelude.{◌≡◌, ◌≤ℤ◌, ◌&&◌, [], pos, negsuc, None, is_some, nat_lt};
 ghost use Rattle.std.specs.Option.{IfSome, option_map};
 ghost use Rattle.shape_font.specs.Bytes.{u16_of};
 ghost use Rattle.shape_font.specs.Cmap.{mapped_glyph};
@@ -10,7 +10,7 @@ ghost use Rattle.shape_font.specs.Directory.{bytes_of, has_table};
 ghost use Rattle.shape_font.specs.Metrics.{long_metrics};
 ghost use Rattle.shape_font.specs.Cff;
 ghost use Rattle.shape_font.specs.declared.tags.TheConstants.{HEAD, HHEA, MAXP, HMTX, VHEA, VMTX, VORG, OS2, CMAP, LOCA, GLYF, GSUB, GPOS, GDEF};
-ghost use Rattle.shape_font.specs.declared.tags.TheConstants.{MORX, KERX, TRAK, KERN, POST, HVAR, VVAR, GVAR, MVAR, SBIX, CBLC, CBDT};
+ghost use Rattle.shape_font.specs.declared.tags.TheConstants.{MORX, KERX, TRAK, KERN, POST, HVAR, VVAR, GVAR, MVAR, SBIX, CBLC, CBDT, COLR};
 ghost use Rattle.shape_font.specs.Face;
 
 use crate::bitmaps::bitmaps;
@@ -20,28 +20,32 @@ use crate::directory::Directory;
 use crate::font_pages::{FontPage, font_page};
 use crate::subtables::chosen;
 use crate::tags::{
-    CMAP, GDEF, GLYF, GPOS, GSUB, GVAR, HEAD, HHEA, HMTX, HVAR, KERN, KERX, LOCA, MAXP, MORX, MVAR,
-    OS2, POST, TRAK, VHEA, VMTX, VORG, VVAR,
+    CMAP, COLR, GDEF, GLYF, GPOS, GSUB, GVAR, HEAD, HHEA, HMTX, HVAR, KERN, KERX, LOCA, MAXP, MORX,
+    MVAR, OS2, POST, TRAK, VHEA, VMTX, VORG, VVAR,
 };
 use crate::variations::{GlyphVariant, variation};
 use crate::{cmap, metrics, names, variations};
 use bitmap_tables::Bitmaps;
 use cff_tables::CffFont;
+use font_sizes::Scale;
 use shape_buffer::wrapping::half;
 use shape_buffer::{GlyphId, hb_font_t, hb_glyph_extents_t, hb_tables_t};
 
 mod advances;
 pub mod boxes;
 mod drawn;
+mod layers;
 mod lines;
 mod metric_points;
 mod origins;
+mod sized;
 mod steps;
 
 /// A face over the bytes of an OpenType or TrueType file, in its units. A table that the file lacks
-/// reads as an empty one. Boxes are those of bitmaps, else of `glyf`, or of the charstrings of
-/// `CFF2` or `CFF `. The face is at the default instance of a variable font, or at the coordinates
-/// given to [`FontFace::at`]; two over the same tables at the same coordinates are equal.
+/// reads as an empty one. Boxes are those of bitmaps, else of what `COLR` says, else of `glyf`, or
+/// of the charstrings of `CFF2` or `CFF `. The face is at the default instance of a variable font,
+/// or at the coordinates given to [`FontFace::at`], and in units of the font, or of the size given
+/// to [`FontFace::at_size`]; two over the same tables at the same coordinates and size are equal.
 #[derive(Clone, Copy)]
 pub struct FontFace<'a> {
     units_per_em: u16,
@@ -63,6 +67,7 @@ pub struct FontFace<'a> {
     os2: &'a [u8],
     cff: Option<CffFont<'a>>,
     bitmaps: Bitmaps<'a>,
+    colr: &'a [u8],
     kern: &'a [u8],
     post: &'a [u8],
     gdef: &'a [u8],
@@ -73,6 +78,7 @@ pub struct FontFace<'a> {
     gvar: &'a [u8],
     mvar: &'a [u8],
     coordinates: &'a [i32],
+    scale: Option<Scale>,
 }
 
 /// The glyph with this number, whether the font has so many or not; 0 is none.
@@ -144,6 +150,7 @@ impl<'a> FontFace<'a> {
         ensures sbix { IfSome result (λ f. f.bitmaps.sbix.now ≡ bytes_of bytes.now index SBIX) }
         ensures cblc { IfSome result (λ f. f.bitmaps.cblc.now ≡ bytes_of bytes.now index CBLC) }
         ensures cbdt { IfSome result (λ f. f.bitmaps.cbdt.now ≡ bytes_of bytes.now index CBDT) }
+        ensures colr { IfSome result (λ f. f.colr.now ≡ bytes_of bytes.now index COLR) }
         ensures kern { IfSome result (λ f. f.kern.now ≡ bytes_of bytes.now index KERN) }
         ensures post { IfSome result (λ f. f.post.now ≡ bytes_of bytes.now index POST) }
         ensures gdef_table { IfSome result (λ f. f.gdef.now ≡ bytes_of bytes.now index GDEF) }
@@ -154,6 +161,7 @@ impl<'a> FontFace<'a> {
         ensures gvar { IfSome result (λ f. f.gvar.now ≡ bytes_of bytes.now index GVAR) }
         ensures mvar { IfSome result (λ f. f.mvar.now ≡ bytes_of bytes.now index MVAR) }
         ensures coordinates { IfSome result (λ f. f.coordinates.now ≡ []) }
+        ensures scale { IfSome result (λ f. f.scale ≡ None) }
     {
         let font = Directory::of(bytes, index);
         let head = font.table_or_empty(HEAD);
@@ -185,6 +193,7 @@ impl<'a> FontFace<'a> {
             os2: font.table_or_empty(OS2),
             cff: cff_font(&font, glyph_count),
             bitmaps: bitmaps(&font),
+            colr: font.table_or_empty(COLR),
             kern: font.table_or_empty(KERN),
             post: font.table_or_empty(POST),
             gdef: font.table_or_empty(GDEF),
@@ -195,6 +204,7 @@ impl<'a> FontFace<'a> {
             gvar: font.table_or_empty(GVAR),
             mvar: font.table_or_empty(MVAR),
             coordinates: &[],
+            scale: None,
         })
     }
 
@@ -327,32 +337,6 @@ impl<'a> FontFace<'a> {
     {
         self.outlines && glyph.0 < u32::from(self.glyph_count)
     }
-
-    /// The box of a glyph's outline, at the coordinates too, if it has one.
-    fn outlined(&self, glyph: GlyphId) -> Option<hb_glyph_extents_t>
-        ensures { result ≡ Face.outlined_extents self.now glyph }
-    {
-        if !self.has_box(glyph) {
-            self.drawn(glyph.0)
-        } else if self.coordinates.is_empty() {
-            Some(self.inked(glyph.0))
-        } else {
-            self.box_at(glyph.0)
-        }
-    }
-
-    /// The box of a glyph: of its bitmap, or else of its outline.
-    fn extents(&self, glyph: GlyphId) -> Option<hb_glyph_extents_t>
-        ensures { result ≡ Face.extents_of self.now glyph }
-    {
-        match self
-            .bitmaps
-            .glyph_box(self.glyph_count, self.units_per_em, glyph.0)
-        {
-            Some(found) => Some(found),
-            None => self.outlined(glyph),
-        }
-    }
 }
 
 impl<'a> hb_font_t for FontFace<'a> {
@@ -371,19 +355,19 @@ impl<'a> hb_font_t for FontFace<'a> {
     }
 
     fn glyph_h_advance(&self, glyph: GlyphId) -> i32 {
-        self.advance(glyph)
+        self.sized_advance(glyph)
     }
 
     fn glyph_v_advance(&self, glyph: GlyphId) -> i32 {
-        self.advance_down(glyph)
+        self.sized_advance_down(glyph)
     }
 
     fn glyph_h_origin(&self, glyph: GlyphId) -> i32 {
-        half(self.advance(glyph))
+        half(self.sized_advance(glyph))
     }
 
     fn glyph_v_origin(&self, glyph: GlyphId) -> i32 {
-        self.origin(glyph)
+        self.sized_origin(glyph)
     }
 
     fn glyph_extents(&self, glyph: GlyphId) -> Option<hb_glyph_extents_t> {
@@ -392,6 +376,14 @@ impl<'a> hb_font_t for FontFace<'a> {
 
     fn units_per_em(&self) -> u16 {
         self.units_per_em
+    }
+
+    fn x_scale(&self) -> i32 {
+        self.sized_em().x
+    }
+
+    fn y_scale(&self) -> i32 {
+        self.sized_em().y
     }
 
     fn tables(&self) -> hb_tables_t {

@@ -5,8 +5,9 @@
 //! one line says what each one means; no table is copied, and no memory is taken. [`bytes`] reads
 //! numbers, [`directory`] finds tables, [`resource_fork`] the fonts of Apple's suitcases, [`cmap`]
 //! glyphs of characters, by a page of [`font_pages`] in fonts from before Unicode, [`metrics`]
-//! advances and boxes, [`moved`] points at coordinates, and [`face`] puts them together. [`worked`]
-//! has the definitions computed on bytes that were read by hand.
+//! advances and boxes, [`moved`] points at coordinates, [`colors`] what `COLR` says of a glyph, and
+//! [`face`] puts them together. [`worked`] has the definitions computed on bytes that were read by
+//! hand.
 #![tactic(auto)]
 #![allow(non_camel_case_types)]
 
@@ -14,6 +15,7 @@ mod bitmaps;
 pub mod bytes;
 pub mod cff;
 pub mod cmap;
+pub mod colors;
 pub mod directory;
 pub mod face;
 pub mod font_pages;

@@ -164,13 +164,15 @@ pub(crate) fn through(parts: &[Part], part: usize, place: Place) -> Place
     placing.place
 }
 
-fn least(a: f32, b: f32) -> f32
+/// The lesser of two numbers.
+pub(crate) fn least(a: f32, b: f32) -> f32
     ensures { result ≡ PlacesAt.least a b }
 {
     if b < a { b } else { a }
 }
 
-fn greatest(a: f32, b: f32) -> f32
+/// The greater of two numbers.
+pub(crate) fn greatest(a: f32, b: f32) -> f32
     ensures { result ≡ PlacesAt.greatest a b }
 {
     if a < b { b } else { a }

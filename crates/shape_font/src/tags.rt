@@ -84,6 +84,9 @@ pub(crate) const CFF2: u32 = 0x4346_4632;
 /// `sbix`.
 pub(crate) const SBIX: u32 = 0x7362_6978;
 
+/// `COLR`.
+pub(crate) const COLR: u32 = 0x434f_4c52;
+
 /// `CBLC`.
 pub(crate) const CBLC: u32 = 0x4342_4c43;
 

@@ -9,6 +9,8 @@ ghost use Rattle.shape_font.specs.Worked.Face.{WorkedFace, WorkedOrigins};
 ghost use Rattle.shape_font.specs.Worked.Instances.{WorkedInstances};
 ghost use Rattle.shape_font.specs.Worked.PointsAt.{WorkedPoints, WorkedPointPlaces};
 ghost use Rattle.shape_font.specs.Worked.BoxesAt.{WorkedPlaces, WorkedBoxes};
+ghost use Rattle.shape_font.specs.Worked.Colors.{WorkedColors, WorkedLayers};
+ghost use Rattle.shape_font.specs.Worked.Sizes.{WorkedSizes};
 
 /// Numbers, the directory, collections, the choice of a character map, and the tags of tables.
 pub fn tables_meet_worked_cases()
@@ -45,6 +47,17 @@ pub fn searches_meet_worked_cases()
     ensures instances { WorkedInstances }
     ensures points { WorkedPoints }
     ensures places { WorkedPointPlaces }
+{}
+
+/// What a face returns at a size.
+pub fn sizes_meet_worked_cases()
+    ensures { WorkedSizes }
+{}
+
+/// What `COLR` says of glyphs, and boxes of layers.
+pub fn colors_meet_worked_cases()
+    ensures colors { WorkedColors }
+    ensures layers { WorkedLayers }
 {}
 
 /// Frames of components, and boxes at coordinates.

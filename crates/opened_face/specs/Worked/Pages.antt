@@ -1,6 +1,6 @@
 -- What an opened face stores, on tables that were read by hand.
 use Prim.Native.Nat.{zero}
-use Rattle.std.specs.Prelude.{◌≡◌, ◌<◌, ◌≤◌, ◌+◌, ℕ, suc, ℤ, pos, negsuc, List, [], ◌∷◌, length, slice_index, slice_index_or, refl}
+use Rattle.std.specs.Prelude.{None, ◌≡◌, ◌<◌, ◌≤◌, ◌+◌, ℕ, suc, ℤ, pos, negsuc, List, [], ◌∷◌, length, slice_index, slice_index_or, refl}
 use Rattle.std.proofs.Common.{lit<, ◌∙◌, arith, subst}
 use Rattle.kern_table.specs.declared.sides.PairGlyphs.{PairGlyphs}
 use Rattle.shape_font.specs.Face.{width_in}
@@ -23,11 +23,11 @@ pub record WorkedPages : Type 0 where
   pub found_in_page_1 : (f : FontFace) (glyphs : List ℕ) → f.font_page ≡ Unicode → f.cmap.now ≡ short_list
       → AreStored f (1 ∷ 0 ∷ []) glyphs → 65 < length glyphs → slice_index glyphs 65 ≡ 0
   -- the second of two long metrics serves all later glyphs
-  pub advance : (f : FontFace) (advances : List ℤ) → f.coordinates.now ≡ [] → f.glyph_count ≡ 7 → f.h_count ≡ 2
+  pub advance : (f : FontFace) (advances : List ℤ) → f.scale ≡ None → f.coordinates.now ≡ [] → f.glyph_count ≡ 7 → f.h_count ≡ 2
       → f.hmtx.now ≡ words (500 ∷ 50 ∷ 600 ∷ 60 ∷ []) → AreAdvances f advances → 6 < length advances
       → slice_index_or advances 6 (pos 0) ≡ pos 600
   -- 65483 is -53 as a number of 16 bits with a sign
-  pub below_0 : (f : FontFace) (advances : List ℤ) → f.coordinates.now ≡ [] → f.glyph_count ≡ 7 → f.h_count ≡ 1
+  pub below_0 : (f : FontFace) (advances : List ℤ) → f.scale ≡ None → f.coordinates.now ≡ [] → f.glyph_count ≡ 7 → f.h_count ≡ 1
       → f.hmtx.now ≡ words (65483 ∷ 50 ∷ []) → AreAdvances f advances → 6 < length advances
       → slice_index_or advances 6 (pos 0) ≡ negsuc 52
   -- by `gvar` 16,384 steps are counted for each advance, of 16,777,216
@@ -65,8 +65,8 @@ worked_pages = record {
   filled = λ f glyphs s c h inside. h 321 inside ∙ rw (s, c) refl;
   found = λ f glyphs s c h inside. h 0x41 (lit< tt) inside ∙ rw (s, c) refl;
   found_in_page_1 = λ f glyphs s c h inside. h 0x141 (lit< tt) inside ∙ rw (s, c) refl;
-  advance = λ f advances c e n t h inside. h 6 inside ∙ rw (c, e, n, t) refl;
-  below_0 = λ f advances c e n t h inside. h 6 inside ∙ rw (c, e, n, t) refl;
+  advance = λ f advances s c e n t h inside. h 6 inside ∙ rw (s, c, e, n, t) refl;
+  below_0 = λ f advances s c e n t h inside. h 6 inside ∙ rw (s, c, e, n, t) refl;
   steps = λ f c h g. rw (c, h, g) refl;
   no_steps = λ f c h g. rw (c, h, g) refl;
   most_steps = refl;

@@ -168,7 +168,7 @@ worked_places = record {
 }
 
 pub worked_boxes : WorkedBoxes
-unfolding BoxesAt.box_at BoxesAt.moved_of BoxesAt.places_of BoxesAt.bounds_with BoxesAt.with_parts BoxesAt.most_parts BoxesAt.left_at
+unfolding BoxesAt.box_at BoxesAt.bounds_there BoxesAt.moved_of BoxesAt.places_of BoxesAt.bounds_with BoxesAt.with_parts BoxesAt.most_parts BoxesAt.left_at
     few_components through widened bounded point_at moved_left metrics_glyph moved_to outline_moved listed_of flushed all_added all_spread spread inferred
     scalar_of part_of ratio64 round_to_format rounded ◌+ʷ◌ ◌-ʷ◌ int_wrap i16_of round_with numbers.i8_of numbers.i16_of numbers.i32_of
     div mul add sub sum eq lt to_signed of_int round size span climb units odd count_trailing_zeros of_bits of_fields

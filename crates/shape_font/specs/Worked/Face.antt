@@ -67,9 +67,10 @@ pub record WorkedFace : Type 0 where
       → drawn_extents (Some c) 5 ≡ Some (record { x_bearing = pos 10; y_bearing = pos 700; width = pos 490; height = negsuc 719 })
   pub no_charstring : (c : CffFont) → glyph_box c.table.now c.layout 5 ≡ None → drawn_extents (Some c) 5 ≡ None
   pub bitmap_first : (f : FontFace) (b : hb_glyph_extents_t) → bitmap_box f.bitmaps f.glyph_count f.units_per_em 6 ≡ Some b
-      → extents_of f (record { 0 = 6 }) ≡ Some b
+      → f.scale ≡ None → extents_of f (record { 0 = 6 }) ≡ Some b
   pub without_a_bitmap : (f : FontFace) → bitmap_box f.bitmaps f.glyph_count f.units_per_em 6 ≡ None
-      → f.coordinates.now ≡ [] → f.outlines ≡ true → f.glyph_count ≡ 7 → extents_of f (record { 0 = 6 }) ≡ Some (inked_of f 6)
+      → f.scale ≡ None → f.colr.now ≡ [] → f.coordinates.now ≡ [] → f.outlines ≡ true → f.glyph_count ≡ 7
+      → extents_of f (record { 0 = 6 }) ≡ Some (inked_of f 6)
   pub half_of_an_odd_em : (f : FontFace) → f.glyph_count ≡ 7 → f.h_count ≡ 0 → f.units_per_em ≡ 1001
       → h_advance_of f (record { 0 = 6 }) ≡ pos 500
   -- glyph 1 has the bytes from 2 up to 12, and the bearing 60; glyph 2 has none
@@ -117,8 +118,8 @@ worked_face = record {
   drawn_without_outlines = λ f o. rw o refl;
   by_a_charstring = λ c drawn. rw drawn refl;
   no_charstring = λ c none. rw none refl;
-  bitmap_first = λ f b found. rw (found, extents_of) refl;
-  without_a_bitmap = λ f none c o e. rw (none, extents_of) (rw (c, o, e) refl);
+  bitmap_first = λ f b found sizeless. rw (found, extents_of) (rw sizeless refl);
+  without_a_bitmap = λ f none sizeless colorless c o e. rw (none, extents_of) (rw (sizeless, colorless, c, o, e) refl);
   half_of_an_odd_em = λ f e h u. rw (e, h, u) refl;
   box_by_short_places = λ f o e p l g h t. rw (o, e, p, l, g, h, t) refl;
   empty_box = λ f o e p l g h t. rw (o, e, p, l) refl;
@@ -131,19 +132,19 @@ box = record { x_bearing = pos 20; y_bearing = pos 700; width = pos 300; height 
 
 -- advances downwards, origins, and which answer is which; the line is 800 up and 200 down
 pub record WorkedOrigins : Type 0 where
-  pub a_line_down : (f : FontFace) → f.coordinates.now ≡ [] → f.v_count ≡ 0 → f.os2.now ≡ [] → f.hhea.now ≡ plain_line
+  pub a_line_down : (f : FontFace) → f.scale ≡ None → f.coordinates.now ≡ [] → f.v_count ≡ 0 → f.os2.now ≡ [] → f.hhea.now ≡ plain_line
       → (font_face f).v_advance (record { 0 = 6 }) ≡ negsuc 999
-  pub not_down_past_the_last : (f : FontFace) → f.v_count ≡ 1 → f.glyph_count ≡ 7
+  pub not_down_past_the_last : (f : FontFace) → f.scale ≡ None → f.v_count ≡ 1 → f.glyph_count ≡ 7
       → (font_face f).v_advance (record { 0 = 7 }) ≡ pos 0
   -- towards 0
-  pub half_below_0 : (f : FontFace) → f.coordinates.now ≡ [] → f.glyph_count ≡ 7 → f.h_count ≡ 1 → f.hmtx.now ≡ words (65483 ∷ 50 ∷ [])
+  pub half_below_0 : (f : FontFace) → f.scale ≡ None → f.coordinates.now ≡ [] → f.glyph_count ≡ 7 → f.h_count ≡ 1 → f.hmtx.now ≡ words (65483 ∷ 50 ∷ [])
       → (font_face f).h_origin (record { 0 = 6 }) ≡ negsuc 25
-  pub half_of_the_advance : (f : FontFace) → f.coordinates.now ≡ [] → f.glyph_count ≡ 7 → f.h_count ≡ 1 → f.hmtx.now ≡ words (501 ∷ 50 ∷ [])
+  pub half_of_the_advance : (f : FontFace) → f.scale ≡ None → f.coordinates.now ≡ [] → f.glyph_count ≡ 7 → f.h_count ≡ 1 → f.hmtx.now ≡ words (501 ∷ 50 ∷ [])
       → (font_face f).h_origin (record { 0 = 6 }) ≡ pos 250
-  pub as_listed : (f : FontFace) → f.coordinates.now ≡ [] → f.vorg.now ≡ origins 2 → (font_face f).v_origin (record { 0 = 3 }) ≡ pos 900
-  pub by_the_box : (f : FontFace) → f.coordinates.now ≡ [] → f.vorg.now ≡ [] → f.outlines ≡ true → f.glyph_count ≡ 7
+  pub as_listed : (f : FontFace) → f.scale ≡ None → f.coordinates.now ≡ [] → f.vorg.now ≡ origins 2 → (font_face f).v_origin (record { 0 = 3 }) ≡ pos 900
+  pub by_the_box : (f : FontFace) → f.scale ≡ None → f.coordinates.now ≡ [] → f.vorg.now ≡ [] → f.outlines ≡ true → f.glyph_count ≡ 7
       → (font_face f).v_origin (record { 0 = 6 }) ≡ origin_over f 6 (inked_of f 6)
-  pub without_a_box : (f : FontFace) → f.coordinates.now ≡ [] → f.vorg.now ≡ [] → f.outlines ≡ false → f.os2.now ≡ [] → f.hhea.now ≡ plain_line
+  pub without_a_box : (f : FontFace) → f.scale ≡ None → f.coordinates.now ≡ [] → f.vorg.now ≡ [] → f.outlines ≡ false → f.os2.now ≡ [] → f.hhea.now ≡ plain_line
       → (font_face f).v_origin (record { 0 = 6 }) ≡ pos 800
   pub by_its_bearing : (f : FontFace) → f.v_count ≡ 1 → f.vmtx.now ≡ words (900 ∷ 50 ∷ 60 ∷ []) → origin_over f 1 box ≡ pos 760
   -- 295 is left, and half of that is 147
@@ -152,36 +153,36 @@ pub record WorkedOrigins : Type 0 where
       → (font_face f).nominal_glyph 0x41 ≡ Some (record { 0 = 7 })
   pub variant : (f : FontFace) → f.sequences.now ≡ three_selectors
       → (font_face f).variation_glyph 0x41 0xFE01 ≡ Some (record { 0 = 7 })
-  pub advance : (f : FontFace) → f.coordinates.now ≡ [] → f.glyph_count ≡ 7 → f.h_count ≡ 1 → f.hmtx.now ≡ words (501 ∷ 50 ∷ [])
+  pub advance : (f : FontFace) → f.scale ≡ None → f.coordinates.now ≡ [] → f.glyph_count ≡ 7 → f.h_count ≡ 1 → f.hmtx.now ≡ words (501 ∷ 50 ∷ [])
       → (font_face f).h_advance (record { 0 = 6 }) ≡ pos 501
-  pub no_box : (f : FontFace) → bitmap_box f.bitmaps f.glyph_count f.units_per_em 1 ≡ None → f.outlines ≡ false → f.cff ≡ None
+  pub no_box : (f : FontFace) → bitmap_box f.bitmaps f.glyph_count f.units_per_em 1 ≡ None → f.colr.now ≡ [] → f.outlines ≡ false → f.cff ≡ None
       → (font_face f).extents (record { 0 = 1 }) ≡ None
   pub em : (f : FontFace) → f.units_per_em ≡ 2048 → (font_face f).units_per_em ≡ 2048
   -- 1005 high: -5 is left, and half of that is -3
   pub higher_than_the_line : (f : FontFace) → f.coordinates.now ≡ [] → f.v_count ≡ 0 → f.os2.now ≡ [] → f.hhea.now ≡ plain_line
       → origin_over f 1 (record box { height = negsuc 1004 }) ≡ pos 697
-  pub listed_by_a_minor_version : (f : FontFace) → f.coordinates.now ≡ [] → f.vorg.now ≡ words (0 ∷ 1 ∷ 880 ∷ 0 ∷ [])
+  pub listed_by_a_minor_version : (f : FontFace) → f.scale ≡ None → f.coordinates.now ≡ [] → f.vorg.now ≡ words (0 ∷ 1 ∷ 880 ∷ 0 ∷ [])
       → (font_face f).v_origin (record { 0 = 3 }) ≡ pos 880
   pub tables : (f : FontFace) → (font_face f).tables ≡ f.tables
 
 pub worked_origins : WorkedOrigins
 unfolding ascent_of descent_of width_in depth_in origin_above i16_of as_short ◌+ʷ◌ int_wrap
 worked_origins = record {
-  a_line_down = λ f c v o h. rw (c, v, o, h) refl;
-  not_down_past_the_last = λ f v e. rw (v, e) refl;
-  half_below_0 = λ f c e h t. rw (c, e, h, t) refl;
-  half_of_the_advance = λ f c e h t. rw (c, e, h, t) refl;
-  as_listed = λ f c v. rw (c, v) refl;
-  by_the_box = λ f c v o e. rw (c, v, o, e) refl;
-  without_a_box = λ f c v o s h. rw (c, v, o, s, h) refl;
+  a_line_down = λ f sizeless c v o h. rw (sizeless, c, v, o, h) refl;
+  not_down_past_the_last = λ f sizeless v e. rw (sizeless, v, e) refl;
+  half_below_0 = λ f sizeless c e h t. rw (sizeless, c, e, h, t) refl;
+  half_of_the_advance = λ f sizeless c e h t. rw (sizeless, c, e, h, t) refl;
+  as_listed = λ f sizeless c v. rw (sizeless, c, v) refl;
+  by_the_box = λ f sizeless c v o e. rw (sizeless, c, v, o, e) refl;
+  without_a_box = λ f sizeless c v o s h. rw (sizeless, c, v, o, s, h) refl;
   by_its_bearing = λ f v t. rw (v, t) refl;
   in_the_middle = λ f c v o h. rw (c, v, o, h) refl;
   glyph = λ f s c. rw (s, c) refl;
   variant = λ f q. rw q refl;
-  advance = λ f c e h t. rw (c, e, h, t) refl;
-  no_box = λ f none o c. rw (none, extents_of) (rw (o, c) refl);
+  advance = λ f sizeless c e h t. rw (sizeless, c, e, h, t) refl;
+  no_box = λ f none colorless o c. rw (none, extents_of) (rw (colorless, o, c) refl);
   em = λ f u. u;
   higher_than_the_line = λ f c v o h. rw (c, v, o, h) refl;
-  listed_by_a_minor_version = λ f c v. rw (c, v) refl;
+  listed_by_a_minor_version = λ f sizeless c v. rw (sizeless, c, v) refl;
   tables = λ f. refl;
 }

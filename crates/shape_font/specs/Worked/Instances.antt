@@ -1,5 +1,5 @@
 -- What a face returns at coordinates. `HVAR` and `VVAR` add -99 for glyph 0 there and 127 for glyph 1 and, by a map, for origins.
-use Rattle.std.specs.Prelude.{◌≡◌, pos, negsuc, [], ◌∷◌, true, false, refl}
+use Rattle.std.specs.Prelude.{◌≡◌, pos, negsuc, [], None, ◌∷◌, true, false, refl}
 use Rattle.std.specs.Float.{fin, round_with}
 use Rattle.std.specs.Int.{int_wrap}
 use lib.Count.{count_trailing_zeros}
@@ -30,7 +30,7 @@ pub record WorkedInstances : Type 0 where
       → f.hmtx.now ≡ words (500 ∷ 50 ∷ 600 ∷ 60 ∷ []) → h_advance_of f (record { 0 = 2 }) ≡ pos 600
   pub half_of_the_em : (f : FontFace) → f.glyph_count ≡ 7 → f.h_count ≡ 0 → f.units_per_em ≡ 1000
       → h_advance_of f (record { 0 = 0 }) ≡ pos 500
-  pub half_of_the_advance : (f : FontFace) → f.coordinates.now ≡ there → f.hvar.now ≡ table_of 0 0 0 → f.glyph_count ≡ 7 → f.h_count ≡ 2
+  pub half_of_the_advance : (f : FontFace) → f.scale ≡ None → f.coordinates.now ≡ there → f.hvar.now ≡ table_of 0 0 0 → f.glyph_count ≡ 7 → f.h_count ≡ 2
       → f.hmtx.now ≡ words (500 ∷ 50 ∷ 600 ∷ 60 ∷ []) → (font_face f).h_origin (record { 0 = 0 }) ≡ pos 200
   pub down : (f : FontFace) → f.coordinates.now ≡ there → f.vvar.now ≡ table_of 0 0 0 → f.glyph_count ≡ 7 → f.v_count ≡ 1
       → f.vmtx.now ≡ words (900 ∷ 50 ∷ 60 ∷ []) → v_advance_of f (record { 0 = 1 }) ≡ negsuc 1026
@@ -71,7 +71,7 @@ worked_instances = record {
   of_the_next_glyph = λ f c v e h t. rw (e, h, t, c, v) refl;
   no_bearing = λ f c e h t. rw (e, h, t, c) refl;
   half_of_the_em = λ f e h u. rw (e, h, u) refl;
-  half_of_the_advance = λ f c v e h t. rw (e, h, t, c, v) refl;
+  half_of_the_advance = λ f sizeless c v e h t. rw (sizeless, e, h, t, c, v) refl;
   down = λ f c v e h t. rw (e, h, t, c, v) refl;
   wraps = λ f c v e h t. rw (e, h, t, c, v) refl;
   wraps_down = λ f c v e h t. rw (e, h, t, c, v) refl;

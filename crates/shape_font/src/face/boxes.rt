@@ -48,6 +48,13 @@ struct Gathering {
     bounds: Option<Bounds>,
 }
 
+/// The box of points so far, none without points, and how much may still be read.
+#[derive(Clone, Copy)]
+pub(crate) struct Walked {
+    pub bounds: Option<Bounds>,
+    pub left: u32,
+}
+
 /// How many parts are read at most.
 #[tactic(auto, unfolding(crate::specs::BoxesAt::most_parts))]
 fn most_parts() -> usize
@@ -120,9 +127,9 @@ fn offsets(components: &[Component]) -> ArrayVec<GlyphPoint, MOST_COMPONENTS>
 }
 
 impl Gathering {
-    /// A glyph by itself.
-    fn of(glyph: u32, shift: Place) -> Gathering
-        ensures { BoxesAt.gathered result ≡ BoxesAt.begun glyph shift }
+    /// A glyph by itself, for which so much may be read.
+    fn of(glyph: u32, shift: Place, left: u32) -> Gathering
+        ensures { BoxesAt.gathered result ≡ BoxesAt.begun left glyph shift }
     {
         let mut parts = ArrayVec::new();
         parts.push(Part {
@@ -132,7 +139,7 @@ impl Gathering {
         });
         Gathering {
             parts,
-            left: MOST_BOX_STEPS,
+            left,
             shift,
             bounds: None,
         }
@@ -350,17 +357,30 @@ impl<'a> FontFace<'a> {
         Some(())
     }
 
-    /// The box of a glyph at the coordinates. None if `loca` has no place for it, or the glyph is
-    /// too large or made of one that is placed by points.
-    #[tactic(auto, unfolding(crate::specs::BoxesAt::box_at))]
-    pub(super) fn box_at(&self, glyph: u32) -> Option<hb_glyph_extents_t>
-        ensures { result ≡ BoxesAt.box_at self.now glyph }
+    /// The least box that holds the points of a glyph at the coordinates, if no more than so much
+    /// is read for it. Refuses if `loca` has no place for it, or the glyph is too large or made of
+    /// one that is placed by points.
+    #[tactic(auto, unfolding(crate::specs::BoxesAt::bounds_there))]
+    pub(super) fn bounds_there(&self, glyph: u32, left: u32) -> Option<Walked>
+        ensures { result ≡ BoxesAt.bounds_there self.now left glyph }
     {
         if !self.has_place(glyph) {
             return None;
         }
-        let mut gathering = Gathering::of(glyph, self.shift(glyph));
+        let mut gathering = Gathering::of(glyph, self.shift(glyph), left);
         self.gathered(most_parts(), &mut gathering)?;
-        Some(extents(gathering.bounds))
+        Some(Walked {
+            bounds: gathering.bounds,
+            left: gathering.left,
+        })
+    }
+
+    /// The box of a glyph at the coordinates, in whole units.
+    #[tactic(auto, unfolding(crate::specs::BoxesAt::box_at))]
+    pub(super) fn box_at(&self, glyph: u32) -> Option<hb_glyph_extents_t>
+        ensures { result ≡ BoxesAt.box_at self.now glyph }
+    {
+        let walked = self.bounds_there(glyph, MOST_BOX_STEPS)?;
+        Some(extents(walked.bounds))
     }
 }

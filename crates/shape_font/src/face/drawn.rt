@@ -1,4 +1,5 @@
-//! What the table `CFF ` or `CFF2` says of a glyph: its box, and its name.
+//! What the table `CFF ` or `CFF2` says of a glyph: its box, and its name; and the box of any
+//! outline.
 ghost use Rattle.std.specs.Prelude.{◌≡◌};
 ghost use Rattle.std.specs.Option.{option_map};
 ghost use Rattle.shape_font.specs.Cff;
@@ -7,7 +8,7 @@ ghost use Rattle.shape_font.specs.Face;
 use super::FontFace;
 use cff_tables::CffFont;
 use charstrings::glyph_box;
-use shape_buffer::hb_glyph_extents_t;
+use shape_buffer::{GlyphId, hb_glyph_extents_t};
 
 /// Whether these are the coordinates of the default instance.
 #[tactic(auto, using(crate::proofs::BoxLemmas::default_next, crate::proofs::BoxLemmas::default_not, crate::proofs::BoxLemmas::default_end))]
@@ -71,6 +72,19 @@ impl<'a> FontFace<'a> {
                 None => None,
             },
             None => None,
+        }
+    }
+
+    /// The box of a glyph's outline, at the coordinates too, if it has one.
+    pub(super) fn outlined(&self, glyph: GlyphId) -> Option<hb_glyph_extents_t>
+        ensures { result ≡ Face.outlined_extents self.now glyph }
+    {
+        if !self.has_box(glyph) {
+            self.drawn(glyph.0)
+        } else if self.coordinates.is_empty() {
+            Some(self.inked(glyph.0))
+        } else {
+            self.box_at(glyph.0)
         }
     }
 }

@@ -1,11 +1,13 @@
 //! The measures of a line, which `MVAR` varies at coordinates.
-ghost use Rattle.std.specs.Prelude.{◌≡◌, ◌≤◌, ◌≤ℤ◌, pos, neg_ℤ};
+ghost use Rattle.std.specs.Prelude.{◌≡◌, ◌≤◌, ◌≤ℤ◌, pos};
 ghost use Rattle.shape_font.specs.LinesAt;
 
 use super::FontFace;
 use crate::metrics;
+use font_sizes::Scale;
 use font_variations::deltas::rounded;
 use font_variations::lines::line_delta;
+use shape_buffer::wrapping::difference;
 use std::num::nearest_i32_to_f32;
 
 /// `hasc`, how far a line reaches up.
@@ -81,26 +83,84 @@ impl<'a> FontFace<'a> {
         (self.ascent() + self.descent()) as i32
     }
 
-    /// How far a line reaches above its baseline (OpenType, `OS/2` if bit 7 of its fsSelection is
-    /// set, else `hhea`), at the coordinates by `MVAR`: never negative, as HarfBuzz takes it.
-    pub fn ascender(&self) -> i32
-        ensures { result ≡ pos (LinesAt.ascent_of self.now) }
+    /// A measure at the coordinates, before it is rounded.
+    fn measure(&self, tag: u32, n: i32) -> f32
+        ensures { result ≡ LinesAt.measure self.now tag n }
     {
-        self.ascent() as i32
+        if self.coordinates.is_empty() {
+            return nearest_i32_to_f32(n);
+        }
+        self.varied(tag, n)
+    }
+
+    /// How far a line reaches above its baseline at a size.
+    #[tactic(auto, unfolding(crate::specs::LinesAt::ascender_at))]
+    fn ascender_at(&self, scale: &Scale) -> i32
+        ensures { result ≡ LinesAt.ascender_at self.now scale.now }
+    {
+        let ascender = metrics::ascender(self.os2, self.hhea);
+        rounded(
+            scale
+                .up
+                .stretched(upwards(self.measure(ASCENDER, ascender))),
+        )
+    }
+
+    /// How far it reaches below at a size, downwards.
+    #[tactic(auto, unfolding(crate::specs::LinesAt::descender_at))]
+    fn descender_at(&self, scale: &Scale) -> i32
+        ensures { result ≡ LinesAt.descender_at self.now scale.now }
+    {
+        let descender = metrics::descender(self.os2, self.hhea);
+        rounded(
+            scale
+                .up
+                .stretched(downwards(self.measure(DESCENDER, descender))),
+        )
+    }
+
+    /// How far a line reaches above its baseline (OpenType, `OS/2` if bit 7 of its fsSelection is
+    /// set, else `hhea`), at the coordinates by `MVAR`: never negative, as HarfBuzz takes it, unless
+    /// the face has a size that is.
+    pub fn ascender(&self) -> i32
+        ensures { result ≡ LinesAt.sized_ascender self.now }
+    {
+        match &self.scale {
+            Some(scale) => self.ascender_at(scale),
+            None => self.ascent() as i32,
+        }
     }
 
     /// How far a line reaches below its baseline, by the same tables: a number that is never
-    /// positive, as HarfBuzz takes it.
+    /// positive, as HarfBuzz takes it, unless the face has a negative size.
     pub fn descender(&self) -> i32
-        ensures { result ≡ neg_ℤ (pos (LinesAt.descent_of self.now)) }
+        ensures { result ≡ LinesAt.sized_descender self.now }
     {
-        -(self.descent() as i32)
+        match &self.scale {
+            Some(scale) => self.descender_at(scale),
+            None => -(self.descent() as i32),
+        }
     }
 
-    /// How far lines stand apart beside that, by the same tables; a negative number moves them
-    /// together.
+    /// How high a line is, at the size of the face.
+    pub(super) fn sized_height(&self) -> i32
+        ensures { result ≡ LinesAt.sized_height self.now }
+    {
+        difference(self.ascender(), self.descender())
+    }
+
+    /// How far lines stand apart beside that at a size.
+    #[tactic(auto, unfolding(crate::specs::LinesAt::gap_at))]
+    fn gap_at(&self, scale: &Scale) -> i32
+        ensures { result ≡ LinesAt.gap_at self.now scale.now }
+    {
+        let gap = metrics::line_gap(self.os2, self.hhea);
+        rounded(scale.up.stretched(self.measure(LINE_GAP, gap)))
+    }
+
+    /// How far lines stand apart beside that in units of the font.
     #[tactic(auto, unfolding(crate::specs::LinesAt::gap_of))]
-    pub fn line_gap(&self) -> i32
+    fn own_gap(&self) -> i32
         ensures { result ≡ LinesAt.gap_of self.now }
     {
         let gap = metrics::line_gap(self.os2, self.hhea);
@@ -108,5 +168,16 @@ impl<'a> FontFace<'a> {
             return gap;
         }
         rounded(self.varied(LINE_GAP, gap))
+    }
+
+    /// How far lines stand apart beside that, by the same tables; a negative number moves them
+    /// together.
+    pub fn line_gap(&self) -> i32
+        ensures { result ≡ LinesAt.sized_gap self.now }
+    {
+        match &self.scale {
+            Some(scale) => self.gap_at(scale),
+            None => self.own_gap(),
+        }
     }
 }

@@ -71,7 +71,7 @@ impl<'a> FontFace<'a> {
         } else if self.has_box(glyph) {
             self.above(glyph.0)
         } else {
-            self.ascender()
+            self.ascent() as i32
         }
     }
 }
