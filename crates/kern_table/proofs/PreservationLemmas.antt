@@ -1,6 +1,7 @@
 -- kerning preserves clusters and flags
 use Prim.Native.Nat.{zero}
-use Rattle.std.proofs.Common.{◌≡◌, ◌||◌, ℕ, suc, ◌+◌, ◌==◌, Bool, true, false, if◌then◌else◌, List, [], ◌∷◌, ◌++◌, length, reverse, nat_lt, nat_eq, refl, sym, ap, ◌∙◌, inl, inr}
+use Rattle.std.proofs.Common.{◌≡◌, ◌||◌, ℕ, suc, ◌+◌, ◌==◌, Bool, true, false, if◌then◌else◌, Option, List, [], ◌∷◌, ◌++◌, length, reverse, nat_lt, nat_eq}
+use Rattle.std.proofs.Common.{refl, sym, ap, ◌∙◌, inl, inr}
 use Rattle.std.proofs.lemmas.List.{reverse-append, reverse-reverse, map-append}
 use Rattle.std.specs.Int.RustNames.{bit_and}
 use Rattle.shape_items.specs.Buffer.{Buffer}
@@ -14,6 +15,7 @@ use Rattle.shape_items.specs.PreservesFlags.{PreservesFlags, has_flag, some_has}
 use Rattle.shape_items.proofs.Flags.FlagLemmas.{glyph_flags_set, PreservesFlags-same, PreservesFlags-then, unsafe_to_break_preserves}
 use Rattle.shape_items.proofs.Merging.KeyLemmas.{keys-unsafe_to_break, without_items-unsafe_to_break}
 use Rattle.shape_buffer.proofs.Steps.PreservationLemmas.{PreservesClusters-equal, PreservesOrder-same, PreservesOrder-then}
+use Rattle.font_sizes.specs.declared.scales.Scale.{Scale}
 use Rattle.kern_table.specs.Headers.{first_start, length_of, ends_table}
 use Rattle.shape_font.specs.declared.face.FontFace.{FontFace}
 use Rattle.kern_table.specs.Walk.{kerned}
@@ -24,7 +26,7 @@ use Rattle.kern_table.specs.Engine.{kern_lookups}
 
 -- ---- one subtable, in the order of the buffer
 
-pub clusters-kerned : (t : List ℕ) (start mask : ℕ) (b : Buffer) → clusters (kerned t start mask b).items ≡ clusters b.items
+pub clusters-kerned : (scale : Option Scale) (t : List ℕ) (start mask : ℕ) (b : Buffer) → clusters (kerned scale t start mask b).items ≡ clusters b.items
 clusters-kerned = step-kerned (λ b c. clusters c.items ≡ clusters b.items) (λ b. refl) (λ a b c first later. later ∙ first)
     (λ start end b. keys-unsafe_to_break (λ item. item.cluster) (λ item. refl) start end b) clusters-concat (λ i p b. refl)
 
@@ -45,7 +47,7 @@ settings-concat end b =
       | false ↦ settings-same b
     ]
 
-settings-kerned : (t : List ℕ) (start mask : ℕ) (b : Buffer) → PreservesSettings b (kerned t start mask b)
+settings-kerned : (scale : Option Scale) (t : List ℕ) (start mask : ℕ) (b : Buffer) → PreservesSettings b (kerned scale t start mask b)
 settings-kerned = step-kerned PreservesSettings settings-same
     (λ a b c first later. record {
       direction = later.direction ∙ first.direction;
@@ -69,7 +71,7 @@ flags-concat end b =
       | false ↦ PreservesFlags-same b
     ]
 
-flags-kerned : (t : List ℕ) (start mask : ℕ) (b : Buffer) → PreservesFlags b (kerned t start mask b)
+flags-kerned : (scale : Option Scale) (t : List ℕ) (start mask : ℕ) (b : Buffer) → PreservesFlags b (kerned scale t start mask b)
 flags-kerned = step-kerned PreservesFlags PreservesFlags-same PreservesFlags-then unsafe_to_break_preserves flags-concat
     (λ i p b. record { flags = refl; stays_set = λ e. e; none_new = λ flag d some. inl some })
 
@@ -107,31 +109,32 @@ some_has-reverse flag (x ∷ xs) =
 flags-reversed : IsFlagPreserving reversed
 flags-reversed b = record { flags = refl; stays_set = λ e. e; none_new = λ flag d some. inl (sym (some_has-reverse flag b.items) ∙ some) }
 
-clusters-reversed : (t : List ℕ) (start mask : ℕ) (b : Buffer) → clusters (reversed (kerned t start mask (reversed b))).items ≡ clusters b.items
-clusters-reversed t start mask b =
-    clusters-reverse (kerned t start mask (reversed b)).items ∙ ap reverse (clusters-kerned t start mask (reversed b))
+clusters-reversed : (scale : Option Scale) (t : List ℕ) (start mask : ℕ) (b : Buffer)
+    → clusters (reversed (kerned scale t start mask (reversed b))).items ≡ clusters b.items
+clusters-reversed scale t start mask b =
+    clusters-reverse (kerned scale t start mask (reversed b)).items ∙ ap reverse (clusters-kerned scale t start mask (reversed b))
     ∙ ap reverse (clusters-reverse b.items) ∙ reverse-reverse (clusters b.items)
 
 -- ---- a subtable
 
-order-subtable_kerned : (t : List ℕ) (start mask : ℕ) (b : Buffer) → PreservesOrder b (subtable_kerned t start mask b)
-order-subtable_kerned t start mask b =
+order-subtable_kerned : (scale : Option Scale) (t : List ℕ) (start mask : ℕ) (b : Buffer) → PreservesOrder b (subtable_kerned scale t start mask b)
+order-subtable_kerned scale t start mask b =
     elim (is_read t start (is_horizontal b.direction)) as (λ r.
-    PreservesOrder b (if r then (if is_backward b.direction then reversed (kerned t start mask (reversed b)) else kerned t start mask b) else b)) [
+    PreservesOrder b (if r then (if is_backward b.direction then reversed (kerned scale t start mask (reversed b)) else kerned scale t start mask b) else b)) [
       | true ↦ elim (is_backward b.direction) as (λ r.
-          PreservesOrder b (if r then reversed (kerned t start mask (reversed b)) else kerned t start mask b)) [
+          PreservesOrder b (if r then reversed (kerned scale t start mask (reversed b)) else kerned scale t start mask b)) [
             | true ↦
-                let settings = settings-kerned t start mask (reversed b) in
+                let settings = settings-kerned scale t start mask (reversed b) in
                 record {
-                  clusters = PreservesClusters-equal _ _ (clusters-reversed t start mask b);
+                  clusters = PreservesClusters-equal _ _ (clusters-reversed scale t start mask b);
                   direction = settings.direction;
                   flags = settings.flags;
                   level = settings.level;
                 }
             | false ↦
-                let settings = settings-kerned t start mask b in
+                let settings = settings-kerned scale t start mask b in
                 record {
-                  clusters = PreservesClusters-equal _ _ (clusters-kerned t start mask b);
+                  clusters = PreservesClusters-equal _ _ (clusters-kerned scale t start mask b);
                   direction = settings.direction;
                   flags = settings.flags;
                   level = settings.level;
@@ -140,17 +143,17 @@ order-subtable_kerned t start mask b =
       | false ↦ PreservesOrder-same b
     ]
 
-flags-subtable_kerned : (t : List ℕ) (start mask : ℕ) (b : Buffer) → PreservesFlags b (subtable_kerned t start mask b)
-flags-subtable_kerned t start mask b =
+flags-subtable_kerned : (scale : Option Scale) (t : List ℕ) (start mask : ℕ) (b : Buffer) → PreservesFlags b (subtable_kerned scale t start mask b)
+flags-subtable_kerned scale t start mask b =
     elim (is_read t start (is_horizontal b.direction)) as (λ r.
-    PreservesFlags b (if r then (if is_backward b.direction then reversed (kerned t start mask (reversed b)) else kerned t start mask b) else b)) [
+    PreservesFlags b (if r then (if is_backward b.direction then reversed (kerned scale t start mask (reversed b)) else kerned scale t start mask b) else b)) [
       | true ↦ elim (is_backward b.direction) as (λ r.
-          PreservesFlags b (if r then reversed (kerned t start mask (reversed b)) else kerned t start mask b)) [
+          PreservesFlags b (if r then reversed (kerned scale t start mask (reversed b)) else kerned scale t start mask b)) [
             | true ↦
-                let there = kerned t start mask (reversed b) in
+                let there = kerned scale t start mask (reversed b) in
                 PreservesFlags-then b (reversed b) (reversed there) (flags-reversed b)
-                (PreservesFlags-then (reversed b) there (reversed there) (flags-kerned t start mask (reversed b)) (flags-reversed there))
-            | false ↦ flags-kerned t start mask b
+                (PreservesFlags-then (reversed b) there (reversed there) (flags-kerned scale t start mask (reversed b)) (flags-reversed there))
+            | false ↦ flags-kerned scale t start mask b
           ]
       | false ↦ PreservesFlags-same b
     ]
@@ -163,58 +166,58 @@ order-charged b = record { clusters = PreservesClusters-equal _ _ refl; directio
 flags-charged : (b : Buffer) → PreservesFlags b (charged b)
 flags-charged b = record { flags = refl; stays_set = λ e. e; none_new = λ flag d some. inl some }
 
-order-from : (t : List ℕ) (mask n start : ℕ) (b : Buffer) → PreservesOrder b (kerned_from t mask n start b)
-order-from t mask zero start b = PreservesOrder-same b
-order-from t mask (suc n) start b =
+order-from : (scale : Option Scale) (t : List ℕ) (mask n start : ℕ) (b : Buffer) → PreservesOrder b (kerned_from scale t mask n start b)
+order-from scale t mask zero start b = PreservesOrder-same b
+order-from scale t mask (suc n) start b =
     let paid = charged b in
-    let next = subtable_kerned t start mask paid in
-    let behind = kerned_from t mask n (start + length_of t start) next in
+    let next = subtable_kerned scale t start mask paid in
+    let behind = kerned_from scale t mask n (start + length_of t start) next in
     let spent = nat_lt b.max_ops (subtable_work (length b.items)) in
     elim (ends_table t start) as (λ s. PreservesOrder b (if s then b else (if spent then paid else behind))) [
       | true ↦ PreservesOrder-same b
       | false ↦ elim spent as (λ s. PreservesOrder b (if s then paid else behind)) [
         | true ↦ order-charged b
         | false ↦ PreservesOrder-then b paid behind (order-charged b)
-            (PreservesOrder-then paid next behind (order-subtable_kerned t start mask paid)
-            (order-from t mask n (start + length_of t start) next))
+            (PreservesOrder-then paid next behind (order-subtable_kerned scale t start mask paid)
+            (order-from scale t mask n (start + length_of t start) next))
       ]
     ]
 
-flags-from : (t : List ℕ) (mask n start : ℕ) (b : Buffer) → PreservesFlags b (kerned_from t mask n start b)
-flags-from t mask zero start b = PreservesFlags-same b
-flags-from t mask (suc n) start b =
+flags-from : (scale : Option Scale) (t : List ℕ) (mask n start : ℕ) (b : Buffer) → PreservesFlags b (kerned_from scale t mask n start b)
+flags-from scale t mask zero start b = PreservesFlags-same b
+flags-from scale t mask (suc n) start b =
     let paid = charged b in
-    let next = subtable_kerned t start mask paid in
-    let behind = kerned_from t mask n (start + length_of t start) next in
+    let next = subtable_kerned scale t start mask paid in
+    let behind = kerned_from scale t mask n (start + length_of t start) next in
     let spent = nat_lt b.max_ops (subtable_work (length b.items)) in
     elim (ends_table t start) as (λ s. PreservesFlags b (if s then b else (if spent then paid else behind))) [
       | true ↦ PreservesFlags-same b
       | false ↦ elim spent as (λ s. PreservesFlags b (if s then paid else behind)) [
         | true ↦ flags-charged b
         | false ↦ PreservesFlags-then b paid behind (flags-charged b)
-            (PreservesFlags-then paid next behind (flags-subtable_kerned t start mask paid)
-            (flags-from t mask n (start + length_of t start) next))
+            (PreservesFlags-then paid next behind (flags-subtable_kerned scale t start mask paid)
+            (flags-from scale t mask n (start + length_of t start) next))
       ]
     ]
 
-order-table_kerned : (t : List ℕ) (mask : ℕ) → IsClusterPreserving (table_kerned t mask)
-order-table_kerned t mask b monotone =
-    elim (nat_eq mask 0) as (λ s. PreservesOrder b (if s then b else kerned_from t mask (subtable_count_of t) (first_start t) b)) [
+order-table_kerned : (scale : Option Scale) (t : List ℕ) (mask : ℕ) → IsClusterPreserving (table_kerned scale t mask)
+order-table_kerned scale t mask b monotone =
+    elim (nat_eq mask 0) as (λ s. PreservesOrder b (if s then b else kerned_from scale t mask (subtable_count_of t) (first_start t) b)) [
       | true ↦ PreservesOrder-same b
-      | false ↦ order-from t mask (subtable_count_of t) (first_start t) b
+      | false ↦ order-from scale t mask (subtable_count_of t) (first_start t) b
     ]
 
-flags-table_kerned : (t : List ℕ) (mask : ℕ) → IsFlagPreserving (table_kerned t mask)
-flags-table_kerned t mask b =
-    elim (nat_eq mask 0) as (λ s. PreservesFlags b (if s then b else kerned_from t mask (subtable_count_of t) (first_start t) b)) [
+flags-table_kerned : (scale : Option Scale) (t : List ℕ) (mask : ℕ) → IsFlagPreserving (table_kerned scale t mask)
+flags-table_kerned scale t mask b =
+    elim (nat_eq mask 0) as (λ s. PreservesFlags b (if s then b else kerned_from scale t mask (subtable_count_of t) (first_start t) b)) [
       | true ↦ PreservesFlags-same b
-      | false ↦ flags-from t mask (subtable_count_of t) (first_start t) b
+      | false ↦ flags-from scale t mask (subtable_count_of t) (first_start t) b
     ]
 
 -- ---- the engine
 
 EachLookup-kern : (Preserves : (Buffer → Buffer) → Type 0) (face : FontFace) → Preserves (λ b. b)
-    → ((mask : ℕ) → Preserves (table_kerned face.kern.now mask)) → EachLookup Preserves (kern_lookups face)
+    → ((mask : ℕ) → Preserves (table_kerned face.scale face.kern.now mask)) → EachLookup Preserves (kern_lookups face)
 EachLookup-kern Preserves face left kern = record {
   substitute_start = left;
   stage = λ i. left;
@@ -230,7 +233,7 @@ EachLookup-kern Preserves face left kern = record {
 }
 
 pub clusters-kern : (face : FontFace) → LookupsPreserveClusters (kern_lookups face)
-clusters-kern face = EachLookup-kern IsClusterPreserving face (λ b monotone. PreservesOrder-same b) (order-table_kerned face.kern.now)
+clusters-kern face = EachLookup-kern IsClusterPreserving face (λ b monotone. PreservesOrder-same b) (order-table_kerned face.scale face.kern.now)
 
 pub flags-kern : (face : FontFace) → LookupsPreserveFlags (kern_lookups face)
-flags-kern face = EachLookup-kern IsFlagPreserving face (λ b. PreservesFlags-same b) (flags-table_kerned face.kern.now)
+flags-kern face = EachLookup-kern IsFlagPreserving face (λ b. PreservesFlags-same b) (flags-table_kerned face.scale face.kern.now)

@@ -1,7 +1,8 @@
 -- what one step over the subtables of a table, or over the glyphs of a buffer, does
-use Rattle.std.proofs.Common.{◌≡◌, ℕ, suc, ◌<◌, ◌≤◌, ◌+◌, ◌-◌, Bool, true, false, not, nat_lt, List, length, refl, arith}
+use Rattle.std.proofs.Common.{◌≡◌, ℕ, suc, ◌<◌, ◌≤◌, ◌+◌, ◌-◌, Bool, true, false, not, nat_lt, Option, List, length, refl, arith}
 use Rattle.std.proofs.lemmas.Bool.Decides.{nat_tests}
 use Rattle.shape_items.specs.Buffer.{Buffer}
+use Rattle.font_sizes.specs.declared.scales.Scale.{Scale}
 use Rattle.kern_table.specs.Headers.{header_size, length_of, most_bytes, ends_table}
 use Rattle.kern_table.specs.Tables.{subtable_work, charged, subtable_kerned, kerned_from}
 use Rattle.kern_table.specs.Walk.{kerned_at, left_after, kerned_to}
@@ -21,55 +22,55 @@ goes_on t start whole within =
     let inside : nat_lt most_bytes (start + length_of t start) ≡ false = grind (arith, nat_tests, within) in
     rw (enough, inside) refl
 
-pub kerned_from_next : (t : List ℕ) (mask n i start : ℕ) (b : Buffer) → i < n → header_size t ≤ length_of t start
+pub kerned_from_next : (scale : Option Scale) (t : List ℕ) (mask n i start : ℕ) (b : Buffer) → i < n → header_size t ≤ length_of t start
     → start + length_of t start ≤ most_bytes → true ≡ not (nat_lt b.max_ops (subtable_work (length b.items)))
-    → kerned_from t mask (n - i) start b
-    ≡ kerned_from t mask (n - (i + 1)) (start + length_of t start) (subtable_kerned t start mask (charged b))
-kerned_from_next t mask n i start b h whole within suffices =
+    → kerned_from scale t mask (n - i) start b
+    ≡ kerned_from scale t mask (n - (i + 1)) (start + length_of t start) (subtable_kerned scale t start mask (charged b))
+kerned_from_next scale t mask n i start b h whole within suffices =
     let e : n - i ≡ suc (n - (i + 1)) = omega arith in
     let goes : ends_table t start ≡ false = goes_on t start whole within in
     let paid : nat_lt b.max_ops (subtable_work (length b.items)) ≡ false = not_true (nat_lt b.max_ops (subtable_work (length b.items))) suffices in
     rw e (rw (goes, kerned_from) (rw paid refl))
 
-pub kerned_from_short : (t : List ℕ) (mask n i start : ℕ) (b : Buffer) → i < n → length_of t start < header_size t
-    → kerned_from t mask (n - i) start b ≡ b
-kerned_from_short t mask n i start b h short =
+pub kerned_from_short : (scale : Option Scale) (t : List ℕ) (mask n i start : ℕ) (b : Buffer) → i < n → length_of t start < header_size t
+    → kerned_from scale t mask (n - i) start b ≡ b
+kerned_from_short scale t mask n i start b h short =
     let e : n - i ≡ suc (n - (i + 1)) = omega arith in
     let few : nat_lt (length_of t start) (header_size t) ≡ true = grind (arith, nat_tests, short) in
     rw e (rw (few, kerned_from) refl)
 
-pub kerned_from_long : (t : List ℕ) (mask n i start : ℕ) (b : Buffer) → i < n → header_size t ≤ length_of t start
-    → most_bytes < start + length_of t start → kerned_from t mask (n - i) start b ≡ b
-kerned_from_long t mask n i start b h whole long =
+pub kerned_from_long : (scale : Option Scale) (t : List ℕ) (mask n i start : ℕ) (b : Buffer) → i < n → header_size t ≤ length_of t start
+    → most_bytes < start + length_of t start → kerned_from scale t mask (n - i) start b ≡ b
+kerned_from_long scale t mask n i start b h whole long =
     let e : n - i ≡ suc (n - (i + 1)) = omega arith in
     let enough : nat_lt (length_of t start) (header_size t) ≡ false = grind (arith, nat_tests, whole) in
     let many : nat_lt most_bytes (start + length_of t start) ≡ true = grind (arith, nat_tests, long) in
     rw e (rw (enough, many, kerned_from) refl)
 
-pub kerned_from_spent : (t : List ℕ) (mask n i start : ℕ) (b : Buffer) → i < n → header_size t ≤ length_of t start
+pub kerned_from_spent : (scale : Option Scale) (t : List ℕ) (mask n i start : ℕ) (b : Buffer) → i < n → header_size t ≤ length_of t start
     → start + length_of t start ≤ most_bytes → false ≡ not (nat_lt b.max_ops (subtable_work (length b.items)))
-    → kerned_from t mask (n - i) start b ≡ charged b
-kerned_from_spent t mask n i start b h whole within lacks =
+    → kerned_from scale t mask (n - i) start b ≡ charged b
+kerned_from_spent scale t mask n i start b h whole within lacks =
     let e : n - i ≡ suc (n - (i + 1)) = omega arith in
     let goes : ends_table t start ≡ false = goes_on t start whole within in
     let spent : nat_lt b.max_ops (subtable_work (length b.items)) ≡ true = not_false (nat_lt b.max_ops (subtable_work (length b.items))) lacks in
     rw e (rw (goes, kerned_from) (rw spent refl))
 
-pub kerned_from_end : (t : List ℕ) (mask n start : ℕ) (b : Buffer) → kerned_from t mask (n - n) start b ≡ b
-kerned_from_end t mask n start b =
+pub kerned_from_end : (scale : Option Scale) (t : List ℕ) (mask n start : ℕ) (b : Buffer) → kerned_from scale t mask (n - n) start b ≡ b
+kerned_from_end scale t mask n start b =
     let e : n - n ≡ 0 = omega arith in
     rw e refl
 
 -- ---- what one glyph more does
 
-pub kerned_to_next_buffer : (t : List ℕ) (start mask j : ℕ) (b : Buffer) → (kerned_to t start mask (j + 1) b).buffer
-    ≡ kerned_at t start mask j (kerned_to t start mask j b).left (kerned_to t start mask j b).buffer
-kerned_to_next_buffer t start mask j b =
+pub kerned_to_next_buffer : (scale : Option Scale) (t : List ℕ) (start mask j : ℕ) (b : Buffer) → (kerned_to scale t start mask (j + 1) b).buffer
+    ≡ kerned_at scale t start mask j (kerned_to scale t start mask j b).left (kerned_to scale t start mask j b).buffer
+kerned_to_next_buffer scale t start mask j b =
     let e : j + 1 ≡ suc j = omega arith in
     rw e refl
 
-pub kerned_to_next_left : (t : List ℕ) (start mask j : ℕ) (b : Buffer) → (kerned_to t start mask (j + 1) b).left
-    ≡ left_after mask j (kerned_to t start mask j b).left (kerned_to t start mask j b).buffer.items
-kerned_to_next_left t start mask j b =
+pub kerned_to_next_left : (scale : Option Scale) (t : List ℕ) (start mask j : ℕ) (b : Buffer) → (kerned_to scale t start mask (j + 1) b).left
+    ≡ left_after mask j (kerned_to scale t start mask j b).left (kerned_to scale t start mask j b).buffer.items
+kerned_to_next_left scale t start mask j b =
     let e : j + 1 ≡ suc j = omega arith in
     rw e refl

@@ -22,7 +22,7 @@ kern_layout face = record {
 
 -- every call except kerning leaves the buffer as it is
 abbrev pub kern_lookups : FontFace → LookupMeaning
-kern_lookups face = record no_lookups { kern = table_kerned face.kern.now }
+kern_lookups face = record no_lookups { kern = table_kerned face.scale face.kern.now }
 
 pub kern_masks-lawful : (map : KernMap) → LawfulMasks (kern_masks map)
 kern_masks-lawful map = record {
@@ -40,5 +40,5 @@ kern_lookups-lawful face = record {
   position_finish_advances = no_lookups-lawful.position_finish_advances;
   position_finish_offsets = no_lookups-lawful.position_finish_offsets;
   aat_position = no_lookups-lawful.aat_position;
-  kern = λ mask b. length-table_kerned face.kern.now mask b;
+  kern = λ mask b. length-table_kerned face.scale face.kern.now mask b;
 }

@@ -1,10 +1,11 @@
 -- kerning of a buffer by a whole table `kern`
 use Prim.Native.Nat.{zero}
-use Rattle.std.specs.Prelude.{ℕ, suc, List, Bool, ◌+◌, ◌-◌, ◌*◌, ◌/◌, ◌%◌, ◌&&◌, ◌||◌, min, max, length, nat_lt, nat_eq, reverse, if◌then◌else◌}
+use Rattle.std.specs.Prelude.{ℕ, suc, List, Bool, Option, ◌+◌, ◌-◌, ◌*◌, ◌/◌, ◌%◌, ◌&&◌, ◌||◌, min, max, length, nat_lt, nat_eq, reverse, if◌then◌else◌}
 use Rattle.shape_items.specs.Buffer.{Buffer, most_countable}
 use Rattle.shape_common.specs.Direction.{is_horizontal, is_backward}
 use Rattle.shape_font.specs.Bytes.{u16_of, u32_of}
 use Rattle.kern_table.specs.Headers.{is_apple, first_start, length_of, format_of, coverage_of, ends_table}
+use Rattle.font_sizes.specs.declared.scales.Scale.{Scale}
 use Rattle.kern_table.specs.Walk.{kerned}
 
 -- how many subtables the table states (`nTables`): a number of 16 bits in OpenType, of 32 in Apple's version; none in another one
@@ -32,9 +33,9 @@ abbrev pub reversed : Buffer → Buffer
 reversed b = record b { items = reverse b.items; positions = reverse b.positions }
 
 -- a subtable kerns from the left of the line to its right
-abbrev pub subtable_kerned : List ℕ → ℕ → ℕ → Buffer → Buffer
-subtable_kerned t start mask b = if is_read t start (is_horizontal b.direction)
-    then (if is_backward b.direction then reversed (kerned t start mask (reversed b)) else kerned t start mask b)
+abbrev pub subtable_kerned : Option Scale → List ℕ → ℕ → ℕ → Buffer → Buffer
+subtable_kerned scale t start mask b = if is_read t start (is_horizontal b.direction)
+    then (if is_backward b.direction then reversed (kerned scale t start mask (reversed b)) else kerned scale t start mask b)
     else b
 
 -- what a subtable costs at each item, in units of about one look at a glyph: it is walked over, reversed and reversed back, and
@@ -51,12 +52,12 @@ abbrev pub charged : Buffer → Buffer
 charged b = record b { max_ops = b.max_ops - subtable_work (length b.items) }
 
 -- so many subtables from a place on; one that what is left doesn't suffice for ends the table, after which nothing is left
-abbrev pub kerned_from : List ℕ → ℕ → ℕ → ℕ → Buffer → Buffer
-kerned_from t mask zero start b = b
-kerned_from t mask (suc n) start b = if ends_table t start then b
+abbrev pub kerned_from : Option Scale → List ℕ → ℕ → ℕ → ℕ → Buffer → Buffer
+kerned_from scale t mask zero start b = b
+kerned_from scale t mask (suc n) start b = if ends_table t start then b
     else (if nat_lt b.max_ops (subtable_work (length b.items)) then charged b
-    else kerned_from t mask n (start + length_of t start) (subtable_kerned t start mask (charged b)))
+    else kerned_from scale t mask n (start + length_of t start) (subtable_kerned scale t start mask (charged b)))
 
 -- all subtables, if kerning is on somewhere
-abbrev pub table_kerned : List ℕ → ℕ → Buffer → Buffer
-table_kerned t mask b = if nat_eq mask 0 then b else kerned_from t mask (subtable_count_of t) (first_start t) b
+abbrev pub table_kerned : Option Scale → List ℕ → ℕ → Buffer → Buffer
+table_kerned scale t mask b = if nat_eq mask 0 then b else kerned_from scale t mask (subtable_count_of t) (first_start t) b

@@ -13,6 +13,8 @@ use Rattle.shape_common.specs.Direction.{is_horizontal}
 use Rattle.shape_common.specs.Wrapping.{◌+ʷ◌, ◌-ʷ◌}
 use Rattle.shape_common.specs.declared.positions.GlyphPosition.{GlyphPosition}
 use Rattle.shape_font.specs.Metrics.{half_down}
+use Rattle.font_sizes.specs.Scales.{across, up}
+use Rattle.font_sizes.specs.declared.scales.Scale.{Scale}
 use Rattle.kern_table.specs.Pairs.{value_of}
 
 -- a glyph between two others that doesn't part them: a mark, or one of a default ignorable
@@ -33,21 +35,26 @@ position_at b i = slice_index_or b.positions i zero_position
 abbrev pub position_put : ℕ → GlyphPosition → Buffer → Buffer
 position_put i p b = record b { positions = slice_set b.positions i p }
 
+-- a value along a line of this kind, at a size of the font
+abbrev pub sized : Option Scale → Bool → ℤ → ℤ
+sized scale horizontal value = if horizontal then across scale value else up scale value
+
 -- half of a value, rounded down, is added to the advance of the first glyph, and the rest to that of the second, which
 -- also moves by the rest
-abbrev pub pair_moved : ℕ → ℕ → ℤ → Buffer → Buffer
-pair_moved i j by b =
+abbrev pub pair_moved : Option Scale → ℕ → ℕ → ℤ → Buffer → Buffer
+pair_moved scale i j value b =
     let along = is_horizontal b.direction in
+    let by = sized scale along value in
     let rest = by -ʷ half_down by in
     let first = position_put i (moved_on along (half_down by) (position_at b i)) b in
-    (if int_eq by (pos 0) then b
+    (if int_eq value (pos 0) then b
     else unsafe_to_break i (j + 1) (position_put j (moved along rest (moved_on along rest (position_at first j))) first))
 
 abbrev pub item_at : List Item → ℕ → Item
 item_at items i = slice_index_or items i (new_item 0 0)
 
-abbrev pub pair_kerned : List ℕ → ℕ → ℕ → ℕ → Buffer → Buffer
-pair_kerned t start i j b = pair_moved i j (value_of t start (item_at b.items i).glyph_id (item_at b.items j).glyph_id) b
+abbrev pub pair_kerned : Option Scale → List ℕ → ℕ → ℕ → ℕ → Buffer → Buffer
+pair_kerned scale t start i j b = pair_moved scale i j (value_of t start (item_at b.items i).glyph_id (item_at b.items j).glyph_id) b
 
 -- a mark or a default ignorable is skipped only if a glyph waits at its left
 abbrev pub is_skipped_by : Option ℕ → Item → Bool
@@ -61,14 +68,14 @@ left_after mask j left items =
     else (if nat_eq (bit_and (item_at items j).mask mask) 0 then None else Some j)
 
 -- glyph `j` with the one that waits
-abbrev pub kerned_with : List ℕ → ℕ → ℕ → Option ℕ → Buffer → Buffer
-kerned_with t start j None b = b
-kerned_with t start j (Some i) b = pair_kerned t start i j b
+abbrev pub kerned_with : Option Scale → List ℕ → ℕ → ℕ → Option ℕ → Buffer → Buffer
+kerned_with scale t start j None b = b
+kerned_with scale t start j (Some i) b = pair_kerned scale t start i j b
 
-abbrev pub kerned_at : List ℕ → ℕ → ℕ → ℕ → Option ℕ → Buffer → Buffer
-kerned_at t start mask j left b =
+abbrev pub kerned_at : Option Scale → List ℕ → ℕ → ℕ → ℕ → Option ℕ → Buffer → Buffer
+kerned_at scale t start mask j left b =
     if is_skipped_by left (item_at b.items j) then b
-    else (if nat_eq (bit_and (item_at b.items j).mask mask) 0 then b else kerned_with t start j left b)
+    else (if nat_eq (bit_and (item_at b.items j).mask mask) 0 then b else kerned_with scale t start j left b)
 
 -- a buffer, and the glyph that waits
 pub record Kerned : Type 0 where
@@ -76,13 +83,13 @@ pub record Kerned : Type 0 where
   pub left : Option ℕ
 
 -- after the first glyphs
-abbrev pub kerned_to : List ℕ → ℕ → ℕ → ℕ → Buffer → Kerned
-kerned_to t start mask zero b = record { buffer = b; left = None }
-kerned_to t start mask (suc j) b = let before = kerned_to t start mask j b in record {
-  buffer = kerned_at t start mask j before.left before.buffer;
+abbrev pub kerned_to : Option Scale → List ℕ → ℕ → ℕ → ℕ → Buffer → Kerned
+kerned_to scale t start mask zero b = record { buffer = b; left = None }
+kerned_to scale t start mask (suc j) b = let before = kerned_to scale t start mask j b in record {
+  buffer = kerned_at scale t start mask j before.left before.buffer;
   left = left_after mask j before.left before.buffer.items;
 }
 
 -- all glyphs, which are unsafe to concat first
-abbrev pub kerned : List ℕ → ℕ → ℕ → Buffer → Buffer
-kerned t start mask b = (kerned_to t start mask (length b.items) (unsafe_to_concat 0 (length b.items) b)).buffer
+abbrev pub kerned : Option Scale → List ℕ → ℕ → ℕ → Buffer → Buffer
+kerned scale t start mask b = (kerned_to scale t start mask (length b.items) (unsafe_to_concat 0 (length b.items) b)).buffer

@@ -210,7 +210,7 @@ impl<'a> hb_ot_layout_t<FontFace<'a>> for KernTable {
             buffer.old buffer.new result }
         ensures ok { IsOk result }
     {
-        kern_table(face.kern_table(), kern_mask, buffer);
+        kern_table(face.kern_table(), face.scale(), kern_mask, buffer);
         Ok(())
     }
 

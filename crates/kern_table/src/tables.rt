@@ -11,6 +11,7 @@ use crate::headers::{
 use crate::pairs::{Subtable, read_subtable};
 use crate::sides::Sides;
 use crate::walk::kern_each;
+use font_sizes::Scale;
 use shape_buffer::buffer::{hb_buffer_t, hb_mask_t};
 use shape_font::bytes::{u16_at, u32_at};
 
@@ -68,10 +69,16 @@ fn is_read(kern: &[u8], start: usize, horizontal: bool) -> bool
 }
 
 /// Kerns a buffer by a subtable whose head was read, from the left of the line to its right.
-fn kern_subtable(subtable: Subtable<'_>, mask: hb_mask_t, buffer: &mut hb_buffer_t)
+fn kern_subtable(
+    subtable: Subtable<'_>,
+    scale: Option<Scale>,
+    mask: hb_mask_t,
+    buffer: &mut hb_buffer_t,
+)
     requires { IsRead subtable }
     ensures made { buffer.new
-        ≡ Tables.subtable_kerned subtable.entry.kern.now subtable.entry.start mask buffer.old }
+        ≡ Tables.subtable_kerned scale subtable.entry.kern.now subtable.entry.start mask
+        buffer.old }
     ensures len { length buffer.new.items ≡ length buffer.old.items }
     ensures limit { limit_of buffer.new ≡ limit_of buffer.old }
 {
@@ -81,10 +88,10 @@ fn kern_subtable(subtable: Subtable<'_>, mask: hb_mask_t, buffer: &mut hb_buffer
     }
     if buffer.direction().is_backward() {
         buffer.reverse();
-        kern_each(subtable, mask, buffer);
+        kern_each(subtable, scale, mask, buffer);
         buffer.reverse();
     } else {
-        kern_each(subtable, mask, buffer);
+        kern_each(subtable, scale, mask, buffer);
     }
 }
 
@@ -121,21 +128,28 @@ fn sides_at(start: usize, first: Sides<'_>) -> Sides<'_>
 
 /// Kerns a buffer by all subtables of the table that are read, in order, if the mask isn't 0. A
 /// subtable that says that it is shorter than its header, or longer than any table, ends the table,
-/// and so does one that costs more than is left of `max_ops`. Takes no memory.
-pub fn kern_table(kern: &[u8], mask: hb_mask_t, buffer: &mut hb_buffer_t)
-    ensures made { buffer.new ≡ Tables.table_kerned kern.now mask buffer.old }
+/// and so does one that costs more than is left of `max_ops`. Values are scaled if the font has a
+/// size. Takes no memory.
+pub fn kern_table(kern: &[u8], scale: Option<Scale>, mask: hb_mask_t, buffer: &mut hb_buffer_t)
+    ensures made { buffer.new ≡ Tables.table_kerned scale kern.now mask buffer.old }
     ensures len { length buffer.new.items ≡ length buffer.old.items }
     ensures limit { limit_of buffer.new ≡ limit_of buffer.old }
 {
-    kern_table_by(kern, Sides::none(), mask, buffer);
+    kern_table_by(kern, Sides::none(), scale, mask, buffer);
 }
 
 /// The same, where this is stored of the first subtable ([`PairGlyphs`](crate::PairGlyphs)): two
 /// glyphs of which one has no pair take a few instructions.
 #[tactic(auto, using(crate::proofs::SubtableLemmas::kerned_from_next, crate::proofs::SubtableLemmas::kerned_from_short, crate::proofs::SubtableLemmas::kerned_from_long, crate::proofs::SubtableLemmas::kerned_from_spent, crate::proofs::SubtableLemmas::kerned_from_end))]
-pub fn kern_table_by(kern: &[u8], first: Sides<'_>, mask: hb_mask_t, buffer: &mut hb_buffer_t)
+pub fn kern_table_by(
+    kern: &[u8],
+    first: Sides<'_>,
+    scale: Option<Scale>,
+    mask: hb_mask_t,
+    buffer: &mut hb_buffer_t,
+)
     requires { HoldSides kern.now 4 first.lefts.now first.rights.now }
-    ensures made { buffer.new ≡ Tables.table_kerned kern.now mask buffer.old }
+    ensures made { buffer.new ≡ Tables.table_kerned scale kern.now mask buffer.old }
     ensures len { length buffer.new.items ≡ length buffer.old.items }
     ensures limit { limit_of buffer.new ≡ limit_of buffer.old }
 {
@@ -155,7 +169,7 @@ pub fn kern_table_by(kern: &[u8], first: Sides<'_>, mask: hb_mask_t, buffer: &mu
             return;
         }
         let subtable = read_subtable(kern, start, sides_at(start, first));
-        kern_subtable(subtable, mask, buffer);
+        kern_subtable(subtable, scale, mask, buffer);
         start += len;
     }
 }

@@ -2,7 +2,7 @@
 //!
 //! A glyph that waits is walked once. HarfBuzz looks for each glyph's right neighbour anew, in
 //! the square of the text if it finds none.
-ghost use Rattle.std.specs.Prelude.{◌≡◌, ◌+◌, ◌<◌, ◌^◌, ◌≤ℤ◌, pos, negsuc, length, is_some};
+ghost use Rattle.std.specs.Prelude.{◌≡◌, ◌+◌, ◌<◌, ◌^◌, length, is_some};
 ghost use Rattle.std.specs.Option.{IfSome};
 ghost use Rattle.std.specs.Int.RustNames.{bit_and};
 ghost use Rattle.shape_items.specs.Buffer.{limit_of};
@@ -12,6 +12,7 @@ ghost use Rattle.kern_table.specs.Walk;
 use crate::pairs::{Subtable, pair_value, read_subtable};
 use crate::sides::Sides;
 use bitflags::Flags;
+use font_sizes::{Scale, across, up};
 use shape_buffer::buffer::{
     GlyphPosition, GlyphPropsFlags, hb_buffer_t, hb_glyph_info_t, hb_mask_t,
 };
@@ -73,20 +74,31 @@ fn move_both(buffer: &mut hb_buffer_t, j: usize, along: bool, by: i32)
     buffer.set_position(j, moved(along, by, position));
 }
 
-/// Moves two glyphs apart: half of the value, downwards, goes to the advance of the first, the rest
-/// to the advance of the second, which is moved by the rest too. What lies between them is unsafe
-/// to break. 0 changes nothing.
-fn put_pair(buffer: &mut hb_buffer_t, i: usize, j: usize, by: i32)
+/// A value along a line of this kind, at a size of the font.
+fn sized(scale: Option<Scale>, horizontal: bool, value: i32) -> i32
+    ensures { result ≡ Walk.sized scale horizontal value }
+{
+    if horizontal {
+        across(scale, value)
+    } else {
+        up(scale, value)
+    }
+}
+
+/// Moves two glyphs apart by a value, at a size of the font: half of it, downwards, goes to the
+/// advance of the first, the rest to the advance of the second, which is moved by the rest too.
+/// What lies between them is unsafe to break. 0 changes nothing.
+fn put_pair(scale: Option<Scale>, buffer: &mut hb_buffer_t, i: usize, j: usize, value: i32)
     requires after { i < j }
     requires inside { j < length buffer.old.items }
-    requires low { negsuc 32767 ≤ℤ by }
-    ensures { buffer.new ≡ Walk.pair_moved i j by buffer.old }
+    ensures { buffer.new ≡ Walk.pair_moved scale i j value buffer.old }
 {
     let count = buffer.len();
-    if by == 0 || count <= j {
+    if value == 0 || count <= j {
         return;
     }
     let along = buffer.direction().is_horizontal();
+    let by = sized(scale, along, value);
     let (first, second) = (half_below(by), difference(by, half_below(by)));
     move_on(buffer, i, along, first);
     move_both(buffer, j, along, second);
@@ -95,35 +107,42 @@ fn put_pair(buffer: &mut hb_buffer_t, i: usize, j: usize, by: i32)
 
 /// The same; the number of items and the limit stay.
 #[tactic(auto, using(crate::specs::CountLaws::length_pair_moved, crate::specs::CountLaws::limit_pair_moved))]
-fn move_pair(buffer: &mut hb_buffer_t, i: usize, j: usize, by: i32)
+fn move_pair(scale: Option<Scale>, buffer: &mut hb_buffer_t, i: usize, j: usize, value: i32)
     requires after { i < j }
     requires inside { j < length buffer.old.items }
-    requires low { negsuc 32767 ≤ℤ by }
-    ensures made { buffer.new ≡ Walk.pair_moved i j by buffer.old }
+    ensures made { buffer.new ≡ Walk.pair_moved scale i j value buffer.old }
     ensures len { length buffer.new.items ≡ length buffer.old.items }
     ensures limit { limit_of buffer.new ≡ limit_of buffer.old }
 {
-    put_pair(buffer, i, j, by);
+    put_pair(scale, buffer, i, j, value);
 }
 
 /// Moves two glyphs apart by their value in a subtable.
-fn kern_pair(subtable: Subtable<'_>, buffer: &mut hb_buffer_t, i: usize, j: usize)
+fn kern_pair(
+    subtable: Subtable<'_>,
+    scale: Option<Scale>,
+    buffer: &mut hb_buffer_t,
+    i: usize,
+    j: usize,
+)
     requires read { IsRead subtable }
     requires after { i < j }
     requires inside { j < length buffer.old.items }
     ensures made { buffer.new
-        ≡ Walk.pair_kerned subtable.entry.kern.now subtable.entry.start i j buffer.old }
+        ≡ Walk.pair_kerned scale subtable.entry.kern.now subtable.entry.start i j buffer.old }
     ensures len { length buffer.new.items ≡ length buffer.old.items }
     ensures limit { limit_of buffer.new ≡ limit_of buffer.old }
 {
     let (left, right) = (buffer.infos()[i].glyph_id, buffer.infos()[j].glyph_id);
-    move_pair(buffer, i, j, pair_value(subtable, left, right));
+    let value = pair_value(subtable, left, right);
+    move_pair(scale, buffer, i, j, value);
 }
 
 /// Kerns glyph `j` with the one that waits at its left, if kerning is on for it and it isn't
 /// skipped. Returns which one waits after it.
 fn kern_at(
     subtable: Subtable<'_>,
+    scale: Option<Scale>,
     mask: hb_mask_t,
     buffer: &mut hb_buffer_t,
     j: usize,
@@ -133,7 +152,7 @@ fn kern_at(
     requires inside { j < length buffer.old.items }
     requires after { IfSome left (λ i. i < j) }
     ensures made { buffer.new
-        ≡ Walk.kerned_at subtable.entry.kern.now subtable.entry.start mask j left buffer.old }
+        ≡ Walk.kerned_at scale subtable.entry.kern.now subtable.entry.start mask j left buffer.old }
     ensures waits { result ≡ Walk.left_after mask j left buffer.old.items }
     ensures before { IfSome result (λ i. i < j + 1) }
     ensures len { length buffer.new.items ≡ length buffer.old.items }
@@ -147,7 +166,7 @@ fn kern_at(
         return None;
     }
     if let Some(i) = left {
-        kern_pair(subtable, buffer, i, j);
+        kern_pair(subtable, scale, buffer, i, j);
     }
     Some(j)
 }
@@ -155,28 +174,41 @@ fn kern_at(
 /// Kerns a buffer from left to right by a subtable whose head was read, as [`kern_all`] by its
 /// place.
 #[tactic(auto, using(crate::specs::CountLaws::length_concat, crate::specs::CountLaws::limit_concat, crate::proofs::SubtableLemmas::kerned_to_next_buffer, crate::proofs::SubtableLemmas::kerned_to_next_left))]
-pub(crate) fn kern_each(subtable: Subtable<'_>, mask: hb_mask_t, buffer: &mut hb_buffer_t)
+pub(crate) fn kern_each(
+    subtable: Subtable<'_>,
+    scale: Option<Scale>,
+    mask: hb_mask_t,
+    buffer: &mut hb_buffer_t,
+)
     requires { IsRead subtable }
     ensures made { buffer.new
-        ≡ Walk.kerned subtable.entry.kern.now subtable.entry.start mask buffer.old }
+        ≡ Walk.kerned scale subtable.entry.kern.now subtable.entry.start mask buffer.old }
     ensures len { length buffer.new.items ≡ length buffer.old.items }
     ensures limit { limit_of buffer.new ≡ limit_of buffer.old }
 {
     buffer.unsafe_to_concat(0, buffer.len());
     let mut left = None;
     for j in 0..buffer.len() {
-        left = kern_at(subtable, mask, buffer, j, left);
+        left = kern_at(subtable, scale, mask, buffer, j, left);
     }
 }
 
 /// Kerns a buffer from left to right by the subtable of the table that begins at `start`: each
 /// glyph for which kerning is on with the next one for which it is, if only glyphs that are skipped
-/// stand between them. Takes no memory, and a step for each glyph.
-pub fn kern_all(kern: &[u8], start: usize, mask: hb_mask_t, buffer: &mut hb_buffer_t)
+/// stand between them. Values are scaled if the font has a size. Takes no memory, and a step for
+/// each glyph.
+pub fn kern_all(
+    kern: &[u8],
+    scale: Option<Scale>,
+    start: usize,
+    mask: hb_mask_t,
+    buffer: &mut hb_buffer_t,
+)
     requires { start < 2 ^ 34 }
-    ensures made { buffer.new ≡ Walk.kerned kern.now start mask buffer.old }
+    ensures made { buffer.new ≡ Walk.kerned scale kern.now start mask buffer.old }
     ensures len { length buffer.new.items ≡ length buffer.old.items }
     ensures limit { limit_of buffer.new ≡ limit_of buffer.old }
 {
-    kern_each(read_subtable(kern, start, Sides::none()), mask, buffer);
+    let subtable = read_subtable(kern, start, Sides::none());
+    kern_each(subtable, scale, mask, buffer);
 }

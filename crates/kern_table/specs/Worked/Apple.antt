@@ -1,5 +1,5 @@
 -- Apple's version of the table, on bytes that were read by hand.
-use Rattle.std.specs.Prelude.{◌≡◌, ℕ, ℤ, pos, negsuc, List, [], ◌∷◌, ◌++◌, ◌/◌, ◌%◌, true, false, refl}
+use Rattle.std.specs.Prelude.{None, ◌≡◌, ℕ, ℤ, pos, negsuc, List, [], ◌∷◌, ◌++◌, ◌/◌, ◌%◌, true, false, refl}
 use Rattle.std.specs.Int.{int_wrap}
 use Rattle.shape_common.specs.Wrapping.{◌+ʷ◌, ◌-ʷ◌}
 use Rattle.shape_common.specs.declared.text_types.Direction.{Direction}
@@ -37,7 +37,7 @@ machine = 0 ∷ 0 ∷ 0 ∷ 8 ∷ 0 ∷ 1 ∷ 0 ∷ 0 ∷ []
 
 -- glyphs 2 and 3 in a horizontal line
 abbrev pub kerned_by : List ℕ → Direction → List (ℤ × ℤ)
-kerned_by t direction = along (table_kerned t 16 (line direction (on 2 0 ∷ on 3 1 ∷ [])))
+kerned_by t direction = along (table_kerned None t 16 (line direction (on 2 0 ∷ on 3 1 ∷ [])))
 
 abbrev pub once : List (ℤ × ℤ)
 once = (pos 575, pos 0) ∷ (pos 575, negsuc 24) ∷ []
@@ -74,7 +74,7 @@ pub record WorkedApple : Type 0 where
   -- from the left of the line: 3 stands there, before 2
   pub backward : kerned_by (apple 1 ++ pairs 0) RightToLeft ≡ (pos 583, negsuc 16) ∷ (pos 582, pos 0) ∷ []
   pub not_downwards : kerned_by (apple 1 ++ pairs 0) TopToBottom ≡ apart
-  pub downwards : down (table_kerned (apple 1 ++ pairs 0x80) 16 (line TopToBottom (on 2 0 ∷ on 3 1 ∷ [])))
+  pub downwards : down (table_kerned None (apple 1 ++ pairs 0x80) 16 (line TopToBottom (on 2 0 ∷ on 3 1 ∷ [])))
       ≡ (negsuc 24, pos 0) ∷ (negsuc 24, negsuc 24) ∷ []
   pub two : kerned_by (apple 2 ++ pairs 0 ++ classes) LeftToRight ≡ twice
   pub one_of_two : kerned_by (apple 1 ++ pairs 0 ++ classes) LeftToRight ≡ once

@@ -1,5 +1,5 @@
 -- What subtables are charged, and what is kerned when what is left doesn't suffice: two glyphs cost 32 a subtable.
-use Rattle.std.specs.Prelude.{◌≡◌, ℕ, pos, negsuc, List, [], ◌∷◌, ◌++◌, refl}
+use Rattle.std.specs.Prelude.{None, ◌≡◌, ℕ, pos, negsuc, List, [], ◌∷◌, ◌++◌, refl}
 use Rattle.std.specs.Int.{int_wrap}
 use Rattle.shape_common.specs.Wrapping.{◌+ʷ◌, ◌-ʷ◌}
 use Rattle.shape_common.specs.declared.text_types.Direction.TheVariants.{LeftToRight, RightToLeft}
@@ -25,7 +25,7 @@ abbrev pub ended : List ℕ
 ended = table 2 1 ++ subtable 5 1 2
 
 abbrev pub kerned_by : List ℕ → Buffer → Buffer
-kerned_by t b = table_kerned t 16 b
+kerned_by t b = table_kerned None t 16 b
 
 pub record WorkedCharges : Type 0 where
   pub an_item : subtable_work 1 ≡ 16
@@ -38,7 +38,7 @@ pub record WorkedCharges : Type 0 where
   pub of_the_other_line : (kerned_by (table 1 0) (two 100)).max_ops ≡ 68
   pub without_items : (kerned_by twice (none 100)).max_ops ≡ 98
   pub short_is_free : (kerned_by ended (two 100)).max_ops ≡ 68
-  pub no_mask_is_free : (table_kerned twice 0 (two 100)).max_ops ≡ 100
+  pub no_mask_is_free : (table_kerned None twice 0 (two 100)).max_ops ≡ 100
   pub suffices : along (kerned_by (table 1 1) (two 32)) ≡ (pos 575, pos 0) ∷ (pos 575, negsuc 24) ∷ []
   pub suffices_exactly : (kerned_by (table 1 1) (two 32)).max_ops ≡ 0
   pub lacks_one : along (kerned_by (table 1 1) (two 31)) ≡ still ∷ still ∷ []

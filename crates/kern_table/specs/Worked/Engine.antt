@@ -21,7 +21,7 @@ pub record WorkedEngine : Type 0 where
   pub other_version : (f : FontFace) → f.kern.now ≡ 0 ∷ 2 ∷ 0 ∷ 0 ∷ 0 ∷ 0 ∷ 0 ∷ 1 ∷ [] → (kern_layout f).has_kerning ≡ false
   pub compiled : (f : FontFace) (b : Builder) → b.requests ≡ whole 1 ∷ []
       → (kern_layout f).compiled b ≡ record { is_on = true; everywhere = 1 }
-  pub kerned : (f : FontFace) → f.kern.now ≡ table 1 1
+  pub kerned : (f : FontFace) → f.scale ≡ None → f.kern.now ≡ table 1 1
       → along ((kern_lookups f).kern 16 (line LeftToRight (on 2 0 ∷ on 3 1 ∷ []))) ≡ (pos 575, pos 0) ∷ (pos 575, negsuc 24) ∷ []
   pub no_machine : (f : FontFace) → f.kern.now ≡ table 1 1 → (kern_layout f).has_machine_kerning ≡ false
   pub no_script : (f : FontFace) (table : TableIndex) → (kern_layout f).chosen_script None None table ≡ None
@@ -42,7 +42,7 @@ worked_engine = record {
   of_apple = λ f e. rw e refl;
   other_version = λ f e. rw e refl;
   compiled = λ f b e. rw e refl;
-  kerned = λ f e. rw e refl;
+  kerned = λ f s e. rw (s, e) refl;
   no_machine = λ f e. refl;
   no_script = λ f table. refl;
   no_classes = λ f. refl;

@@ -206,7 +206,7 @@ abbrev pub masks : Buffer → List ℕ
 masks b = map (λ (x : Item). x.mask) b.items
 
 abbrev pub by_subtable : List Item → Buffer
-by_subtable items = kerned (table 1 1) 4 16 (line LeftToRight items)
+by_subtable items = kerned None (table 1 1) 4 16 (line LeftToRight items)
 
 abbrev pub still : ℤ × ℤ
 still = (pos 600, pos 0)
@@ -226,33 +226,33 @@ pub record WorkedLines : Type 0 where
   pub mark_in_front_waits : left_after 16 0 None (mark 0 ∷ []) ≡ Some 0
   pub unsafe_between : masks (by_subtable (on 2 0 ∷ mark 0 ∷ on 3 1 ∷ on 8 2 ∷ [])) ≡ 16 ∷ 16 ∷ 19 ∷ 16 ∷ []
   -- every glyph, if it is asked for
-  pub concat_asked : masks (kerned (table 1 1) 4 16 (record (line LeftToRight (on 8 0 ∷ on 8 1 ∷ [])) { flags = record { 0 = 64 } }))
+  pub concat_asked : masks (kerned None (table 1 1) 4 16 (record (line LeftToRight (on 8 0 ∷ on 8 1 ∷ [])) { flags = record { 0 = 64 } }))
       ≡ 18 ∷ 18 ∷ []
   pub concat_unasked : masks (by_subtable (on 8 0 ∷ on 8 1 ∷ [])) ≡ 16 ∷ 16 ∷ []
   -- from the left of the line: 3 stands there, before 2
-  pub backward : along (subtable_kerned (table 1 1) 4 16 (line RightToLeft (on 2 0 ∷ on 3 1 ∷ [])))
+  pub backward : along (subtable_kerned None (table 1 1) 4 16 (line RightToLeft (on 2 0 ∷ on 3 1 ∷ [])))
       ≡ (pos 583, negsuc 16) ∷ (pos 582, pos 0) ∷ []
-  pub downwards : down (subtable_kerned (table 1 0) 4 16 (line TopToBottom (on 2 0 ∷ on 3 1 ∷ [])))
+  pub downwards : down (subtable_kerned None (table 1 0) 4 16 (line TopToBottom (on 2 0 ∷ on 3 1 ∷ [])))
       ≡ (negsuc 24, pos 0) ∷ (negsuc 24, negsuc 24) ∷ []
-  pub upwards : down (subtable_kerned (table 1 0) 4 16 (line BottomToTop (on 2 0 ∷ on 3 1 ∷ [])))
+  pub upwards : down (subtable_kerned None (table 1 0) 4 16 (line BottomToTop (on 2 0 ∷ on 3 1 ∷ [])))
       ≡ (negsuc 16, negsuc 16) ∷ (negsuc 17, pos 0) ∷ []
-  pub down_alone : along (subtable_kerned (table 1 0) 4 16 (line TopToBottom (on 2 0 ∷ on 3 1 ∷ []))) ≡ still ∷ still ∷ []
-  pub other_line : along (subtable_kerned (table 1 1) 4 16 (line TopToBottom (on 2 0 ∷ on 3 1 ∷ []))) ≡ still ∷ still ∷ []
-  pub whole_table : along (table_kerned (table 1 1) 16 (line LeftToRight (on 2 0 ∷ on 3 1 ∷ [])))
+  pub down_alone : along (subtable_kerned None (table 1 0) 4 16 (line TopToBottom (on 2 0 ∷ on 3 1 ∷ []))) ≡ still ∷ still ∷ []
+  pub other_line : along (subtable_kerned None (table 1 1) 4 16 (line TopToBottom (on 2 0 ∷ on 3 1 ∷ []))) ≡ still ∷ still ∷ []
+  pub whole_table : along (table_kerned None (table 1 1) 16 (line LeftToRight (on 2 0 ∷ on 3 1 ∷ [])))
       ≡ (pos 575, pos 0) ∷ (pos 575, negsuc 24) ∷ []
-  pub two_subtables : along (table_kerned (table 2 1 ++ subtable 26 1 2) 16 (line LeftToRight (on 2 0 ∷ on 3 1 ∷ [])))
+  pub two_subtables : along (table_kerned None (table 2 1 ++ subtable 26 1 2) 16 (line LeftToRight (on 2 0 ∷ on 3 1 ∷ [])))
       ≡ (pos 550, pos 0) ∷ (pos 550, negsuc 49) ∷ []
-  pub short_subtable : along (table_kerned (0 ∷ 0 ∷ 0 ∷ 1 ∷ subtable 5 1 2) 16 (line LeftToRight (on 2 0 ∷ on 3 1 ∷ [])))
+  pub short_subtable : along (table_kerned None (0 ∷ 0 ∷ 0 ∷ 1 ∷ subtable 5 1 2) 16 (line LeftToRight (on 2 0 ∷ on 3 1 ∷ [])))
       ≡ still ∷ still ∷ []
-  pub no_mask : along (table_kerned (table 1 1) 0 (line LeftToRight (on 2 0 ∷ on 3 1 ∷ []))) ≡ still ∷ still ∷ []
-  pub no_mask_no_flags : masks (table_kerned (table 1 1) 0 (record (line LeftToRight (on 2 0 ∷ on 3 1 ∷ [])) { flags = record { 0 = 64 } }))
+  pub no_mask : along (table_kerned None (table 1 1) 0 (line LeftToRight (on 2 0 ∷ on 3 1 ∷ []))) ≡ still ∷ still ∷ []
+  pub no_mask_no_flags : masks (table_kerned None (table 1 1) 0 (record (line LeftToRight (on 2 0 ∷ on 3 1 ∷ [])) { flags = record { 0 = 64 } }))
       ≡ 16 ∷ 16 ∷ []
-  pub by_classes : along (table_kerned (class_table 30 34) 16 (line LeftToRight (on 2 0 ∷ on 3 1 ∷ on 2 2 ∷ [])))
+  pub by_classes : along (table_kerned None (class_table 30 34) 16 (line LeftToRight (on 2 0 ∷ on 3 1 ∷ on 2 2 ∷ [])))
       ≡ (pos 575, pos 0) ∷ (pos 557, negsuc 24) ∷ (pos 583, negsuc 16) ∷ []
-  pub by_pairs_and_by_classes : along (table_kerned (table 2 1 ++ classes 30 34) 16 (line LeftToRight (on 2 0 ∷ on 3 1 ∷ [])))
+  pub by_pairs_and_by_classes : along (table_kerned None (table 2 1 ++ classes 30 34) 16 (line LeftToRight (on 2 0 ∷ on 3 1 ∷ [])))
       ≡ (pos 550, pos 0) ∷ (pos 550, negsuc 49) ∷ []
   -- six bytes of another format, and a subtable after them
-  pub after_a_short_subtable : along (table_kerned (0 ∷ 0 ∷ 0 ∷ 2 ∷ 0 ∷ 0 ∷ 0 ∷ 6 ∷ 1 ∷ 1 ∷ subtable 26 1 2) 16
+  pub after_a_short_subtable : along (table_kerned None (0 ∷ 0 ∷ 0 ∷ 2 ∷ 0 ∷ 0 ∷ 0 ∷ 6 ∷ 1 ∷ 1 ∷ subtable 26 1 2) 16
       (line LeftToRight (on 2 0 ∷ on 3 1 ∷ []))) ≡ (pos 575, pos 0) ∷ (pos 575, negsuc 24) ∷ []
   pub over_a_mark_of_two_classes : along (by_subtable (on 2 0 ∷ in_classes 10 0 ∷ on 3 1 ∷ []))
       ≡ (pos 575, pos 0) ∷ still ∷ (pos 575, negsuc 24) ∷ []

@@ -8,8 +8,10 @@ use Rattle.kern_table.proofs.walk.kern_each.Given as goal
 -- the first glyphs are kerned
 abbrev pub invariant-loop-j : goal.invariant-loop-j
 invariant-loop-j l = record {
-  made : l.buffer ≡ (kerned_to l.subtable.kern.now l.subtable.start l.mask l.j (unsafe_to_concat 0 (length l.fn.buffer.items) l.fn.buffer)).buffer;
-  waits : l.left ≡ (kerned_to l.subtable.kern.now l.subtable.start l.mask l.j (unsafe_to_concat 0 (length l.fn.buffer.items) l.fn.buffer)).left;
+  made : l.buffer ≡ (kerned_to l.scale l.subtable.kern.now l.subtable.start l.mask l.j
+      (unsafe_to_concat 0 (length l.fn.buffer.items) l.fn.buffer)).buffer;
+  waits : l.left ≡ (kerned_to l.scale l.subtable.kern.now l.subtable.start l.mask l.j
+      (unsafe_to_concat 0 (length l.fn.buffer.items) l.fn.buffer)).left;
   after : IfSome l.left (λ i. i < l.j);
   len : length l.buffer.items ≡ length l.fn.buffer.items;
   limit : limit_of l.buffer ≡ limit_of l.fn.buffer;
