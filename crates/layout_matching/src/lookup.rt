@@ -1,5 +1,7 @@
 //! A lookup as a plan applies it.
 
+use font_sizes::Scale;
+
 /// A lookup of a plan: the tables that it reads, where it stands, its flags, and for which glyphs
 /// it is on.
 #[derive(Clone, Copy)]
@@ -12,6 +14,8 @@ pub struct Lookup<'a> {
     pub coordinates: &'a [i32],
     /// What devices of `GPOS` may cost at each item for each subtable; 0 for the default instance.
     pub device_work: u32,
+    /// What the numbers of `GPOS` are multiplied by; none for a font at no size.
+    pub scale: Option<Scale>,
     /// Where the lookup stands in `table`, in bytes.
     pub place: usize,
     /// Its flags: which classes of glyphs it skips.

@@ -32,6 +32,7 @@ pub fn with_place<'a>(here: &Lookup<'a>, place: usize) -> Lookup<'a>
         gdef: here.gdef,
         coordinates: here.coordinates,
         device_work: here.device_work,
+        scale: here.scale,
         place,
         flags: u16_at(here.table, place + 2),
         mark_set: mark_filtering_set(here.table, place),

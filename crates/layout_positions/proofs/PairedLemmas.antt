@@ -198,15 +198,15 @@ noted_known l left right found known has first second same sought =
     subst (λ o. HasFor l known.left known.right o) (sym same)
     (subst (λ g. HasFor l g known.right found) (sym first) (subst (λ h. HasFor l left h found) (sym second) has))
 
-pub advance_alone : (v : Adjustment) → v.x_placement ≡ pos 0 → v.y_placement ≡ pos 0 → v.y_advance ≡ pos 0 → v.devices.placement ≡ false
-    → v.devices.x_advance ≡ false → v.devices.y_advance ≡ false → v ≡ advance_only v.x_advance
+pub advance_alone : (v : Adjustment) → v.x_placement ≡ pos 0 → v.y_placement ≡ pos 0 → v.y_advance ≡ pos 0 → v.counted.placement ≡ false
+    → v.counted.x_advance ≡ false → v.counted.y_advance ≡ false → v ≡ advance_only v.x_advance
 advance_alone v a b c d e f =
-    ap (λ n. record { x_placement = n; y_placement = v.y_placement; x_advance = v.x_advance; y_advance = v.y_advance; devices = v.devices }) a
-    ∙ ap (λ n. record { x_placement = pos 0; y_placement = n; x_advance = v.x_advance; y_advance = v.y_advance; devices = v.devices }) b
-    ∙ ap (λ n. record { x_placement = pos 0; y_placement = pos 0; x_advance = v.x_advance; y_advance = n; devices = v.devices }) c
-    ∙ ap (λ t. record (advance_only v.x_advance) { devices = record { placement = t; x_advance = v.devices.x_advance; y_advance = v.devices.y_advance } }) d
-    ∙ ap (λ t. record (advance_only v.x_advance) { devices = record { placement = false; x_advance = t; y_advance = v.devices.y_advance } }) e
-    ∙ ap (λ t. record (advance_only v.x_advance) { devices = record { placement = false; x_advance = false; y_advance = t } }) f
+    ap (λ n. record { x_placement = n; y_placement = v.y_placement; x_advance = v.x_advance; y_advance = v.y_advance; counted = v.counted }) a
+    ∙ ap (λ n. record { x_placement = pos 0; y_placement = n; x_advance = v.x_advance; y_advance = v.y_advance; counted = v.counted }) b
+    ∙ ap (λ n. record { x_placement = pos 0; y_placement = pos 0; x_advance = v.x_advance; y_advance = n; counted = v.counted }) c
+    ∙ ap (λ t. record (advance_only v.x_advance) { counted = record { placement = t; x_advance = v.counted.x_advance; y_advance = v.counted.y_advance } }) d
+    ∙ ap (λ t. record (advance_only v.x_advance) { counted = record { placement = false; x_advance = t; y_advance = v.counted.y_advance } }) e
+    ∙ ap (λ t. record (advance_only v.x_advance) { counted = record { placement = false; x_advance = false; y_advance = t } }) f
 
 pub pair_alone : (v : PairValues) (x : ℤ) → v.first ≡ advance_only x → v.second ≡ advance_only (pos 0) → v.has_second ≡ false
     → v ≡ record { first = advance_only x; second = advance_only (pos 0); has_second = false }

@@ -16,9 +16,10 @@ use Rattle.layout_matching.specs.declared.lookup.Lookup.{Lookup}
 use Rattle.layout_positions.specs.Anchors.{number_at, anchor_of_mark}
 use Rattle.layout_positions.specs.Attachment.{parent_of, freed, followed, settled, each, MOST_LINKS, offsets_finished}
 use Rattle.layout_positions.specs.Cursive.{joined_across, joined_along, cursive_put, cursive_with, cursive_at, cursive_applied, entry_of, exit_of, left_at}
+use Rattle.layout_positions.specs.Sizes.{apart, footing, placed}
 use Rattle.layout_positions.specs.Edits.{position_at, position_put, broken, concat_marked}
 use Rattle.layout_positions.specs.Lookups.{Applied, unapplied, glyph_after, end_after, glyph_before, start_before}
-use Rattle.layout_positions.specs.Marks.{mark_put, mark_array, base_anchor, mark_attached, mark_number, row_of, mark_on_row, mark_on_glyph}
+use Rattle.layout_positions.specs.Marks.{mark_met, mark_put, mark_array, base_anchor, mark_attached, mark_number, row_of, mark_on_row, mark_on_glyph}
 use Rattle.layout_positions.specs.Marks.{mark_base_at, mark_base_applied, ligature_matrix, component_of, mark_on_matrix, mark_on_ligature}
 use Rattle.layout_positions.specs.Marks.{mark_ligature_at, mark_ligature_applied, for_marks, are_together, mark_on_mark, mark_mark_at}
 use Rattle.layout_positions.specs.Marks.{mark_mark_applied}
@@ -132,9 +133,9 @@ module _ (P : Buffer → Buffer → Type 0) (same : (b : Buffer) → P b b) (aft
 
   step-cursive_put : (l : Lookup) (i j : ℕ) (entry : Anchor) (b : Buffer) (exit : Anchor) → P b (cursive_put l i j entry b exit).buffer
   step-cursive_put l i j entry b exit =
-      let along = joined_along i j entry exit b in
-      after b along (joined_across (shares l.flags 1) i j entry exit along) (step-along i j entry exit b)
-      (step-across (shares l.flags 1) i j entry exit along)
+      let along = joined_along i j (placed l entry) (placed l exit) b in
+      after b along (joined_across (shares l.flags 1) i j (apart l entry exit) (footing l exit) along)
+      (step-along i j (placed l entry) (placed l exit) b) (step-across (shares l.flags 1) i j (apart l entry exit) (footing l exit) along)
 
   step-cursive_with : (l : Lookup) (start j : ℕ) (entry : Anchor) (b : Buffer) (i : ℕ) → P b (cursive_with l start j entry b i).buffer
   step-cursive_with l start j entry b i =
@@ -160,7 +161,7 @@ module _ (P : Buffer → Buffer → Type 0) (same : (b : Buffer) → P b b) (aft
       → P b (mark_attached l start i j number row matrix b).buffer
   step-attach_mark l start i j number row matrix b =
       let mark = anchor_of_mark l number (mark_array l.table.now start) in
-      step-or (mark_put i j mark b) b b (step-mark_put i j mark b) (same b)
+      step-or (mark_met l i j mark b) b b (λ base. step-mark_put i j (footing l mark) b (apart l base mark)) (same b)
       (option_and_then (base_anchor l start number row) matrix)
 
   step-on_glyph : (l : Lookup) (start i number : ℕ) (b : Buffer) (j : ℕ) → P b (mark_on_glyph l start i number b j).buffer

@@ -1,33 +1,37 @@
 -- Anchors, the marks that have one, and the glyphs that marks attach to (OpenType, `GPOS`, "Anchor tables", "Mark array").
-use Rattle.std.specs.Prelude.{ℕ, pos, List, Bool, Option, Some, None, ◌+◌, ◌*◌, ◌||◌, length, nat_eq, nat_lt, nat_le, if◌then◌else◌}
+use Rattle.std.specs.Prelude.{ℕ, ℤ, pos, List, Bool, Option, Some, None, ◌+◌, ◌*◌, ◌||◌, length, nat_eq, nat_lt, nat_le, if◌then◌else◌}
 use Rattle.std.specs.Option.{option_map_or, option_and_then}
 use Rattle.shape_common.specs.Wrapping.{◌+ʷ◌}
 use Rattle.shape_font.specs.Bytes.{u16_of, i16_of, fitting}
+use Rattle.font_sizes.specs.declared.scales.Scale.{Scale}
 use Rattle.layout_tables.specs.Coverage.{coverage_index}
 use Rattle.layout_tables.specs.Offsets.{offset16_of}
 use Rattle.layout_matching.specs.declared.lookup.Lookup.{Lookup}
 use Rattle.layout_positions.specs.Devices.{is_default, delta_by}
+use Rattle.layout_positions.specs.Sizes.{axis_across, axis_up, point}
 use Rattle.layout_positions.specs.declared.anchors.Anchor.{Anchor}
 
 abbrev pub origin : Anchor
-origin = record { x = pos 0; y = pos 0 }
+origin = point (pos 0) (pos 0)
 
 abbrev pub point_at : List ℕ → ℕ → Anchor
-point_at t start = record { x = i16_of t (start + 2); y = i16_of t (start + 4) }
+point_at t start = point (i16_of t (start + 2)) (i16_of t (start + 4))
 
--- with what a device for each coordinate adds, whose offset counts from the anchor
+-- with what devices add; at a size that stays by itself, since it is in units of the size
+abbrev pub moved : Lookup → Anchor → ℤ → ℤ → Anchor
+moved l a x y = option_map_or (λ (s : Scale). record a { x_delta = x; y_delta = y }) l.scale (point (a.x +ʷ x) (a.y +ʷ y))
+
+-- a device for each coordinate, whose offset counts from the anchor
 abbrev pub varied_point : Lookup → ℕ → Anchor → Anchor
-varied_point l start a = record {
-  x = a.x +ʷ delta_by l start (u16_of l.table.now (start + 6));
-  y = a.y +ʷ delta_by l start (u16_of l.table.now (start + 8));
-}
+varied_point l start a = moved l a (delta_by l (axis_across l) start (u16_of l.table.now (start + 6)))
+    (delta_by l (axis_up l) start (u16_of l.table.now (start + 8)))
 
 -- formats 1 to 3: two coordinates; a point of the outline (2) and devices (3) come after them
 abbrev pub anchor_at : Lookup → ℕ → Anchor
 anchor_at l start = let format = u16_of l.table.now start in
-    let point = point_at l.table.now start in
-    (if nat_eq format 1 || nat_eq format 2 then point
-    else (if nat_eq format 3 then (if is_default l then point else varied_point l start point) else origin))
+    let there = point_at l.table.now start in
+    (if nat_eq format 1 || nat_eq format 2 then there
+    else (if nat_eq format 3 then (if is_default l then there else varied_point l start there) else origin))
 
 -- how many bytes an anchor of this format has; of another format only that is read
 abbrev pub anchor_size : ℕ → ℕ

@@ -14,6 +14,7 @@ use Rattle.layout_positions.specs.Anchors.{anchor_by, number_at}
 use Rattle.layout_positions.specs.Edits.{position_changed, broken, concat_marked}
 use Rattle.layout_positions.specs.Lookups.{Applied, unapplied, glyph_before, start_before}
 use Rattle.layout_positions.specs.Turning.{attached, links_turned}
+use Rattle.layout_positions.specs.Sizes.{apart, footing, placed}
 use Rattle.layout_positions.specs.declared.anchors.Anchor.{Anchor}
 
 -- for each glyph the anchor where it is entered, and the one where it is left
@@ -79,9 +80,10 @@ abbrev pub joined_along : ℕ → ℕ → Anchor → Anchor → Buffer → Buffe
 joined_along i j entry exit b =
     position_changed (entered_at b.direction entry) j (position_changed (left_at b.direction exit) i (broken i (j + 1) b))
 
+-- at a size of the font the anchors are rounded along the line, and across it what is between them
 abbrev pub cursive_put : Lookup → ℕ → ℕ → Anchor → Buffer → Anchor → Applied
 cursive_put l i j entry b exit = record {
-  buffer = joined_across (shares l.flags 1) i j entry exit (joined_along i j entry exit b);
+  buffer = joined_across (shares l.flags 1) i j (apart l entry exit) (footing l exit) (joined_along i j (placed l entry) (placed l exit) b);
   next = Some (j + 1);
 }
 
@@ -105,7 +107,7 @@ links_across true i j b = links_turned i j b
 links_across false i j b = links_turned j i b
 
 abbrev pub links_put : Lookup → ℕ → ℕ → Anchor → Buffer → Anchor → ℕ
-links_put l i j entry b exit = links_across (shares l.flags 1) i j (joined_along i j entry exit b)
+links_put l i j entry b exit = links_across (shares l.flags 1) i j (joined_along i j (placed l entry) (placed l exit) b)
 
 abbrev pub links_with : Lookup → ℕ → ℕ → Anchor → Buffer → ℕ → ℕ
 links_with l start j entry b i =

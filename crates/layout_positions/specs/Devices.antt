@@ -1,10 +1,12 @@
 -- What devices add at the coordinates of a font (OpenType, "Device and VariationIndex tables").
-use Rattle.std.specs.Prelude.{ℕ, ℤ, pos, List, [], Bool, ◌+◌, ◌*◌, ◌&&◌, max, length, nat_eq, nat_le, if◌then◌else◌}
-use Rattle.font_variations.specs.Deltas.{delta_of, rounded}
+use Rattle.std.specs.Prelude.{ℕ, ℤ, pos, List, [], Bool, Option, ◌+◌, ◌*◌, ◌&&◌, max, length, nat_eq, nat_le, if◌then◌else◌}
+use Rattle.font_sizes.specs.declared.scales.Axis.{Axis}
+use Rattle.font_variations.specs.Deltas.{delta_of}
 use Rattle.font_variations.specs.Parts.{part_at}
 use Rattle.shape_font.specs.Bytes.{u16_of, u32_of, fitting}
 use Rattle.layout_matching.specs.Loops.{along}
 use Rattle.layout_matching.specs.declared.lookup.Lookup.{Lookup}
+use Rattle.layout_positions.specs.Sizes.{rounded_at}
 
 -- the Item Variation Store of `GDEF`, since version 1.3
 abbrev pub store_of : List ℕ → List ℕ
@@ -15,17 +17,17 @@ abbrev pub is_default : Lookup → Bool
 is_default l = nat_eq (length l.coordinates.now) 0
 
 -- a device of format 0x8000 is the index of a set of deltas, the outer part first; those of other formats are for sizes in
--- pixels, of which there are none here
-abbrev pub index_delta : Lookup → ℕ → ℤ
-index_delta l index = rounded (delta_of (store_of l.gdef.now) l.coordinates.now index)
+-- pixels, of which there are none here. What is added along an axis is rounded by itself, at a size of the font, too
+abbrev pub index_delta : Lookup → Option Axis → ℕ → ℤ
+index_delta l axis index = rounded_at axis (delta_of (store_of l.gdef.now) l.coordinates.now index)
 
-abbrev pub device_delta : Lookup → ℕ → ℤ
-device_delta l at = if nat_le (at + 6) (length l.table.now) && nat_eq (u16_of l.table.now (at + 4)) 0x8000
-    then index_delta l (u32_of l.table.now at) else pos 0
+abbrev pub device_delta : Lookup → Option Axis → ℕ → ℤ
+device_delta l axis at = if nat_le (at + 6) (length l.table.now) && nat_eq (u16_of l.table.now (at + 4)) 0x8000
+    then index_delta l axis (u32_of l.table.now at) else pos 0
 
 -- the device at an offset from `base`; there is none at 0
-abbrev pub delta_by : Lookup → ℕ → ℕ → ℤ
-delta_by l base offset = if nat_eq offset 0 then pos 0 else device_delta l (base + offset)
+abbrev pub delta_by : Lookup → Option Axis → ℕ → ℕ → ℤ
+delta_by l axis base offset = if nat_eq offset 0 then pos 0 else device_delta l axis (base + offset)
 
 -- ---- what devices may cost at an item
 

@@ -1,5 +1,6 @@
 pub mod Edits
 pub mod Flagged
+pub mod Sizes
 pub mod Devices
 pub mod Values
 pub mod Anchors

@@ -19,6 +19,7 @@ use Rattle.layout_positions.specs.Anchors.{number_at, anchor_in, class_of_mark, 
 use Rattle.layout_positions.specs.Attachment.{MARK_ATTACHED, chain_to}
 use Rattle.layout_positions.specs.Edits.{position_changed, broken, concat_marked}
 use Rattle.layout_positions.specs.Lookups.{Applied, unapplied, has_lookup_on, glyph_before, start_before}
+use Rattle.layout_positions.specs.Sizes.{apart, footing}
 use Rattle.layout_positions.specs.declared.anchors.Anchor.{Anchor}
 use Rattle.layout_positions.specs.declared.bases.BaseSeen.{BaseSeen}
 
@@ -47,9 +48,13 @@ abbrev pub base_anchor : Lookup → ℕ → ℕ → ℕ → ℕ → Option Ancho
 base_anchor l start number row matrix = let t = l.table.now in
     anchor_in l (u16_of t (start + 6)) row (class_of_mark t number (mark_array t start)) matrix
 
+-- at a size of the font what is between the two anchors is rounded
+abbrev pub mark_met : Lookup → ℕ → ℕ → Anchor → Buffer → Anchor → Applied
+mark_met l i j mark b base = mark_put i j (footing l mark) b (apart l base mark)
+
 abbrev pub mark_attached : Lookup → ℕ → ℕ → ℕ → ℕ → ℕ → Option ℕ → Buffer → Applied
 mark_attached l start i j number row matrix b =
-    option_map_or (mark_put i j (anchor_of_mark l number (mark_array l.table.now start)) b)
+    option_map_or (mark_met l i j (anchor_of_mark l number (mark_array l.table.now start)) b)
     (option_and_then (base_anchor l start number row) matrix) (unapplied b)
 
 -- ---- bases and ligatures

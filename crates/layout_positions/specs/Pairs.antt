@@ -1,5 +1,5 @@
 -- Single and pair adjustment (OpenType, `GPOS`, lookup types 1 and 2).
-use Rattle.std.specs.Prelude.{ℕ, ℤ, pos, false, List, Bool, Option, Some, None, ◌+◌, ◌*◌, ◌&&◌, ◌||◌, not, min, length, nat_eq, nat_lt, nat_le, if◌then◌else◌}
+use Rattle.std.specs.Prelude.{ℕ, ℤ, pos, false, List, Bool, Option, Some, None, ◌+◌, ◌*◌, ◌&&◌, ◌||◌, not, min, length, nat_eq, nat_lt, nat_le, is_some, if◌then◌else◌}
 use Rattle.std.specs.Option.{option_map, option_map_or, option_and_then}
 use Rattle.std.specs.declared.cmp.Ordering.{Ordering}
 use Rattle.shape_common.specs.Direction.{is_horizontal}
@@ -11,6 +11,7 @@ use Rattle.layout_tables.specs.Offsets.{offset16_of}
 use Rattle.layout_matching.specs.Skipping.{nth}
 use Rattle.layout_matching.specs.declared.lookup.Lookup.{Lookup}
 use Rattle.layout_positions.specs.Anchors.{number_at}
+use Rattle.layout_positions.specs.Devices.{is_default}
 use Rattle.layout_positions.specs.Edits.{position_changed, broken, concat_marked}
 use Rattle.layout_positions.specs.Lookups.{Applied, unapplied, glyph_after, end_after}
 use Rattle.layout_positions.specs.Values.{value_size, value_at, has_bytes, value_in, adjusted, has_effect, advance_only}
@@ -53,6 +54,12 @@ records_at l first second base at = record {
 -- the same, by where they stand
 abbrev pub values_of : Lookup → PairRecords → PairValues
 values_of l r = records_at l r.first r.second r.base r.at
+
+-- a record of the advance along a horizontal line, and none more, at no size of the font; no device of it counts at the default
+-- instance, nor one at 0
+abbrev pub is_advance_alone : Lookup → PairRecords → Bool
+is_advance_alone l r = nat_eq r.second 0 && not (is_some l.scale)
+    && (nat_eq r.first 4 || nat_eq r.first 0x44 && (is_default l || nat_eq (u16_of l.table.now (r.at + 2)) 0))
 
 -- a pair that changes the advance of its first glyph alone
 abbrev pub advance_values : ℤ → PairValues

@@ -2,6 +2,7 @@
 pub mod Lines
 pub mod Values
 pub mod Devices
+pub mod Sizes
 pub mod Pairs
 pub mod Marks
 pub mod Known

@@ -6,17 +6,21 @@ ghost use Rattle.layout_positions.specs.Anchors;
 
 use crate::devices::{delta_by, is_default};
 use crate::places::cell;
+use crate::sizes::{ORIGIN, axis_across, axis_up};
 use layout_matching::lookup::Lookup;
 use layout_tables::coverage::coverage_index;
 use layout_tables::offsets::offset16;
 use shape_buffer::wrapping::sum;
 use shape_font::bytes::{i16_at, records, u16_at};
 
-/// A point of a glyph, in units of the face: x to the right, y upwards.
+/// A point of a glyph, in units of the face: x to the right, y upwards. For a font at a size also
+/// what devices add to them there, in units of the size; at no size it is added to `x` and `y`.
 #[derive(Clone, Copy, PartialEq, Eq, Debug)]
 pub struct Anchor {
     pub x: i32,
     pub y: i32,
+    pub x_delta: i32,
+    pub y_delta: i32,
 }
 
 /// The coordinates of the anchor at `start`.
@@ -27,6 +31,28 @@ fn point(table: &[u8], start: usize) -> Anchor
     Anchor {
         x: i16_at(table, start + 2),
         y: i16_at(table, start + 4),
+        x_delta: 0,
+        y_delta: 0,
+    }
+}
+
+/// A point with what devices add to it.
+fn moved(lookup: &Lookup<'_>, point: Anchor, x_delta: i32, y_delta: i32) -> Anchor
+    ensures { result ≡ Anchors.moved lookup.now point x_delta y_delta }
+{
+    match lookup.scale {
+        Some(_) => Anchor {
+            x: point.x,
+            y: point.y,
+            x_delta,
+            y_delta,
+        },
+        None => Anchor {
+            x: sum(point.x, x_delta),
+            y: sum(point.y, y_delta),
+            x_delta: 0,
+            y_delta: 0,
+        },
     }
 }
 
@@ -37,16 +63,11 @@ fn varied_point(lookup: &Lookup<'_>, start: usize) -> Anchor
         (Anchors.point_at lookup.now.table.now start) }
 {
     let point = point(lookup.table, start);
-    Anchor {
-        x: sum(
-            point.x,
-            delta_by(lookup, start, u16_at(lookup.table, start + 6)),
-        ),
-        y: sum(
-            point.y,
-            delta_by(lookup, start, u16_at(lookup.table, start + 8)),
-        ),
-    }
+    let x_device = u16_at(lookup.table, start + 6);
+    let y_device = u16_at(lookup.table, start + 8);
+    let x_delta = delta_by(lookup, axis_across(lookup), start, x_device);
+    let y_delta = delta_by(lookup, axis_up(lookup), start, y_device);
+    moved(lookup, point, x_delta, y_delta)
 }
 
 /// The anchor at `start`, of format 1, 2 or 3; one of another format is the origin.
@@ -58,7 +79,7 @@ fn anchor_from(lookup: &Lookup<'_>, start: usize) -> Anchor
         1 | 2 => point(lookup.table, start),
         3 if is_default(lookup) => point(lookup.table, start),
         3 => varied_point(lookup, start),
-        _ => Anchor { x: 0, y: 0 },
+        _ => ORIGIN,
     }
 }
 
@@ -149,7 +170,7 @@ pub fn mark_anchor(lookup: &Lookup<'_>, array: Option<usize>, i: u32) -> Anchor
     };
     match found {
         Some(anchor) => anchor,
-        None => Anchor { x: 0, y: 0 },
+        None => ORIGIN,
     }
 }
 

@@ -6,6 +6,7 @@ use crate::anchors::{Anchor, anchor_there, number_there};
 use crate::edits::{break_between, concat_between, position, put};
 use crate::neighbours::{glyph_at, start_at, stop_before};
 use crate::places::after;
+use crate::sizes::{apart, footing, placed};
 use crate::turning::attach;
 use layout_matching::lookup::Lookup;
 use layout_matching::skipping::item_at;
@@ -198,8 +199,10 @@ fn cursive_with(
     let count = buffer.len();
     match exit(lookup, start, item_at(buffer.infos(), i).glyph_id) {
         Some(exit) => {
-            join_along(buffer, i, j, entry, exit);
-            let links = join_across(buffer, lookup.flags & 1 != 0, i, j, entry, exit);
+            join_along(buffer, i, j, placed(lookup, entry), placed(lookup, exit));
+            let met = apart(lookup, entry, exit);
+            let exit = footing(lookup, exit);
+            let links = join_across(buffer, lookup.flags & 1 != 0, i, j, met, exit);
             Joined {
                 next: Some(after(count, j)),
                 links,

@@ -3,7 +3,9 @@
 ghost use Rattle.std.specs.Prelude.{◌≡◌, ◌<◌, ◌^◌};
 ghost use Rattle.layout_positions.specs.Devices;
 
-use font_variations::deltas::{delta, rounded};
+use crate::sizes::rounded_at;
+use font_sizes::Axis;
+use font_variations::deltas::delta;
 use font_variations::parts::part_at;
 use layout_matching::lookup::Lookup;
 use shape_font::bytes::{records, u16_at, u32_at};
@@ -26,35 +28,37 @@ pub(crate) fn is_default(lookup: &Lookup<'_>) -> bool
     lookup.coordinates.is_empty()
 }
 
-/// What the set of deltas with this index says at the coordinates.
-fn index_delta(lookup: &Lookup<'_>, index: u32) -> i32
-    ensures { result ≡ Devices.index_delta lookup.now index }
+/// What the set of deltas with this index says at the coordinates, along an axis that may have a
+/// size. It is rounded by itself.
+fn index_delta(lookup: &Lookup<'_>, axis: Option<Axis>, index: u32) -> i32
+    ensures { result ≡ Devices.index_delta lookup.now axis index }
 {
-    rounded(delta(store(lookup.gdef), lookup.coordinates, index))
+    rounded_at(axis, delta(store(lookup.gdef), lookup.coordinates, index))
 }
 
-/// What the device at `at` adds, in units of the face. Hints for sizes in pixels add nothing.
-fn device_delta(lookup: &Lookup<'_>, at: usize) -> i32
+/// What the device at `at` adds along an axis, in units of the face, or of its size. Hints for
+/// sizes in pixels add nothing.
+fn device_delta(lookup: &Lookup<'_>, axis: Option<Axis>, at: usize) -> i32
     requires { at < 2 ^ 40 }
-    ensures { result ≡ Devices.device_delta lookup.now at }
+    ensures { result ≡ Devices.device_delta lookup.now axis at }
 {
     let table = lookup.table;
     if at + 6 <= table.len() && u16_at(table, at + 4) == 0x8000 {
-        index_delta(lookup, u32_at(table, at))
+        index_delta(lookup, axis, u32_at(table, at))
     } else {
         0
     }
 }
 
-/// What the device at an offset from `base` adds; an offset of 0 is no device.
-pub(crate) fn delta_by(lookup: &Lookup<'_>, base: usize, offset: u16) -> i32
+/// What the device at an offset from `base` adds along an axis; an offset of 0 is no device.
+pub(crate) fn delta_by(lookup: &Lookup<'_>, axis: Option<Axis>, base: usize, offset: u16) -> i32
     requires { base < 2 ^ 39 }
-    ensures { result ≡ Devices.delta_by lookup.now base offset }
+    ensures { result ≡ Devices.delta_by lookup.now axis base offset }
 {
     if offset == 0 {
         0
     } else {
-        device_delta(lookup, base + usize::from(offset))
+        device_delta(lookup, axis, base + usize::from(offset))
     }
 }
 

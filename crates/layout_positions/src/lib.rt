@@ -3,9 +3,9 @@
 //!
 //! A lookup moves glyphs, changes advances along the line, and attaches glyphs to others; items,
 //! their number and their clusters stay, and flags change only by what is unsafe to break or to
-//! concat. [`values`] and [`anchors`] read the table, with what `devices` add at the coordinates of
-//! a variable font; [`edits`] change a buffer at a place. Any bytes are taken: what lies past the
-//! end of the table reads as 0.
+//! concat. [`values`] and [`anchors`] read the table, with what [`devices`] add at the coordinates
+//! of a variable font, and `sizes` scale it for a font at a size; [`edits`] change a buffer at a
+//! place. Any bytes are taken: what lies past the end of the table reads as 0.
 #![tactic(auto)]
 #![allow(non_camel_case_types)]
 
@@ -28,6 +28,7 @@ pub mod paired;
 pub mod pairs;
 pub mod places;
 pub mod sites;
+mod sizes;
 pub mod steps;
 pub mod subtables;
 pub mod tolls;

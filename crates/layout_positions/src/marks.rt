@@ -11,6 +11,7 @@ use crate::edits::{asks_for_concat, concat_between, position, put};
 use crate::flagged::{Flagged, break_from, none_flagged};
 use crate::neighbours::{glyph_at, start_at, stop_before};
 use crate::places::after;
+use crate::sizes::{apart, footing};
 use layout_matching::lookup::Lookup;
 use layout_matching::skipping::item_at;
 use layout_tables::offsets::offset16;
@@ -124,7 +125,8 @@ fn attach_mark(
         Some(base) => {
             let marks = mark_array(lookup.table, start);
             let mark = mark_anchor(lookup, marks, at.number);
-            put_mark(buffer, at, mark, base)
+            let met = apart(lookup, base, mark);
+            put_mark(buffer, at, footing(lookup, mark), met)
         }
         None => Attached {
             next: None,

@@ -59,7 +59,7 @@ fn advance_of(value: &Adjustment) -> Option<i32>
     if value.x_placement != 0 || value.y_placement != 0 || value.y_advance != 0 {
         return None;
     }
-    if value.devices.placement || value.devices.x_advance || value.devices.y_advance {
+    if value.counted.placement || value.counted.x_advance || value.counted.y_advance {
         return None;
     }
     Some(value.x_advance)

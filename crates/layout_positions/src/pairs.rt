@@ -5,12 +5,13 @@ ghost use Rattle.std.specs.Option.{IfSome, option_map};
 ghost use Rattle.layout_positions.specs.Pairs;
 
 use crate::anchors::number_there;
+use crate::devices::is_default;
 use crate::places::{cell, record_offset};
 use crate::values::{Adjustment, advance_only, has_bytes, size, value_in, value_record};
 use layout_matching::lookup::Lookup;
 use layout_tables::classes::class;
 use layout_tables::offsets::offset16;
-use shape_font::bytes::{records, u16_at};
+use shape_font::bytes::{i16_at, records, u16_at};
 use shape_font::search::{found, side};
 use std::cmp::Ordering;
 
@@ -90,9 +91,26 @@ pub(crate) fn advance_values(advance: i32) -> PairValues
     }
 }
 
-/// The advance of a pair whose formats say that it changes that of its first glyph alone, as those
+/// Whether the first record of a pair is that of the advance along a horizontal line, and names no
+/// device for it that is read, and there is no second one. Not at a size of the font, where the
+/// advance may vanish.
+#[inline(always)]
+fn is_advance_alone(lookup: &Lookup<'_>, records: &PairRecords) -> bool
+    requires at { records.now.at < 480000000000 }
+    ensures { result ≡ Pairs.is_advance_alone lookup.now records.now }
+{
+    if records.second != 0 || lookup.scale.is_some() {
+        return false;
+    }
+    match records.first {
+        4 => true,
+        0x44 => is_default(lookup) || u16_at(lookup.table, records.at + 2) == 0,
+        _ => false,
+    }
+}
+
+/// The advance of a pair whose records say that it changes that of its first glyph alone, as those
 /// of most subtables do.
-#[tactic(auto, using(crate::proofs::ValueLemmas::advance_records))]
 #[inline(always)]
 pub(crate) fn plain_advance(lookup: &Lookup<'_>, records: &PairRecords) -> Option<i32>
     requires base { records.now.base < 2 ^ 35 }
@@ -100,11 +118,10 @@ pub(crate) fn plain_advance(lookup: &Lookup<'_>, records: &PairRecords) -> Optio
     ensures { IfSome result
         (λ x. Pairs.values_of lookup.now records.now ≡ Pairs.advance_values x) }
 {
-    if records.first != 4 || records.second != 0 {
+    if !is_advance_alone(lookup, records) {
         return None;
     }
-    let value = value_record(lookup, records.first, records.base, records.at);
-    Some(value.x_advance)
+    Some(i16_at(lookup.table, records.at))
 }
 
 /// How many bytes the two records of a pair have.

@@ -1,6 +1,7 @@
 //! The definitions, computed on tables and buffers that were read by hand.
 ghost use Rattle.layout_positions.specs.Worked.Values.{WorkedValues, WorkedAnchors};
 ghost use Rattle.layout_positions.specs.Worked.Devices.{WorkedDevices};
+ghost use Rattle.layout_positions.specs.Worked.Sizes.{WorkedSizes};
 ghost use Rattle.layout_positions.specs.Worked.Pairs.{WorkedTables, WorkedLines};
 ghost use Rattle.layout_positions.specs.Worked.Marks.{WorkedMarks, WorkedBases, WorkedBaseWork, WorkedSearchWork, WorkedMultiplied, WorkedComponents};
 ghost use Rattle.layout_positions.specs.Worked.Known.{WorkedKnown};
@@ -65,6 +66,11 @@ pub fn tries_meet_worked_cases()
 /// Which subtables of marks are known not to list a glyph.
 pub fn known_marks_meet_worked_cases()
     ensures { WorkedKnown }
+{}
+
+/// Value records and anchors of a font at a size.
+pub fn sizes_meet_worked_cases()
+    ensures { WorkedSizes }
 {}
 
 /// What lookups of pairs have for two glyphs.

@@ -13,20 +13,21 @@ use Rattle.font_variations.specs.Deltas.{delta_in, part_of, delta_of, rounded}
 use Rattle.font_variations.specs.Worked.Deltas.{store, there}
 use Rattle.shape_font.specs.Bytes.{i16_of}
 use Rattle.layout_matching.specs.declared.lookup.Lookup.{Lookup}
+use Rattle.layout_positions.specs.Sizes.{point}
 use Rattle.layout_positions.specs.Anchors.{anchor_at}
 use Rattle.layout_positions.specs.Devices.{work_of}
 use Rattle.layout_positions.specs.Pairs.{single_of, pair_of}
-use Rattle.layout_positions.specs.Values.{no_devices, value_at, has_effect}
+use Rattle.layout_positions.specs.Values.{none_counted, value_at, has_effect}
 use Rattle.layout_positions.specs.Worked.Lines.{varying}
 use Rattle.layout_positions.specs.declared.values.Adjustment.{Adjustment}
-use Rattle.layout_positions.specs.declared.values.Devices.{Devices}
+use Rattle.layout_positions.specs.declared.values.Counted.{Counted}
 
 -- `GDEF` of a version with this offset of its store, which stands at 18
 abbrev with_store : ℕ → ℕ → ℕ → List ℕ → List ℕ
 with_store major minor offset stored =
     0 ∷ major ∷ 0 ∷ minor ∷ 0 ∷ 0 ∷ 0 ∷ 0 ∷ 0 ∷ 0 ∷ 0 ∷ 0 ∷ 0 ∷ 0 ∷ 0 ∷ 0 ∷ 0 ∷ offset ∷ stored
 
-abbrev gdef : ℕ → ℕ → ℕ → List ℕ
+abbrev pub gdef : ℕ → ℕ → ℕ → List ℕ
 gdef major minor offset = with_store major minor offset store
 
 -- a store of a format, whose regions have five axes: of a set of seven columns, none, and a set of four
@@ -38,7 +39,7 @@ abbrev at_coordinates : List ℕ → Lookup → Lookup
 at_coordinates t l = varying t (gdef 1 3 18) there l
 
 -- the number 10 and a device at 4, the index of this set
-abbrev one : ℕ → List ℕ
+abbrev pub one : ℕ → List ℕ
 one set = 0 ∷ 10 ∷ 0 ∷ 4 ∷ 0 ∷ 0 ∷ 0 ∷ set ∷ 0x80 ∷ 0 ∷ []
 
 -- two bytes, and the same
@@ -56,7 +57,7 @@ abbrev cut : List ℕ
 cut = 0 ∷ 10 ∷ 0 ∷ 4 ∷ 0 ∷ 0 ∷ 0 ∷ 0 ∷ 0x80 ∷ []
 
 -- an anchor at 100, -5 with the first set for x and the second for y
-abbrev anchor : List ℕ
+abbrev pub anchor : List ℕ
 anchor = 0 ∷ 3 ∷ 0 ∷ 100 ∷ 0xFF ∷ 0xFB ∷ 0 ∷ 10 ∷ 0 ∷ 16 ∷ 0 ∷ 0 ∷ 0 ∷ 0 ∷ 0x80 ∷ 0 ∷ 0 ∷ 0 ∷ 0 ∷ 1 ∷ 0x80 ∷ 0 ∷ []
 
 -- the same with a device for x alone, and with hints for 0 pixels
@@ -85,24 +86,24 @@ classed = 0 ∷ 2 ∷ 0 ∷ 0 ∷ 0 ∷ 0x44 ∷ 0 ∷ 0x44 ∷ 0 ∷ 0 ∷ 0 �
     ∷ 0 ∷ 10 ∷ 0 ∷ 24 ∷ 0 ∷ 20 ∷ 0 ∷ 24 ∷ 0 ∷ 0 ∷ 0 ∷ 1 ∷ 0x80 ∷ 0 ∷ []
 
 abbrev still : Adjustment
-still = record { x_placement = pos 0; y_placement = pos 0; x_advance = pos 0; y_advance = pos 0; devices = no_devices }
+still = record { x_placement = pos 0; y_placement = pos 0; x_advance = pos 0; y_advance = pos 0; counted = none_counted }
 
 abbrev moved : ℤ → Adjustment
-moved x = record still { x_placement = x; devices = record no_devices { placement = true } }
+moved x = record still { x_placement = x; counted = record none_counted { placement = true } }
 
 abbrev widened : Adjustment
-widened = record still { x_advance = pos 137; devices = record no_devices { x_advance = true } }
+widened = record still { x_advance = pos 137; counted = record none_counted { x_advance = true } }
 
-abbrev by_devices : Devices → Adjustment
-by_devices d = record still { devices = d }
+abbrev by_devices : Counted → Adjustment
+by_devices d = record still { counted = d }
 
 pub record WorkedDevices : Type 0 where
   pub x_placed : (l : Lookup) → value_at (at_coordinates (one 0) l) 0x11 0 0 ≡ moved (negsuc 88)
   pub y_placed : (l : Lookup) → value_at (at_coordinates (one 1) l) 0x22 0 0
-      ≡ record still { y_placement = pos 137; devices = record no_devices { placement = true } }
+      ≡ record still { y_placement = pos 137; counted = record none_counted { placement = true } }
   pub x_advanced : (l : Lookup) → value_at (at_coordinates (one 1) l) 0x44 0 0 ≡ widened
   pub y_advanced : (l : Lookup) → value_at (at_coordinates (one 0) l) 0x88 0 0
-      ≡ record still { y_advance = negsuc 88; devices = record no_devices { y_advance = true } }
+      ≡ record still { y_advance = negsuc 88; counted = record none_counted { y_advance = true } }
   pub without_a_number : (l : Lookup) → value_at (at_coordinates (0 ∷ 2 ∷ 0 ∷ 0 ∷ 0 ∷ 1 ∷ 0x80 ∷ 0 ∷ []) l) 0x10 0 0 ≡ moved (pos 127)
   pub from_the_base : (l : Lookup) → value_at (at_coordinates later l) 0x11 2 2 ≡ moved (negsuc 88)
   pub at_the_default : (l : Lookup) → value_at (varying (one 0) (gdef 1 3 18) [] l) 0x11 0 0 ≡ record still { x_placement = pos 10 }
@@ -118,16 +119,16 @@ pub record WorkedDevices : Type 0 where
   pub in_version_2 : (l : Lookup) → value_at (varying (one 0) (gdef 2 3 18) there l) 0x11 0 0 ≡ moved (pos 10)
   pub no_store : (l : Lookup) → value_at (varying (one 0) (gdef 1 3 0) there l) 0x11 0 0 ≡ moved (pos 10)
   pub no_table : (l : Lookup) → value_at (varying (one 0) [] there l) 0x11 0 0 ≡ moved (pos 10)
-  pub placement_counts : has_effect true (by_devices (record no_devices { placement = true })) ≡ true
-  pub advance_along_counts : has_effect true (by_devices (record no_devices { x_advance = true })) ≡ true
-  pub advance_across_does_not : has_effect true (by_devices (record no_devices { y_advance = true })) ≡ false
-  pub down_the_line : has_effect false (by_devices (record no_devices { y_advance = true })) ≡ true
-  pub anchor_varied : (l : Lookup) → anchor_at (at_coordinates anchor l) 0 ≡ record { x = pos 1; y = pos 122 }
+  pub placement_counts : has_effect true (by_devices (record none_counted { placement = true })) ≡ true
+  pub advance_along_counts : has_effect true (by_devices (record none_counted { x_advance = true })) ≡ true
+  pub advance_across_does_not : has_effect true (by_devices (record none_counted { y_advance = true })) ≡ false
+  pub down_the_line : has_effect false (by_devices (record none_counted { y_advance = true })) ≡ true
+  pub anchor_varied : (l : Lookup) → anchor_at (at_coordinates anchor l) 0 ≡ point (pos 1) (pos 122)
   -- offsets count from the anchor
-  pub anchor_after_two_bytes : (l : Lookup) → anchor_at (at_coordinates (0 ∷ 7 ∷ anchor) l) 2 ≡ record { x = pos 1; y = pos 122 }
-  pub anchor_at_the_default : (l : Lookup) → anchor_at (varying anchor (gdef 1 3 18) [] l) 0 ≡ record { x = pos 100; y = negsuc 4 }
-  pub anchor_along_x_alone : (l : Lookup) → anchor_at (at_coordinates x_alone l) 0 ≡ record { x = pos 1; y = negsuc 4 }
-  pub anchor_of_pixels : (l : Lookup) → anchor_at (at_coordinates hinted l) 0 ≡ record { x = pos 100; y = negsuc 4 }
+  pub anchor_after_two_bytes : (l : Lookup) → anchor_at (at_coordinates (0 ∷ 7 ∷ anchor) l) 2 ≡ point (pos 1) (pos 122)
+  pub anchor_at_the_default : (l : Lookup) → anchor_at (varying anchor (gdef 1 3 18) [] l) 0 ≡ point (pos 100) (negsuc 4)
+  pub anchor_along_x_alone : (l : Lookup) → anchor_at (at_coordinates x_alone l) 0 ≡ point (pos 1) (negsuc 4)
+  pub anchor_of_pixels : (l : Lookup) → anchor_at (at_coordinates hinted l) 0 ≡ point (pos 100) (negsuc 4)
   -- offsets count from the subtable, but in pairs of format 1 from the set
   pub of_one_glyph : (l : Lookup) → single_of (at_coordinates singles l) 0 2 ≡ Some widened
   pub of_each_glyph : (l : Lookup) → single_of (at_coordinates single_each l) 0 2 ≡ Some widened

@@ -47,8 +47,11 @@ three direction = placed direction
     (record zero_position { x_advance = pos 600; y_advance = pos 5; x_offset = pos 3; y_offset = pos 4 }
     ∷ record zero_position { x_advance = pos 500; y_advance = pos 6 } ∷ hangs (negsuc 1) ∷ [])
 
+abbrev spot_at : ℤ → ℤ → Anchor
+spot_at x y = record { x = x; y = y; x_delta = pos 0; y_delta = pos 0 }
+
 abbrev spot : Anchor
-spot = record { x = pos 10; y = pos 20 }
+spot = spot_at (pos 10) (pos 20)
 
 pub record WorkedForest : Type 0 where
   pub follows_none : ends_within onwards 0 0 2 ≡ true
@@ -80,11 +83,11 @@ pub record WorkedForest : Type 0 where
   pub moved_in_line : moved_with onwards 0 1 (record zero_position { x_offset = pos 3; y_offset = pos 4 })
       ≡ record (links (pos 0)) { y_offset = pos 4 }
   -- the mark's anchor at 13, 24 from its origin stands where the first glyph's at 303, 504 does
-  pub meets_forward : point_of (offsets_finished (three LeftToRight)) 2 (record { x = pos 13; y = pos 24 })
-      ≡ point_of (offsets_finished (three LeftToRight)) 0 (record { x = pos 303; y = pos 504 })
-  pub meets_backward : point_of (offsets_finished (three RightToLeft)) 2 (record { x = pos 13; y = pos 24 })
-      ≡ point_of (offsets_finished (three RightToLeft)) 0 (record { x = pos 303; y = pos 504 })
-  pub stands_forward : point_of (offsets_finished (three LeftToRight)) 2 (record { x = pos 13; y = pos 24 })
+  pub meets_forward : point_of (offsets_finished (three LeftToRight)) 2 (spot_at (pos 13) (pos 24))
+      ≡ point_of (offsets_finished (three LeftToRight)) 0 (spot_at (pos 303) (pos 504))
+  pub meets_backward : point_of (offsets_finished (three RightToLeft)) 2 (spot_at (pos 13) (pos 24))
+      ≡ point_of (offsets_finished (three RightToLeft)) 0 (spot_at (pos 303) (pos 504))
+  pub stands_forward : point_of (offsets_finished (three LeftToRight)) 2 (spot_at (pos 13) (pos 24))
       ≡ record { x = pos 306; y = pos 508 }
 
 pub worked_forest : WorkedForest

@@ -1,5 +1,5 @@
 -- Glyphs of the worked cases, and what is read of a buffer.
-use Rattle.std.specs.Prelude.{ℕ, ℤ, true, pos, List, map}
+use Rattle.std.specs.Prelude.{ℕ, ℤ, true, pos, List, None, map}
 use Rattle.shape_common.specs.Positions.{zero_position}
 use Rattle.shape_common.specs.declared.positions.GlyphPosition.{GlyphPosition}
 use Rattle.shape_common.specs.declared.text_types.Direction.{Direction}
@@ -7,9 +7,9 @@ use Rattle.shape_items.specs.Buffer.{Buffer, new_buffer}
 use Rattle.shape_items.specs.Items.{Item, new_item, new_properties}
 use Rattle.layout_matching.specs.declared.lookup.Lookup.{Lookup}
 
--- a lookup over this table, whatever else it is
+-- a lookup over this table of a font at no size, whatever else it is
 abbrev pub over : List ℕ → Lookup → Lookup
-over t l = record l { table = record l.table { now = t } }
+over t l = record l { table = record l.table { now = t }; scale = None }
 
 -- the same with this `GDEF`, at these coordinates
 abbrev pub varying : List ℕ → List ℕ → List ℤ → Lookup → Lookup

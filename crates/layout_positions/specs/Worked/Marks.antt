@@ -62,7 +62,7 @@ pub record WorkedMarks : Type 0 where
 pub worked_marks : WorkedMarks
 unfolding i16_of ◌-ʷ◌ int_wrap
 worked_marks = record {
-  anchors_meet = λ l is. rw is.table refl;
+  anchors_meet = λ l is. rw (is.scale, is.table) refl;
   attached_to_the_base = λ l is. rw is.table refl;
   goes_on = λ l is. rw is.table refl;
   unsafe_between = λ l is. rw is.table refl;
@@ -252,13 +252,13 @@ pub record WorkedComponents : Type 0 where
 pub worked_components : WorkedComponents
 unfolding i16_of ◌-ʷ◌ int_wrap
 worked_components = record {
-  first = λ l is. rw is.table refl;
-  second = λ l is. rw is.table refl;
-  third = λ l is. rw is.table refl;
-  past_them = λ l is. rw is.table refl;
-  of_another = λ l is. rw is.table refl;
-  after_it = λ l is. rw is.table refl;
-  on_the_mark_before = λ l is. rw (is.table, is.flags, is.mask) refl;
+  first = λ l is. rw (is.scale, is.table) refl;
+  second = λ l is. rw (is.scale, is.table) refl;
+  third = λ l is. rw (is.scale, is.table) refl;
+  past_them = λ l is. rw (is.scale, is.table) refl;
+  of_another = λ l is. rw (is.scale, is.table) refl;
+  after_it = λ l is. rw (is.scale, is.table) refl;
+  on_the_mark_before = λ l is. rw (is.scale, is.table, is.flags, is.mask) refl;
   not_on_a_base = λ l is. rw (is.table, is.flags, is.mask) refl;
   same_component = λ l is. rw (is.table, is.flags, is.mask) refl;
   other_component = λ l is. rw (is.table, is.flags, is.mask) refl;

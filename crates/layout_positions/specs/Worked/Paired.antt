@@ -12,7 +12,7 @@ use Rattle.layout_matching.specs.declared.lookup.Lookup.{Lookup}
 use Rattle.layout_positions.specs.Lookups.{unapplied}
 use Rattle.layout_positions.specs.Paired.{pair_in, pair_numbered, found_there, found_in, found_put, placed_as, AreBeside, untried, HasAt, HasFor, IsKnownPair}
 use Rattle.layout_positions.specs.Subtables.{Trial, trial_of, trial_step}
-use Rattle.layout_positions.specs.Values.{no_devices}
+use Rattle.layout_positions.specs.Values.{none_counted}
 use Rattle.layout_positions.specs.Worked.Lines.{over, base, ignorable, line, advances}
 use Rattle.layout_positions.specs.Walk.{none_seen}
 use Rattle.layout_positions.specs.Worked.Pairs.{IsLookup, pairs_one, pairs_both, pairs_two}
@@ -24,7 +24,7 @@ use Rattle.layout_positions.specs.declared.paired.PairFound.TheVariants.{Plain, 
 use Rattle.layout_positions.specs.declared.values.Adjustment.{Adjustment}
 
 abbrev wider : ℤ → Adjustment
-wider w = record { x_placement = pos 0; y_placement = pos 0; x_advance = w; y_advance = pos 0; devices = no_devices }
+wider w = record { x_placement = pos 0; y_placement = pos 0; x_advance = w; y_advance = pos 0; counted = none_counted }
 
 -- the first glyph is that much wider
 abbrev by_first : ℤ → FoundPair

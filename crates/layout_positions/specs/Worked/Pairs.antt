@@ -10,7 +10,7 @@ use Rattle.shape_items.specs.Items.{Item}
 use Rattle.layout_matching.specs.declared.lookup.Lookup.{Lookup}
 use Rattle.layout_positions.specs.Lookups.{Applied}
 use Rattle.layout_positions.specs.Pairs.{single_of, single_applied, pair_of, pair_applied}
-use Rattle.layout_positions.specs.Values.{no_devices}
+use Rattle.layout_positions.specs.Values.{none_counted}
 use Rattle.layout_positions.specs.Worked.Lines.{over, base, mark, ignorable, line, advances, offsets, masks}
 use Rattle.layout_positions.specs.declared.values.Adjustment.{Adjustment}
 
@@ -27,10 +27,10 @@ abbrev pub single_two : List ℕ
 single_two = 0 ∷ 2 ∷ 0 ∷ 12 ∷ 0 ∷ 2 ∷ 0 ∷ 2 ∷ 0 ∷ 10 ∷ 0 ∷ 20 ∷ 0 ∷ 1 ∷ 0 ∷ 3 ∷ 0 ∷ 2 ∷ 0 ∷ 3 ∷ 0 ∷ 4 ∷ []
 
 abbrev upwards : ℤ → Adjustment
-upwards y = record { x_placement = pos 0; y_placement = y; x_advance = pos 0; y_advance = pos 0; devices = no_devices }
+upwards y = record { x_placement = pos 0; y_placement = y; x_advance = pos 0; y_advance = pos 0; counted = none_counted }
 
 abbrev wider : ℤ → Adjustment
-wider w = record { x_placement = pos 0; y_placement = pos 0; x_advance = w; y_advance = pos 0; devices = no_devices }
+wider w = record { x_placement = pos 0; y_placement = pos 0; x_advance = w; y_advance = pos 0; counted = none_counted }
 
 -- format 1: 2 then 3 by -50, 2 then 5 by -60, 3 then 3 by -70, on the advance of the first glyph
 abbrev pub pairs_one : List ℕ
@@ -57,7 +57,7 @@ without_classes = 0 ∷ 2 ∷ 0 ∷ 0 ∷ 0 ∷ 4 ∷ 0 ∷ 0 ∷ 0 ∷ 0 ∷ 0 
 
 pub record WorkedTables : Type 0 where
   pub same_for_all : (l : Lookup) → single_of (over single_one l) 0 3
-      ≡ Some (record { x_placement = pos 10; y_placement = pos 0; x_advance = negsuc 49; y_advance = pos 0; devices = no_devices })
+      ≡ Some (record { x_placement = pos 10; y_placement = pos 0; x_advance = negsuc 49; y_advance = pos 0; counted = none_counted })
   pub not_covered : (l : Lookup) → single_of (over single_one l) 0 4 ≡ None
   pub one_for_each : (l : Lookup) → single_of (over single_two l) 0 3 ≡ Some (upwards (pos 20))
   pub past_the_records : (l : Lookup) → single_of (over single_two l) 0 4 ≡ None
@@ -71,7 +71,7 @@ pub record WorkedTables : Type 0 where
   pub past_the_sets : (l : Lookup) → pair_of (over pairs_one l) 0 2 4 3 ≡ None
   pub second_record : (l : Lookup) → pair_of (over pairs_both l) 0 0 2 3 ≡ Some (record {
     first = wider (negsuc 49);
-    second = record { x_placement = pos 30; y_placement = pos 0; x_advance = pos 0; y_advance = pos 0; devices = no_devices };
+    second = record { x_placement = pos 30; y_placement = pos 0; x_advance = pos 0; y_advance = pos 0; counted = none_counted };
     has_second = true;
   })
   pub class_0_of_both : (l : Lookup) → pair_of (over pairs_two l) 0 0 2 7
@@ -116,10 +116,11 @@ worked_tables = record {
   other_format_of_pairs = λ _. refl;
 }
 
--- ---- over lines, by a lookup for bit 16 that passes over default ignorables
+-- ---- over lines, by a lookup for bit 16 that passes over default ignorables, of a font at no size
 
 pub record IsLookup (l : Lookup) (t : List ℕ) (f : ℕ) : Type 0 where
   pub table : l.table.now ≡ t
+  pub scale : l.scale ≡ None
   pub flags : l.flags ≡ f
   pub mask : l.mask ≡ 16
   pub zwj : l.auto_zwj ≡ true
@@ -175,23 +176,23 @@ pub record WorkedLines : Type 0 where
 pub worked_lines : WorkedLines
 unfolding i16_of ◌+ʷ◌ ◌-ʷ◌ int_wrap ones
 worked_lines = record {
-  single = λ l is. rw is.table refl;
+  single = λ l is. rw (is.scale, is.table) refl;
   single_goes_on = λ l is. rw is.table refl;
-  first_glyph_narrower = λ l is. rw (is.table, is.flags, is.mask) refl;
+  first_glyph_narrower = λ l is. rw (is.scale, is.table, is.flags, is.mask) refl;
   goes_on_at_the_second = λ l is. rw (is.table, is.flags, is.mask) refl;
-  over_an_ignorable = λ l is. rw (is.table, is.flags, is.mask, is.zwj, is.positioning) refl;
-  unsafe_between = λ l is. rw (is.table, is.flags, is.mask) refl;
+  over_an_ignorable = λ l is. rw (is.scale, is.table, is.flags, is.mask, is.zwj, is.positioning) refl;
+  unsafe_between = λ l is. rw (is.scale, is.table, is.flags, is.mask) refl;
   not_over_a_mark = λ l is. rw (is.table, is.flags, is.mask) refl;
   over_a_mark_by_the_flag = λ l is. rw (is.table, is.flags, is.mask) refl;
-  second_glyph_moved = λ l is. rw (is.table, is.flags, is.mask) refl;
+  second_glyph_moved = λ l is. rw (is.scale, is.table, is.flags, is.mask) refl;
   goes_on_after_the_second = λ l is. rw (is.table, is.flags, is.mask) refl;
-  unsafe_after_the_second = λ l is. rw (is.table, is.flags, is.mask) refl;
-  classes = λ l is. rw (is.table, is.flags, is.mask) refl;
-  not_in_a_vertical_line = λ l is. rw (is.table, is.flags, is.mask) refl;
-  backward = λ l is. rw (is.table, is.flags, is.mask) refl;
+  unsafe_after_the_second = λ l is. rw (is.scale, is.table, is.flags, is.mask) refl;
+  classes = λ l is. rw (is.scale, is.table, is.flags, is.mask) refl;
+  not_in_a_vertical_line = λ l is. rw (is.scale, is.table, is.flags, is.mask) refl;
+  backward = λ l is. rw (is.scale, is.table, is.flags, is.mask) refl;
   unlisted_in_vain = λ l is. rw (is.table, is.flags, is.mask) refl;
   no_second_glyph = λ l is. rw is.table refl;
   off_for_the_second_glyph = λ l is. rw (is.table, is.flags, is.mask) refl;
-  classes_that_move_nothing = λ l is. rw (is.table, is.flags, is.mask) refl;
-  listed_that_moves_nothing = λ l is. rw (is.table, is.flags, is.mask) refl;
+  classes_that_move_nothing = λ l is. rw (is.scale, is.table, is.flags, is.mask) refl;
+  listed_that_moves_nothing = λ l is. rw (is.scale, is.table, is.flags, is.mask) refl;
 }

@@ -33,8 +33,8 @@ pub record WorkedFarMarks : Type 0 where
 pub worked_far_marks : WorkedFarMarks
 unfolding i16_of ◌-ʷ◌ int_wrap
 worked_far_marks = record {
-  on_a_component = λ l is p d. rw (is.table, is.flags, is.mask, is.positioning, p, d) refl;
-  on_a_mark = λ l is p d. rw (is.table, is.flags, is.mask, is.positioning, p, d) refl;
+  on_a_component = λ l is p d. rw (is.scale, is.table, is.flags, is.mask, is.positioning, p, d) refl;
+  on_a_mark = λ l is p d. rw (is.scale, is.table, is.flags, is.mask, is.positioning, p, d) refl;
   of_its_own_type = λ l is p d. rw (is.table, is.flags, is.mask, is.positioning, p, d) refl;
 }
 
@@ -59,9 +59,9 @@ pub record WorkedMarkClasses : Type 0 where
 pub worked_mark_classes : WorkedMarkClasses
 unfolding i16_of ◌-ʷ◌ int_wrap
 worked_mark_classes = record {
-  class_0 = λ l is. rw is.table refl;
-  class_1 = λ l is. rw is.table refl;
-  class_0_on_a_mark = λ l is. rw (is.table, is.flags, is.mask) refl;
+  class_0 = λ l is. rw (is.scale, is.table) refl;
+  class_1 = λ l is. rw (is.scale, is.table) refl;
+  class_0_on_a_mark = λ l is. rw (is.scale, is.table, is.flags, is.mask) refl;
 }
 
 -- 2 then 3 by -50 down the line
@@ -84,10 +84,10 @@ pub record WorkedPairsDown : Type 0 where
 pub worked_pairs_down : WorkedPairsDown
 unfolding i16_of ◌+ʷ◌ ◌-ʷ◌ int_wrap ones
 worked_pairs_down = record {
-  downwards = λ l is. rw (is.table, is.flags, is.mask) refl;
-  upwards = λ l is. rw (is.table, is.flags, is.mask) refl;
-  unsafe_between = λ l is. rw (is.table, is.flags, is.mask) refl;
-  not_to_the_right = λ l is. rw (is.table, is.flags, is.mask) refl;
+  downwards = λ l is. rw (is.scale, is.table, is.flags, is.mask) refl;
+  upwards = λ l is. rw (is.scale, is.table, is.flags, is.mask) refl;
+  unsafe_between = λ l is. rw (is.scale, is.table, is.flags, is.mask) refl;
+  not_to_the_right = λ l is. rw (is.scale, is.table, is.flags, is.mask) refl;
   applied_to_the_right = λ l is. rw (is.table, is.flags, is.mask) refl;
 }
 

@@ -7,13 +7,14 @@ use Rattle.shape_common.specs.Positions.{zero_position}
 use Rattle.shape_common.specs.Wrapping.{◌+ʷ◌, ◌-ʷ◌}
 use Rattle.shape_font.specs.Bytes.{i16_of}
 use Rattle.layout_matching.specs.declared.lookup.Lookup.{Lookup}
+use Rattle.layout_positions.specs.Sizes.{point}
 use Rattle.layout_positions.specs.Anchors.{anchor_at, anchor_by, anchor_in, class_of_mark, anchor_of_mark}
-use Rattle.layout_positions.specs.Values.{value_size, advance_only, no_devices, value_at, value_in, adjusted, has_effect}
+use Rattle.layout_positions.specs.Values.{value_size, advance_only, none_counted, value_at, value_in, adjusted, has_effect}
 use Rattle.layout_positions.specs.Worked.Lines.{over, varying}
 use Rattle.layout_positions.specs.declared.values.Adjustment.{Adjustment}
 
 abbrev adjustment : ℤ → ℤ → ℤ → ℤ → Adjustment
-adjustment x y w h = record { x_placement = x; y_placement = y; x_advance = w; y_advance = h; devices = no_devices }
+adjustment x y w h = record { x_placement = x; y_placement = y; x_advance = w; y_advance = h; counted = none_counted }
 
 -- 10, -20, 30, -40
 abbrev numbers : List ℕ
@@ -88,32 +89,32 @@ abbrev marks : List ℕ
 marks = 0 ∷ 2 ∷ 0 ∷ 1 ∷ 0 ∷ 10 ∷ 0 ∷ 3 ∷ 0 ∷ 0 ∷ 0 ∷ 2 ∷ 0 ∷ 7 ∷ 0 ∷ 8 ∷ 0 ∷ 0 ∷ []
 
 pub record WorkedAnchors : Type 0 where
-  pub format_1 : (l : Lookup) → anchor_at (over (anchor 1) l) 0 ≡ record { x = pos 100; y = negsuc 4 }
-  pub format_2 : (l : Lookup) → anchor_at (over (anchor 2) l) 0 ≡ record { x = pos 100; y = negsuc 4 }
-  pub format_3 : (l : Lookup) → anchor_at (varying (anchor 3) [] [] l) 0 ≡ record { x = pos 100; y = negsuc 4 }
-  pub other_format : (l : Lookup) → anchor_at (over (anchor 4) l) 0 ≡ record { x = pos 0; y = pos 0 }
+  pub format_1 : (l : Lookup) → anchor_at (over (anchor 1) l) 0 ≡ point (pos 100) (negsuc 4)
+  pub format_2 : (l : Lookup) → anchor_at (over (anchor 2) l) 0 ≡ point (pos 100) (negsuc 4)
+  pub format_3 : (l : Lookup) → anchor_at (varying (anchor 3) [] [] l) 0 ≡ point (pos 100) (negsuc 4)
+  pub other_format : (l : Lookup) → anchor_at (over (anchor 4) l) 0 ≡ point (pos 0) (pos 0)
   pub no_offset : (l : Lookup) → anchor_by (over (0 ∷ 0 ∷ anchor 1) l) 0 0 ≡ None
-  pub at_the_end : (l : Lookup) → anchor_by (over (0 ∷ 2 ∷ anchor 1) l) 0 0 ≡ Some (record { x = pos 100; y = negsuc 4 })
+  pub at_the_end : (l : Lookup) → anchor_by (over (0 ∷ 2 ∷ anchor 1) l) 0 0 ≡ Some (point (pos 100) (negsuc 4))
   -- formats 2 and 3 have a point of the outline, or two devices, after the coordinates
   pub past_the_end : (l : Lookup) → anchor_by (over (0 ∷ 2 ∷ anchor 2) l) 0 0 ≡ None
   pub cut_short : (l : Lookup) → anchor_by (over (0 ∷ 2 ∷ 0 ∷ 1 ∷ 0 ∷ 100 ∷ 0xFF ∷ []) l) 0 0 ≡ None
-  pub in_the_matrix : (l : Lookup) → anchor_in (over matrix l) 2 1 1 0 ≡ Some (record { x = pos 7; y = pos 8 })
+  pub in_the_matrix : (l : Lookup) → anchor_in (over matrix l) 2 1 1 0 ≡ Some (point (pos 7) (pos 8))
   pub none_for_the_class : (l : Lookup) → anchor_in (over matrix l) 2 1 0 0 ≡ None
   pub past_the_rows : (l : Lookup) → anchor_in (over matrix l) 2 2 0 0 ≡ None
   pub past_the_classes : (l : Lookup) → anchor_in (over matrix l) 2 0 2 0 ≡ None
   pub class_of_the_first : class_of_mark marks 0 (Some 0) ≡ 1
   pub class_of_the_second : class_of_mark marks 1 (Some 0) ≡ 3
   pub class_past_the_end : class_of_mark marks 2 (Some 0) ≡ 0
-  pub anchor_of_the_first : (l : Lookup) → anchor_of_mark (over marks l) 0 (Some 0) ≡ record { x = pos 7; y = pos 8 }
-  pub anchor_of_the_second : (l : Lookup) → anchor_of_mark (over marks l) 1 (Some 0) ≡ record { x = pos 0; y = pos 0 }
+  pub anchor_of_the_first : (l : Lookup) → anchor_of_mark (over marks l) 0 (Some 0) ≡ point (pos 7) (pos 8)
+  pub anchor_of_the_second : (l : Lookup) → anchor_of_mark (over marks l) 1 (Some 0) ≡ point (pos 0) (pos 0)
   pub without_an_array : class_of_mark marks 0 None ≡ 0
   -- format 2 has 8 bytes, format 3 has 10; of another format its own two are enough
   pub whole_format_2 : (l : Lookup) → anchor_by (over (0 ∷ 2 ∷ (anchor 2 ++ 0 ∷ 7 ∷ [])) l) 0 0
-      ≡ Some (record { x = pos 100; y = negsuc 4 })
+      ≡ Some (point (pos 100) (negsuc 4))
   pub format_3_past_the_end : (l : Lookup) → anchor_by (over (0 ∷ 2 ∷ (anchor 3 ++ 0 ∷ 0 ∷ 0 ∷ [])) l) 0 0 ≡ None
   pub whole_format_3 : (l : Lookup) → anchor_by (varying (0 ∷ 2 ∷ (anchor 3 ++ 0 ∷ 0 ∷ 0 ∷ 0 ∷ [])) [] [] l) 0 0
-      ≡ Some (record { x = pos 100; y = negsuc 4 })
-  pub two_bytes_of_another_format : (l : Lookup) → anchor_by (over (0 ∷ 2 ∷ 0 ∷ 4 ∷ []) l) 0 0 ≡ Some (record { x = pos 0; y = pos 0 })
+      ≡ Some (point (pos 100) (negsuc 4))
+  pub two_bytes_of_another_format : (l : Lookup) → anchor_by (over (0 ∷ 2 ∷ 0 ∷ 4 ∷ []) l) 0 0 ≡ Some (point (pos 0) (pos 0))
   pub one_byte : (l : Lookup) → anchor_by (over (0 ∷ 2 ∷ 0 ∷ []) l) 0 0 ≡ None
   -- a row of one class: the anchor behind it is that of the next row
   pub class_past_the_last : (l : Lookup) → anchor_in (over (words (2 ∷ 6 ∷ 12 ∷ 1 ∷ 7 ∷ 8 ∷ 1 ∷ 9 ∷ 10 ∷ [])) l) 1 0 1 0 ≡ None

@@ -9,6 +9,7 @@ use Rattle.shape_font.specs.Bytes.{i16_of}
 use Rattle.shape_items.specs.Buffer.{Buffer}
 use Rattle.shape_items.specs.Items.{Item}
 use Rattle.layout_matching.specs.declared.lookup.Lookup.{Lookup}
+use Rattle.layout_positions.specs.Sizes.{point}
 use Rattle.layout_positions.specs.Attachment.{MOST_LINKS}
 use Rattle.layout_positions.specs.Marks.{mark_position}
 use Rattle.layout_positions.specs.Nested.{LEVELS, nested_placed}
@@ -87,7 +88,7 @@ pub record WorkedBounds : Type 0 where
   pub levels : LEVELS ≡ 65
   pub links : MOST_LINKS ≡ 64
   -- a mark is attached as one
-  pub as_a_mark : (mark_position 1 0 (record { x = pos 0; y = pos 0 }) (record { x = pos 0; y = pos 0 }) zero_position).attach_type ≡ 1
+  pub as_a_mark : (mark_position 1 0 (point (pos 0) (pos 0)) (point (pos 0) (pos 0)) zero_position).attach_type ≡ 1
   -- what the stages have left, and what the lookups leave
   pub begun : (b : Buffer) → (budgeted b).left ≡ b.max_ops
   pub ended : (s : Budgeted) → settled_up s ≡ record s.buffer { max_ops = s.left }
@@ -114,6 +115,7 @@ over_table table flags place l = record l {
   per_syllable = false;
   positioning = true;
   device_work = 0;
+  scale = None;
 }
 
 abbrev pub Over : List ℕ → ℕ → ℕ → (Lookup → Type 0) → Type 0
