@@ -15,6 +15,7 @@ use Rattle.shape_items.specs.Clusters.{map_range, mark_concat}
 use Rattle.shape_buffer.specs.Preservation.{EachLookup}
 use Rattle.shape_buffer.specs.Walks.{items_mapped}
 use Rattle.shape_buffer.specs.PositionWalks.{positions_mapped}
+use Rattle.font_sizes.specs.declared.scales.Scale.{Scale}
 use Rattle.kern_table.specs.Headers.{first_start, length_of, ends_table}
 use Rattle.kern_table.specs.StepLaws.{step-kerned}
 use Rattle.kern_table.specs.Tables.{subtable_count_of, is_read, reversed, subtable_kerned, subtable_work, charged, kerned_from, table_kerned}
@@ -33,7 +34,7 @@ use Rattle.layout_positions.specs.Walk.{started}
 use Rattle.layout_tables.specs.Lookups as tables
 use Rattle.opentype_layout.specs.Classes.{glyphs_begun}
 use Rattle.opentype_layout.specs.Engine.{gsub_tables, gpos_tables, positioned_by, opentype_lookups}
-use Rattle.opentype_layout.specs.Lookups.{lookup_at, lookup_of, with_lookup, lookups_of}
+use Rattle.opentype_layout.specs.Lookups.{lookup_at, with_lookup, lookups_of}
 use Rattle.opentype_layout.specs.Tries.{Call, stage_call, position_call, made_by, tries_by, Pays, EachPays, NeverRaises}
 use Rattle.opentype_layout.specs.declared.face.OpenTypeFace.{OpenTypeFace}
 use Rattle.opentype_layout.specs.declared.lookups.LookupTables.{LookupTables}
@@ -94,27 +95,27 @@ same-put i p b = same-if (nat_lt i (length b.items)) b (record b { positions = s
 same-finished : (b : Buffer) → SameWork b (offsets_finished b)
 same-finished = step-finished SameWork (λ b. refl) (λ a b c first later. later ∙ first) same-broken same-concat_marked same-put
 
-same-kerned : (t : List ℕ) (start mask : ℕ) (b : Buffer) → SameWork b (kerned t start mask b)
+same-kerned : (scale : Option Scale) (t : List ℕ) (start mask : ℕ) (b : Buffer) → SameWork b (kerned scale t start mask b)
 same-kerned = step-kerned SameWork (λ b. refl) (λ a b c first later. later ∙ first) same-break (λ end b. same-concat 0 end b) (λ i p b. refl)
 
-same-subtable : (t : List ℕ) (start mask : ℕ) (b : Buffer) → SameWork b (subtable_kerned t start mask b)
-same-subtable t start mask b =
+same-subtable : (scale : Option Scale) (t : List ℕ) (start mask : ℕ) (b : Buffer) → SameWork b (subtable_kerned scale t start mask b)
+same-subtable scale t start mask b =
     same-if (is_read t start (is_horizontal b.direction)) b
-    (if is_backward b.direction then reversed (kerned t start mask (reversed b)) else kerned t start mask b) b
-    (same-if (is_backward b.direction) b (reversed (kerned t start mask (reversed b))) (kerned t start mask b)
-    (same-kerned t start mask (reversed b)) (same-kerned t start mask b)) refl
+    (if is_backward b.direction then reversed (kerned scale t start mask (reversed b)) else kerned scale t start mask b) b
+    (same-if (is_backward b.direction) b (reversed (kerned scale t start mask (reversed b))) (kerned scale t start mask b)
+    (same-kerned scale t start mask (reversed b)) (same-kerned scale t start mask b)) refl
 
 -- ---- kerning is charged
 
-less-from : (t : List ℕ) (mask n start : ℕ) (b : Buffer) → (kerned_from t mask n start b).max_ops ≤ b.max_ops
-less-from t mask zero start b = omega arith
-less-from t mask (suc n) start b =
-    let next = subtable_kerned t start mask (charged b) in
-    let rest = kerned_from t mask n (start + length_of t start) next in
+less-from : (scale : Option Scale) (t : List ℕ) (mask n start : ℕ) (b : Buffer) → (kerned_from scale t mask n start b).max_ops ≤ b.max_ops
+less-from scale t mask zero start b = omega arith
+less-from scale t mask (suc n) start b =
+    let next = subtable_kerned scale t start mask (charged b) in
+    let rest = kerned_from scale t mask n (start + length_of t start) next in
     let spent = nat_lt b.max_ops (subtable_work (length b.items)) in
     let paid : (charged b).max_ops ≤ b.max_ops = omega arith in
-    let same = same-subtable t start mask (charged b) in
-    let later = less-from t mask n (start + length_of t start) next in
+    let same = same-subtable scale t start mask (charged b) in
+    let later = less-from scale t mask n (start + length_of t start) next in
     elim (ends_table t start) as (λ s. (if s then b else (if spent then charged b else rest)).max_ops ≤ b.max_ops) [
       | true ↦ omega arith
       | false ↦ elim spent as (λ s. (if s then charged b else rest).max_ops ≤ b.max_ops) [
@@ -123,11 +124,11 @@ less-from t mask (suc n) start b =
       ]
     ]
 
-less-kerned : (t : List ℕ) (mask : ℕ) → NeverRaises (table_kerned t mask)
-less-kerned t mask b =
-    elim (nat_eq mask 0) as (λ s. (if s then b else kerned_from t mask (subtable_count_of t) (first_start t) b).max_ops ≤ b.max_ops) [
+less-kerned : (scale : Option Scale) (t : List ℕ) (mask : ℕ) → NeverRaises (table_kerned scale t mask)
+less-kerned scale t mask b =
+    elim (nat_eq mask 0) as (λ s. (if s then b else kerned_from scale t mask (subtable_count_of t) (first_start t) b).max_ops ≤ b.max_ops) [
       | true ↦ omega arith
-      | false ↦ less-from t mask (subtable_count_of t) (first_start t) b
+      | false ↦ less-from scale t mask (subtable_count_of t) (first_start t) b
     ]
 
 -- ---- no call raises what is left
@@ -158,7 +159,7 @@ never-raises m f = record {
   position_finish_advances = λ b. omega arith;
   position_finish_offsets = λ b. stays b (offsets_finished b) (same-finished b);
   aat_position = λ mask b. omega arith;
-  kern = λ mask. less-kerned f.font.kern.now mask;
+  kern = λ mask. less-kerned f.scale f.font.kern.now mask;
 }
 
 -- ---- one call after the other

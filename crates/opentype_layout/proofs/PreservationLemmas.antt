@@ -55,7 +55,7 @@ clusters-opentype m f =
       position_finish_advances = left;
       position_finish_offsets = finished-clusters;
       aat_position = λ mask. left;
-      kern = λ mask. (clusters-kern f.font).kern mask;
+      kern = λ mask. (clusters-kern (record f.font { scale = f.scale })).kern mask;
     }
 
 pub flags-opentype : (m : OtMap) (f : OpenTypeFace) → LookupsPreserveFlags (opentype_lookups m f)
@@ -73,5 +73,5 @@ flags-opentype m f =
       position_finish_advances = left;
       position_finish_offsets = finished-flags;
       aat_position = λ mask. left;
-      kern = λ mask. (flags-kern f.font).kern mask;
+      kern = λ mask. (flags-kern (record f.font { scale = f.scale })).kern mask;
     }

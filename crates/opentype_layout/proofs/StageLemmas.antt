@@ -1,6 +1,6 @@
 -- stages of lookups, one after the other
 use Prim.Native.Nat.{zero}
-use Rattle.std.proofs.Common.{◌≡◌, ◌++◌, ◌+◌, ◌-◌, ◌≤◌, ◌<◌, ℕ, suc, true, false, List, [], ◌∷◌, Option, Some, None, Err, Result, drop, fold, length, min, nat_eq, refl, sym, ap, subst, ◌∙◌, append_assoc, append-nil, slice_index_or, arith}
+use Rattle.std.proofs.Common.{◌≡◌, ◌++◌, ◌+◌, ◌-◌, ◌≤◌, ◌<◌, ℕ, suc, true, false, List, [], ◌∷◌, Option, Some, None, Err, Result, drop, fold, length, nat_eq, refl, sym, ap, subst, ◌∙◌, append_assoc, append-nil, slice_index_or, arith}
 use Rattle.std.proofs.lemmas.Bool.Decides.{nat_tests}
 use Rattle.std.proofs.lemmas.List.{drop_more}
 use Rattle.std.specs.Option.{option_map_or}
@@ -19,7 +19,7 @@ use Rattle.layout_substitution.specs.Edits.{is_past}
 use Rattle.layout_substitution.specs.declared.apply.Spot.{Spot}
 use Rattle.layout_context.specs.Digested.{IsDigested, IsApart, HoldsGlyphs, MeetsNone}
 use Rattle.layout_context.specs.Reverse.{is_reverse}
-use Rattle.layout_context.specs.Stages.{Walk, all_looked_up, looked_up, most_levels, stage_ended, stage_made, substituted}
+use Rattle.layout_context.specs.Stages.{Walk, all_looked_up, looked_up, most_levels, stage_ended, substituted}
 use Rattle.layout_context.proofs.DigestLemmas.{skipped_over, unmet_over}
 use Rattle.layout_context.proofs.StageLemmas.{outcome_of, past_all, refused_by}
 use Rattle.opentype_layout.specs.Lookups.{lookup_of, with_lookup, lookups_of}

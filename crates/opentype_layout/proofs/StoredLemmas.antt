@@ -1,5 +1,5 @@
 -- a lookup made of what is stored is the lookup of the table
-use Rattle.std.proofs.Common.{◌≡◌, ◌+◌, ◌*◌, ℕ, Bool, true, false, Option, Some, None, max, min, not, nat_eq, ◌&&◌, ◌||◌, refl, sym, ap, ◌∙◌, subst, if◌then◌else◌}
+use Rattle.std.proofs.Common.{◌≡◌, ◌+◌, ◌*◌, ℕ, Bool, false, Option, Some, None, max, min, not, nat_eq, ◌&&◌, ◌||◌, refl, sym, ap, ◌∙◌, subst, if◌then◌else◌}
 use Rattle.std.specs.Option.{IfSome, option_map}
 use Rattle.std.specs.Prelude.{List, slice_index_or}
 use Rattle.shape_items.specs.Buffer.{most_countable}
@@ -10,13 +10,12 @@ use Rattle.layout_matching.specs.Work.{PLAIN_WORK, STEP_WORK, steps_work, walk_w
 use Rattle.layout_matching.specs.declared.firsts.First.{First}
 use Rattle.layout_matching.specs.declared.firsts.Firsts.{Firsts}
 use Rattle.layout_matching.specs.declared.lookup.Lookup.{Lookup}
-use Rattle.layout_digests.specs.declared.digested.Digested.{Digested}
 use Rattle.layout_digests.specs.declared.stored.Head.{Head}
 use Rattle.layout_digests.specs.declared.stored.StoredLookup.{StoredLookup}
 use Rattle.layout_matching.specs.LigatureSets.{AreSets}
 use Rattle.layout_matching.specs.declared.ligature_sets.StoredSets.{StoredSets}
 use Rattle.layout_digests.specs.LigatureSets.{AreSetsAt}
-use Rattle.layout_digests.specs.Stored.{IsHead, IsStored, IsStoredAt}
+use Rattle.layout_digests.specs.Stored.{IsHead, IsStoredAt}
 use Rattle.layout_digests.specs.WholeRules.{AreWholesAt, HoldWholes, IsWholeAt}
 use Rattle.layout_matching.specs.WholeRules.{AreWholes}
 use Rattle.layout_matching.specs.declared.whole_rules.WholeRule.{WholeRule}

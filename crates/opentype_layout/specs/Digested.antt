@@ -1,6 +1,5 @@
 -- lookups with digests that hold the glyphs that they may begin at, and the face that stores these
 use Rattle.std.specs.Prelude.{◌≡◌, ℕ, Bool, true, false, List, ◌<◌, ◌^◌}
-use Rattle.std.specs.Global.{Vec}
 use Rattle.layout_matching.specs.Firsts.{AreFirsts}
 use Rattle.layout_matching.specs.WholeRules.{AreWholesOf}
 use Rattle.layout_matching.specs.declared.ligature_sets.StoredSets.{StoredSets}

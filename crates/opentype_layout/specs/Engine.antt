@@ -1,5 +1,5 @@
 -- what the engine returns of a face, and what it makes of a buffer
-use Rattle.std.specs.Prelude.{ℕ, List, true, false, not, nat_eq}
+use Rattle.std.specs.Prelude.{None, ℕ, List, true, false, not, nat_eq}
 use Rattle.shape_items.specs.Buffer.{Buffer}
 use Rattle.shape_buffer.specs.Layout.{LayoutMeaning, LookupMeaning}
 use Rattle.shape_buffer.specs.MapBuilder.{Builder}
@@ -25,10 +25,10 @@ table_of f GSUB = f.gsub.now
 table_of f GPOS = f.gpos.now
 
 abbrev pub gsub_tables : OpenTypeFace → LookupTables
-gsub_tables f = record { table = f.gsub; gdef = f.gdef; coordinates = f.coordinates; device_work = 0; positioning = false }
+gsub_tables f = record { table = f.gsub; gdef = f.gdef; coordinates = f.coordinates; device_work = 0; scale = None; positioning = false }
 
 abbrev pub gpos_tables : OpenTypeFace → LookupTables
-gpos_tables f = record { table = f.gpos; gdef = f.gdef; coordinates = f.coordinates; device_work = f.device_work; positioning = true }
+gpos_tables f = record { table = f.gpos; gdef = f.gdef; coordinates = f.coordinates; device_work = f.device_work; scale = f.scale; positioning = true }
 
 -- the lookups of positioning, one after the other
 unfoldable pub positioned_by : LookupTables → List LookupMap → Buffer → Buffer
@@ -64,5 +64,5 @@ opentype_lookups m f = record {
   position_finish_advances = λ b. b;
   position_finish_offsets = offsets_finished;
   aat_position = λ _ b. b;
-  kern = table_kerned f.font.kern.now;
+  kern = table_kerned f.scale f.font.kern.now;
 }

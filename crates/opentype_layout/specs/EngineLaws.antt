@@ -17,5 +17,5 @@ opentype_lookups-lawful m f = record {
   position_finish_advances = λ b. refl;
   position_finish_offsets = λ b. (finished-kept b).count;
   aat_position = λ mask b. refl;
-  kern = λ mask b. length-table_kerned f.font.kern.now mask b;
+  kern = λ mask b. length-table_kerned f.scale f.font.kern.now mask b;
 }

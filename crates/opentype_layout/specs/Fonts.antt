@@ -1,5 +1,5 @@
 -- What the bytes of a font file are as a face.
-use Rattle.std.specs.Prelude.{◌≡◌, ℕ, List, [], nat_lt}
+use Rattle.std.specs.Prelude.{◌≡◌, ℕ, List, [], None, nat_lt}
 use Rattle.std.specs.Option.{option_map}
 use Rattle.opentype_layout.specs.declared.face.OpenTypeFace.{OpenTypeFace}
 use Rattle.shape_font.specs.Bytes.{u16_of}
@@ -15,7 +15,7 @@ use Rattle.shape_font.specs.declared.face.FontFace.{FontFace}
 abbrev pub units_of : List ℕ → ℕ → ℕ
 units_of bytes index = u16_of (bytes_of bytes index 0x68656164) 18
 
--- a font's numbers and tables are those of the bytes, at the default instance; a table is named by its tag, as 0x68656164 is `head`
+-- a font's numbers and tables are those of the bytes, at the default instance and at no size; a table is named by its tag, as 0x68656164 is `head`
 pub record IsFontOf (bytes : List ℕ) (index : ℕ) (font : FontFace) : Type 0 where
   pub units_per_em : font.units_per_em ≡ units_of bytes index
   pub glyph_count : font.glyph_count ≡ u16_of (bytes_of bytes index 0x6D617870) 4
@@ -48,17 +48,20 @@ pub record IsFontOf (bytes : List ℕ) (index : ℕ) (font : FontFace) : Type 0 
   pub sbix : font.bitmaps.sbix.now ≡ bytes_of bytes index 0x73626978
   pub cblc : font.bitmaps.cblc.now ≡ bytes_of bytes index 0x43424C43
   pub cbdt : font.bitmaps.cbdt.now ≡ bytes_of bytes index 0x43424454
+  pub colr : font.colr.now ≡ bytes_of bytes index 0x434F4C52
   pub hvar : font.hvar.now ≡ bytes_of bytes index 0x48564152
   pub vvar : font.vvar.now ≡ bytes_of bytes index 0x56564152
   pub gvar : font.gvar.now ≡ bytes_of bytes index 0x67766172
   pub mvar : font.mvar.now ≡ bytes_of bytes index 0x4D564152
   pub coordinates : font.coordinates.now ≡ []
+  pub scale : font.scale ≡ None
 
--- a face is that of a font with its three tables of layout, at the default instance
+-- a face is that of a font with its three tables of layout, at the default instance and at no size
 pub record IsFaceOf (bytes : List ℕ) (index : ℕ) (face : OpenTypeFace) : Type 0 where
   pub font : IsFontOf bytes index face.font
   pub gdef : face.gdef.now ≡ bytes_of bytes index 0x47444546
   pub gsub : face.gsub.now ≡ bytes_of bytes index 0x47535542
   pub gpos : face.gpos.now ≡ bytes_of bytes index 0x47504F53
   pub coordinates : face.coordinates.now ≡ []
+  pub scale : face.scale ≡ None
   pub device_work : face.device_work ≡ 0

@@ -1,9 +1,6 @@
 //! The engine.
-ghost use Rattle.std.specs.Prelude.{◌≡◌, fold, true, IsOk, MatchResult};
+ghost use Rattle.std.specs.Prelude.{◌≡◌, IsOk, MatchResult};
 ghost use Rattle.shape_buffer.specs.Outcome.{IsWithinLimit, Made, Outcome, step};
-ghost use Rattle.layout_digests.specs.Stored.{AreStored};
-ghost use Rattle.layout_digests.specs.WholeRules.{HoldWholes};
-ghost use Rattle.layout_positions.specs.Walk.{budgeted, lookup_applied};
 ghost use Rattle.layout_map.specs.Map.{OtMap, map_meaning};
 ghost use Rattle.opentype_layout.specs.declared.face.OpenTypeFace.{OpenTypeFace as Face};
 ghost use Rattle.opentype_layout.specs.Engine;
@@ -14,11 +11,11 @@ ghost use Rattle.layout_map.proofs.LawfulLemmas.{map_meaning-lawful};
 use crate::chosen::{chosen_for, script_in};
 use crate::classes::{GlyphClasses, begin_glyphs};
 use crate::face::OpenTypeFace;
-use crate::lookups::{LookupTables, Stored, list_of, made_ready, stored_at};
+use crate::lookups::{LookupTables, Stored};
+use crate::positioning::position_by;
 use crate::stage::substitute_by;
 use crate::would::feature_would;
 use kern_table::tables::{kern_table, subtable_count};
-use layout_map::lookups::LookupMap;
 use layout_map::map::hb_ot_map_t;
 use layout_matching::would::Alone;
 use layout_positions::attachment::finish_offsets;
@@ -53,6 +50,7 @@ pub(crate) fn gsub_tables<'a>(face: &OpenTypeFace<'a>) -> LookupTables<'a>
         gdef: face.gdef(),
         coordinates: face.coordinates(),
         device_work: 0,
+        scale: None,
         positioning: false,
     }
 }
@@ -66,56 +64,9 @@ pub(crate) fn gpos_tables<'a>(face: &OpenTypeFace<'a>) -> LookupTables<'a>
         gdef: face.gdef(),
         coordinates: face.coordinates(),
         device_work: face.device_work(),
+        scale: face.scale(),
         positioning: true,
     }
-}
-
-/// Goes over a buffer with each lookup of positioning, with what is stored of the table's, and
-/// returns what is left. Each is made ready where it is its turn.
-#[tactic(auto, using(crate::proofs::PositionLemmas::placed_on, crate::proofs::PositionLemmas::placed_over))]
-fn apply_each(
-    tables: LookupTables<'_>,
-    stored: Stored<'_>,
-    maps: &[LookupMap],
-    buffer: &mut hb_buffer_t,
-) -> usize
-    requires kind { tables.positioning ≡ true }
-    requires stored { AreStored tables.table.now true stored.firsts.now stored.lookups.now }
-    requires wholes { HoldWholes tables.table.now true stored.wholes.now }
-    ensures { record { buffer = buffer.new; left = result }
-        ≡ fold lookup_applied (budgeted buffer.old) (lookups_of tables.entry maps.now) }
-{
-    let list = list_of(tables.table);
-    let run = walk::run_digest(buffer.infos());
-    let mut left = buffer.max_ops();
-    for map in maps {
-        let known = stored_at(tables, list, stored, map.index);
-        match known.head {
-            Some(head) => {
-                let named = made_ready(tables, stored, map, &known, &head);
-                left = walk::apply_within(&named, &run, buffer, left);
-            }
-            None => continue,
-        }
-    }
-    left
-}
-
-/// Applies the lookups of positioning, with what is stored of the table's.
-#[tactic(auto, unfolding(crate::specs::Engine::positioned_by))]
-pub(crate) fn position_by(
-    tables: LookupTables<'_>,
-    stored: Stored<'_>,
-    maps: &[LookupMap],
-    buffer: &mut hb_buffer_t,
-)
-    requires kind { tables.positioning ≡ true }
-    requires stored { AreStored tables.table.now true stored.firsts.now stored.lookups.now }
-    requires wholes { HoldWholes tables.table.now true stored.wholes.now }
-    ensures { Made (Engine.positioned_by tables.entry maps.now) buffer.old buffer.new }
-{
-    let left = apply_each(tables, stored, maps, buffer);
-    buffer.set_max_ops(left);
 }
 
 /// Compiles the requests of a plan for the scripts that it has chosen. Refuses with `Memory` alone,
@@ -331,7 +282,7 @@ impl<'a> hb_ot_layout_t<OpenTypeFace<'a>> for OpenTypeLayout {
             buffer.old buffer.new result }
         ensures ok { IsOk result }
     {
-        kern_table(face.kern(), kern_mask, buffer);
+        kern_table(face.kern(), face.scale(), kern_mask, buffer);
         Ok(())
     }
 

@@ -4,6 +4,7 @@ ghost use Rattle.layout_positions.specs.Devices;
 ghost use Rattle.opentype_layout.specs.Fonts.{IsFaceOf, IsFontOf, units_of};
 ghost use Rattle.opentype_layout.specs.Face;
 
+use font_sizes::Scale;
 use layout_positions::devices::device_work;
 use shape_buffer::{GlyphId, hb_font_t, hb_glyph_extents_t, hb_tables_t};
 use shape_font::FontFace;
@@ -19,6 +20,7 @@ pub struct OpenTypeFace<'a> {
     gsub: &'a [u8],
     gpos: &'a [u8],
     coordinates: &'a [i32],
+    scale: Option<Scale>,
     device_work: u32,
 }
 
@@ -45,6 +47,7 @@ impl<'a> OpenTypeFace<'a> {
         ensures gsub { result.gsub.now ≡ font.entry.gsub.now }
         ensures gpos { result.gpos.now ≡ font.entry.gpos.now }
         ensures coordinates { result.coordinates.now ≡ font.entry.coordinates.now }
+        ensures scale { result.scale ≡ font.entry.scale }
         ensures devices { result.device_work
             ≡ Devices.work_of font.entry.gdef.now font.entry.coordinates.now }
     {
@@ -55,6 +58,7 @@ impl<'a> OpenTypeFace<'a> {
             gsub: font.gsub_table(),
             gpos: font.gpos_table(),
             coordinates: font.coordinates(),
+            scale: font.scale(),
             device_work: device_work(gdef, font.coordinates()),
         }
     }
@@ -104,6 +108,13 @@ impl<'a> OpenTypeFace<'a> {
         ensures { result ≡ self.now.coordinates }
     {
         self.coordinates
+    }
+
+    /// What the numbers of the font are multiplied by; none at no size.
+    pub(crate) fn scale(&self) -> Option<Scale>
+        ensures { result ≡ self.now.scale }
+    {
+        self.scale
     }
 
     /// What devices of `GPOS` may cost at an item.
@@ -171,6 +182,14 @@ impl<'a> hb_font_t for OpenTypeFace<'a> {
 
     fn units_per_em(&self) -> u16 {
         self.font.units_per_em()
+    }
+
+    fn x_scale(&self) -> i32 {
+        self.font.x_scale()
+    }
+
+    fn y_scale(&self) -> i32 {
+        self.font.y_scale()
     }
 
     fn tables(&self) -> hb_tables_t {

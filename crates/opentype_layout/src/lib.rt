@@ -3,8 +3,8 @@
 //!
 //! The crates below it read tables, compile requests and apply lookups. [`chosen`] chooses script
 //! and language system for a text, [`lookups`] makes the lookups of a plan ready, `stage` applies
-//! those of a stage of substitution, [`classes`] gives glyphs their classes, `would` asks lookups
-//! for glyphs that stand alone, and [`engine`] puts them together. Any bytes are taken: [`laws`]
+//! those of a stage of substitution, `positioning` those of `GPOS`, [`classes`] gives glyphs their
+//! classes, `would` asks lookups for glyphs that stand alone, and [`engine`] puts them together. Any bytes are taken: [`laws`]
 //! has what holds of the engine whatever the font is. [`worked`] has the definitions computed by
 //! hand.
 #![tactic(auto)]
@@ -18,6 +18,7 @@ pub mod laws;
 pub mod lookups;
 pub mod opened;
 mod opened_engine;
+mod positioning;
 mod stage;
 pub mod worked;
 mod would;

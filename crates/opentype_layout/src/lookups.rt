@@ -10,6 +10,7 @@ ghost use Rattle.opentype_layout.specs.Digested.{IsSaid};
 ghost use Rattle.layout_tables.specs.Lookups.{lookup_of};
 ghost use Rattle.opentype_layout.specs.Lookups;
 
+use font_sizes::Scale;
 use layout_digests::stored::head_at;
 use layout_digests::{Digest, Digested, Head, StoredLookup};
 use layout_map::lookups::LookupMap;
@@ -20,14 +21,16 @@ use layout_matching::whole_rules::WholeRule;
 use layout_tables::lookups::lookup_count;
 use layout_tables::offsets::{header_offset, offset16};
 
-/// The tables that lookups read: `GSUB`, or `GPOS` if `positioning`, and `GDEF`; and the
-/// coordinates of the font, with what devices of `GPOS` may cost there.
+/// The tables that lookups read: `GSUB`, or `GPOS` if `positioning`, and `GDEF`; the coordinates of
+/// the font, with what devices of `GPOS` may cost there; and what numbers of `GPOS` are multiplied
+/// by, none at no size.
 #[derive(Clone, Copy)]
 pub struct LookupTables<'a> {
     pub table: &'a [u8],
     pub gdef: &'a [u8],
     pub coordinates: &'a [i32],
     pub device_work: u32,
+    pub scale: Option<Scale>,
     pub positioning: bool,
 }
 
@@ -110,6 +113,7 @@ fn used<'a>(tables: LookupTables<'a>, map: &LookupMap, head: &Head) -> Lookup<'a
         gdef: tables.gdef,
         coordinates: tables.coordinates,
         device_work: tables.device_work,
+        scale: tables.scale,
         place: head.place,
         flags: head.flags,
         mark_set: head.mark_set,

@@ -167,6 +167,14 @@ impl<'a> hb_font_t for OpenedOpenTypeFace<'a> {
         self.font.units_per_em()
     }
 
+    fn x_scale(&self) -> i32 {
+        self.font.x_scale()
+    }
+
+    fn y_scale(&self) -> i32 {
+        self.font.y_scale()
+    }
+
     fn tables(&self) -> hb_tables_t {
         self.face.tables()
     }

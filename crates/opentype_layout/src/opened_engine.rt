@@ -12,8 +12,9 @@ ghost use Rattle.layout_map.proofs.LawfulLemmas.{map_meaning-lawful};
 
 use crate::chosen::script_in;
 use crate::classes::begin_glyphs;
-use crate::engine::{OpenTypeLayout, compiled, gpos_tables, gsub_tables, position_by, table_of};
+use crate::engine::{OpenTypeLayout, compiled, gpos_tables, gsub_tables, table_of};
 use crate::opened::OpenedOpenTypeFace;
+use crate::positioning::position_by;
 use crate::stage::substitute_by;
 use crate::would::feature_would;
 use kern_table::tables::{kern_table_by, subtable_count};
@@ -232,8 +233,9 @@ impl<'a> hb_ot_layout_t<OpenedOpenTypeFace<'a>> for OpenTypeLayout {
             buffer.old buffer.new result }
         ensures ok { IsOk result }
     {
-        let kern = face.face().kern();
-        kern_table_by(kern, face.pair_sides(), kern_mask, buffer);
+        let font = face.face();
+        let (kern, sides) = (font.kern(), face.pair_sides());
+        kern_table_by(kern, sides, font.scale(), kern_mask, buffer);
         Ok(())
     }
 

@@ -1,8 +1,7 @@
-use Rattle.std.proofs.Common.{◌≡◌, ◌≤◌, length, refl, sym, ap, subst, ◌∙◌}
+use Rattle.std.proofs.Common.{◌≡◌, refl, sym, ap, subst, ◌∙◌}
 use Rattle.std.specs.Prelude.{OnOk}
 use Rattle.layout_substitution.specs.Edits.{is_past}
 use Rattle.layout_substitution.specs.declared.apply.Spot.{Spot}
-use Rattle.opentype_layout.specs.Stage.{made_from}
 use Rattle.opentype_layout.proofs.StageLemmas.{stage_over}
 use Rattle.opentype_layout.proofs.stage.apply_stage.Goals as goal
 

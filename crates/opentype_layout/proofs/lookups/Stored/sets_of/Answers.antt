@@ -1,4 +1,4 @@
-use Rattle.std.proofs.Common.{◌≡◌, ◌<◌, Bor, IfSome, Option, length, slice_index_or, sym, subst, arith}
+use Rattle.std.proofs.Common.{◌<◌, Bor, IfSome, Option, length, slice_index_or, sym, subst, arith}
 use Rattle.std.proofs.lemmas.Bool.Decides.{nat_tests}
 use Rattle.layout_matching.specs.declared.ligature_sets.StoredSets.{StoredSets}
 use Rattle.layout_digests.specs.LigatureSets.{AreSetsAt}

@@ -5,9 +5,9 @@ use Rattle.layout_positions.specs.Walk.{Budgeted, budgeted, lookup_applied}
 use Rattle.opentype_layout.specs.Digested.{IsSaid}
 use Rattle.opentype_layout.specs.Lookups.{lookups_of}
 use Rattle.opentype_layout.proofs.DigestLemmas.{positions-one}
-use Rattle.opentype_layout.proofs.PositionLemmas.{none_placed, placed_on}
+use Rattle.opentype_layout.proofs.PositionLemmas.{idle_on, none_placed, placed_on}
 use Rattle.opentype_layout.proofs.StoredLemmas.{known_none}
-use Rattle.opentype_layout.proofs.engine.apply_each.Goals as goal
+use Rattle.opentype_layout.proofs.positioning.apply_each.Goals as goal
 
 pub stored_at-known-requires-clause-stored : goal.stored_at-known-requires-clause-stored
 stored_at-known-requires-clause-stored c =
@@ -23,14 +23,28 @@ apply_within-left-requires-clause-said c =
     let named = c.made_ready-named.result in
     positions-one named (subst (λ (p : Bool). IsSaid p named) c.requires.kind c.made_ready-named.ensures.said)
 
-pub loop-map-preserved-in-None : goal.loop-map-preserved-in-None
-loop-map-preserved-in-None c =
+pub loop-map-preserved-in_default : goal.loop-map-preserved-in_default
+loop-map-preserved-in_default c =
     let here : Budgeted = record { buffer = c.loop-map.buffer; left = c.loop-map.left } in
     record {
       made = none_placed c.args.tables c.args.maps.now c.loop-map.map-index _ here
           (fold lookup_applied (budgeted c.args.buffer.now) (lookups_of c.args.tables c.args.maps.now)) c.loop-map-test.true
-          (known_none c.args.tables _ c.args.stored.firsts.now c.stored_at-known.result c.stored_at-known.ensures c.in-None.is)
+          (known_none c.args.tables _ c.args.stored.firsts.now c.stored_at-known.result c.stored_at-known.ensures c.in_default.is)
           c.loop-map.invariant.made;
+      run = c.loop-map.invariant.run;
+    }
+
+pub loop-map-preserved-then-is_idle : goal.loop-map-preserved-then-is_idle
+loop-map-preserved-then-is_idle c =
+    let t = c.args.tables in
+    let b = c.loop-map.buffer in
+    record {
+      made = idle_on t c.args.maps.now c.loop-map.map-index _ c.args.stored c.stored_at-known.result c.in-Some.head c.run_digest-run.result b
+          c.loop-map.left c.saturating_sub-left.result c.len.result c.plain_walk_work.result
+          (fold lookup_applied (budgeted c.args.buffer.now) (lookups_of t c.args.maps.now)) c.loop-map-test.true c.requires.kind
+          c.stored_at-known.ensures (subst (λ (p : Bool). HoldWholes t.table.now p c.args.stored.wholes.now) (sym c.requires.kind) c.requires.wholes)
+          c.in-Some.is c.loop-map.invariant.run (c.is_idle.ensures.apart c.if-is_idle.true) c.plain_walk_work.ensures
+          c.saturating_sub-left.ensures c.len.ensures.items c.loop-map.invariant.made;
       run = c.loop-map.invariant.run;
     }
 

@@ -2,7 +2,7 @@ use Rattle.std.proofs.Common.{◌≡◌, drop, fold}
 use Rattle.layout_positions.specs.Digested.{HoldsGlyphs}
 use Rattle.layout_positions.specs.Walk.{Budgeted, lookup_applied, budgeted}
 use Rattle.opentype_layout.specs.Lookups.{lookups_of}
-use Rattle.opentype_layout.proofs.engine.apply_each.Given as goal
+use Rattle.opentype_layout.proofs.positioning.apply_each.Given as goal
 
 -- what the lookups from here on make of the buffer is what all make of the first one
 abbrev pub invariant-loop-map : goal.invariant-loop-map

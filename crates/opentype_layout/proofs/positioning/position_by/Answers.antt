@@ -1,7 +1,7 @@
 use Rattle.layout_positions.proofs.MadeLemmas.{positioned_made}
 use Rattle.opentype_layout.specs.Lookups.{lookups_of}
 use Rattle.opentype_layout.specs.Engine.{positioned_by}
-use Rattle.opentype_layout.proofs.engine.position_by.Goals as goal
+use Rattle.opentype_layout.proofs.positioning.position_by.Goals as goal
 
 pub returns : goal.returns
 unfolding positioned_by
