@@ -8,8 +8,8 @@ models print, and libraries with Unicode's test files (Debian's package `unicode
 Status 0: no difference. 1: there are some, which are shown. 77: something is not installed.
 """
 from checks import (
-    bidi, bitmaps, cuts, hovering, items, line_breaks, normalising, normalization, options, outlines,
-    paragraphs, random_fonts, scripts, suite, syllables, texts, traces, variations,
+    bidi, bitmaps, colors, cuts, hovering, items, line_breaks, normalising, normalization, options, outlines,
+    paragraphs, random_fonts, scripts, sizes, suite, syllables, texts, traces, variations,
 )
 from checks.command import run_kind
 
@@ -23,6 +23,8 @@ KINDS = {
     "outlines": outlines,
     "variations": variations,
     "bitmaps": bitmaps,
+    "colors": colors,
+    "sizes": sizes,
     "suite": suite,
     "options": options,
     "fonts": random_fonts,

@@ -6,12 +6,10 @@ GSUB and GPOS: one with `kern`, one without. Lists differ in all that `fontshape
 `--mode`, `--no-layout`, `--svg`, `--html`, `--trace` and `-v`, which `hb-shape` takes for `--ned`. A run differs if a
 byte of standard output does, or if one ends with status 0 and the other doesn't.
 
-Left out is where the two are known to differ. A line in another size has no marks, no kerning and
-doesn't run down: HarfBuzz halves and adds rounded numbers, and `fontshape` rounds what it has
-halved and added. One from right to left has a script: HarfBuzz has a native direction without one.
-There are no variation selectors: HarfBuzz 10 places marks after them, and breaks lines beside
-them, otherwise than HarfBuzz 6 and the libraries. A line whose kerning is switched off isn't asked
-for UNSAFE_TO_CONCAT: HarfBuzz 10 sets it there.
+Left out is where the two are known to differ. A line from right to left has a script: HarfBuzz has
+a native direction without one. There are no variation selectors: HarfBuzz 10 places marks after
+them, and breaks lines beside them, otherwise than HarfBuzz 6 and the libraries. A line whose kerning
+is switched off, or that runs down, isn't asked for UNSAFE_TO_CONCAT: HarfBuzz 10 sets it there.
 """
 import random
 import subprocess
@@ -47,27 +45,27 @@ def save_fonts(folder):
     save_without(DEJAVU, LOOKUPS + ("kern",), folder / "plain.ttf")
 
 
-def random_line(chance, wrong, marks):
-    """A random line, with bytes that are wrong and with marks if they are asked for."""
+def random_line(chance, wrong):
+    """A random line with marks, and with bytes that are wrong if they are asked for."""
     line = b""
     for _ in range(chance.randrange(9)):
         draw = chance.random()
         if wrong and draw < 0.2:
             line += chance.choice(WRONG)
         else:
-            line += chance.choice(LETTERS if draw < 0.7 or not marks else MARKS).encode()
+            line += chance.choice(LETTERS if draw < 0.7 else MARKS).encode()
     return line
 
 
-def random_word(chance, marks):
+def random_word(chance):
     """A random text as an argument: no byte that isn't UTF-8, and none that ends a line."""
-    return random_line(chance, False, marks).decode().replace("\r", "")
+    return random_line(chance, False).decode().replace("\r", "")
 
 
-def shaping_options(chance, sized):
+def shaping_options(chance):
     options = []
     if chance.random() < 0.3:
-        names = ["ltr", "rtl", "l", "RTL"] if sized else ["ltr", "rtl", "ttb", "btt", "l", "RTL"]
+        names = ["ltr", "rtl", "ttb", "btt", "l", "RTL"]
         one_word = ["--direction=" + chance.choice(names)]
         options += chance.choice([one_word, ["--direction", "ltr"]])
     if options or chance.random() < 0.3:
@@ -86,7 +84,7 @@ def shaping_options(chance, sized):
     if chance.random() < 0.2:
         glyph = chance.choice([0, 5, 70000])
         options.append(f"--not-found-variation-selector-glyph={glyph}")
-    if sized:
+    if chance.random() < 0.25:
         options.append("--font-size=" + chance.choice(SIZES + ODD_SIZES))
     return options
 
@@ -95,17 +93,15 @@ def context_options(chance):
     options = []
     for side in ("before", "after"):
         if chance.random() < 0.2:
-            options.append(f"--text-{side}={random_word(chance, True) or 'x'}")
+            options.append(f"--text-{side}={random_word(chance) or 'x'}")
         elif chance.random() < 0.1:
             options.append(f"--unicodes-{side}={chance.choice(NUMBERS)}")
     return options
 
 
-def source_options(chance, given, marks):
+def source_options(chance, given):
     """Options that say what is shaped, and what is given on standard input."""
     draw = chance.random()
-    plain = [it for it in NUMBERS if "03" not in it and "05" not in it]
-    numbers = NUMBERS if marks else plain
     if draw < 0.5:
         return [], given
     if draw < 0.6:
@@ -113,33 +109,33 @@ def source_options(chance, given, marks):
     if draw < 0.65:
         return ["--text-file", "-"], given
     if draw < 0.75:
-        one_word = ["--unicodes=" + chance.choice(numbers)]
-        return chance.choice([one_word, ["-u", chance.choice(numbers)]]), b""
+        one_word = ["--unicodes=" + chance.choice(NUMBERS)]
+        return chance.choice([one_word, ["-u", chance.choice(NUMBERS)]]), b""
     if draw < 0.85:
-        return ["--text", random_word(chance, marks)], b""
-    return [random_word(chance, marks) + chance.choice(["", "\n", "\nA"])], b""
+        return ["--text", random_word(chance)], b""
+    return [random_word(chance) + chance.choice(["", "\n", "\nA"])], b""
 
 
-def switches_off_kerning(options):
-    return bool({"-kern", "kern=0"} & {word.replace("--features=", "") for word in options})
+def has_no_kerning(options):
+    words = {word.partition("=")[2] if word.startswith("--") else word for word in options}
+    return bool({"-kern", "kern=0", "ttb", "btt"} & words)
 
 
 def random_run(chance):
     """The words of a run, what its file holds, and what is given on standard input."""
-    sized = chance.random() < 0.25
-    font = "plain.ttf" if sized else chance.choice(["kern.ttf", "plain.ttf"])
+    font = chance.choice(["kern.ttf", "plain.ttf"])
     count = chance.randrange(4)
-    given = b"\n".join(random_line(chance, True, not sized) for _ in range(count))
+    given = b"\n".join(random_line(chance, True) for _ in range(count))
     given += b"\n" if chance.random() < 0.7 else b""
-    source, piped = source_options(chance, given, not sized)
-    options = shaping_options(chance, sized) + context_options(chance)
+    source, piped = source_options(chance, given)
+    options = shaping_options(chance) + context_options(chance)
     options += [switch for switch in SWITCHES if chance.random() < 0.12]
     if chance.random() < 0.3:
         forms = [["--output-format=json"], ["--output-format=text"], ["-O", "json"]]
         options += chance.choice(forms)
     if chance.random() < 0.1:
         options += chance.choice([["--output-file=written"], ["-o", "written"]])
-    if switches_off_kerning(options):
+    if has_no_kerning(options):
         options = [word for word in options if word != "--unsafe-to-concat"]
     text_alone = len(source) == 1 and source[0] and not source[0].startswith("-")
     if text_alone and chance.random() < 0.2:

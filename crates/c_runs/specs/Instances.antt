@@ -36,11 +36,12 @@ pub record IsFontAt (bytes : List ℕ) (index : ℕ) (coordinates : List ℤ) (f
   pub gvar : font.gvar.now ≡ bytes_of bytes index 0x67766172
   pub coordinates_are : font.coordinates.now ≡ coordinates
 
--- its face, with the three tables of layout
+-- its face, with the three tables of layout, at no size
 pub record IsFaceAt (bytes : List ℕ) (index : ℕ) (coordinates : List ℤ) (face : OpenTypeFace) : Type 0 where
   pub font : IsFontAt bytes index coordinates face.font
   pub gdef : face.gdef.now ≡ bytes_of bytes index 0x47444546
   pub gsub : face.gsub.now ≡ bytes_of bytes index 0x47535542
   pub gpos : face.gpos.now ≡ bytes_of bytes index 0x47504F53
   pub coordinates_are : face.coordinates.now ≡ coordinates
+  pub scale : face.scale ≡ None
   pub device_work : face.device_work ≡ work_of (bytes_of bytes index 0x47444546) coordinates

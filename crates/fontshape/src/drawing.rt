@@ -1,15 +1,13 @@
 //! Lines that are drawn: on a picture of SVG, or on a page of HTML that shows where each glyph
 //! comes from.
 use crate::failure::Failure;
-use crate::glyphs::Glyphs;
 use crate::line::Line;
 use crate::options::{Format, Options};
-use crate::size::Scale;
 use crate::written::Font;
 use glyph_outlines::Outlines;
 use glyph_pictures::{Page, Picture, ShapedLine};
 use shape_font::FontFace;
-use shape_pipeline::{GlyphBuffer, ShapeError, hb_font_t};
+use shape_pipeline::{GlyphBuffer, GlyphPosition, ShapeError, hb_font_t};
 use shape_text_forms::NoNames;
 use std::alloc::{AllocError, Global};
 
@@ -69,38 +67,28 @@ fn add_named(
 }
 
 impl<'a> Drawn<'a> {
-    /// Draws a line below all others, on a page with its numbers in the size that is asked for.
-    /// Refuses if a growth was refused.
+    /// Draws a line below all others, on a page with these numbers: its own, or those of the same
+    /// line at a size. Refuses if a growth was refused.
     pub fn add(
         &mut self,
         alloc: Global,
-        options: &Options,
         font: &Font,
         line: &Line,
         glyphs: &GlyphBuffer,
+        positions: &[GlyphPosition],
     ) -> Result<(), ShapeError> {
         let text = line.characters();
-        let page = match &mut self.canvas {
-            Canvas::Svg(picture) => return picture.add(alloc, &self.outlines, text, glyphs),
-            Canvas::Html(page) => page,
-        };
-        let Some(size) = options.size() else {
-            let positions = glyphs.glyph_positions();
-            let line = ShapedLine {
-                text,
-                glyphs,
-                positions,
-            };
-            return add_named(alloc, page, &self.outlines, font, line);
-        };
-        let scale = Scale::new(size, font.face.units_per_em());
-        let positions = scale.positions(alloc, &font.face, Glyphs::of_line(glyphs))?;
-        let line = ShapedLine {
-            text,
-            glyphs,
-            positions: positions.as_slice(),
-        };
-        add_named(alloc, page, &self.outlines, font, line)
+        match &mut self.canvas {
+            Canvas::Svg(picture) => picture.add(alloc, &self.outlines, text, glyphs),
+            Canvas::Html(page) => {
+                let line = ShapedLine {
+                    text,
+                    glyphs,
+                    positions,
+                };
+                add_named(alloc, page, &self.outlines, font, line)
+            }
+        }
     }
 
     /// Adds the steps of the last line's run, if it is drawn on a page. Refuses only if a growth

@@ -1,12 +1,11 @@
 //! A list of glyphs, as a run leaves it or as it is between two steps.
 use shape_pipeline::{GlyphBuffer, GlyphPosition, hb_buffer_t, hb_glyph_info_t};
 
-/// A list of glyphs, and whether its line runs down.
+/// A list of glyphs with their positions.
 #[derive(Clone, Copy)]
 pub struct Glyphs<'a> {
     pub infos: &'a [hb_glyph_info_t],
     pub positions: &'a [GlyphPosition],
-    pub down: bool,
 }
 
 impl<'a> Glyphs<'a> {
@@ -15,7 +14,6 @@ impl<'a> Glyphs<'a> {
         Glyphs {
             infos: glyphs.glyph_infos(),
             positions: glyphs.glyph_positions(),
-            down: glyphs.direction().is_vertical(),
         }
     }
 
@@ -24,7 +22,6 @@ impl<'a> Glyphs<'a> {
         Glyphs {
             infos: buffer.infos(),
             positions: buffer.positions(),
-            down: buffer.direction().is_vertical(),
         }
     }
 }

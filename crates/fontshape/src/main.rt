@@ -1,16 +1,17 @@
 //! Shapes texts with a font file, and writes the glyphs as `hb-shape` does.
 //!
 //! [`command`] says which arguments there are, [`options`], [`values`] and [`forms`] what they ask
-//! for; [`line`] reads a line, [`shaping`] shapes it, or [`fallback`], [`written`] writes it to an
-//! [`output`] in a [`size`], and [`drawing`] draws it. A [`trace`] has what its run makes of it
-//! step by step. [`axes`] lists the axes of a variable font, and [`warnings`] say what a font
-//! doesn't have that is asked for.
+//! for; [`line`] reads a line, [`shaping`] shapes it with one of the [`faces`] of a [`size`], or
+//! [`fallback`], [`written`] writes it to an [`output`], and [`drawing`] draws it. A [`trace`] has
+//! what its run makes of it step by step. [`axes`] lists the axes of a variable font, and
+//! [`warnings`] say what a font doesn't have that is asked for.
 #![tactic(auto)]
 #![allow(non_camel_case_types)]
 
 mod axes;
 mod command;
 mod drawing;
+mod faces;
 mod failure;
 mod fallback;
 mod forms;
@@ -30,18 +31,18 @@ mod written;
 use crate::axes::list_axes;
 use crate::command::command;
 use crate::drawing::{Drawn, begin_drawing};
+use crate::faces::{Faces, Plain, at_size, faces_over, plain_faces, unplanned};
 use crate::failure::Failure;
 use crate::line::Line;
 use crate::options::{Options, Source};
 use crate::output::Output;
-use crate::shaping::{Planned, opened, shaped, traced};
+use crate::shaping::{Planned, shaped, traced};
 use crate::trace::Trace;
 use crate::warnings::{warn_of_boxes, warn_of_unvaried};
 use crate::written::{Font, Given, write_line};
-use opentype_layout::OpenedOpenTypeFace;
 use shape_font::FontFace;
 use shape_font::instance::coordinates_of;
-use shape_pipeline::{GlyphBuffer, hb_font_t};
+use shape_pipeline::{GlyphBuffer, ShapeError, hb_font_t};
 use std::alloc::Global;
 use std::env::{Env, FillError};
 use std::fs::File;
@@ -69,6 +70,7 @@ struct Work<'a, W: Write + Drop> {
     options: &'a Options,
     font: Font<'a>,
     planned: Option<Planned<'a>>,
+    plain: Option<Plain<'a>>,
     drawn: Option<Drawn<'a>>,
     output: Output<'a, W>,
 }
@@ -121,17 +123,39 @@ impl<'a, W: Write + Drop> Work<'a, W> {
         }
     }
 
+    /// Draws a line, in the units of the font, with these glyphs and numbers. Returns whether lines
+    /// are drawn.
+    fn draw(
+        &mut self,
+        alloc: Global,
+        line: &Line,
+        glyphs: &GlyphBuffer,
+        steps: &str,
+    ) -> Result<bool, ShapeError> {
+        let Some(drawn) = &mut self.drawn else {
+            return Ok(false);
+        };
+        let positions = glyphs.glyph_positions();
+        match &mut self.plain {
+            Some(plain) => {
+                let own = plain.shaped(alloc, self.options, line)?;
+                drawn.add(alloc, &self.font, line, &own, positions)?;
+            }
+            None => drawn.add(alloc, &self.font, line, glyphs, positions)?,
+        }
+        drawn.add_steps(alloc, steps)?;
+        Ok(true)
+    }
+
     /// Shapes a line, and draws it or writes it.
     fn take_line(&mut self, rt: &HostRuntime, text: &[u8], number: usize) -> Result<(), Failure> {
         let alloc = rt.alloc();
         let line = Line::new(alloc, text, self.options.utf8_clusters())?;
         let LineGlyphs { glyphs, steps } = self.shape(rt, &line, number)?;
-        if let Some(drawn) = &mut self.drawn {
-            if let Err(error) = drawn.add(alloc, self.options, &self.font, &line, &glyphs) {
-                return Err(Failure::line(alloc, number, error));
-            }
-            drawn.add_steps(alloc, steps.as_str())?;
-            return Ok(());
+        match self.draw(alloc, &line, &glyphs, steps.as_str()) {
+            Ok(true) => return Ok(()),
+            Ok(false) => {}
+            Err(error) => return Err(Failure::line(alloc, number, error)),
         }
         let given = Given {
             text,
@@ -246,21 +270,21 @@ fn buffered<R: Read + Drop>(alloc: Global, reader: R) -> Result<BufReader<R>, Fa
     }
 }
 
-/// Takes all lines with a face, and the same face for the font's tables of lookups if that was
-/// opened.
+/// Takes all lines with these faces, and draws them with those at no size.
 fn run_over<'a, W: Write + Drop>(
     rt: &HostRuntime,
     options: &'a Options,
-    face: FontFace<'a>,
-    opened: Option<&'a OpenedOpenTypeFace<'a>>,
+    sized: &'a Faces<'a>,
+    own: Option<&'a Faces<'a>>,
     drawn: Option<Drawn<'a>>,
     output: Output<'a, W>,
 ) -> Result<(), Failure> {
     let alloc = rt.alloc();
     let mut work = Work {
         options,
-        font: Font::new(alloc, options, face)?,
-        planned: opened.map(Planned::new),
+        font: Font::new(alloc, options, sized.face)?,
+        planned: sized.opened.as_ref().map(Planned::new),
+        plain: own.map(unplanned),
         drawn,
         output,
     };
@@ -288,10 +312,9 @@ fn run_to<W: Write + Drop>(
     let drawn = begin_drawing(alloc, options, bytes, &face)?;
     warn_of_boxes(rt, options, bytes)?;
     warn_of_unvaried(rt, options, bytes, coordinates.as_slice())?;
-    match opened(alloc, options, face) {
-        Ok(opened) => run_over(rt, options, face, opened.as_ref(), drawn, output),
-        Err(_) => Err(Failure::Memory),
-    }
+    let sized = faces_over(alloc, options, at_size(options, face))?;
+    let own = plain_faces(alloc, options, face, drawn.is_some())?;
+    run_over(rt, options, &sized, own.as_ref(), drawn, output)
 }
 
 /// Shapes with the font of a file.

@@ -1,9 +1,9 @@
 //! What the arguments ask for.
 use crate::failure::Failure;
-use crate::size::Size;
 use crate::typed::command_line;
 use crate::{forms, values};
 use clap::ArgMatches;
+use font_sizes::Size;
 use font_variations::coordinates::{Variation, Wanted};
 use glyph_pictures::Look;
 use shape_pipeline::{

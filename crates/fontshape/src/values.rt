@@ -4,9 +4,10 @@ ghost use Rattle.std.specs.Prelude.{◌≡◌};
 
 use crate::failure::Failure;
 use crate::options::Source;
-use crate::size::{Size, size_from_string};
+use crate::size::size_from_string;
 use crate::unicodes::text_of_numbers;
 use clap::ArgMatches;
+use font_sizes::Size;
 use font_variations::coordinates::Variation;
 use shape_pipeline::{BufferClusterLevel, BufferFlags, Direction, Feature, GlyphId, Script};
 use shape_text_forms::{

@@ -2,6 +2,7 @@
 use crate::failure::Failure;
 use crate::options::Options;
 use glyph_outlines::Outlines;
+use shape_font::bytes::u16_at;
 use shape_font::directory::Directory;
 use shape_text_forms::SerializeFlags;
 use std::alloc::{AllocError, Global};
@@ -12,7 +13,7 @@ const CBDT: u32 = 0x4342_4454;
 
 const COLR: u32 = 0x434F_4C52;
 
-/// What boxes a font has not, none if it has all.
+/// What boxes a font may not have, none if it has all.
 fn missing_boxes(options: &Options, bytes: &[u8]) -> Option<&'static str> {
     let index = options.face_index();
     let font = Directory::of(bytes, index);
@@ -20,8 +21,8 @@ fn missing_boxes(options: &Options, bytes: &[u8]) -> Option<&'static str> {
     if !bitmaps && Outlines::from_slice(bytes, index).is_none() {
         return Some("no boxes, since it has no table glyf, CFF, CFF2, sbix or CBDT");
     }
-    if font.has(COLR) {
-        return Some("boxes of outlines alone, and not of its layers in colours (COLR)");
+    if u16_at(font.table_or_empty(COLR), 0) != 0 {
+        return Some("no boxes of graphs of paints that are clipped to none (COLR)");
     }
     None
 }

@@ -4,7 +4,6 @@ use crate::glyphs::Glyphs;
 use crate::line::Line;
 use crate::options::{Format, Options};
 use crate::output::{Output, sink};
-use crate::size::{Scale, Size};
 use shape_font::FontFace;
 use shape_pipeline::{GlyphBuffer, GlyphPosition, hb_font_t, hb_glyph_info_t};
 use shape_text_forms::{
@@ -67,7 +66,6 @@ fn unicode_text(alloc: Global, line: &Line) -> Result<String, AllocError> {
 pub struct Style {
     form: ListForm,
     flags: SerializeFlags,
-    size: Option<Size>,
 }
 
 impl Style {
@@ -80,7 +78,6 @@ impl Style {
         Style {
             form,
             flags: options.form(),
-            size: options.size(),
         }
     }
 
@@ -89,7 +86,6 @@ impl Style {
         Style {
             form: self.form,
             flags: SerializeFlags(self.flags.0 | SerializeFlags::NO_POSITIONS),
-            size: self.size,
         }
     }
 }
@@ -139,30 +135,13 @@ fn write_named<S: sink, N: glyph_names>(
     style: Style,
     glyphs: Glyphs,
 ) -> Result<(), Failure> {
-    let (form, flags) = (style.form, style.flags);
-    match style.size {
-        Some(size) => {
-            let scale = Scale::new(size, face.units_per_em());
-            let positions = scale.positions(alloc, face, glyphs)?;
-            let face = &scale.boxes(alloc, face, glyphs.infos)?;
-            let content = Content {
-                form,
-                flags,
-                face,
-                names,
-            };
-            write_list(alloc, output, &content, glyphs.infos, positions.as_slice())
-        }
-        None => {
-            let content = Content {
-                form,
-                flags,
-                face,
-                names,
-            };
-            write_list(alloc, output, &content, glyphs.infos, glyphs.positions)
-        }
-    }
+    let content = Content {
+        form: style.form,
+        flags: style.flags,
+        face,
+        names,
+    };
+    write_list(alloc, output, &content, glyphs.infos, glyphs.positions)
 }
 
 /// Writes a list of glyphs, by name if names are written.

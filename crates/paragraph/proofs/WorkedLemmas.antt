@@ -7,6 +7,6 @@ use Rattle.paragraph.specs.Worked.{WorkedFaces}
 pub worked_faces : WorkedFaces
 unfolding i16_of ascent_of descent_of
 worked_faces = record {
-  plain = λ face none units os2 hhea. rw (none, units, os2, hhea) refl;
-  designed = λ face none units os2. rw (none, units, os2) refl;
+  plain = λ face none sizeless units os2 hhea. rw (none, sizeless, units, os2, hhea) refl;
+  designed = λ face none sizeless units os2. rw (none, sizeless, units, os2) refl;
 }

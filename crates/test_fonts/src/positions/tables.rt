@@ -87,6 +87,7 @@ pub fn gpos_lookup<'a>(rt: &impl Host, gpos: &'a [u8], gdef: &'a [u8], number: u
         gdef,
         coordinates: &[],
         device_work: 0,
+        scale: None,
         place,
         flags: u16_at(gpos, place + 2),
         mark_set: mark_filtering_set(gpos, place),
