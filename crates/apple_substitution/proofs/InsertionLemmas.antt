@@ -1,7 +1,7 @@
 -- Glyphs inserted one by one, and lists that are past their limit already.
 use Prim.Native.Nat.{zero}
 use Rattle.std.proofs.Common.{◌≡◌, ℕ, suc, ◌+◌, ◌-◌, ◌*◌, ◌<◌, ◌≤◌, Bool, true, false, List}
-use Rattle.std.proofs.Common.{insert, length, nat_le, nat_lt, refl, sym, ap, ◌∙◌, arith, if◌then◌else◌}
+use Rattle.std.proofs.Common.{insert, length, nat_eq, nat_le, nat_lt, refl, sym, ap, ◌∙◌, arith, if◌then◌else◌}
 use Rattle.std.proofs.lemmas.Bool.Decides.{nat_tests}
 use Rattle.std.proofs.lemmas.List.Edits.{length-insert}
 use Rattle.shape_items.specs.Buffer.{Buffer, limit_of}
@@ -61,13 +61,23 @@ past_all t from model at n i here end more before is =
     ap is_past (sym before ∙ ap (λ k. inserted t from model at k here) e)
     ∙ past_inserted t from model at (n - (i + 1)) there is
 
+past_beside : (t : List ℕ) (start : ℕ) (w : Wanted) (at : ℕ) (b : Buffer) → is_past b ≡ true
+    → is_past (inserted_beside t start w at b) ≡ true
+unfolding inserted_beside
+past_beside t start w at b is =
+    let there : Buffer = inserted t (place_of t start w) (model_at at b) (side_of w at b) (count_of t start w) b in
+    elim (nat_eq (length b.items) 0) as (λ none. is_past (if none then b else there) ≡ true) [
+      | true ↦ is
+      | false ↦ past_inserted t (place_of t start w) (model_at at b) (side_of w at b) (count_of t start w) b is
+    ]
+
 pub past_current : (t : List ℕ) (start : ℕ) (w : Wanted) (e : Entry) (p : Placed) → is_past p.buffer ≡ true
     → is_past (current_done t start w e p).buffer ≡ true
-unfolding current_done inserted_beside
+unfolding current_done
 past_current t start w e p is =
     let q : Placed = record p { buffer = charged (work_of w 0) p.buffer } in
     elim (nat_lt p.buffer.max_ops (work_of w 0)) as
     (λ little. is_past (if little then q else current_inserted t start w e q).buffer ≡ true) [
       | true ↦ is
-      | false ↦ past_inserted t (place_of t start w) (model_at p.at q.buffer) (side_of w p.at q.buffer) (count_of t start w) q.buffer is
+      | false ↦ past_beside t start w p.at q.buffer is
     ]

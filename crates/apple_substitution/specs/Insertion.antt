@@ -65,9 +65,10 @@ model_at at b = if is_inside at b then item_at b at else item_at b (at - 1)
 abbrev pub side_of : Wanted → ℕ → Buffer → ℕ
 side_of w at b = if is_inside at b && not w.is_before then at + 1 else at
 
+-- an empty list has no glyph that another one could stand beside
 unfoldable pub inserted_beside : List ℕ → ℕ → Wanted → ℕ → Buffer → Buffer
-inserted_beside t start w at b =
-    inserted t (place_of t start w) (model_at at b) (side_of w at b) (count_of t start w) b
+inserted_beside t start w at b = if nat_eq (length b.items) 0 then b
+    else inserted t (place_of t start w) (model_at at b) (side_of w at b) (count_of t start w) b
 
 -- so far on, no further than the end of the list
 abbrev pub place_after : ℕ → ℕ → Buffer → ℕ

@@ -204,7 +204,8 @@ impl<'a> Insertion<'a> {
         wanted.count
     }
 
-    /// Inserts the glyphs that are wanted beside one. Refuses as `insert` does.
+    /// Inserts the glyphs that are wanted beside one, none in an empty list. Refuses as `insert`
+    /// does.
     #[tactic(auto, unfolding(crate::specs::Insertion::inserted_beside))]
     fn insert_beside(
         &self,
@@ -218,6 +219,9 @@ impl<'a> Insertion<'a> {
         ensures length { IsErrOf result Length → is_past (insertion_rules.inserted_beside
             self.now.morx.now self.now.start wanted.now at buffer.old) ≡ true }
     {
+        if buffer.len() == 0 {
+            return Ok(());
+        }
         let model = model_at(buffer, at);
         let side = side_of(wanted, buffer, at);
         let from = self.place_of(wanted);

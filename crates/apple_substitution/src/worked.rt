@@ -7,7 +7,7 @@ ghost use Rattle.apple_substitution.specs.Worked.Ligating.{WorkedLeft, WorkedToo
 ghost use Rattle.apple_substitution.specs.Worked.Ligating.{WorkedActions, WorkedStores, WorkedNoLigature};
 ghost use Rattle.apple_substitution.specs.Worked.Inserting.{WorkedWanted, WorkedInsertAt, WorkedCurrentInserted};
 ghost use Rattle.apple_substitution.specs.Worked.Inserting.{WorkedPassed, WorkedMarkedInserted};
-ghost use Rattle.apple_substitution.specs.Worked.Inserting.{WorkedBothInserted};
+ghost use Rattle.apple_substitution.specs.Worked.Inserting.{WorkedBothInserted, WorkedEmpty};
 ghost use Rattle.apple_substitution.specs.Worked.Chaining.{WorkedFlags, WorkedRanges, WorkedCoverage};
 ghost use Rattle.apple_substitution.specs.Worked.Replacing.{WorkedReplacing};
 ghost use Rattle.apple_substitution.specs.Worked.Running.{WorkedKinds, WorkedOrders, WorkedRuns};
@@ -65,6 +65,7 @@ pub fn inserting_meets_worked_cases()
     ensures passed { WorkedPassed }
     ensures marked { WorkedMarkedInserted }
     ensures both { WorkedBothInserted }
+    ensures empty { WorkedEmpty }
 {}
 
 /// The flags of a chain, by itself and in ranges of a text, and how its subtables run.

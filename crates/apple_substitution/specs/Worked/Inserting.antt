@@ -120,3 +120,16 @@ pub record WorkedBothInserted : Type 0 where
 pub worked_both_inserted : WorkedBothInserted
 unfolding current_done inserted_beside
 worked_both_inserted = record { both = refl; marked = refl; one_alone = refl }
+
+-- in an empty list no glyph stands beside another one, so none is inserted, neither beside a current glyph nor beside a marked one
+abbrev in_empty : ℕ → ℕ → Spot ℕ
+in_empty flags «data» = transition insertions 0 (entry 0 flags «data») (record { buffer = text [] 40; at = 0; memory = 0 })
+
+pub record WorkedEmpty : Type 0 where
+  pub current : glyphs_of (in_empty 0x0020 26).buffer ≡ []
+  pub marked : glyphs_of (in_empty 0x0001 30).buffer ≡ []
+  pub charged : (in_empty 0x0020 26).buffer.max_ops ≡ 24
+
+pub worked_empty : WorkedEmpty
+unfolding current_done inserted_beside
+worked_empty = record { current = refl; marked = refl; charged = refl }

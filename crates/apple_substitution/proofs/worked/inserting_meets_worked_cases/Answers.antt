@@ -1,5 +1,5 @@
 use Rattle.apple_substitution.specs.Worked.Inserting.{worked_wanted, worked_insert_at, worked_current_inserted, worked_passed}
-use Rattle.apple_substitution.specs.Worked.Inserting.{worked_marked_inserted, worked_both_inserted}
+use Rattle.apple_substitution.specs.Worked.Inserting.{worked_marked_inserted, worked_both_inserted, worked_empty}
 use Rattle.apple_substitution.proofs.worked.inserting_meets_worked_cases.Goals as goal
 
 pub returns-clause-wanted : goal.returns-clause-wanted
@@ -19,3 +19,6 @@ returns-clause-marked c = worked_marked_inserted
 
 pub returns-clause-both : goal.returns-clause-both
 returns-clause-both c = worked_both_inserted
+
+pub returns-clause-empty : goal.returns-clause-empty
+returns-clause-empty c = worked_empty
