@@ -8,3 +8,9 @@ pub mod PartLemmas
 pub mod MapLemmas
 pub mod EdgeLemmas
 pub mod MapLaws
+pub mod PreservedLemmas
+pub mod GlyphPreservation
+pub mod InsertionPreservation
+pub mod RearrangementPreservation
+pub mod MorxPreservation
+pub mod DeletedLemmas
