@@ -1,2 +1,3 @@
 pub mod ChainLemmas
+pub mod PairLemmas
 pub mod SignedLemmas

@@ -4,4 +4,7 @@ pub mod Chains
 pub mod Values
 pub mod Attachments
 pub mod Stacks
+pub mod Runs
+pub mod Pairs
+pub mod Subtables
 pub mod Worked

@@ -3,3 +3,4 @@ pub mod Spacing
 pub mod Points
 pub mod Kerning
 pub mod Machines
+pub mod Lines

@@ -1,7 +1,7 @@
 //! Positioning by Apple's tables, read in place: [`tracking`] by the point size of a text, and
 //! [`anchors`], points of glyphs by number. Of extended kerning [`chains`] has the subtables,
-//! [`values`] the values of pairs; [`attachments`] and [`stacks`] read what entries of state tables
-//! name.
+//! [`subtables`] runs one over a line, and [`values`] has the values of pairs; [`attachments`] and
+//! [`stacks`] read what entries of state tables name.
 //!
 //! Any bytes are taken. What lies past the end of a table reads as 0, and a count is cut to what
 //! the table has room for. [`worked`] has the definitions computed by hand.
@@ -11,7 +11,12 @@
 pub mod anchors;
 pub mod attachments;
 pub mod chains;
+mod pairs;
+pub mod runs;
 pub mod stacks;
+pub mod subtables;
+#[cfg(test)]
+mod tests;
 pub mod tracking;
 pub mod values;
 pub mod worked;
@@ -19,4 +24,6 @@ pub mod worked;
 pub use anchors::{Anchor, Anchors};
 pub use attachments::Action;
 pub use chains::{Chain, Header};
+pub use runs::Kerning;
+pub use subtables::run_subtable;
 pub use values::Subtable;

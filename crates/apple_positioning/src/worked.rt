@@ -1,6 +1,7 @@
 //! The definitions, computed by hand.
 ghost use Rattle.apple_positioning.specs.Worked.Kerning.{WorkedChains, WorkedHeaders};
 ghost use Rattle.apple_positioning.specs.Worked.Kerning.{WorkedPairs, WorkedClasses, WorkedRows};
+ghost use Rattle.apple_positioning.specs.Worked.Lines.{WorkedLines, WorkedRises};
 ghost use Rattle.apple_positioning.specs.Worked.Machines.{WorkedAttachments, WorkedStacks};
 ghost use Rattle.apple_positioning.specs.Worked.Points.{WorkedAnchors};
 ghost use Rattle.apple_positioning.specs.Worked.Spacing.{WorkedTracking, WorkedParts};
@@ -31,4 +32,10 @@ pub fn kerning_meets_worked_cases()
 pub fn machines_meet_worked_cases()
     ensures attachments { WorkedAttachments }
     ensures stacks { WorkedStacks }
+{}
+
+/// Lines that subtables of pairs kern, along them and across them.
+pub fn lines_meet_worked_cases()
+    ensures lines { WorkedLines }
+    ensures rises { WorkedRises }
 {}

@@ -1,0 +1,33 @@
+-- A run of one subtable of `kerx` over a line (TrueType Reference Manual, "The 'kerx' table", "Kerning subtables"): for which lines it is,
+-- in which order its glyphs are processed, and what its format does.
+use Rattle.std.specs.Prelude.{Bool, ◌||◌, not, nat_eq, if◌then◌else◌}
+use Rattle.shape_common.specs.Direction.{is_backward, is_horizontal}
+use Rattle.shape_common.specs.declared.text_types.Direction.{Direction}
+use Rattle.shape_items.specs.Buffer.{Buffer}
+use Rattle.kern_table.specs.Tables.{reversed}
+use Rattle.apple_positioning.specs.Chains.{header_of}
+use Rattle.apple_positioning.specs.Pairs.{run_kerned}
+use Rattle.apple_positioning.specs.Runs.{Source}
+use Rattle.apple_positioning.specs.declared.chains.Header.{Header}
+
+-- a subtable is for horizontal lines, or for vertical ones
+abbrev pub is_for : Header → Bool → Bool
+is_for h horizontal = if horizontal then not h.is_vertical else h.is_vertical
+
+-- a list is in the order of the text. The glyphs are processed along the line from its left or its top, or the other way round if the
+-- subtable says so
+abbrev pub is_reversed : Header → Direction → Bool
+is_reversed h direction = if is_backward direction then not h.is_backward else h.is_backward
+
+-- formats 0, 2 and 6 have values of pairs; one of another format does nothing
+abbrev pub has_pairs : Header → Bool
+has_pairs h = nat_eq h.format 0 || (nat_eq h.format 2 || nat_eq h.format 6)
+
+unfoldable pub acted : Source → Buffer → Buffer
+acted s b = if has_pairs (header_of s.bytes) then run_kerned s b else b
+
+unfoldable pub acted_in_order : Source → Buffer → Buffer
+acted_in_order s b = if is_reversed (header_of s.bytes) b.direction then reversed (acted s (reversed b)) else acted s b
+
+abbrev pub subtable_run : Source → Buffer → Buffer
+subtable_run s b = if is_for (header_of s.bytes) (is_horizontal b.direction) then acted_in_order s b else b

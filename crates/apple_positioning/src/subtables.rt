@@ -1,0 +1,79 @@
+//! A run of one subtable of `kerx` over a line.
+ghost use Rattle.std.specs.Prelude.{◌≡◌, length};
+ghost use Rattle.shape_buffer.specs.Outcome.{Made};
+ghost use Rattle.shape_items.specs.Buffer.{limit_of};
+ghost use Rattle.kern_table.specs.Tables.{reversed};
+ghost use Rattle.apple_positioning.specs.Chains.{header_of};
+ghost use Rattle.apple_positioning.specs.Runs.{source_of};
+ghost use Rattle.apple_positioning.specs.Subtables as subtable_rules;
+
+use crate::chains::{Header, read_header};
+use crate::pairs::kern_run;
+use crate::runs::Kerning;
+use shape_buffer::buffer::{Direction, hb_buffer_t};
+
+/// Whether a subtable is for lines of a kind.
+fn is_for(header: Header, horizontal: bool) -> bool
+    ensures { result ≡ subtable_rules.is_for header horizontal }
+{
+    if horizontal {
+        !header.is_vertical
+    } else {
+        header.is_vertical
+    }
+}
+
+/// Whether a list is reversed before a subtable runs over it, and after that.
+fn is_reversed(header: Header, direction: Direction) -> bool
+    ensures { result ≡ subtable_rules.is_reversed header direction }
+{
+    if direction.is_backward() {
+        !header.is_backward
+    } else {
+        header.is_backward
+    }
+}
+
+/// Does what the format of a subtable does, over a list in the order of processing.
+#[tactic(auto, unfolding(crate::specs::Subtables::acted))]
+fn act(kerning: &Kerning<'_>, header: Header, buffer: &mut hb_buffer_t)
+    requires { header ≡ header_of kerning.now.subtable.bytes.now }
+    ensures made { buffer.new ≡ subtable_rules.acted (source_of kerning.now) buffer.old }
+    ensures len { length buffer.new.items ≡ length buffer.old.items }
+    ensures limit { limit_of buffer.new ≡ limit_of buffer.old }
+{
+    if matches!(header.format, 0 | 2 | 6) {
+        kern_run(kerning, buffer);
+    }
+}
+
+/// Does it over a list the other way round.
+fn act_reversed(kerning: &Kerning<'_>, header: Header, buffer: &mut hb_buffer_t)
+    requires { header ≡ header_of kerning.now.subtable.bytes.now }
+    ensures made { buffer.new ≡ reversed
+        (subtable_rules.acted (source_of kerning.now) (reversed buffer.old)) }
+    ensures len { length buffer.new.items ≡ length buffer.old.items }
+    ensures limit { limit_of buffer.new ≡ limit_of buffer.old }
+{
+    buffer.reverse();
+    act(kerning, header, buffer);
+    buffer.reverse();
+}
+
+/// Runs a subtable over a line, if it is for lines of this kind. The glyphs are processed from the
+/// left or the top of the line on, or the other way round if the subtable says so. Takes no memory,
+/// and refuses nothing.
+#[tactic(auto, unfolding(crate::specs::Subtables::acted_in_order))]
+pub fn run_subtable(kerning: &Kerning<'_>, buffer: &mut hb_buffer_t)
+    ensures { Made (subtable_rules.subtable_run (source_of kerning.now)) buffer.old buffer.new }
+{
+    let header = read_header(kerning.subtable.bytes);
+    if !is_for(header, buffer.direction().is_horizontal()) {
+        return;
+    }
+    if is_reversed(header, buffer.direction()) {
+        act_reversed(kerning, header, buffer);
+    } else {
+        act(kerning, header, buffer);
+    }
+}

@@ -1,0 +1,82 @@
+//! A run of each kind of subtable over glyphs 2, 3 and 4.
+
+use crate::{Kerning, Subtable, run_subtable};
+use shape_buffer::{Direction, ShapeError, hb_buffer_t, hb_glyph_info_t};
+use std::alloc::Global;
+
+/// A subtable of format 0: glyphs 2 and 3 by 51, 3 and 4 by -20.
+const PAIRS: &[u8] = &[
+    0, 0, 0, 40, 0, 0, 0, 0, 0, 0, 0, 0, // its length, its coverage, and no tuples
+    0, 0, 0, 2, 0, 0, 0, 0, 0, 0, 0, 0, 0, 0, 0, 0, // how many pairs
+    0, 2, 0, 3, 0, 51, 0, 3, 0, 4, 255, 236,
+];
+
+/// The same across the line.
+const PAIRS_ACROSS: &[u8] = &[
+    0, 0, 0, 40, 0x40, 0, 0, 0, 0, 0, 0, 0, //
+    0, 0, 0, 2, 0, 0, 0, 0, 0, 0, 0, 0, 0, 0, 0, 0, //
+    0, 2, 0, 3, 0, 51, 0, 3, 0, 4, 255, 236,
+];
+
+/// Glyphs 2, 3 and 4, each in a cluster of its own, for which kerning is on.
+fn three(alloc: Global) -> Result<hb_buffer_t, ShapeError> {
+    let mut infos = Vec::new(alloc);
+    for glyph in 2..5 {
+        let mut info = hb_glyph_info_t::new('a', glyph);
+        info.glyph_id = glyph;
+        info.mask = 16;
+        infos.push(info)?;
+    }
+    let mut buffer = hb_buffer_t::new(alloc);
+    buffer.replace_infos(infos)?;
+    buffer.set_direction(Direction::LeftToRight);
+    buffer.set_max_ops(1000);
+    Ok(buffer)
+}
+
+/// A subtable where kerning is on by mask 16.
+fn kerning(bytes: &[u8]) -> Kerning<'_> {
+    Kerning {
+        subtable: Subtable { bytes, glyphs: 10 },
+        ankr: &[],
+        scale: None,
+        mask: 16,
+    }
+}
+
+/// The glyphs after a subtable of pairs.
+fn by_pairs(alloc: Global, bytes: &[u8]) -> Result<hb_buffer_t, ShapeError> {
+    let mut buffer = three(alloc)?;
+    run_subtable(&kerning(bytes), &mut buffer);
+    Ok(buffer)
+}
+
+/// The advances of three glyphs.
+fn advances(buffer: &hb_buffer_t) -> (i32, i32, i32) {
+    match buffer.positions() {
+        [a, b, c] => (a.x_advance, b.x_advance, c.x_advance),
+        _ => (0, 0, 0),
+    }
+}
+
+/// How far three glyphs are moved across a horizontal line.
+fn rises(buffer: &hb_buffer_t) -> (i32, i32, i32) {
+    match buffer.positions() {
+        [a, b, c] => (a.y_offset, b.y_offset, c.y_offset),
+        _ => (0, 0, 0),
+    }
+}
+
+#[test]
+fn pairs_are_moved_apart(rt: HostRuntime) {
+    let buffer = by_pairs(rt.alloc(), PAIRS).expect(&rt, "memory");
+    assert_eq!(rt; advances(&buffer), (25, 16, -10));
+    assert_eq!(rt; rises(&buffer), (0, 0, 0));
+}
+
+#[test]
+fn pairs_are_moved_across_the_line(rt: HostRuntime) {
+    let buffer = by_pairs(rt.alloc(), PAIRS_ACROSS).expect(&rt, "memory");
+    assert_eq!(rt; advances(&buffer), (0, 0, 0));
+    assert_eq!(rt; rises(&buffer), (0, 51, -20));
+}
