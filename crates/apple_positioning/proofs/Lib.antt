@@ -1,3 +1,4 @@
 pub mod ChainLemmas
 pub mod PairLemmas
 pub mod SignedLemmas
+pub mod TableLemmas

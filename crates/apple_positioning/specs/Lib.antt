@@ -7,4 +7,5 @@ pub mod Stacks
 pub mod Runs
 pub mod Pairs
 pub mod Subtables
+pub mod Tables
 pub mod Worked

@@ -4,3 +4,4 @@ pub mod Points
 pub mod Kerning
 pub mod Machines
 pub mod Lines
+pub mod Tables

@@ -68,6 +68,7 @@ impl<'a> Chain<'a> {
     /// The chain of a table, from its first subtable on.
     pub fn of(kerx: &'a [u8]) -> Chain<'a>
         ensures all { chain_rules.rest_of result ≡ chain_rules.subtables_of kerx.now }
+        ensures left { result.left ≡ chain_rules.subtable_count kerx.now }
         ensures near { result.start < 2 ^ 34 }
     {
         Chain {
@@ -85,6 +86,7 @@ impl<'a> Chain<'a> {
         ensures some { IfSome result (λ s.
             chain_rules.rest_of self.old ≡ s.now ∷ chain_rules.rest_of self.new) }
         ensures none { result ≡ None → chain_rules.rest_of self.old ≡ [] }
+        ensures left { IfSome result (λ _. self.new.left + 1 ≡ self.old.left) }
         ensures near { self.new.start < 2 ^ 34 }
     {
         if self.left == 0 || ends_chain(self.table, self.start) {

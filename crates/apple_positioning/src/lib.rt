@@ -1,7 +1,7 @@
 //! Positioning by Apple's tables, read in place: [`tracking`] by the point size of a text, and
-//! [`anchors`], points of glyphs by number. Of extended kerning [`chains`] has the subtables,
-//! [`subtables`] runs one over a line, and [`values`] has the values of pairs; [`attachments`] and
-//! [`stacks`] read what entries of state tables name.
+//! [`anchors`], points of glyphs by number. Of extended kerning [`tables`] runs the whole table over
+//! a line, and [`subtables`] one of the subtables that [`chains`] has; [`values`] has the values of
+//! pairs, and [`attachments`] and [`stacks`] read what entries of state tables name.
 //!
 //! Any bytes are taken. What lies past the end of a table reads as 0, and a count is cut to what
 //! the table has room for. [`worked`] has the definitions computed by hand.
@@ -15,6 +15,7 @@ mod pairs;
 pub mod runs;
 pub mod stacks;
 pub mod subtables;
+pub mod tables;
 #[cfg(test)]
 mod tests;
 pub mod tracking;
@@ -26,4 +27,5 @@ pub use attachments::Action;
 pub use chains::{Chain, Header};
 pub use runs::Kerning;
 pub use subtables::run_subtable;
+pub use tables::{ExtendedKerning, run_table};
 pub use values::Subtable;

@@ -13,7 +13,7 @@ use crate::runs::Kerning;
 use shape_buffer::buffer::{Direction, hb_buffer_t};
 
 /// Whether a subtable is for lines of a kind.
-fn is_for(header: Header, horizontal: bool) -> bool
+pub(crate) fn is_for(header: Header, horizontal: bool) -> bool
     ensures { result ≡ subtable_rules.is_for header horizontal }
 {
     if horizontal {

@@ -1,6 +1,6 @@
 //! A run of each kind of subtable over glyphs 2, 3 and 4.
 
-use crate::{Kerning, Subtable, run_subtable};
+use crate::{ExtendedKerning, Kerning, Subtable, run_subtable, run_table};
 use shape_buffer::{Direction, ShapeError, hb_buffer_t, hb_glyph_info_t};
 use std::alloc::Global;
 
@@ -13,6 +13,17 @@ const PAIRS: &[u8] = &[
 
 /// The same across the line.
 const PAIRS_ACROSS: &[u8] = &[
+    0, 0, 0, 40, 0x40, 0, 0, 0, 0, 0, 0, 0, //
+    0, 0, 0, 2, 0, 0, 0, 0, 0, 0, 0, 0, 0, 0, 0, 0, //
+    0, 2, 0, 3, 0, 51, 0, 3, 0, 4, 255, 236,
+];
+
+/// A table with both.
+const TABLE: &[u8] = &[
+    0, 2, 0, 0, 0, 0, 0, 2, // its version, and how many subtables
+    0, 0, 0, 40, 0, 0, 0, 0, 0, 0, 0, 0, //
+    0, 0, 0, 2, 0, 0, 0, 0, 0, 0, 0, 0, 0, 0, 0, 0, //
+    0, 2, 0, 3, 0, 51, 0, 3, 0, 4, 255, 236, //
     0, 0, 0, 40, 0x40, 0, 0, 0, 0, 0, 0, 0, //
     0, 0, 0, 2, 0, 0, 0, 0, 0, 0, 0, 0, 0, 0, 0, 0, //
     0, 2, 0, 3, 0, 51, 0, 3, 0, 4, 255, 236,
@@ -51,6 +62,20 @@ fn by_pairs(alloc: Global, bytes: &[u8]) -> Result<hb_buffer_t, ShapeError> {
     Ok(buffer)
 }
 
+/// The glyphs after a table.
+fn by_table(alloc: Global, kerx: &[u8]) -> Result<hb_buffer_t, ShapeError> {
+    let table = ExtendedKerning {
+        kerx,
+        ankr: &[],
+        glyphs: 10,
+        scale: None,
+        mask: 16,
+    };
+    let mut buffer = three(alloc)?;
+    run_table(&table, &mut buffer);
+    Ok(buffer)
+}
+
 /// The advances of three glyphs.
 fn advances(buffer: &hb_buffer_t) -> (i32, i32, i32) {
     match buffer.positions() {
@@ -78,5 +103,12 @@ fn pairs_are_moved_apart(rt: HostRuntime) {
 fn pairs_are_moved_across_the_line(rt: HostRuntime) {
     let buffer = by_pairs(rt.alloc(), PAIRS_ACROSS).expect(&rt, "memory");
     assert_eq!(rt; advances(&buffer), (0, 0, 0));
+    assert_eq!(rt; rises(&buffer), (0, 51, -20));
+}
+
+#[test]
+fn a_table_moves_pairs_along_and_across(rt: HostRuntime) {
+    let buffer = by_table(rt.alloc(), TABLE).expect(&rt, "memory");
+    assert_eq!(rt; advances(&buffer), (25, 16, -10));
     assert_eq!(rt; rises(&buffer), (0, 51, -20));
 }

@@ -4,6 +4,7 @@ ghost use Rattle.apple_positioning.specs.Worked.Kerning.{WorkedPairs, WorkedClas
 ghost use Rattle.apple_positioning.specs.Worked.Lines.{WorkedLines, WorkedRises};
 ghost use Rattle.apple_positioning.specs.Worked.Machines.{WorkedAttachments, WorkedStacks};
 ghost use Rattle.apple_positioning.specs.Worked.Points.{WorkedAnchors};
+ghost use Rattle.apple_positioning.specs.Worked.Tables.{WorkedLinks, WorkedTables};
 ghost use Rattle.apple_positioning.specs.Worked.Spacing.{WorkedTracking, WorkedParts};
 ghost use Rattle.apple_positioning.specs.Worked.Spacing.{WorkedSpacing};
 
@@ -38,4 +39,10 @@ pub fn machines_meet_worked_cases()
 pub fn lines_meet_worked_cases()
     ensures lines { WorkedLines }
     ensures rises { WorkedRises }
+{}
+
+/// Lines that whole tables kern, and which glyphs follow others then.
+pub fn tables_meet_worked_cases()
+    ensures tables { WorkedTables }
+    ensures links { WorkedLinks }
 {}

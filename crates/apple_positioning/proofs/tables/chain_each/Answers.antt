@@ -1,0 +1,7 @@
+use Rattle.std.proofs.Common.{rules}
+use Rattle.shape_items.specs.Items.{Item}
+use Rattle.apple_positioning.specs.Tables.{chained}
+use Rattle.apple_positioning.proofs.tables.chain_each.Goals as goal
+
+pub returns : goal.returns
+returns c = c.update_positions.ensures (λ (item : Item). chained c.args.forward) (λ x p q said. search rules)
