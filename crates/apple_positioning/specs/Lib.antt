@@ -6,6 +6,10 @@ pub mod Attachments
 pub mod Stacks
 pub mod Runs
 pub mod Pairs
+pub mod Deeds
+pub mod Driver
+pub mod Stacking
+pub mod Attaching
 pub mod Subtables
 pub mod Tables
 pub mod Worked

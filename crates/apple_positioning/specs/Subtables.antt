@@ -1,13 +1,16 @@
 -- A run of one subtable of `kerx` over a line (TrueType Reference Manual, "The 'kerx' table", "Kerning subtables"): for which lines it is,
 -- in which order its glyphs are processed, and what its format does.
-use Rattle.std.specs.Prelude.{Bool, ◌||◌, not, nat_eq, if◌then◌else◌}
+use Rattle.std.specs.Prelude.{None, ◌&&◌, replicate, Bool, ◌||◌, not, nat_eq, if◌then◌else◌}
 use Rattle.shape_common.specs.Direction.{is_backward, is_horizontal}
 use Rattle.shape_common.specs.declared.text_types.Direction.{Direction}
 use Rattle.shape_items.specs.Buffer.{Buffer}
 use Rattle.kern_table.specs.Tables.{reversed}
+use Rattle.apple_positioning.specs.Attaching as attaching_rules
 use Rattle.apple_positioning.specs.Chains.{header_of}
+use Rattle.apple_positioning.specs.Driver.{driven}
 use Rattle.apple_positioning.specs.Pairs.{run_kerned}
 use Rattle.apple_positioning.specs.Runs.{Source}
+use Rattle.apple_positioning.specs.Stacking as stacking_rules
 use Rattle.apple_positioning.specs.declared.chains.Header.{Header}
 
 -- a subtable is for horizontal lines, or for vertical ones
@@ -23,8 +26,21 @@ is_reversed h direction = if is_backward direction then not h.is_backward else h
 abbrev pub has_pairs : Header → Bool
 has_pairs h = nat_eq h.format 0 || (nat_eq h.format 2 || nat_eq h.format 6)
 
+-- format 1 has a state table that pushes glyphs and pops them. Along the line it does nothing if kerning is off everywhere
+abbrev pub stacked : Source → Buffer → Buffer
+stacked s b = if nat_eq s.mask 0 && not (header_of s.bytes).is_cross_stream then b
+    else driven s (stacking_rules.deeds s) (record { depth = 0; places = replicate 8 0 }) b
+
+-- format 4 has one that attaches glyphs to others, whether kerning is on or not. None is marked at first
+abbrev pub attached : Source → Buffer → Buffer
+attached s b = driven s (attaching_rules.deeds s) None b
+
 unfoldable pub acted : Source → Buffer → Buffer
-acted s b = if has_pairs (header_of s.bytes) then run_kerned s b else b
+acted s b = let h = header_of s.bytes in
+    (if has_pairs h then run_kerned s b
+    else (if nat_eq h.format 1 then stacked s b
+    else (if nat_eq h.format 4 then attached s b
+    else b)))
 
 unfoldable pub acted_in_order : Source → Buffer → Buffer
 acted_in_order s b = if is_reversed (header_of s.bytes) b.direction then reversed (acted s (reversed b)) else acted s b

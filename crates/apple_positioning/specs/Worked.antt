@@ -5,3 +5,4 @@ pub mod Kerning
 pub mod Machines
 pub mod Lines
 pub mod Tables
+pub mod Driving

@@ -9,10 +9,13 @@
 #![allow(non_camel_case_types)]
 
 pub mod anchors;
+mod attaching;
 pub mod attachments;
 pub mod chains;
+mod driver;
 mod pairs;
 pub mod runs;
+mod stacking;
 pub mod stacks;
 pub mod subtables;
 pub mod tables;

@@ -7,9 +7,12 @@ ghost use Rattle.apple_positioning.specs.Chains.{header_of};
 ghost use Rattle.apple_positioning.specs.Runs.{source_of};
 ghost use Rattle.apple_positioning.specs.Subtables as subtable_rules;
 
+use crate::attaching::Attaching;
 use crate::chains::{Header, read_header};
+use crate::driver::drive;
 use crate::pairs::kern_run;
 use crate::runs::Kerning;
+use crate::stacking::{Stack, Stacking};
 use shape_buffer::buffer::{Direction, hb_buffer_t};
 
 /// Whether a subtable is for lines of a kind.
@@ -34,6 +37,31 @@ fn is_reversed(header: Header, direction: Direction) -> bool
     }
 }
 
+/// Runs a subtable of format 1 over a list. One that moves glyphs along the line does nothing if
+/// kerning is off everywhere.
+fn stack_run(kerning: &Kerning<'_>, header: Header, buffer: &mut hb_buffer_t)
+    requires { header ≡ header_of kerning.now.subtable.bytes.now }
+    ensures made { buffer.new ≡ subtable_rules.stacked (source_of kerning.now) buffer.old }
+    ensures len { length buffer.new.items ≡ length buffer.old.items }
+    ensures limit { limit_of buffer.new ≡ limit_of buffer.old }
+{
+    if kerning.mask == 0 && !header.is_cross_stream {
+        return;
+    }
+    let machine = Stacking { kerning: *kerning };
+    drive(kerning, &machine, Stack::new(), buffer);
+}
+
+/// Runs a subtable of format 4 over a list.
+fn attach_run(kerning: &Kerning<'_>, buffer: &mut hb_buffer_t)
+    ensures made { buffer.new ≡ subtable_rules.attached (source_of kerning.now) buffer.old }
+    ensures len { length buffer.new.items ≡ length buffer.old.items }
+    ensures limit { limit_of buffer.new ≡ limit_of buffer.old }
+{
+    let machine = Attaching { kerning: *kerning };
+    drive(kerning, &machine, None, buffer);
+}
+
 /// Does what the format of a subtable does, over a list in the order of processing.
 #[tactic(auto, unfolding(crate::specs::Subtables::acted))]
 fn act(kerning: &Kerning<'_>, header: Header, buffer: &mut hb_buffer_t)
@@ -42,8 +70,11 @@ fn act(kerning: &Kerning<'_>, header: Header, buffer: &mut hb_buffer_t)
     ensures len { length buffer.new.items ≡ length buffer.old.items }
     ensures limit { limit_of buffer.new ≡ limit_of buffer.old }
 {
-    if matches!(header.format, 0 | 2 | 6) {
-        kern_run(kerning, buffer);
+    match header.format {
+        0 | 2 | 6 => kern_run(kerning, buffer),
+        1 => stack_run(kerning, header, buffer),
+        4 => attach_run(kerning, buffer),
+        _ => {}
     }
 }
 

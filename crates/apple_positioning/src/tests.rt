@@ -18,7 +18,29 @@ const PAIRS_ACROSS: &[u8] = &[
     0, 2, 0, 3, 0, 51, 0, 3, 0, 4, 255, 236,
 ];
 
-/// A table with both.
+/// A subtable of format 1: glyph 2 is pushed, and glyph 3 after it pops both, by 10 and by -20.
+const STACKS: &[u8] = &[
+    0, 0, 0, 88, 0, 0, 0, 1, 0, 0, 0, 0, // its length, its coverage, and no tuples
+    0, 0, 0, 6, 0, 0, 0, 20, 0, 0, 0, 30, 0, 0, 0, 54, 0, 0, 0, 72, // where its parts begin
+    0, 8, 0, 2, 0, 2, 0, 4, 0, 5, // classes
+    0, 0, 0, 0, 0, 0, 0, 0, 0, 1, 0, 0, // states
+    0, 0, 0, 0, 0, 0, 0, 0, 0, 1, 0, 2, //
+    0, 0, 0, 0, 255, 255, 0, 1, 0x80, 0, 255, 255, 0, 0, 0x80, 0, 0, 0, // entries
+    0, 10, 255, 237,
+];
+
+/// A subtable of format 4: glyph 2 is marked, and point (3, 4) of glyph 3 is put on (10, 20).
+const ATTACHES: &[u8] = &[
+    0, 0, 0, 92, 0, 0, 0, 4, 0, 0, 0, 0, //
+    0, 0, 0, 6, 0, 0, 0, 20, 0, 0, 0, 30, 0, 0, 0, 54, 0x80, 0, 0, 72, //
+    0, 8, 0, 2, 0, 2, 0, 4, 0, 5, //
+    0, 0, 0, 0, 0, 0, 0, 0, 0, 1, 0, 0, //
+    0, 0, 0, 0, 0, 0, 0, 0, 0, 1, 0, 2, //
+    0, 0, 0, 0, 255, 255, 0, 1, 0x80, 0, 255, 255, 0, 0, 0, 0, 0, 0, //
+    0, 10, 0, 20, 0, 3, 0, 4,
+];
+
+/// A table with both subtables of pairs.
 const TABLE: &[u8] = &[
     0, 2, 0, 0, 0, 0, 0, 2, // its version, and how many subtables
     0, 0, 0, 40, 0, 0, 0, 0, 0, 0, 0, 0, //
@@ -55,8 +77,8 @@ fn kerning(bytes: &[u8]) -> Kerning<'_> {
     }
 }
 
-/// The glyphs after a subtable of pairs.
-fn by_pairs(alloc: Global, bytes: &[u8]) -> Result<hb_buffer_t, ShapeError> {
+/// The glyphs after a subtable.
+fn by_subtable(alloc: Global, bytes: &[u8]) -> Result<hb_buffer_t, ShapeError> {
     let mut buffer = three(alloc)?;
     run_subtable(&kerning(bytes), &mut buffer);
     Ok(buffer)
@@ -94,14 +116,14 @@ fn rises(buffer: &hb_buffer_t) -> (i32, i32, i32) {
 
 #[test]
 fn pairs_are_moved_apart(rt: HostRuntime) {
-    let buffer = by_pairs(rt.alloc(), PAIRS).expect(&rt, "memory");
+    let buffer = by_subtable(rt.alloc(), PAIRS).expect(&rt, "memory");
     assert_eq!(rt; advances(&buffer), (25, 16, -10));
     assert_eq!(rt; rises(&buffer), (0, 0, 0));
 }
 
 #[test]
 fn pairs_are_moved_across_the_line(rt: HostRuntime) {
-    let buffer = by_pairs(rt.alloc(), PAIRS_ACROSS).expect(&rt, "memory");
+    let buffer = by_subtable(rt.alloc(), PAIRS_ACROSS).expect(&rt, "memory");
     assert_eq!(rt; advances(&buffer), (0, 0, 0));
     assert_eq!(rt; rises(&buffer), (0, 51, -20));
 }
@@ -111,4 +133,16 @@ fn a_table_moves_pairs_along_and_across(rt: HostRuntime) {
     let buffer = by_table(rt.alloc(), TABLE).expect(&rt, "memory");
     assert_eq!(rt; advances(&buffer), (25, 16, -10));
     assert_eq!(rt; rises(&buffer), (0, 51, -20));
+}
+
+#[test]
+fn glyphs_are_pushed_and_popped(rt: HostRuntime) {
+    let buffer = by_subtable(rt.alloc(), STACKS).expect(&rt, "memory");
+    assert_eq!(rt; advances(&buffer), (-20, 10, 0));
+}
+
+#[test]
+fn a_glyph_is_attached(rt: HostRuntime) {
+    let buffer = by_subtable(rt.alloc(), ATTACHES).expect(&rt, "memory");
+    assert_eq!(rt; rises(&buffer), (0, 16, 0));
 }

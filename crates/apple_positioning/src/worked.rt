@@ -1,6 +1,8 @@
 //! The definitions, computed by hand.
 ghost use Rattle.apple_positioning.specs.Worked.Kerning.{WorkedChains, WorkedHeaders};
 ghost use Rattle.apple_positioning.specs.Worked.Kerning.{WorkedPairs, WorkedClasses, WorkedRows};
+ghost use Rattle.apple_positioning.specs.Worked.Driving.{WorkedAttaching, WorkedCrossing};
+ghost use Rattle.apple_positioning.specs.Worked.Driving.{WorkedStacking};
 ghost use Rattle.apple_positioning.specs.Worked.Lines.{WorkedLines, WorkedRises};
 ghost use Rattle.apple_positioning.specs.Worked.Machines.{WorkedAttachments, WorkedStacks};
 ghost use Rattle.apple_positioning.specs.Worked.Points.{WorkedAnchors};
@@ -45,4 +47,12 @@ pub fn lines_meet_worked_cases()
 pub fn tables_meet_worked_cases()
     ensures tables { WorkedTables }
     ensures links { WorkedLinks }
+{}
+
+/// Lines that subtables with a state table kern, along them and across them, and glyphs that they
+/// attach to others.
+pub fn state_tables_meet_worked_cases()
+    ensures stacking { WorkedStacking }
+    ensures crossing { WorkedCrossing }
+    ensures attaching { WorkedAttaching }
 {}
