@@ -15,7 +15,7 @@ import tempfile
 import time
 from pathlib import Path
 
-from checks.comparison import print_difference
+from checks.comparison import add_beside_option, print_difference
 from checks.fonts import add_table, bytes_of, installed, new_font
 from checks.programs import FONTSHAPE, harfbuzz_ten, need_fontshape, need_fonttools
 
@@ -201,7 +201,7 @@ def runs_of(path):
 
 def add_options(parser):
     parser.add_argument("--program", default=str(FONTSHAPE), help="the fontshape that is tried")
-    parser.add_argument("--hb", default="", help="hb-shape of HarfBuzz 10.2.0")
+    add_beside_option(parser)
     parser.add_argument("--fonts", type=int, default=100, metavar="N")
     parser.add_argument("--mutated", type=int, default=100, metavar="N")
     parser.add_argument("--seed", type=int, default=1)

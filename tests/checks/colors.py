@@ -18,7 +18,7 @@ import tempfile
 import time
 from pathlib import Path
 
-from checks.comparison import Comparison, add_common_options
+from checks.comparison import Comparison, add_beside_option, add_common_options
 from checks.fonts import add_table, bytes_of
 from checks.programs import harfbuzz_ten, need_fonttools, need_fontshape
 from checks.sizes import size
@@ -132,8 +132,7 @@ def badly_ended(args, path):
 def add_options(parser):
     parser.add_argument("--fonts", type=int, default=60, metavar="N")
     parser.add_argument("--mutated", type=int, default=60, metavar="N")
-    parser.add_argument("--hb", metavar="PROGRAM", default="",
-                        help="hb-shape 10.2.0 (else it is fetched from Debian's archive)")
+    add_beside_option(parser)
     add_common_options(parser, seed=1, examples=5)
 
 

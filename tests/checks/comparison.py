@@ -19,6 +19,12 @@ def add_common_options(parser, seed, examples):
                         help="the fontshape that is tried")
 
 
+def add_beside_option(parser):
+    """The option of a comparison with HarfBuzz 10.2.0 (`programs.harfbuzz_ten`)."""
+    parser.add_argument("--hb", metavar="PROGRAM", default="",
+                        help="hb-shape 10.2.0 (else it is fetched from Debian's archive)")
+
+
 def escaped(text):
     """A text in ASCII."""
     return text.encode("unicode_escape").decode()

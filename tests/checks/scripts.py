@@ -22,7 +22,8 @@ import unicodedata
 from pathlib import Path
 
 from checks.characters import assigned, is_mark
-from checks.comparison import UNSAFE_TO_BREAK, Comparison, add_common_options, without_flag
+from checks.comparison import (UNSAFE_TO_BREAK, Comparison, add_beside_option, add_common_options,
+                               without_flag)
 from checks.fonts import (AMIRI_FONTS, DEJAVU_FONTS, NOTO_FONTS, SCHEHERAZADE_FONTS, installed,
                           need_dejavu, save_without)
 from checks.programs import TESTS, harfbuzz_ten, need_fonttools, need_fontshape
@@ -237,7 +238,7 @@ def add_options(parser):
     parser.add_argument("--texts", type=int, default=20, metavar="N",
                         help="random texts for each of these")
     parser.add_argument("--scripts", default=",".join(SHAPED + PLAIN))
-    parser.add_argument("--hb", default="", help="hb-shape of HarfBuzz 10.2.0")
+    add_beside_option(parser)
     add_common_options(parser, seed=7, examples=20)
 
 

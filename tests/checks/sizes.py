@@ -8,7 +8,7 @@ import random
 import tempfile
 from pathlib import Path
 
-from checks.comparison import Comparison, add_common_options
+from checks.comparison import Comparison, add_beside_option, add_common_options
 from checks.fonts import AMIRI_FONTS, DEJAVU, LOOKUPS, installed, need_dejavu, save_without
 from checks.programs import harfbuzz_ten, need_fonttools, need_fontshape
 
@@ -70,8 +70,7 @@ def sized_fonts(folder):
 
 def add_options(parser):
     parser.add_argument("--sizes", type=int, default=60, metavar="N", help="sizes of each font")
-    parser.add_argument("--hb", metavar="PROGRAM", default="",
-                        help="hb-shape 10.2.0 (else it is fetched from Debian's archive)")
+    add_beside_option(parser)
     add_common_options(parser, seed=1, examples=5)
 
 

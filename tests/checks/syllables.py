@@ -29,7 +29,7 @@ import tempfile
 import unicodedata
 from pathlib import Path
 
-from checks.comparison import Comparison, add_common_options
+from checks.comparison import Comparison, add_beside_option, add_common_options
 from checks.fonts import installed, save_without
 from checks.programs import harfbuzz_ten, need_fonttools, need_fontshape
 
@@ -229,7 +229,7 @@ def add_options(parser):
     parser.add_argument("--each", type=int, default=0, metavar="N",
                         help="random texts of each script, at least")
     parser.add_argument("--scripts", default=",".join(SPANS))
-    parser.add_argument("--hb", default="", help="hb-shape of HarfBuzz 10.2.0")
+    add_beside_option(parser)
     add_common_options(parser, seed=70, examples=20)
 
 

@@ -15,7 +15,7 @@ import tempfile
 from pathlib import Path
 
 from checks.characters import assigned
-from checks.comparison import Comparison, add_common_options
+from checks.comparison import Comparison, add_beside_option, add_common_options
 from checks.fonts import DEJAVU, LOOKUPS, need_dejavu, save_without
 from checks.programs import harfbuzz_ten, need_fonttools, need_fontshape, need_harfbuzz
 from checks.whole_fonts import BETWEEN, compare_whole, selector_is_a_mark
@@ -150,7 +150,7 @@ def add_options(parser):
                         help="installed fonts that are compared whole")
     parser.add_argument("--lists", type=int, default=10, metavar="N",
                         help="lists of options for each of these")
-    parser.add_argument("--hb", default="", help="hb-shape of HarfBuzz 10.2.0")
+    add_beside_option(parser)
     add_common_options(parser, seed=7, examples=20)
 
 

@@ -10,7 +10,7 @@ import os
 import re
 import subprocess
 
-from checks.comparison import print_difference
+from checks.comparison import add_beside_option, print_difference
 from checks.fonts import DEJAVU, need_dejavu
 from checks.programs import FONTSHAPE, TESTS, harfbuzz_ten, need_fontshape
 
@@ -96,7 +96,7 @@ def unseen(ours, theirs):
 
 def add_options(parser):
     parser.add_argument("--program", default=str(FONTSHAPE))
-    parser.add_argument("--hb", default="", help="hb-shape 10.2.0")
+    add_beside_option(parser)
     parser.add_argument("--examples", type=int, default=10)
 
 

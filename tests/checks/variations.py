@@ -7,7 +7,7 @@ flags, in one of four directions or with boxes of glyphs, and by the name of an 
 import random
 import tempfile
 
-from checks.comparison import Comparison, add_common_options
+from checks.comparison import Comparison, add_beside_option, add_common_options
 from checks.programs import harfbuzz_ten, need_fonttools, need_fontshape
 from checks.variable_fonts import AXES, CHARACTERS, variable_font
 
@@ -39,8 +39,7 @@ def add_options(parser):
     parser.add_argument("--fonts", type=int, default=40, metavar="N")
     parser.add_argument("--points", type=int, default=5, metavar="N", help="points of each font")
     parser.add_argument("--first", type=int, default=0, metavar="I")
-    parser.add_argument("--hb", metavar="PROGRAM", default="",
-                        help="hb-shape 10.2.0 (else it is fetched from Debian's archive)")
+    add_beside_option(parser)
     add_common_options(parser, seed=1, examples=5)
 
 
