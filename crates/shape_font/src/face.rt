@@ -11,8 +11,11 @@ ghost use Rattle.shape_font.specs.Metrics.{long_metrics};
 ghost use Rattle.shape_font.specs.Cff;
 ghost use Rattle.shape_font.specs.declared.tags.TheConstants.{HEAD, HHEA, MAXP, HMTX, VHEA, VMTX, VORG, OS2, CMAP, LOCA, GLYF, GSUB, GPOS, GDEF};
 ghost use Rattle.shape_font.specs.declared.tags.TheConstants.{MORX, KERX, TRAK, KERN, POST, HVAR, VVAR, GVAR, MVAR, SBIX, CBLC, CBDT, COLR};
+ghost use Rattle.shape_font.specs.declared.tags.TheConstants.{FEAT, LTAG, ANKR};
+ghost use Rattle.shape_font.specs.declared.face.TheConstants.{NO_POINTS};
 ghost use Rattle.shape_font.specs.Face;
 
+use crate::apple::{AppleTables, apple_tables};
 use crate::bitmaps::bitmaps;
 use crate::bytes::u16_at;
 use crate::cff::cff_font;
@@ -40,12 +43,15 @@ mod metric_points;
 mod origins;
 mod sized;
 mod steps;
+mod tables;
 
 /// A face over the bytes of an OpenType or TrueType file, in its units. A table that the file lacks
 /// reads as an empty one. Boxes are those of bitmaps, else of what `COLR` says, else of `glyf`, or
 /// of the charstrings of `CFF2` or `CFF `. The face is at the default instance of a variable font,
 /// or at the coordinates given to [`FontFace::at`], and in units of the font, or of the size given
-/// to [`FontFace::at_size`]; two over the same tables at the same coordinates and size are equal.
+/// to [`FontFace::at_size`]; how many points that size has is not known, unless it was given to
+/// [`FontFace::at_points`]. Two over the same tables at the same coordinates, size and points are
+/// equal.
 #[derive(Clone, Copy)]
 pub struct FontFace<'a> {
     units_per_em: u16,
@@ -77,9 +83,14 @@ pub struct FontFace<'a> {
     vvar: &'a [u8],
     gvar: &'a [u8],
     mvar: &'a [u8],
+    apple: AppleTables<'a>,
     coordinates: &'a [i32],
     scale: Option<Scale>,
+    points: f32,
 }
+
+/// How many points an em square has of which that is not known.
+const NO_POINTS: f32 = 0.0;
 
 /// The glyph with this number, whether the font has so many or not; 0 is none.
 fn numbered(glyph: u32) -> Option<GlyphId>
@@ -161,7 +172,14 @@ impl<'a> FontFace<'a> {
         ensures gvar { IfSome result (λ f. f.gvar.now ≡ bytes_of bytes.now index GVAR) }
         ensures mvar { IfSome result (λ f. f.mvar.now ≡ bytes_of bytes.now index MVAR) }
         ensures coordinates { IfSome result (λ f. f.coordinates.now ≡ []) }
+        ensures morx_table { IfSome result (λ f. f.apple.morx.now ≡ bytes_of bytes.now index MORX) }
+        ensures feat_table { IfSome result (λ f. f.apple.feat.now ≡ bytes_of bytes.now index FEAT) }
+        ensures ltag_table { IfSome result (λ f. f.apple.ltag.now ≡ bytes_of bytes.now index LTAG) }
+        ensures kerx_table { IfSome result (λ f. f.apple.kerx.now ≡ bytes_of bytes.now index KERX) }
+        ensures ankr_table { IfSome result (λ f. f.apple.ankr.now ≡ bytes_of bytes.now index ANKR) }
+        ensures trak_table { IfSome result (λ f. f.apple.trak.now ≡ bytes_of bytes.now index TRAK) }
         ensures scale { IfSome result (λ f. f.scale ≡ None) }
+        ensures points { IfSome result (λ f. f.points ≡ NO_POINTS) }
     {
         let font = Directory::of(bytes, index);
         let head = font.table_or_empty(HEAD);
@@ -203,8 +221,10 @@ impl<'a> FontFace<'a> {
             vvar: font.table_or_empty(VVAR),
             gvar: font.table_or_empty(GVAR),
             mvar: font.table_or_empty(MVAR),
+            apple: apple_tables(&font),
             coordinates: &[],
             scale: None,
+            points: NO_POINTS,
         })
     }
 
@@ -236,41 +256,6 @@ impl<'a> FontFace<'a> {
         ensures { result ≡ self.now.glyph_count }
     {
         self.glyph_count
-    }
-
-    /// The table `kern`, for an engine that reads it; an empty one if the font has none.
-    pub fn kern_table(&self) -> &'a [u8]
-        ensures { result.now ≡ self.now.kern.now }
-    {
-        self.kern
-    }
-
-    /// The table `GDEF`, for an engine of OpenType layout; an empty one if the font has none.
-    pub fn gdef_table(&self) -> &'a [u8]
-        ensures { result.now ≡ self.now.gdef.now }
-    {
-        self.gdef
-    }
-
-    /// The table `GSUB`, likewise.
-    pub fn gsub_table(&self) -> &'a [u8]
-        ensures { result.now ≡ self.now.gsub.now }
-    {
-        self.gsub
-    }
-
-    /// The table `GPOS`, likewise.
-    pub fn gpos_table(&self) -> &'a [u8]
-        ensures { result.now ≡ self.now.gpos.now }
-    {
-        self.gpos
-    }
-
-    /// The table `post`, for names that are looked up often; an empty one if the font has none.
-    pub fn post_table(&self) -> &'a [u8]
-        ensures { result.now ≡ self.now.post.now }
-    {
-        self.post
     }
 
     /// The glyph's name by `post`, or else by the charset of `CFF `; none if neither has one for

@@ -5,12 +5,13 @@
 //! one line says what each one means; no table is copied, and no memory is taken. [`bytes`] reads
 //! numbers, [`directory`] finds tables, [`resource_fork`] the fonts of Apple's suitcases, [`cmap`]
 //! glyphs of characters, by a page of [`font_pages`] in fonts from before Unicode, [`metrics`]
-//! advances and boxes, [`moved`] points at coordinates, [`colors`] what `COLR` says of a glyph, and
-//! [`face`] puts them together. [`worked`] has the definitions computed on bytes that were read by
+//! advances and boxes, [`moved`] points at coordinates, [`colors`] what `COLR` says of a glyph,
+//! [`apple`] has the tables that are Apple's, and [`face`] puts them together. [`worked`] has the definitions computed on bytes that were read by
 //! hand.
 #![tactic(auto)]
 #![allow(non_camel_case_types)]
 
+pub mod apple;
 mod bitmaps;
 pub mod bytes;
 pub mod cff;
@@ -32,4 +33,5 @@ mod tags;
 pub mod variations;
 pub mod worked;
 
+pub use apple::AppleTables;
 pub use face::FontFace;

@@ -51,6 +51,15 @@ pub(crate) const KERX: u32 = 0x6b65_7278;
 /// `trak`.
 pub(crate) const TRAK: u32 = 0x7472_616b;
 
+/// `feat`.
+pub(crate) const FEAT: u32 = 0x6665_6174;
+
+/// `ltag`.
+pub(crate) const LTAG: u32 = 0x6c74_6167;
+
+/// `ankr`.
+pub(crate) const ANKR: u32 = 0x616e_6b72;
+
 /// `kern`.
 pub(crate) const KERN: u32 = 0x6b65_726e;
 

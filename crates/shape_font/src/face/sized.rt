@@ -33,6 +33,21 @@ impl<'a> FontFace<'a> {
         self.scale
     }
 
+    /// The same font with an em square of so many points, by which `trak` tracks; 0 or less, or no
+    /// number, is no size that is known.
+    pub fn at_points(self, points: f32) -> FontFace<'a>
+        ensures { result ≡ record self.entry { points = points } }
+    {
+        FontFace { points, ..self }
+    }
+
+    /// How many points the em square has; 0 if that is not known.
+    pub fn points(&self) -> f32
+        ensures { result ≡ self.now.points }
+    {
+        self.points
+    }
+
     /// How wide and high the em square is.
     pub(super) fn sized_em(&self) -> Size
         ensures { result ≡ Face.sized_em self.now }
