@@ -9,7 +9,7 @@ use Rattle.shape_common.specs.declared.text_types.Direction.{Direction}
 use Rattle.shape_fallback.specs.DueSteps.{recategorize_step, spaces_step, marks_step}
 use Rattle.shape_glyphs.specs.Steps.{advance_steps, place_steps, table_steps, close_steps, position_steps, finish_steps, substitute_pre_steps}
 use Rattle.shape_glyphs.specs.Substitution.{glyph_steps, paused, stage_steps, lookup_steps, substitute_steps}
-use Rattle.shape_glyphs.specs.Tables.{table_positioned, kerned}
+use Rattle.shape_glyphs.specs.Tables.{table_positioned, kerned, tracked}
 use Rattle.shape_glyphs.specs.Zeroing.{zeroed_early, zeroed_late}
 use Rattle.shape_normalize.specs.Normalized.{normalized}
 use Rattle.shape_pipeline.specs.Shaped.{normalising, glyph_phase, shaped_steps, all_steps, entered}
@@ -90,7 +90,7 @@ placed m f run is b =
 
 places : (m : OtMap) (f : OpenTypeFace) (run : Run) → run.lookups ≡ opentype_lookups m f → Calls (place_steps run) (place_calls m f run)
 places m f run is b =
-    ap (λ c. zeroed_late run (kerned run.lookups run.decisions c)) (placed m f run is (zeroed_early run (run.lookups.position_start b)))
+    ap (λ c. zeroed_late run (tracked run.lookups run.decisions (kerned run.lookups run.decisions c))) (placed m f run is (zeroed_early run (run.lookups.position_start b)))
 
 positions : (m : OtMap) (f : OpenTypeFace) (run : Run) → run.lookups ≡ opentype_lookups m f
     → Calls (position_steps run) (position_calls m f run)
@@ -268,7 +268,8 @@ module _ (m : OtMap) (f : OpenTypeFace) (run : Run) (target : Direction) (is : r
 
   places-pay : EachPays (place_calls m f run)
   places-pay =
-      let kern = run.lookups.kern run.decisions.kern_mask in (
+      let kern = run.lookups.kern run.decisions.kern_mask in
+      let track = run.lookups.aat_track run.decisions.trak_mask in (
         other-pays run.lookups.position_start engine.position_start,
         (
           other-pays (zeroed_early run) never.early,
@@ -277,8 +278,11 @@ module _ (m : OtMap) (f : OpenTypeFace) (run : Run) (target : Direction) (is : r
             (
               other-pays (step_if run.decisions.apply_kern kern) (if-never run.decisions.apply_kern kern (engine.kern run.decisions.kern_mask)),
               (
-                other-pays (zeroed_late run) never.late,
-                tt,
+                other-pays (step_if run.decisions.apply_trak track) (if-never run.decisions.apply_trak track (engine.aat_track run.decisions.trak_mask)),
+                (
+                  other-pays (zeroed_late run) never.late,
+                  tt,
+                ),
               ),
             ),
           ),

@@ -9,7 +9,7 @@ use Rattle.shape_common.specs.declared.text_types.Direction.{Direction}
 use Rattle.shape_fallback.specs.DueSteps.{recategorize_step, spaces_step, marks_step}
 use Rattle.shape_glyphs.specs.Steps.{advance_steps, close_steps, finish_steps, substitute_pre_steps}
 use Rattle.shape_glyphs.specs.Substitution.{glyph_steps, paused}
-use Rattle.shape_glyphs.specs.Tables.{kerned}
+use Rattle.shape_glyphs.specs.Tables.{kerned, tracked}
 use Rattle.shape_glyphs.specs.Zeroing.{zeroed_early, zeroed_late}
 use Rattle.shape_normalize.specs.Normalized.{normalized}
 use Rattle.shape_plan.specs.Run.{Run, step_if, hook_if}
@@ -50,6 +50,7 @@ place_calls m f run =
     ∷ other_call (zeroed_early run)
     ∷ (if run.decisions.apply_gpos then position_call m f else other_call (step_if run.decisions.apply_kerx (run.lookups.aat_position run.decisions.kern_mask)))
     ∷ other_call (kerned run.lookups run.decisions)
+    ∷ other_call (tracked run.lookups run.decisions)
     ∷ other_call (zeroed_late run)
     ∷ []
 

@@ -1,6 +1,7 @@
 //! What a run makes of a line's list, step by step, in the form of `hb-shape --trace`: before the
 //! first lookup of GSUB, after each stage of lookups that changed what is written of the list, once
-//! each glyph has its advance, and if they changed it after GPOS and after the table `kern`.
+//! each glyph has its advance, and if they changed it after the tables `morx`, GPOS, `kerx`, `kern`
+//! and `trak`.
 //!
 //! A trace takes at most [`MOST_BYTES`]: what would follow is left out, and the trace says so.
 use crate::failure::Failure;
@@ -67,9 +68,12 @@ fn push_moment(out: &mut String, moment: Moment) -> Result<(), AllocError> {
     match moment {
         Moment::BeforeStages => out.push_str("trace: start table GSUB"),
         Moment::Stage(i) => write!(out, "trace: end stage {i}"),
+        Moment::Metamorphosed => out.push_str("trace: end table morx"),
         Moment::BeforePlacing => out.push_str("trace: start positioning"),
         Moment::Placed => out.push_str("trace: end table GPOS"),
+        Moment::PlacedByKerx => out.push_str("trace: end table kerx"),
         Moment::Kerned => out.push_str("trace: end table kern"),
+        Moment::Tracked => out.push_str("trace: end table trak"),
     }
 }
 
@@ -86,12 +90,15 @@ fn push_lookups(out: &mut String, lookups: &[LookupMap]) -> Result<(), AllocErro
 
 /// Whether glyphs have positions then.
 fn has_positions(moment: Moment) -> bool {
-    !matches!(moment, Moment::BeforeStages | Moment::Stage(_))
+    !matches!(
+        moment,
+        Moment::BeforeStages | Moment::Stage(_) | Moment::Metamorphosed
+    )
 }
 
 /// Whether a list is noted only if it is another one than before.
 fn follows_lookups(moment: Moment) -> bool {
-    matches!(moment, Moment::Stage(_) | Moment::Placed | Moment::Kerned)
+    !matches!(moment, Moment::BeforeStages | Moment::BeforePlacing)
 }
 
 /// The trace of one line's run.

@@ -230,6 +230,7 @@ EachLookup-kern Preserves face left kern = record {
   position_finish_offsets = left;
   aat_position = λ mask. left;
   kern = kern;
+  aat_track = λ mask. left;
 }
 
 pub clusters-kern : (face : FontFace) → LookupsPreserveClusters (kern_lookups face)

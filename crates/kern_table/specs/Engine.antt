@@ -41,4 +41,5 @@ kern_lookups-lawful face = record {
   position_finish_offsets = no_lookups-lawful.position_finish_offsets;
   aat_position = no_lookups-lawful.aat_position;
   kern = λ mask b. length-table_kerned face.scale face.kern.now mask b;
+  aat_track = no_lookups-lawful.aat_track;
 }

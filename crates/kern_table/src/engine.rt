@@ -214,6 +214,8 @@ impl<'a> hb_ot_layout_t<FontFace<'a>> for KernTable {
         Ok(())
     }
 
+    fn aat_track(_trak_mask: hb_mask_t, _face: &FontFace<'a>, _buffer: &mut hb_buffer_t) {}
+
     ghost lawful_masks = { kern_masks-lawful };
 
     ghost lawful_lookups = { λ _ face. kern_lookups-lawful face };

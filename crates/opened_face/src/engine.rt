@@ -177,6 +177,10 @@ impl<'a, M: hb_ot_layout_t<FontFace<'a>>, K: KernsOpened<'a, M>> hb_ot_layout_t<
         K::kern(alloc, kern_mask, face, buffer)
     }
 
+    fn aat_track(trak_mask: hb_mask_t, face: &OpenedFace<'a>, buffer: &mut hb_buffer_t) {
+        M::aat_track(trak_mask, face.face(), buffer)
+    }
+
     ghost lawful_masks = { M.lawful_masks };
 
     ghost lawful_lookups = { M.lawful_lookups };

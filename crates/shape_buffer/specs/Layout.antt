@@ -46,6 +46,8 @@ pub record LookupMeaning : Type 0 where
   -- by the mask of kerning
   pub aat_position : ℕ → Buffer → Buffer
   pub kern : ℕ → Buffer → Buffer
+  -- by the mask of tracking
+  pub aat_track : ℕ → Buffer → Buffer
 
 -- a mask without a defined flag
 abbrev pub HasNoDefinedFlag : ℕ → Type 0
@@ -71,3 +73,4 @@ pub record LawfulLookups (lookups : LookupMeaning) : Type 0 where
   pub position_finish_offsets : PreservesCount lookups.position_finish_offsets
   pub aat_position : (mask : ℕ) → PreservesCount (lookups.aat_position mask)
   pub kern : (mask : ℕ) → PreservesCount (lookups.kern mask)
+  pub aat_track : (mask : ℕ) → PreservesCount (lookups.aat_track mask)

@@ -39,6 +39,7 @@ no_lookups = record {
   position_finish_offsets = λ b. b;
   aat_position = λ _ b. b;
   kern = λ _ b. b;
+  aat_track = λ _ b. b;
 }
 
 pub no_masks-lawful : LawfulMasks no_masks
@@ -53,4 +54,5 @@ no_lookups-lawful = record {
   position_finish_offsets = λ b. refl;
   aat_position = λ mask b. refl;
   kern = λ mask b. refl;
+  aat_track = λ mask b. refl;
 }

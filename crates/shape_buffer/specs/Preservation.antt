@@ -41,6 +41,7 @@ pub record EachLookup (Preserves : (Buffer → Buffer) → Type 0) (lookups : Lo
   pub position_finish_offsets : Preserves lookups.position_finish_offsets
   pub aat_position : (mask : ℕ) → Preserves (lookups.aat_position mask)
   pub kern : (mask : ℕ) → Preserves (lookups.kern mask)
+  pub aat_track : (mask : ℕ) → Preserves (lookups.aat_track mask)
 
 -- the premises on lookups: each of them preserves clusters, and each preserves flags
 abbrev pub LookupsPreserveClusters : LookupMeaning → Type 0

@@ -9,7 +9,7 @@ use Rattle.shape_plan.specs.Decisions.{runs_gpos, runs_kerx}
 use Rattle.shape_plan.specs.Run.{Run, step_if}
 use Rattle.shape_glyphs.specs.OneTable.{RunsWithoutGpos, RunsWithoutKerx, EachRunsOneTable}
 use Rattle.shape_glyphs.specs.Steps.{close_steps}
-use Rattle.shape_glyphs.specs.Tables.{kerned}
+use Rattle.shape_glyphs.specs.Tables.{kerned, tracked}
 use Rattle.shape_glyphs.specs.Zeroing.{zeroed_early, zeroed_late}
 
 -- the steps with this one in the place of the tables
@@ -19,6 +19,7 @@ placed_by run table =
     ∷ step (zeroed_early run)
     ∷ step table
     ∷ step (kerned run.lookups run.decisions)
+    ∷ step (tracked run.lookups run.decisions)
     ∷ step (zeroed_late run)
     ∷ []) ++ close_steps run
 

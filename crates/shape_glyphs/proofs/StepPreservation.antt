@@ -111,7 +111,10 @@ leads-place_steps R holds run preserves = (
       leads-tables R holds run preserves,
       (
         preserving-step_due (Leads R) holds.same run.decisions.apply_kern preserves.lookups.kern,
-        (leads-zeroed_at R holds 2 run, tt),
+        (
+          preserving-step_due (Leads R) holds.same run.decisions.apply_trak preserves.lookups.aat_track,
+          (leads-zeroed_at R holds 2 run, tt),
+        ),
       ),
     ),
   ),

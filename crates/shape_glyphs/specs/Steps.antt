@@ -7,7 +7,7 @@ use Rattle.shape_fallback.specs.DueSteps.{recategorize_step, spaces_step, marks_
 use Rattle.shape_glyphs.specs.Advances.{positions_cleared, advanced}
 use Rattle.shape_glyphs.specs.Ignorables.{ignorables_zeroed, ignorables_hidden}
 use Rattle.shape_glyphs.specs.Selectors.{selectors_replaced}
-use Rattle.shape_glyphs.specs.Tables.{table_positioned, kerned, deleted_narrowed, deleted_removed}
+use Rattle.shape_glyphs.specs.Tables.{table_positioned, kerned, tracked, deleted_narrowed, deleted_removed}
 use Rattle.shape_glyphs.specs.Reversal.{reversed}
 use Rattle.shape_glyphs.specs.Substitution.{glyph_steps, substitute_steps}
 use Rattle.shape_glyphs.specs.Zeroing.{zeroed_early, zeroed_late}
@@ -27,6 +27,7 @@ place_steps run =
     ∷ step (zeroed_early run)
     ∷ step (table_positioned run.lookups run.decisions)
     ∷ step (kerned run.lookups run.decisions)
+    ∷ step (tracked run.lookups run.decisions)
     ∷ step (zeroed_late run)
     ∷ []
 

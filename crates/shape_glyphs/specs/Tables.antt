@@ -10,9 +10,13 @@ abbrev pub table_positioned : LookupMeaning → Decisions → Buffer → Buffer
 table_positioned lookups decisions =
     if decisions.apply_gpos then lookups.position else step_if decisions.apply_kerx (lookups.aat_position decisions.kern_mask)
 
--- after that by kern; without any of the three nothing is done, and nothing for tracking
+-- after that by kern; without any of the three nothing is done
 abbrev pub kerned : LookupMeaning → Decisions → Buffer → Buffer
 kerned lookups decisions = step_if decisions.apply_kern (lookups.kern decisions.kern_mask)
+
+-- and after that glyphs are tracked by trak
+abbrev pub tracked : LookupMeaning → Decisions → Buffer → Buffer
+tracked lookups decisions = step_if decisions.apply_trak (lookups.aat_track decisions.trak_mask)
 
 -- glyphs that morx has deleted lose their width
 abbrev pub deleted_narrowed : LookupMeaning → Decisions → Buffer → Buffer

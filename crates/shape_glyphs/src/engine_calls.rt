@@ -2,7 +2,7 @@
 //! them.
 //!
 //! The plan has chosen the tables: a call is made if the plan asks for it, and what a table does
-//! is the engine's. Kerning without a table and tracking change nothing.
+//! is the engine's. Kerning without a table changes nothing.
 //!
 //! They are functions so that a list of steps can be proved by them. What an engine's call makes
 //! of a buffer is said of the plan's lookups by their value; written in place, the equation that
@@ -10,7 +10,7 @@
 //! step, in the form that a list has it.
 ghost use Rattle.std.specs.Prelude.{◌≡◌};
 ghost use Rattle.shape_buffer.specs.Outcome.{IsWithinLimit, Made, Outcome, step};
-ghost use Rattle.shape_glyphs.specs.Tables.{table_positioned, kerned, deleted_narrowed};
+ghost use Rattle.shape_glyphs.specs.Tables.{table_positioned, kerned, tracked, deleted_narrowed};
 ghost use Rattle.shape_glyphs.specs.Tables.{deleted_removed};
 
 use shape_buffer::buffer::{ShapeError, hb_buffer_t};
@@ -116,6 +116,20 @@ pub fn kern_by_plan<T: ShapingTypes>(
         T::Engine::kern(alloc, plan.kern_mask(), face, buffer)
     } else {
         Ok(())
+    }
+}
+
+/// Tracks by the table `trak`, if the plan says so. Takes no memory.
+pub fn track_by_plan<T: ShapingTypes>(
+    plan: &PlanOf<'_, T>,
+    face: &T::Face,
+    buffer: &mut hb_buffer_t,
+)
+    ensures { Made (tracked (T.Engine.lookups plan.now.ot_map face.now) plan.now.decisions)
+        buffer.old buffer.new }
+{
+    if plan.apply_trak() {
+        T::Engine::aat_track(plan.trak_mask(), face, buffer);
     }
 }
 

@@ -28,7 +28,7 @@ pub mod zeroing;
 pub use advances::{clear_positions, position_default, put_advances};
 pub use engine_calls::{
     kern_by_plan, position_by_plan, position_finish_advances, position_finish_offsets,
-    position_start, remove_deleted, substitute_start, zero_width_deleted,
+    position_start, remove_deleted, substitute_start, track_by_plan, zero_width_deleted,
 };
 pub use fallback_steps::{place_marks, place_spaces, recategorize_marks};
 pub use finishing::{finish_glyphs, reverse_backward};

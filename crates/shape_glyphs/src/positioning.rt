@@ -10,7 +10,7 @@ ghost use Rattle.shape_glyphs.specs.Steps.{table_steps, position_steps};
 use crate::advances::position_default;
 use crate::engine_calls::{
     kern_by_plan, position_by_plan, position_finish_advances, position_finish_offsets,
-    position_start, zero_width_deleted,
+    position_start, track_by_plan, zero_width_deleted,
 };
 use crate::fallback_steps::{place_marks, place_spaces};
 use crate::ignorables::zero_width_default_ignorables;
@@ -38,6 +38,7 @@ pub fn position_complex<T: ShapingTypes>(
     zero_marks_early::<T>(plan, face, buffer);
     position_by_plan::<T>(alloc, plan, face, buffer)?;
     kern_by_plan::<T>(alloc, plan, face, buffer)?;
+    track_by_plan::<T>(plan, face, buffer);
     zero_marks_late::<T>(plan, face, buffer);
     position_finish_advances::<T>(plan, face, buffer);
     zero_width_default_ignorables(buffer);

@@ -91,6 +91,7 @@ module _ (run : Run) (ends : EndsInOrder run) where
       position_finish_offsets = ends.lookups.position_finish_offsets;
       aat_position = ends.lookups.aat_position;
       kern = ends.lookups.kern;
+      aat_track = ends.lookups.aat_track;
     };
     hooks = λ h is. record {
       preprocess = λ given. of_hooks (λ h. IsClusterPreserving h.preprocess) (ends.preprocess given) h is;

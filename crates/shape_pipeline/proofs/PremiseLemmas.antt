@@ -55,6 +55,7 @@ EachLookup-none Preserves left = record {
   position_finish_offsets = left;
   aat_position = λ mask. left;
   kern = λ mask. left;
+  aat_track = λ mask. left;
 }
 
 pub clusters-no_lookups : LookupsPreserveClusters no_lookups

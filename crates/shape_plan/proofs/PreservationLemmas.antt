@@ -63,4 +63,5 @@ called Preserves run each = record {
   position_finish_offsets = each.position_finish_offsets;
   aat_position = λ _ _. each.aat_position run.decisions.kern_mask;
   kern = λ _. each.kern run.decisions.kern_mask;
+  aat_track = λ _. each.aat_track run.decisions.trak_mask;
 }

@@ -37,6 +37,7 @@ pub record EachCalledLookup (Preserves : (Buffer → Buffer) → Type 0) (run : 
   pub aat_position : run.decisions.apply_gpos ≡ false → run.decisions.apply_kerx ≡ true
       → Preserves (run.lookups.aat_position run.decisions.kern_mask)
   pub kern : run.decisions.apply_kern ≡ true → Preserves (run.lookups.kern run.decisions.kern_mask)
+  pub aat_track : run.decisions.apply_trak ≡ true → Preserves (run.lookups.aat_track run.decisions.trak_mask)
 
 -- a property of each lookup that is called and of each hook of the shaper, if the plan uses it
 pub record EachCall (Preserves : (Buffer → Buffer) → Type 0) (run : Run) : Type 0 where

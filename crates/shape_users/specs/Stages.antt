@@ -60,4 +60,5 @@ staged_lookups-lawful stage = record {
   position_finish_offsets = no_lookups-lawful.position_finish_offsets;
   aat_position = no_lookups-lawful.aat_position;
   kern = no_lookups-lawful.kern;
+  aat_track = no_lookups-lawful.aat_track;
 }

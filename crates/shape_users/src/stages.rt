@@ -204,6 +204,8 @@ impl<F, E: engine_stages<F>> hb_ot_layout_t<F> for Staged<E> {
         Ok(())
     }
 
+    fn aat_track(_trak_mask: hb_mask_t, _face: &F, _buffer: &mut hb_buffer_t) {}
+
     ghost lawful_masks = { λ _. staged_masks-lawful E.STAGES E.number };
 
     ghost lawful_lookups = { λ _ face. staged_lookups-lawful (E.made face) };

@@ -33,6 +33,7 @@ premises_met = record {
     position_finish_offsets = left;
     aat_position = λ _ e. not_due e;
     kern = λ e. not_due e;
+    aat_track = λ e. not_due e;
   };
   two_stages = λ run. record {
     substitute_start = left;
@@ -46,6 +47,7 @@ premises_met = record {
     position_finish_offsets = left;
     aat_position = λ _ e. not_due e;
     kern = λ e. not_due e;
+    aat_track = λ e. not_due e;
   };
   morx = λ run. record {
     substitute_start = left;
@@ -59,6 +61,7 @@ premises_met = record {
     position_finish_offsets = left;
     aat_position = λ _ e. not_due e;
     kern = λ e. not_due e;
+    aat_track = λ e. not_due e;
   };
   gpos = λ run. record {
     substitute_start = left;
@@ -72,6 +75,7 @@ premises_met = record {
     position_finish_offsets = left;
     aat_position = λ e _. due e;
     kern = λ e. not_due e;
+    aat_track = λ e. not_due e;
   };
   kerx = λ run. record {
     substitute_start = left;
@@ -85,6 +89,7 @@ premises_met = record {
     position_finish_offsets = left;
     aat_position = λ _ _. left;
     kern = λ e. not_due e;
+    aat_track = λ e. not_due e;
   };
   kern = λ run. record {
     substitute_start = left;
@@ -98,6 +103,21 @@ premises_met = record {
     position_finish_offsets = left;
     aat_position = λ _ e. not_due e;
     kern = λ _. left;
+    aat_track = λ e. not_due e;
+  };
+  trak = λ run. record {
+    substitute_start = left;
+    stage = λ _ i below. absurd (omega arith);
+    aat_substitute = λ e. not_due e;
+    aat_remove_deleted = λ e. not_due e;
+    aat_zero_width_deleted = λ e. not_due e;
+    position_start = left;
+    position = λ e. not_due e;
+    position_finish_advances = left;
+    position_finish_offsets = left;
+    aat_position = λ _ e. not_due e;
+    kern = λ e. not_due e;
+    aat_track = λ _. left;
   };
 }
 
@@ -116,6 +136,7 @@ premises_missed = record {
   gpos_unmet = λ run each. no_loss (each.position refl);
   kerx_unmet = λ run each. no_loss (each.aat_position refl refl);
   kern_unmet = λ run each. no_loss (each.kern refl);
+  trak_unmet = λ run each. no_loss (each.aat_track refl);
 }
 
 pub worked_premises : WorkedPremises

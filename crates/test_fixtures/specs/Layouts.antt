@@ -134,4 +134,5 @@ lookups_of-lawful face = record {
   position_finish_offsets = λ _. refl;
   aat_position = λ _ _. refl;
   kern = λ _ _. refl;
+  aat_track = λ _ _. refl;
 }

@@ -294,6 +294,8 @@ impl<'a> hb_ot_layout_t<TestFace<'a>> for TestLayout {
         Ok(())
     }
 
+    fn aat_track(_trak_mask: hb_mask_t, _face: &TestFace<'a>, _buffer: &mut hb_buffer_t) {}
+
     ghost lawful_masks = { Layouts.masks_of-lawful };
 
     ghost lawful_lookups = { λ _. Layouts.lookups_of-lawful };

@@ -117,7 +117,9 @@ where
         face: &WatchedFace<'a, F, W>,
         buffer: &mut hb_buffer_t,
     ) -> Result<(), ShapeError> {
-        M::aat_substitute(alloc, map, user_features, face.face, buffer)
+        let done = M::aat_substitute(alloc, map, user_features, face.face, buffer);
+        face.watcher.sees(Moment::Metamorphosed, buffer);
+        done
     }
 
     fn aat_remove_deleted(buffer: &mut hb_buffer_t) {
@@ -159,7 +161,9 @@ where
         face: &WatchedFace<'a, F, W>,
         buffer: &mut hb_buffer_t,
     ) -> Result<(), ShapeError> {
-        M::aat_position(alloc, map, kern_mask, face.face, buffer)
+        let done = M::aat_position(alloc, map, kern_mask, face.face, buffer);
+        face.watcher.sees(Moment::PlacedByKerx, buffer);
+        done
     }
 
     fn kern(
@@ -171,6 +175,11 @@ where
         let done = M::kern(alloc, kern_mask, face.face, buffer);
         face.watcher.sees(Moment::Kerned, buffer);
         done
+    }
+
+    fn aat_track(trak_mask: hb_mask_t, face: &WatchedFace<'a, F, W>, buffer: &mut hb_buffer_t) {
+        M::aat_track(trak_mask, face.face, buffer);
+        face.watcher.sees(Moment::Tracked, buffer);
     }
 
     ghost lawful_masks = { M.lawful_masks };

@@ -10,12 +10,18 @@ pub enum Moment {
     BeforeStages,
     /// Stage `i` of substitution, from 0 on, was applied; the pause after it comes next.
     Stage(usize),
+    /// The table `morx` was applied.
+    Metamorphosed,
     /// Each glyph has its own advance, and nothing was placed.
     BeforePlacing,
     /// `GPOS` was applied.
     Placed,
+    /// The table `kerx` was applied.
+    PlacedByKerx,
     /// The table `kern` was applied.
     Kerned,
+    /// The table `trak` was applied.
+    Tracked,
 }
 
 /// Who watches a run whose compiled requests are a `P`. It changes nothing of the run.

@@ -32,6 +32,7 @@ pub record WorkedEngine : Type 0 where
   pub no_start : (f : FontFace) (b : Buffer) → (kern_lookups f).substitute_start b ≡ b
   pub no_other_table : (f : FontFace) (features : List Feature) (b : Buffer) → (kern_lookups f).aat_substitute features b ≡ b
   pub no_other_positions : (f : FontFace) (mask : ℕ) (b : Buffer) → (kern_lookups f).aat_position mask b ≡ b
+  pub no_tracking : (f : FontFace) (mask : ℕ) (b : Buffer) → (kern_lookups f).aat_track mask b ≡ b
   pub no_positions : (f : FontFace) (b : Buffer) → (kern_lookups f).position b ≡ b
 
 pub worked_engine : WorkedEngine
@@ -51,5 +52,6 @@ worked_engine = record {
   no_start = λ f b. refl;
   no_other_table = λ f features b. refl;
   no_other_positions = λ f mask b. refl;
+  no_tracking = λ f mask b. refl;
   no_positions = λ f b. refl;
 }

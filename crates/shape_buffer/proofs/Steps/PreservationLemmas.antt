@@ -120,6 +120,7 @@ EachLookup-one_stage Preserves stage left preserves = record {
   position_finish_offsets = left;
   aat_position = λ mask. left;
   kern = λ mask. left;
+  aat_track = λ mask. left;
 }
 
 -- ---- lists of steps

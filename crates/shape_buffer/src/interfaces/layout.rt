@@ -189,6 +189,11 @@ pub trait hb_ot_layout_t<F> {
         ensures { (map : Self.Map)
             → Outcome (step ((lookups map face.now).kern kern_mask)) buffer.old buffer.new result };
 
+    /// Makes glyphs stand wider or closer by the table `trak`.
+    fn aat_track(trak_mask: hb_mask_t, face: &F, buffer: &mut hb_buffer_t)
+        ensures { (map : Self.Map)
+            → Made ((lookups map face.now).aat_track trak_mask) buffer.old buffer.new };
+
     /// No mask has a defined flag, and shifts are below 32.
     ghost lawful_masks: { (map : Self.Map) → LawfulMasks (masks map) };
 

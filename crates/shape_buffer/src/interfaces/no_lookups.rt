@@ -148,6 +148,8 @@ impl<F> hb_ot_layout_t<F> for NoLookups {
         Ok(())
     }
 
+    fn aat_track(_trak_mask: hb_mask_t, _face: &F, _buffer: &mut hb_buffer_t) {}
+
     ghost lawful_masks = { λ _. no_masks-lawful };
 
     ghost lawful_lookups = { λ _ _. no_lookups-lawful };

@@ -20,7 +20,7 @@ use Rattle.shape_plan.specs.Shapers.{no_hooks}
 use Rattle.shape_plan.specs.Worked.Decisions.{no_decisions}
 use Rattle.shape_plan.specs.declared.decisions.Decisions.{Decisions}
 use Rattle.shape_glyphs.specs.Advances.{positions_cleared, advanced, advanced_position}
-use Rattle.shape_glyphs.specs.Tables.{table_positioned, kerned, deleted_narrowed, deleted_removed}
+use Rattle.shape_glyphs.specs.Tables.{table_positioned, kerned, tracked, deleted_narrowed, deleted_removed}
 use Rattle.shape_glyphs.specs.Reversal.{reversed}
 use Rattle.shape_glyphs.specs.Zeroing.{marks_zeroed, zeroed_mark, zeroed_at}
 
@@ -179,12 +179,13 @@ more_advance n position = record position { x_advance = position.x_advance +ʷ n
 abbrev adding : ℤ → Buffer → Buffer
 adding n b = record b { positions = map (more_advance n) b.positions }
 
--- GPOS adds 1, kerx 10, kern 100, and morx's calls 1000 and 10000
+-- GPOS adds 1, kerx 10, kern 100, morx's calls 1000 and 10000, and trak what its mask is
 abbrev adding_lookups : LookupMeaning
 adding_lookups = record no_lookups {
   position = adding (pos 1);
   aat_position = λ _. adding (pos 10);
   kern = λ _. adding (pos 100);
+  aat_track = λ mask. adding (pos mask);
   aat_zero_width_deleted = adding (pos 1000);
   aat_remove_deleted = adding (pos 10000);
 }
@@ -192,6 +193,12 @@ adding_lookups = record no_lookups {
 abbrev by_tables : (LookupMeaning → Decisions → Buffer → Buffer) → Bool → Bool → Bool → Bool → List GlyphPosition
 by_tables tables gpos kerx kern morx =
     (tables adding_lookups (decided false false gpos kerx kern morx)
+    (one_glyph LeftToRight (at (pos 600) (pos 0) (pos 0) (pos 0)))).positions
+
+-- tracking's mask is 7
+abbrev by_tracking : Bool → List GlyphPosition
+by_tracking trak =
+    (tracked adding_lookups (record (decided false false true true true true) { apply_trak = trak; kern_mask = 3; trak_mask = 7 })
     (one_glyph LeftToRight (at (pos 600) (pos 0) (pos 0) (pos 0)))).positions
 
 abbrev advances_by : ℕ → List GlyphPosition
@@ -204,6 +211,8 @@ pub record TablesOfAPlan : Type 0 where
   pub neither : by_tables table_positioned false false true false ≡ advances_by 600
   pub kern : by_tables kerned true false true false ≡ advances_by 700
   pub no_kern : by_tables kerned true true false false ≡ advances_by 600
+  pub track : by_tracking true ≡ advances_by 607
+  pub no_track : by_tracking false ≡ advances_by 600
   pub narrowed : by_tables deleted_narrowed true false false true ≡ advances_by 1600
   pub not_narrowed : by_tables deleted_narrowed true false false false ≡ advances_by 600
   pub removed : by_tables deleted_removed false false false true ≡ advances_by 10600
@@ -219,6 +228,8 @@ tables_of_a_plan = record {
   neither = refl;
   kern = refl;
   no_kern = refl;
+  track = refl;
+  no_track = refl;
   narrowed = refl;
   not_narrowed = refl;
   removed = refl;

@@ -34,13 +34,14 @@ one_more_digit n position = record position { x_advance = position.x_advance *�
 abbrev pub with_digit : ℤ → Buffer → Buffer
 with_digit n b = record b { positions = map (one_more_digit n) b.positions }
 
--- the calls in the order in which they may come: 1, GPOS 2, then what the mask of kerning is, 4, 5, 6, and 7
+-- the calls in the order in which they may come: 1, GPOS 2, then what the mask of kerning is and what that of tracking is, 4, 5, 6, and 7
 abbrev pub counting : LookupMeaning
 counting = record no_lookups {
   position_start = with_digit (pos 1);
   position = with_digit (pos 2);
   aat_position = λ mask. with_digit (pos mask);
   kern = λ mask. with_digit (pos mask);
+  aat_track = λ mask. with_digit (pos mask);
   position_finish_advances = with_digit (pos 4);
   aat_zero_width_deleted = with_digit (pos 5);
   position_finish_offsets = with_digit (pos 6);
@@ -108,6 +109,12 @@ pub record OrderOfTables : Type 0 where
   pub by_kerx : (run : Run)
       → advances (counted run counting 0 (decided false false false true false true)) (glyph_at 1 0)
       ≡ at (pos 13456) (pos 0) (pos 0) (pos 0) ∷ []
+  pub with_tracking : (run : Run)
+      → advances (counted run counting 0 (record (decided false false true false true true) { apply_trak = true })) (glyph_at 1 0)
+      ≡ at (pos 1239456) (pos 0) (pos 0) (pos 0) ∷ []
+  pub tracking_before_late : (run : Run)
+      → advances (counted run counting 2 (record (decided true false true false true true) { apply_trak = true }))
+      (with_class 8 (glyph_at 1 0)) ≡ at (pos 456) (pos 0) (pos 0) (pos 0) ∷ []
   pub early : (run : Run)
       → advances (counted run counting 1 (decided true false true false true true)) (with_class 8 (glyph_at 1 0))
       ≡ at (pos 23456) (pos 0) (pos 0) (pos 0) ∷ []
@@ -130,6 +137,8 @@ order_of_tables = record {
   begins_anew = λ run. refl;
   all = λ run. refl;
   by_kerx = λ run. refl;
+  with_tracking = λ run. refl;
+  tracking_before_late = λ run. refl;
   early = λ run. refl;
   late = λ run. refl;
   early_adjusted = λ run. refl;

@@ -8,7 +8,7 @@ use Rattle.shape_plan.specs.Run.{Run, step_if, hook_if}
 use Rattle.shape_glyphs.specs.Advances.{positions_cleared, advanced}
 use Rattle.shape_glyphs.specs.Ignorables.{ignorables_zeroed, ignorables_hidden}
 use Rattle.shape_glyphs.specs.Selectors.{selectors_replaced}
-use Rattle.shape_glyphs.specs.Tables.{table_positioned, kerned, deleted_narrowed, deleted_removed}
+use Rattle.shape_glyphs.specs.Tables.{table_positioned, kerned, tracked, deleted_narrowed, deleted_removed}
 use Rattle.shape_glyphs.specs.Reversal.{reversed}
 use Rattle.shape_glyphs.specs.Zeroing.{zeroed_early, zeroed_late}
 use Rattle.shape_prepare.specs.Begun.{begun}
@@ -54,6 +54,7 @@ steps_from_lookups run =
     ∷ step (zeroed_early run)
     ∷ step (table_positioned run.lookups run.decisions)
     ∷ step (kerned run.lookups run.decisions)
+    ∷ step (tracked run.lookups run.decisions)
     ∷ step (zeroed_late run)
     ∷ step run.lookups.position_finish_advances
     ∷ step ignorables_zeroed

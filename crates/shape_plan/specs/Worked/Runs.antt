@@ -54,6 +54,7 @@ telling_lookups map face = record {
   position_finish_offsets = marked_by 0;
   aat_position = λ mask. marked_by 0;
   kern = λ mask. marked_by 0;
+  aat_track = λ mask. marked_by 0;
 }
 
 -- a plan of map 30 for a text of script 100 from right to left, with one feature of the user's; it uses shaper 5, or

@@ -25,9 +25,10 @@ always_called = record {
   position_finish_offsets = λ b. b;
   aat_position = λ mask. kept_if false;
   kern = λ mask. kept_if false;
+  aat_track = λ mask. kept_if false;
 }
 
--- two stages besides, what `morx` does without features, or what `kerx` and `kern` do by mask 4
+-- two stages besides, what `morx` does without features, or what `kerx` and `kern` do by mask 4, or `trak` by mask 5
 abbrev pub of_two_stages : LookupMeaning
 of_two_stages = record always_called { stage = λ i. kept_if (nat_lt i 2) }
 
@@ -47,18 +48,22 @@ of_kerx = record always_called { aat_position = λ mask. kept_if (mask == 4) }
 abbrev pub of_kern : LookupMeaning
 of_kern = record always_called { kern = λ mask. kept_if (mask == 4) }
 
+abbrev pub of_trak : LookupMeaning
+of_trak = record always_called { aat_track = λ mask. kept_if (mask == 5) }
+
 -- which tables a plan applies
 pub record Applied : Type 0 where
   pub morx : Bool
   pub gpos : Bool
   pub kerx : Bool
   pub kern : Bool
+  pub trak : Bool
 
 abbrev pub no_table : Applied
-no_table = record { morx = false; gpos = false; kerx = false; kern = false }
+no_table = record { morx = false; gpos = false; kerx = false; kern = false; trak = false }
 
--- the run over such lookups, by a plan that applies these tables and has so many stages, no feature of the user's and
--- kerning's mask 4
+-- the run over such lookups, by a plan that applies these tables and has so many stages, no feature of the user's,
+-- kerning's mask 4 and tracking's 5
 abbrev pub over : Run → LookupMeaning → Applied → ℕ → Run
 over run lookups applied stages = record run {
   lookups = lookups;
@@ -69,7 +74,9 @@ over run lookups applied stages = record run {
     apply_gpos = applied.gpos;
     apply_kerx = applied.kerx;
     apply_kern = applied.kern;
+    apply_trak = applied.trak;
     kern_mask = 4;
+    trak_mask = 5;
   };
 }
 
@@ -93,6 +100,7 @@ pub record PremisesMet : Type 0 where
   pub gpos : Met of_gpos (record no_table { gpos = true; kerx = true }) 0
   pub kerx : Met of_kerx (record no_table { kerx = true }) 0
   pub kern : Met of_kern (record no_table { kern = true }) 0
+  pub trak : Met of_trak (record no_table { trak = true }) 0
 
 pub record PremisesMissed : Type 0 where
   pub third_stage : Missed of_two_stages no_table 3
@@ -101,6 +109,7 @@ pub record PremisesMissed : Type 0 where
   pub gpos_unmet : Missed of_kerx (record no_table { gpos = true; kerx = true }) 0
   pub kerx_unmet : Missed of_gpos (record no_table { kerx = true }) 0
   pub kern_unmet : Missed of_gpos (record no_table { gpos = true; kern = true }) 0
+  pub trak_unmet : Missed of_kern (record no_table { kern = true; trak = true }) 0
 
 pub record WorkedPremises : Type 0 where
   pub met : PremisesMet
