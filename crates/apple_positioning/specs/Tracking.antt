@@ -1,12 +1,14 @@
 -- Tracking (TrueType Reference Manual, "The 'trak' table"): how much wider or closer glyphs stand in a text of some point size.
 -- Sizes and values are computed in binary32, as HarfBuzz computes them.
-use Rattle.std.specs.Prelude.{ℕ, ℤ, pos, List, Bool, Option, ◌+◌, ◌-◌, ◌*◌, ◌||◌, ◌&&◌, true, false, not, nat_eq, int_div, slice_index_or}
+use Rattle.std.specs.Prelude.{ℕ, ℤ, pos, List, Bool, Option, ◌+◌, ◌-◌, ◌*◌, ◌||◌, ◌&&◌, not, nat_eq, int_div, slice_index_or}
 use Rattle.std.specs.Prelude.{slice_set, if◌then◌else◌}
 use Rattle.std.specs.Option.{option_map, option_map_or, unwrap_or}
 use Rattle.std.specs.Int.RustNames.{bit_and}
 use Rattle.std.specs.Float.{Float, binary32}
 use lib.Ieee.{add, sub, mul, div, eq, le, of_int}
 use Rattle.font_bytes.specs.Bytes.{i32_of}
+use Rattle.font_sizes.specs.Scales.{real_of}
+use Rattle.font_sizes.specs.declared.scales.Scale.{Scale}
 use Rattle.font_variations.specs.Deltas.{rounded}
 use Rattle.shape_font.specs.Bytes.{u16_of, u32_of, i16_of, fitting}
 use Rattle.shape_font.specs.Search.{first_at}
@@ -17,6 +19,7 @@ use Rattle.shape_common.specs.Wrapping.{◌+ʷ◌}
 use Rattle.shape_common.specs.declared.positions.GlyphPosition.{GlyphPosition}
 use Rattle.shape_items.specs.Buffer.{Buffer}
 use Rattle.shape_items.specs.Items.{Item, new_item}
+use Rattle.apple_positioning.specs.declared.tracking.Spacing.{Spacing}
 use Rattle.apple_positioning.specs.declared.tracking.TheConstants.{FIXED_ONE, NO_SIZE, WHOLE}
 
 -- ---- the header: a version (16.16), a format, and where the data for horizontal text and for vertical text stand (16 bits each);
@@ -89,29 +92,41 @@ tracking_of t horizontal points = let start = data_of t horizontal in
 
 -- ---- a run
 
--- HarfBuzz scales the tracking in binary32, at the size of the em square, too: it stays the same up to 2^23
-abbrev pub scaled : ℤ → ℤ
-scaled n = rounded (of_int binary32 n)
+-- a number along the line at the size of the font: HarfBuzz multiplies it in binary32, and takes the nearest integer, halves upwards. At
+-- the size of the em square it stays the same up to 2^23
+unfoldable pub scaled : Option Scale → Bool → ℤ → ℤ
+scaled scale along n =
+    rounded (option_map_or (λ (s : Scale). real_of (if along then s.across else s.up) n) scale (of_int binary32 n))
 
--- a glyph becomes wider along the line, and stands in the middle: half of that, towards 0, moves it
-abbrev pub moved : Bool → ℤ → GlyphPosition → GlyphPosition
-moved true by p = record p { x_advance = p.x_advance +ʷ scaled by; x_offset = p.x_offset +ʷ scaled (int_div by (pos 2)) }
-moved false by p = record p { y_advance = p.y_advance +ʷ scaled by; y_offset = p.y_offset +ʷ scaled (int_div by (pos 2)) }
+-- a glyph becomes wider along the line, and stands in the middle: half of the tracking, towards 0, moves it, scaled by itself
+abbrev pub spacing_of : Option Scale → Bool → ℤ → Spacing
+spacing_of scale along by = record {
+  along = along;
+  advance = scaled scale along by;
+  offset = scaled scale along (int_div by (pos 2));
+}
+
+abbrev pub moved : Spacing → GlyphPosition → GlyphPosition
+moved w p = if w.along then record p { x_advance = p.x_advance +ʷ w.advance; x_offset = p.x_offset +ʷ w.offset }
+    else record p { y_advance = p.y_advance +ʷ w.advance; y_offset = p.y_offset +ʷ w.offset }
 
 abbrev pub is_tracked : ℕ → Item → Bool
 is_tracked mask item = not (nat_eq (bit_and item.mask mask) 0)
 
 -- the first glyph of each grapheme moves: one that continues none
-abbrev pub start_moved : Bool → ℤ → ℕ → Item → GlyphPosition → GlyphPosition
-start_moved along by mask item p = if is_tracked mask item && not item.properties.continuation then moved along by p else p
+abbrev pub start_moved : Spacing → ℕ → Item → GlyphPosition → GlyphPosition
+start_moved w mask item p = if is_tracked mask item && not item.properties.continuation then moved w p else p
 
 -- the first glyph of the list begins a grapheme, even if it continues one
-abbrev pub first_moved : Bool → ℤ → ℕ → Buffer → Buffer
-first_moved along by mask b = let item = slice_index_or b.items 0 (new_item 0 0) in
+abbrev pub first_moved : Spacing → ℕ → Buffer → Buffer
+first_moved w mask b = let item = slice_index_or b.items 0 (new_item 0 0) in
     (if is_tracked mask item && item.properties.continuation
-    then record b { positions = slice_set b.positions 0 (moved along by (slice_index_or b.positions 0 zero_position)) }
+    then record b { positions = slice_set b.positions 0 (moved w (slice_index_or b.positions 0 zero_position)) }
     else b)
 
-unfoldable pub run_tracked : List ℕ → Float → ℕ → Buffer → Buffer
-run_tracked t points mask b = let along = is_horizontal b.direction in let by = tracking_of t along points in
-    first_moved along by mask (positions_mapped (start_moved along by mask) b)
+abbrev pub run_spaced : Spacing → ℕ → Buffer → Buffer
+run_spaced w mask b = first_moved w mask (positions_mapped (start_moved w mask) b)
+
+unfoldable pub run_tracked : List ℕ → Option Scale → Float → ℕ → Buffer → Buffer
+run_tracked t scale points mask b = let along = is_horizontal b.direction in
+    run_spaced (spacing_of scale along (tracking_of t along points)) mask b

@@ -8,6 +8,7 @@ ghost use Rattle.shape_buffer.specs.PositionWalks.{positions_mapped};
 ghost use Rattle.shape_font.specs.Search.{first_at};
 
 use font_bytes::bytes::i32_at;
+use font_sizes::Scale;
 use font_variations::deltas::rounded;
 use shape_buffer::buffer::{GlyphPosition, hb_buffer_t, hb_glyph_info_t, hb_mask_t};
 use shape_buffer::position_walks::update_positions;
@@ -224,24 +225,51 @@ pub fn tracking(trak: &[u8], horizontal: bool, points: f32) -> i32
     }
 }
 
-/// A number as it is scaled, at the size of the em square.
-fn scaled(n: i32) -> i32
-    ensures { result ≡ tracking_rules.scaled n }
+/// By how much glyphs of a run stand wider along the line.
+#[derive(Clone, Copy, Debug)]
+pub struct Spacing {
+    /// Whether the line is horizontal.
+    pub along: bool,
+    /// What is added to an advance.
+    pub advance: i32,
+    /// How far a glyph is moved.
+    pub offset: i32,
+}
+
+/// A number along the line at the size of the font, which is multiplied in binary32.
+#[tactic(auto, unfolding(crate::specs::Tracking::scaled))]
+fn scaled(scale: Option<Scale>, along: bool, n: i32) -> i32
+    ensures { result ≡ tracking_rules.scaled scale along n }
 {
-    rounded(nearest_i32_to_f32(n))
+    let Some(scale) = scale else {
+        return rounded(nearest_i32_to_f32(n));
+    };
+    let axis = if along { scale.across } else { scale.up };
+    rounded(axis.real(n))
+}
+
+/// What tracking adds to advances and offsets: half of it, towards 0, is scaled by itself.
+fn spacing_by(scale: Option<Scale>, along: bool, by: i32) -> Spacing
+    ensures { result ≡ tracking_rules.spacing_of scale along by }
+{
+    Spacing {
+        along,
+        advance: scaled(scale, along, by),
+        offset: scaled(scale, along, half(by)),
+    }
 }
 
 /// A position that is wider along the line, with its glyph in the middle.
-fn moved(along: bool, by: i32, position: GlyphPosition) -> GlyphPosition
-    ensures { result ≡ tracking_rules.moved along by position }
+fn moved(spacing: Spacing, position: GlyphPosition) -> GlyphPosition
+    ensures { result ≡ tracking_rules.moved spacing position }
 {
     let mut position = position;
-    if along {
-        position.x_advance = sum(position.x_advance, scaled(by));
-        position.x_offset = sum(position.x_offset, scaled(half(by)));
+    if spacing.along {
+        position.x_advance = sum(position.x_advance, spacing.advance);
+        position.x_offset = sum(position.x_offset, spacing.offset);
     } else {
-        position.y_advance = sum(position.y_advance, scaled(by));
-        position.y_offset = sum(position.y_offset, scaled(half(by)));
+        position.y_advance = sum(position.y_advance, spacing.advance);
+        position.y_offset = sum(position.y_offset, spacing.offset);
     }
     position
 }
@@ -255,54 +283,60 @@ fn is_tracked(mask: hb_mask_t, item: &hb_glyph_info_t) -> bool
 
 /// The position of a glyph that may begin a grapheme.
 fn start_moved(
-    along: bool,
-    by: i32,
+    spacing: Spacing,
     mask: hb_mask_t,
     item: &hb_glyph_info_t,
     position: GlyphPosition,
 ) -> GlyphPosition
-    ensures { result ≡ tracking_rules.start_moved along by mask item.now position }
+    ensures { result ≡ tracking_rules.start_moved spacing mask item.now position }
 {
     if is_tracked(mask, item) && !item._hb_glyph_info_get_continuation() {
-        moved(along, by, position)
+        moved(spacing, position)
     } else {
         position
     }
 }
 
 /// Moves the glyphs that continue no grapheme.
-fn move_starts(along: bool, by: i32, mask: hb_mask_t, buffer: &mut hb_buffer_t)
-    ensures { Made (positions_mapped (tracking_rules.start_moved along by mask))
+fn move_starts(spacing: Spacing, mask: hb_mask_t, buffer: &mut hb_buffer_t)
+    ensures { Made (positions_mapped (tracking_rules.start_moved spacing mask))
         buffer.old buffer.new }
 {
     update_positions(buffer, |info, position| {
-        start_moved(along, by, mask, info, position)
+        start_moved(spacing, mask, info, position)
     });
 }
 
 /// Moves the first glyph of the list if it continues a grapheme: it begins one all the same.
-fn move_first(along: bool, by: i32, mask: hb_mask_t, buffer: &mut hb_buffer_t)
-    ensures { Made (tracking_rules.first_moved along by mask) buffer.old buffer.new }
+fn move_first(spacing: Spacing, mask: hb_mask_t, buffer: &mut hb_buffer_t)
+    ensures { Made (tracking_rules.first_moved spacing mask) buffer.old buffer.new }
 {
     if buffer.len() == 0 {
         return;
     }
     let item = buffer.infos()[0];
     if is_tracked(mask, &item) && item._hb_glyph_info_get_continuation() {
-        let position = moved(along, by, buffer.positions()[0]);
+        let position = moved(spacing, buffer.positions()[0]);
         buffer.set_position(0, position);
     }
 }
 
 /// Moves the glyphs of a run by the tracking of a point size, grapheme by grapheme: the first glyph
 /// of each for which the mask has tracking on becomes wider, and half of that, towards 0, is added
-/// to its offset. Takes no memory, and refuses nothing.
+/// to its offset. Both are scaled if the font has a size, each by itself. Takes no memory, and
+/// refuses nothing.
 #[tactic(auto, unfolding(crate::specs::Tracking::run_tracked))]
-pub fn track_run(trak: &[u8], points: f32, mask: hb_mask_t, buffer: &mut hb_buffer_t)
-    ensures { Made (tracking_rules.run_tracked trak.now points mask) buffer.old buffer.new }
+pub fn track_run(
+    trak: &[u8],
+    scale: Option<Scale>,
+    points: f32,
+    mask: hb_mask_t,
+    buffer: &mut hb_buffer_t,
+)
+    ensures { Made (tracking_rules.run_tracked trak.now scale points mask) buffer.old buffer.new }
 {
     let along = buffer.direction().is_horizontal();
-    let by = tracking(trak, along, points);
-    move_starts(along, by, mask, buffer);
-    move_first(along, by, mask, buffer);
+    let spacing = spacing_by(scale, along, tracking(trak, along, points));
+    move_starts(spacing, mask, buffer);
+    move_first(spacing, mask, buffer);
 }

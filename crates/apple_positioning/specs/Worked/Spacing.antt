@@ -1,10 +1,13 @@
 -- Tracking, on tables of 16-bit words that were read by hand.
-use Rattle.std.specs.Prelude.{◌≡◌, ℕ, ℤ, pos, negsuc, List, [], ◌∷◌, map, true, false, refl}
+use Rattle.std.specs.Prelude.{◌≡◌, ℕ, ℤ, pos, negsuc, List, [], ◌∷◌, map, Option, Some, None, true, false, refl}
 use Rattle.std.specs.Float.{Float, fin, round_with}
 use lib.Count.{count_trailing_zeros}
 use lib.Ieee.{round, size, span, climb, units, odd, of_bits, of_fields, of_int, div, mul, add, sub, neg, sum, eq, lt, le, to_signed}
 use Rattle.std.specs.Int.{int_wrap}
 use Rattle.font_bytes.specs.Bytes.{i32_of}
+use Rattle.font_sizes.specs.Factors.{quotient}
+use Rattle.font_sizes.specs.Scales.{real_factor, scale_of}
+use Rattle.font_sizes.specs.declared.scales.Scale.{Scale}
 use Rattle.font_variations.specs.Deltas.{rounded}
 use Rattle.shape_buffer.specs.PositionWalks.{positions_mapped}
 use Rattle.shape_common.specs.Positions.{zero_position}
@@ -61,6 +64,13 @@ pub record WorkedTracking : Type 0 where
   pub room_for_tracks : track_count (table_of 1 12 0xFFFF 3) 12 ≡ 6
   pub room_for_sizes : size_count (table_of 1 12 2 0xFFFF) 12 ≡ 9
 
+-- an em square of 1,000 units that is 750 wide and 2,000 high, and one that is 20 wide and high
+abbrev pub wide_and_high : Scale
+wide_and_high = scale_of (record { x = pos 750; y = pos 2000 }) 1000
+
+abbrev pub small : Scale
+small = scale_of (record { x = pos 20; y = pos 20 }) 1000
+
 pub record WorkedParts : Type 0 where
   pub half_a_point : size_of (words (0 ∷ 0x8000 ∷ [])) 0 0 ≡ fin false 1 (negsuc 0)
   pub below_0 : size_of (words (1 ∷ 0 ∷ 0xFFFF ∷ 0 ∷ [])) 0 1 ≡ fin true 1 (pos 0)
@@ -71,9 +81,15 @@ pub record WorkedParts : Type 0 where
   -- 5/6 of 10 and 1/6 of -47 are 1/2, and a little less in binary32
   pub less_than_half : between (pos 10) (negsuc 46) (part (fin false 1 (pos 3)) (fin false 7 (pos 1)) (fin false 9 (pos 0))) ≡ pos 0
   pub past_32_bits : between (pos 0) (pos 32767) (fin false 1 (pos 31)) ≡ pos 2147483647
-  pub scaled_whole : scaled (negsuc 34) ≡ negsuc 34
+  pub scaled_whole : scaled None true (negsuc 34) ≡ negsuc 34
   -- 2^23 + 1 and 1/2 are 2^23 + 2 in binary32
-  pub scaled_of_24_bits : scaled (pos 8388609) ≡ pos 8388610
+  pub scaled_of_24_bits : scaled None true (pos 8388609) ≡ pos 8388610
+  -- 1.5 and -1.5, and twice as much upwards
+  pub scaled_half_up : scaled (Some wide_and_high) true (pos 2) ≡ pos 2
+  pub scaled_half_below_0 : scaled (Some wide_and_high) true (negsuc 1) ≡ negsuc 0
+  pub scaled_upwards : scaled (Some wide_and_high) false (pos 2) ≡ pos 4
+  -- 0.5 in binary32; in 65536ths a little less
+  pub scaled_in_binary32 : scaled (Some small) true (pos 25) ≡ pos 1
 
 -- an item for which tracking is on (bit 4) or off, and one that continues a grapheme
 abbrev pub on : Item
@@ -86,12 +102,15 @@ abbrev pub continuing : Item
 continuing = record on { properties = record new_properties { continuation = true } }
 
 -- a line of these items, each 600 wide, by the table at 36 points
-abbrev pub line : Direction → List Item → Buffer
-line direction items = run_tracked table at_36 16 (record new_buffer {
+abbrev pub line_at : Option Scale → Direction → List Item → Buffer
+line_at scale direction items = run_tracked table scale at_36 16 (record new_buffer {
   items = items;
   positions = map (λ _. record zero_position { x_advance = pos 600 }) items;
   direction = direction;
 })
+
+abbrev pub line : Direction → List Item → Buffer
+line direction items = line_at None direction items
 
 -- advances and offsets along a horizontal line
 abbrev pub along : Buffer → List (ℤ × ℤ)
@@ -117,6 +136,10 @@ pub record WorkedSpacing : Type 0 where
   pub vertical : down (line TopToBottom (on ∷ off ∷ [])) ≡ (pos 7, pos 3) ∷ (pos 0, pos 0) ∷ []
   pub not_along_it : along (line TopToBottom (on ∷ off ∷ [])) ≡ still ∷ still ∷ []
   pub no_glyph : along (line LeftToRight []) ≡ []
+  -- -25.5, and -12.75: each is scaled by itself
+  pub at_a_size : along (line_at (Some wide_and_high) LeftToRight (on ∷ continuing ∷ [])) ≡ (pos 575, negsuc 12) ∷ still ∷ []
+  pub first_at_a_size : along (line_at (Some wide_and_high) LeftToRight (continuing ∷ [])) ≡ (pos 575, negsuc 12) ∷ []
+  pub down_at_a_size : down (line_at (Some wide_and_high) TopToBottom (on ∷ [])) ≡ (pos 14, pos 6) ∷ []
 
 pub worked_tracking : WorkedTracking
 unfolding size_of part between rounded i16_of i32_of round_with div mul sub neg add sum eq lt le to_signed of_int round size span climb
@@ -143,8 +166,8 @@ worked_tracking = record {
 }
 
 pub worked_parts : WorkedParts
-unfolding size_of part between rounded i16_of i32_of round_with div mul sub neg add sum eq lt le to_signed of_int round size span climb
-    units odd count_trailing_zeros of_bits of_fields
+unfolding scaled real_factor quotient size_of part between rounded i16_of i32_of round_with div mul sub neg add sum eq lt le to_signed
+    of_int round size span climb units odd count_trailing_zeros of_bits of_fields
 worked_parts = record {
   half_a_point = refl;
   below_0 = refl;
@@ -155,11 +178,15 @@ worked_parts = record {
   past_32_bits = refl;
   scaled_whole = refl;
   scaled_of_24_bits = refl;
+  scaled_half_up = refl;
+  scaled_half_below_0 = refl;
+  scaled_upwards = refl;
+  scaled_in_binary32 = refl;
 }
 
 pub worked_spacing : WorkedSpacing
-unfolding run_tracked positions_mapped ◌+ʷ◌ int_wrap size_of part between rounded i16_of i32_of round_with div mul sub neg add sum eq lt
-    le to_signed of_int round size span climb units odd count_trailing_zeros of_bits of_fields
+unfolding run_tracked scaled real_factor quotient positions_mapped ◌+ʷ◌ int_wrap size_of part between rounded i16_of i32_of round_with
+    div mul sub neg add sum eq lt le to_signed of_int round size span climb units odd count_trailing_zeros of_bits of_fields
 worked_spacing = record {
   each = refl;
   backward = refl;
@@ -169,4 +196,7 @@ worked_spacing = record {
   vertical = refl;
   not_along_it = refl;
   no_glyph = refl;
+  at_a_size = refl;
+  first_at_a_size = refl;
+  down_at_a_size = refl;
 }
