@@ -1,6 +1,9 @@
 pub mod ChainLemmas
 pub mod DriverLemmas
+pub mod KerxPreservation
 pub mod PairLemmas
+pub mod PreservedLemmas
 pub mod SignedLemmas
 pub mod StackLemmas
 pub mod TableLemmas
+pub mod TrakPreservation

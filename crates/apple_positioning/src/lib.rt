@@ -13,6 +13,7 @@ mod attaching;
 pub mod attachments;
 pub mod chains;
 mod driver;
+pub mod laws;
 mod pairs;
 pub mod runs;
 mod stacking;
