@@ -14,3 +14,4 @@ pub mod InsertionPreservation
 pub mod RearrangementPreservation
 pub mod MorxPreservation
 pub mod DeletedLemmas
+pub mod OutcomeLemmas

@@ -3,7 +3,7 @@
 use Prim.Native.Nat.{zero}
 use Rattle.std.proofs.Common.{ℕ, suc, ◌+◌, ◌-◌, ◌||◌, Bool, true, false, List, [], ◌∷◌, length, replicate, reverse, nat_eq, nat_lt}
 use Rattle.std.proofs.Common.{refl, sym, ◌∙◌, subst, inl, arith, if◌then◌else◌}
-use Rattle.shape_font.specs.Bytes.{u16_of, u32_of}
+use Rattle.shape_font.specs.Bytes.{u32_of}
 use Rattle.shape_items.specs.Buffer.{Buffer}
 use Rattle.shape_items.specs.BufferClusters.{unsafe_to_concat}
 use Rattle.shape_items.specs.ClusterOrder.{PreservesClusters}
@@ -22,7 +22,7 @@ use Rattle.apple_substitution.specs.Drives.{looks_again, marked, met_at, most_st
 use Rattle.apple_substitution.specs.Edits.{broken, charged, is_past}
 use Rattle.apple_substitution.specs.Insertion as insertion_rules
 use Rattle.apple_substitution.specs.Ligature as ligature_rules
-use Rattle.apple_substitution.specs.Metamorphosis.{chains_run, metamorphosed}
+use Rattle.apple_substitution.specs.Metamorphosis.{chains_run, is_present, metamorphosed}
 use Rattle.apple_substitution.specs.Parts.{all_run, is_spent, places_from}
 use Rattle.apple_substitution.specs.Ranges.{STEP_WORK, walk_work}
 use Rattle.apple_substitution.specs.Rearrangement as rearrangement_rules
@@ -183,9 +183,9 @@ pub morx-preserves : (s : chain_rules.Source) (b : Buffer) → Preserves b (meta
 unfolding metamorphosed
 morx-preserves s b =
     let there : Buffer = unsafe_to_concat 0 (length b.items) b in
-    Preserves-if (nat_eq (u16_of s.morx 0) 0) b b (chains_run s (u32_of s.morx 4) there) (Preserves-same b)
+    Preserves-if (is_present s.morx) b (chains_run s (u32_of s.morx 4) there) b
     (Preserves-then b there (chains_run s (u32_of s.morx 4) there) (Preserves-concat 0 (length b.items) b (omega arith))
-    (parts-preserve (chain_work s) (chain_run s) (chain-preserves s) (places_from s.morx CHAIN (u32_of s.morx 4) 8) there))
+    (parts-preserve (chain_work s) (chain_run s) (chain-preserves s) (places_from s.morx CHAIN (u32_of s.morx 4) 8) there)) (Preserves-same b)
 
 -- ---- what that is of a step of a run
 

@@ -4,6 +4,7 @@ ghost use Rattle.apple_substitution.specs.ChainRuns.{source_of};
 ghost use Rattle.apple_substitution.specs.ChainRuns as chain_rules;
 ghost use Rattle.apple_substitution.specs.Edits.{is_past};
 ghost use Rattle.apple_substitution.specs.Metamorphosis as morx_rules;
+ghost use Rattle.shape_buffer.specs.Outcome.{Outcome, step};
 ghost use Rattle.shape_buffer.specs.declared.buffer.error.ShapeError.TheVariants.{Length};
 
 use crate::chain_runs::{Metamorphosis, run_chain};
@@ -13,6 +14,13 @@ use crate::parts::{CHAIN, charge, is_end, size_of};
 use shape_buffer::{ShapeError, hb_buffer_t};
 use shape_font::bytes::{u16_at, u32_at};
 use std::alloc::Global;
+
+/// Whether a font has the table: one of version 0 is none.
+pub fn is_present(morx: &[u8]) -> bool
+    ensures { result ≡ morx_rules.is_present morx.now }
+{
+    u16_at(morx, 0) != 0
+}
 
 /// Runs so many chains.
 #[tactic(auto, using(crate::proofs::PartLemmas::all_made))]
@@ -43,13 +51,9 @@ fn run_chains(
     Ok(())
 }
 
-/// Runs the chains of the table over a text, as HarfBuzz's `hb_aat_layout_substitute` does. What
-/// they cost is taken of the buffer's `max_ops`; a chain or a subtable that what is left doesn't
-/// suffice for is the end. Refuses with `Length` if the list is past the limit of the run then, and
-/// in no other case, and with `Memory` if a growth was refused. After a refusal the buffer may have
-/// lost its items.
+/// Runs the chains of the table, and tells of a list that is past the limit then.
 #[tactic(auto, unfolding(crate::specs::Metamorphosis::metamorphosed))]
-pub fn run_table(
+fn run_all(
     alloc: Global,
     table: &Metamorphosis<'_>,
     buffer: &mut hb_buffer_t,
@@ -61,7 +65,7 @@ pub fn run_table(
         (morx_rules.metamorphosed (source_of table.now) buffer.old) ≡ true }
 {
     let morx = table.tables.morx;
-    if u16_at(morx, 0) != 0 {
+    if is_present(morx) {
         buffer.unsafe_to_concat(0, buffer.len());
         run_chains(alloc, table, u32_at(morx, 4), buffer)?;
     }
@@ -69,4 +73,25 @@ pub fn run_table(
         return Err(ShapeError::Length);
     }
     Ok(())
+}
+
+/// Runs the chains of the table over a text, as HarfBuzz's `hb_aat_layout_substitute` does. What
+/// they cost is taken of the buffer's `max_ops`; a chain or a subtable that what is left doesn't
+/// suffice for is the end. Refuses with `Length` if the list is past the limit of the run then, and
+/// in no other case, and with `Memory` if a growth was refused. After a refusal the buffer may have
+/// lost its items.
+pub fn run_table(
+    alloc: Global,
+    table: &Metamorphosis<'_>,
+    buffer: &mut hb_buffer_t,
+) -> Result<(), ShapeError>
+    ensures ok { OnOk result (buffer.new
+        ≡ morx_rules.metamorphosed (source_of table.now) buffer.old) }
+    ensures within { OnOk result (is_past buffer.new ≡ false) }
+    ensures length { IsErrOf result Length → is_past
+        (morx_rules.metamorphosed (source_of table.now) buffer.old) ≡ true }
+    ensures outcome { Outcome (step (morx_rules.metamorphosed (source_of table.now)))
+        buffer.old buffer.new result }
+{
+    run_all(alloc, table, buffer)
 }
