@@ -1,13 +1,17 @@
--- The end of a run, which removes the glyphs that ligatures left as deleted, preserves clusters and flags, and settings stay.
-use Rattle.std.proofs.Common.{◌≡◌, ◌≤◌, ℕ, length, refl, ap, ◌∙◌, arith}
+-- The end of a run, which removes the glyphs that ligatures left as deleted, preserves clusters and flags, and settings stay. So does
+-- the end of one where they stay, without advances and offsets.
+use Rattle.std.proofs.Common.{◌≡◌, ◌≤◌, ℕ, length, refl, ap, ◌∙◌, inl, arith}
 use Rattle.shape_items.specs.Buffer.{Buffer}
 use Rattle.shape_items.specs.BufferClusters.{merge_clusters}
+use Rattle.shape_items.specs.Clusters.{clusters}
 use Rattle.shape_items.specs.Delete.{give_to_kept}
 use Rattle.shape_items.proofs.Deletion.DeleteLemmas.{hand_on-cases, IsPreservedByLoss, preserved_by_deletion}
 use Rattle.shape_items.proofs.Deletion.DeletePreserves.{deleted_preserves_clusters, deleted_preserves_flags}
 use Rattle.shape_items.proofs.Merging.KeyLemmas.{without_items-merge_clusters}
+use Rattle.shape_buffer.specs.PositionWalks.{positions_mapped}
 use Rattle.shape_buffer.specs.Preservation.{IsClusterPreserving, IsFlagPreserving}
-use Rattle.apple_substitution.specs.Chains.{is_deleted, without_deleted}
+use Rattle.shape_buffer.proofs.Steps.PreservationLemmas.{PreservesClusters-same}
+use Rattle.apple_substitution.specs.Chains.{deleted_narrowed, is_deleted, without_deleted}
 use Rattle.apple_substitution.proofs.PreservedLemmas.{Preserves, Preserves-order}
 
 record SameSettings (before after : Buffer) : Type 0 where
@@ -55,3 +59,13 @@ without_deleted-flags b = (without_deleted-preserves b).flags
 
 pub without_deleted-left : (b : Buffer) → (without_deleted b).max_ops ≤ b.max_ops
 without_deleted-left b = (without_deleted-preserves b).left
+
+-- ---- without advances and offsets they stay
+
+pub deleted_narrowed-order : IsClusterPreserving deleted_narrowed
+unfolding positions_mapped
+deleted_narrowed-order b monotone = record { clusters = PreservesClusters-same (clusters b.items); direction = refl; flags = refl; level = refl }
+
+pub deleted_narrowed-flags : IsFlagPreserving deleted_narrowed
+unfolding positions_mapped
+deleted_narrowed-flags b = record { flags = refl; stays_set = λ set. set; none_new = λ flag defined some. inl some }

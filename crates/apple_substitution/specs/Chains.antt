@@ -1,10 +1,12 @@
 -- Chains of the table morx (TrueType Reference Manual, "The 'morx' table"): the flags of a chain by the features that are asked for,
 -- and how a subtable of it runs.
 use Prim.Native.Nat.{zero}
-use Rattle.std.specs.Prelude.{ℕ, suc, List, Bool, ◌+◌, ◌&&◌, ◌||◌, not, nat_eq, if◌then◌else◌}
+use Rattle.std.specs.Prelude.{ℕ, pos, suc, List, Bool, ◌+◌, ◌&&◌, ◌||◌, not, nat_eq, if◌then◌else◌}
 use Rattle.std.specs.Int.RustNames.{bit_and, bit_or}
 use Rattle.std.specs.List.{list_any}
 use Rattle.shape_common.specs.Direction.{is_backward, is_vertical}
+use Rattle.shape_buffer.specs.PositionWalks.{positions_mapped}
+use Rattle.shape_common.specs.declared.positions.GlyphPosition.{GlyphPosition}
 use Rattle.shape_common.specs.declared.text_types.Direction.{Direction}
 use Rattle.shape_font.specs.Bytes.{u16_of, u32_of, fitting}
 use Rattle.shape_items.specs.Buffer.{Buffer}
@@ -69,3 +71,10 @@ is_deleted item = nat_eq item.glyph_id DELETED_GLYPH
 
 abbrev pub without_deleted : Buffer → Buffer
 without_deleted = deleted is_deleted
+
+-- one that stays to the end has no advances and no offsets; what it is attached to stays
+abbrev pub narrowed : Item → GlyphPosition → GlyphPosition
+narrowed item p = if is_deleted item then record p { x_advance = pos 0; y_advance = pos 0; x_offset = pos 0; y_offset = pos 0 } else p
+
+abbrev pub deleted_narrowed : Buffer → Buffer
+deleted_narrowed = positions_mapped narrowed

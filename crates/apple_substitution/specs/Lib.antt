@@ -18,4 +18,5 @@ pub mod Feat
 pub mod Registry
 pub mod FeatureMap
 pub mod FeatureMapLaws
+pub mod Substitution
 pub mod Worked

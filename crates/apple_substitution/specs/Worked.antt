@@ -1,4 +1,4 @@
--- Walks of a driver, ranges, subtables, and chains, computed by hand.
+-- Walks of a driver, ranges, subtables, chains, and substitution by the tables of a font, computed by hand.
 pub mod Driving
 pub mod Replacing
 pub mod Rearranging
@@ -11,3 +11,4 @@ pub mod Parts
 pub mod Metamorphoses
 pub mod Features
 pub mod FeatureMaps
+pub mod Substituting

@@ -6,7 +6,8 @@ ghost use Rattle.apple_substitution.specs.Chains;
 ghost use Rattle.shape_buffer.specs.Outcome.{Made};
 
 use apple_tables::states::DELETED_GLYPH;
-use shape_buffer::{Direction, hb_buffer_t};
+use shape_buffer::position_walks::update_positions;
+use shape_buffer::{Direction, GlyphPosition, hb_buffer_t, hb_glyph_info_t};
 use shape_font::bytes::{records, u16_at, u32_at};
 
 /// A feature that is asked for, by the numbers of Apple's registry.
@@ -101,4 +102,28 @@ pub fn remove_deleted_glyphs(buffer: &mut hb_buffer_t)
     ensures { Made Chains.without_deleted buffer.old buffer.new }
 {
     buffer.delete_glyphs_inplace(|item| item.glyph_id == DELETED_GLYPH);
+}
+
+/// The position of a glyph, without its advances and offsets if the glyph is a deleted one.
+fn narrowed(item: &hb_glyph_info_t, position: GlyphPosition) -> GlyphPosition
+    ensures { result ≡ Chains.narrowed item.now position }
+{
+    if item.glyph_id != DELETED_GLYPH {
+        return position;
+    }
+    GlyphPosition {
+        x_advance: 0,
+        y_advance: 0,
+        x_offset: 0,
+        y_offset: 0,
+        ..position
+    }
+}
+
+/// Takes the advances and the offsets from the glyphs that ligatures left as deleted, which stay.
+/// Takes no memory.
+pub fn zero_width_deleted(buffer: &mut hb_buffer_t)
+    ensures { Made Chains.deleted_narrowed buffer.old buffer.new }
+{
+    update_positions(buffer, |item, position| narrowed(item, position));
 }

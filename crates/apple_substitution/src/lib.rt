@@ -7,7 +7,7 @@
 //! [`glyphs`] gives. [`ranges`] says where features have a subtable on, [`chains`] by which
 //! flags, and over which text; [`subtables`] runs one by its header. [`chain_runs`] runs those of
 //! a chain, with the flags of [`feature_ranges`], and [`metamorphosis`] the chains of the table;
-//! [`feature_map`] makes the ranges of what is asked for. Any bytes are taken, and a walk ends
+//! [`feature_map`] makes the ranges of what is asked for, and [`substitution`] does both. Any bytes are taken, and a walk ends
 //! for each: what it may cost is charged to the buffer. [`worked`] has the definitions computed
 //! by hand.
 #![tactic(auto)]
@@ -32,15 +32,18 @@ mod parts;
 pub mod ranges;
 pub mod rearrangement;
 pub mod registry;
+pub mod substitution;
 pub mod subtables;
 #[cfg(test)]
 mod tests;
 pub mod worked;
 
 pub use chain_runs::Metamorphosis;
+pub use chains::{remove_deleted_glyphs, zero_width_deleted};
 pub use driver::{Machine, Subtable};
 pub use feature_map::map_features;
 pub use feature_ranges::FeatureRange;
 pub use metamorphosis::run_table;
 pub use ranges::{FlagRange, Ranges};
+pub use substitution::{MorxFont, substitute};
 pub use subtables::{Chain, run_subtable};

@@ -10,12 +10,12 @@ use crate::ligature::{Ligature, Stack};
 use crate::noncontextual::{Noncontextual, substitute_all};
 use crate::rearrangement::{Marks, Rearrangement};
 use crate::{
-    Chain, FeatureRange, FlagRange, Machine, Metamorphosis, Ranges, map_features, run_subtable,
-    run_table,
+    Chain, FeatureRange, FlagRange, Machine, Metamorphosis, MorxFont, Ranges, map_features,
+    run_subtable, run_table, substitute, zero_width_deleted,
 };
 use apple_tables::StateTable;
 use layout_buffer::GapBuffer;
-use shape_buffer::{Direction, ShapeError, hb_buffer_t, hb_glyph_info_t};
+use shape_buffer::{Direction, GlyphPosition, ShapeError, hb_buffer_t, hb_glyph_info_t};
 use shape_common::hb_tag_t;
 use std::alloc::Global;
 
@@ -218,6 +218,55 @@ fn after_chains(alloc: Global, features: Vec<Feature>) -> Result<hb_buffer_t, Sh
     Ok(buffer)
 }
 
+/// The feature `liga` with a value, over these clusters.
+fn ligatures(value: u32, start: u32, end: u32) -> shape_common::Feature {
+    shape_common::Feature {
+        tag: hb_tag_t(0x6C69_6761),
+        value,
+        start,
+        end,
+    }
+}
+
+/// The glyphs after the tables of a font, with what is asked for.
+fn after_font(
+    alloc: Global,
+    features: &[shape_common::Feature],
+) -> Result<hb_buffer_t, ShapeError> {
+    let font = MorxFont {
+        morx: TWO_CHAINS,
+        feat: FEAT,
+        ltag: &[],
+        gdef: &[],
+        glyphs: 10,
+    };
+    let mut buffer = three(alloc)?;
+    if buffer.length_limit() < buffer.len() {
+        return Err(ShapeError::Length);
+    }
+    substitute(alloc, &font, features, &mut buffer)?;
+    Ok(buffer)
+}
+
+/// The advances of a list.
+fn advances(buffer: &hb_buffer_t) -> (i32, i32, i32) {
+    match buffer.positions() {
+        [a, b, c, ..] => (a.x_advance, b.x_advance, c.x_advance),
+        _ => (0, 0, 0),
+    }
+}
+
+/// Advances of 5 for each glyph.
+fn spread(buffer: &mut hb_buffer_t) {
+    let five = GlyphPosition {
+        x_advance: 5,
+        ..GlyphPosition::zero()
+    };
+    for i in 0..buffer.len() {
+        buffer.set_position(i, five);
+    }
+}
+
 /// The last clusters of three ranges.
 fn lasts(ranges: &[FeatureRange]) -> (u32, u32, u32) {
     match ranges {
@@ -310,15 +359,31 @@ fn chains_run_over_a_text(rt: HostRuntime) {
 
 #[test]
 fn features_choose_settings_in_ranges(rt: HostRuntime) {
-    let off = shape_common::Feature {
-        tag: hb_tag_t(0x6C69_6761),
-        value: 0,
-        start: 1,
-        end: 3,
-    };
+    let off = ligatures(0, 1, 3);
     let ranges = map_features(rt.alloc(), FEAT, &[off]).expect(&rt, "memory");
     assert_eq!(rt; ranges.len(), 3);
     assert_eq!(rt; lasts(ranges.as_slice()), (0, 2, 0xFFFF_FFFF));
     assert_eq!(rt; first_setting(ranges.as_slice(), 0), None);
     assert_eq!(rt; first_setting(ranges.as_slice(), 1), Some(3));
+}
+
+#[test]
+fn a_font_substitutes_with_features(rt: HostRuntime) {
+    let none = after_font(rt.alloc(), &[]).expect(&rt, "memory");
+    let on = after_font(rt.alloc(), &[ligatures(1, 0, 0xFFFF_FFFF)]).expect(&rt, "memory");
+    assert_eq!(rt; glyphs(&none), (5, 9, 7));
+    assert_eq!(rt; glyphs(&on), (5, 8, 7));
+}
+
+#[test]
+fn deleted_glyphs_lose_their_width(rt: HostRuntime) {
+    let subtable = Ligature {
+        morx: JOINS,
+        start: 0,
+    };
+    let joined = walked(rt.alloc(), JOINS, 6, &subtable, Stack::new());
+    let mut buffer = joined.expect(&rt, "memory");
+    spread(&mut buffer);
+    zero_width_deleted(&mut buffer);
+    assert_eq!(rt; advances(&buffer), (5, 0, 5));
 }

@@ -9,6 +9,7 @@ ghost use Rattle.apple_substitution.specs.Worked.Inserting.{WorkedWanted, Worked
 ghost use Rattle.apple_substitution.specs.Worked.Inserting.{WorkedPassed, WorkedMarkedInserted};
 ghost use Rattle.apple_substitution.specs.Worked.Inserting.{WorkedBothInserted, WorkedEmpty};
 ghost use Rattle.apple_substitution.specs.Worked.Chaining.{WorkedFlags, WorkedRanges, WorkedCoverage};
+ghost use Rattle.apple_substitution.specs.Worked.Chaining.{WorkedDeleted};
 ghost use Rattle.apple_substitution.specs.Worked.Replacing.{WorkedReplacing};
 ghost use Rattle.apple_substitution.specs.Worked.Running.{WorkedKinds, WorkedOrders, WorkedRuns};
 ghost use Rattle.apple_substitution.specs.Worked.Parts.{WorkedPlaces, WorkedEnds, WorkedPartRuns};
@@ -17,6 +18,7 @@ ghost use Rattle.apple_substitution.specs.Worked.Metamorphoses.{WorkedChains, Wo
 ghost use Rattle.apple_substitution.specs.Worked.Features.{WorkedFeat, WorkedRegistry};
 ghost use Rattle.apple_substitution.specs.Worked.FeatureMaps.{WorkedChoices, WorkedMapped, WorkedAgainst};
 ghost use Rattle.apple_substitution.specs.Worked.FeatureMaps.{WorkedEdges, WorkedTextRanges};
+ghost use Rattle.apple_substitution.specs.Worked.Substituting.{WorkedSubstitutions};
 ghost use Rattle.apple_substitution.specs.Worked.Rearranging.{WorkedVerbs, WorkedSpans};
 
 /// Walks of a driver, where they leave a text unsafe to break, and what they cost.
@@ -68,11 +70,13 @@ pub fn inserting_meets_worked_cases()
     ensures empty { WorkedEmpty }
 {}
 
-/// The flags of a chain, by itself and in ranges of a text, and how its subtables run.
+/// The flags of a chain, by itself and in ranges of a text, how its subtables run, and what becomes
+/// of deleted glyphs.
 pub fn chaining_meets_worked_cases()
     ensures flags { WorkedFlags }
     ensures ranges { WorkedRanges }
     ensures coverage { WorkedCoverage }
+    ensures deleted { WorkedDeleted }
 {}
 
 /// Subtables that run over a text.
@@ -111,4 +115,9 @@ pub fn feature_maps_meet_worked_cases()
     ensures against { WorkedAgainst }
     ensures edges { WorkedEdges }
     ensures ranges { WorkedTextRanges }
+{}
+
+/// Substitution by the tables of a font, with features that are asked for.
+pub fn substitutions_meet_worked_cases()
+    ensures { WorkedSubstitutions }
 {}

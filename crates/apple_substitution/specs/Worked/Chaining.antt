@@ -1,10 +1,13 @@
 -- Flags of a chain, by itself and in ranges, directions, and deleted glyphs, computed by hand on a table of 16-bit words.
-use Rattle.std.specs.Prelude.{◌≡◌, ℕ, List, [], ◌∷◌, true, false, refl}
+use Rattle.std.specs.Prelude.{◌≡◌, ℕ, pos, List, [], ◌∷◌, true, false, refl}
+use Rattle.shape_buffer.specs.PositionWalks.{positions_mapped}
+use Rattle.shape_common.specs.declared.positions.GlyphPosition.{GlyphPosition}
 use Rattle.shape_common.specs.declared.text_types.Direction.TheVariants.{LeftToRight, RightToLeft, TopToBottom, BottomToTop}
 use Rattle.shape_font.specs.Worked.Glyphs.{words}
-use Rattle.apple_substitution.specs.Chains.{chain_flags, covers, entry_count, flags_after, is_deleted, is_reversed}
+use Rattle.shape_items.specs.Buffer.{Buffer}
+use Rattle.apple_substitution.specs.Chains.{chain_flags, covers, deleted_narrowed, entry_count, flags_after, is_deleted, is_reversed, narrowed}
 use Rattle.apple_substitution.specs.FeatureRanges.{Request, flags_in, flags_of, flags_work, looks, looks_in}
-use Rattle.apple_substitution.specs.Worked.Driving.{glyph}
+use Rattle.apple_substitution.specs.Worked.Driving.{glyph, glyphs_of, text}
 use Rattle.apple_substitution.specs.declared.chains.Feature.{Feature}
 
 -- a chain after two bytes: flags 3; it says three entries, and the table has room for two: type 3 with setting 3 sets 4 and unsets
@@ -99,3 +102,21 @@ worked_coverage = record {
   deleted = refl;
   not_deleted = refl;
 }
+
+-- a position, attached by type 5 with chain 6
+abbrev moved : GlyphPosition
+moved = record { x_advance = pos 1; y_advance = pos 2; x_offset = pos 3; y_offset = pos 4; attach_chain = pos 6; attach_type = 5 }
+
+abbrev left : Buffer
+left = record (text (glyph 0xFFFF 0 ∷ glyph 0xFFFE 1 ∷ []) 9) { positions = moved ∷ moved ∷ [] }
+
+pub record WorkedDeleted : Type 0 where
+  pub deleted : narrowed (glyph 0xFFFF 0) moved
+      ≡ record { x_advance = pos 0; y_advance = pos 0; x_offset = pos 0; y_offset = pos 0; attach_chain = pos 6; attach_type = 5 }
+  pub other : narrowed (glyph 0xFFFE 0) moved ≡ moved
+  pub all : (deleted_narrowed left).positions ≡ narrowed (glyph 0xFFFF 0) moved ∷ moved ∷ []
+  pub stays : glyphs_of (deleted_narrowed left) ≡ 0xFFFF ∷ 0xFFFE ∷ []
+
+pub worked_deleted : WorkedDeleted
+unfolding positions_mapped
+worked_deleted = record { deleted = refl; other = refl; all = refl; stays = refl }
