@@ -2,6 +2,7 @@ pub mod EditLemmas
 pub mod DriverLemmas
 pub mod LigatureLemmas
 pub mod InsertionLemmas
+pub mod LanguageLemmas
 pub mod ChainLemmas
 pub mod SubtableLemmas
 pub mod PartLemmas

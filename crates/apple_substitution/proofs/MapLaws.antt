@@ -7,6 +7,7 @@ use Rattle.apple_substitution.specs.FeatureMap.{LAST, edge_after, features_in, r
 use Rattle.apple_substitution.specs.Chains.{chain_flags}
 use Rattle.apple_substitution.specs.FeatureMapLaws.{ChainsHold, RangesHold, features_at, reaches}
 use Rattle.apple_substitution.specs.FeatureRanges.{Request, flags_in, flags_of}
+use Rattle.apple_substitution.specs.Languages.{Spoken}
 use Rattle.apple_substitution.specs.Ranges.{ends_before, flags_at, is_on, place_of, shares}
 use Rattle.apple_substitution.specs.declared.chains.Feature.{Feature}
 use Rattle.apple_substitution.specs.declared.ranges.FlagRange.{FlagRange}
@@ -87,24 +88,24 @@ other_way : (q last : ℕ) (t : Bool) → nat_le q last ≡ t → nat_lt last q 
 other_way q last true e = grind (arith, nat_tests, e)
 other_way q last false e = grind (arith, nat_tests, e)
 
-by_reach : (t : List ℕ) (chain q wanted : ℕ) (r : Request) (rs : List Request) (fs : List Feature) (here : Bool) → reaches q r ≡ here
+by_reach : (t : List ℕ) (l : Spoken) (chain q wanted : ℕ) (r : Request) (rs : List Request) (fs : List Feature) (here : Bool) → reaches q r ≡ here
     → features_at q (r ∷ rs) ≡ Some fs
-    → (features_at q rs ≡ Some fs → is_on (flags_of t chain rs) wanted q ≡ shares (chain_flags t fs chain) wanted)
-    → is_on (flags_of t chain (r ∷ rs)) wanted q ≡ shares (chain_flags t fs chain) wanted
-by_reach t chain q wanted r rs fs true e is after =
+    → (features_at q rs ≡ Some fs → is_on (flags_of t l chain rs) wanted q ≡ shares (chain_flags t l fs chain) wanted)
+    → is_on (flags_of t l chain (r ∷ rs)) wanted q ≡ shares (chain_flags t l fs chain) wanted
+by_reach t l chain q wanted r rs fs true e is after =
     let same : r.features ≡ fs = cc (at_first q r rs e) in
-    first_flags (flags_in t chain r) (flags_of t chain rs) q wanted (other_way q r.last true e)
-    ∙ ap (λ gs. shares (chain_flags t gs chain) wanted) same
-by_reach t chain q wanted r rs fs false e is after =
-    rest_flags (flags_in t chain r) (flags_of t chain rs) q wanted (other_way q r.last false e)
+    first_flags (flags_in t l chain r) (flags_of t l chain rs) q wanted (other_way q r.last true e)
+    ∙ ap (λ gs. shares (chain_flags t l gs chain) wanted) same
+by_reach t l chain q wanted r rs fs false e is after =
+    rest_flags (flags_in t l chain r) (flags_of t l chain rs) q wanted (other_way q r.last false e)
     ∙ after (sym (at_rest q r rs e) ∙ is)
 
-flags_hold : (t : List ℕ) (chain q wanted : ℕ) (rs : List Request) (fs : List Feature) → features_at q rs ≡ Some fs
-    → is_on (flags_of t chain rs) wanted q ≡ shares (chain_flags t fs chain) wanted
-flags_hold t chain q wanted [] fs is = cc
-flags_hold t chain q wanted (r ∷ rs) fs is =
-    by_reach t chain q wanted r rs fs (reaches q r) refl is (flags_hold t chain q wanted rs fs)
+flags_hold : (t : List ℕ) (l : Spoken) (chain q wanted : ℕ) (rs : List Request) (fs : List Feature) → features_at q rs ≡ Some fs
+    → is_on (flags_of t l chain rs) wanted q ≡ shares (chain_flags t l fs chain) wanted
+flags_hold t l chain q wanted [] fs is = cc
+flags_hold t l chain q wanted (r ∷ rs) fs is =
+    by_reach t l chain q wanted r rs fs (reaches q r) refl is (flags_hold t l chain q wanted rs fs)
 
 pub chains_hold : ChainsHold
-chains_hold = λ t chain cs wanted cluster below.
-    flags_hold t chain cluster wanted (ranges_of cs) (features_in cluster cs) (ranges_hold cs cluster below)
+chains_hold = λ t l chain cs wanted cluster below.
+    flags_hold t l chain cluster wanted (ranges_of cs) (features_in cluster cs) (ranges_hold cs cluster below)

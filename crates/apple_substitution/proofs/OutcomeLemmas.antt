@@ -1,5 +1,5 @@
 -- A call of run_table is a step of a run: the limit stays, so it is refused for its length only if the list is past it.
-use Rattle.std.proofs.Common.{◌≡◌, ◌<◌, ◌≤◌, true, false, [], ◌∷◌, Result, Ok, Err, length, unwrap_or, refl, ap, ◌∙◌, subst, inl, arith}
+use Rattle.std.proofs.Common.{◌≡◌, ◌<◌, ◌≤◌, ◌⊎◌, true, false, [], ◌∷◌, Result, Ok, Err, length, unwrap_or, refl, sym, ap, ◌∙◌, subst, inl, arith}
 use Rattle.std.proofs.lemmas.Bool.Decides.{nat_tests}
 use Rattle.std.specs.Prelude.{IsErrOf, OnOk}
 use Rattle.shape_items.specs.Buffer.{Buffer, limit_of, most_countable}
@@ -37,3 +37,21 @@ pub morx-outcome : {T : Type 0} (s : Source) (b c : Buffer) (result : Result T S
     → Outcome (step (metamorphosed s)) b c result
 morx-outcome s b c (Ok x) is within past = morx_ran s b c is within
 morx-outcome {T} s b c (Err error) is within past = morx_refused {T = T} s b error past
+
+-- ---- of one that is made alike
+
+ran_alike : (f g : Buffer → Buffer) (b c : Buffer) → f b ≡ g b → Ran (step g ∷ []) b c → Ran (step f ∷ []) b c
+ran_alike f g b c alike ran =
+    let counted : length (f b).items ≤ limit_of b = subst (λ (d : Buffer). length d.items ≤ limit_of b) (sym alike) ran.each_within.0 in
+    record { made = ran.made ∙ sym alike; each_within = (counted, tt); within = ran.within; same_limit = ran.same_limit }
+
+refused_alike : (f g : Buffer → Buffer) (b : Buffer) (error : ShapeError) → f b ≡ g b → Refused (step g ∷ []) b error
+    → Refused (step f ∷ []) b error
+refused_alike f g b Memory alike refused = for_memory
+refused_alike f g b Length alike (for_length past) =
+    for_length (subst (λ (d : Buffer). (limit_of b < length d.items) ⊎ ⊥) (sym alike) past)
+
+pub outcome_alike : {T : Type 0} (f g : Buffer → Buffer) (b c : Buffer) (result : Result T ShapeError) → f b ≡ g b
+    → Outcome (step g) b c result → Outcome (step f) b c result
+outcome_alike f g b c (Ok x) alike ran = ran_alike f g b c alike ran
+outcome_alike f g b c (Err error) alike refused = refused_alike f g b error alike refused

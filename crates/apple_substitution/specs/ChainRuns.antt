@@ -4,6 +4,7 @@ use Rattle.std.specs.Prelude.{ℕ, List, ◌+◌, ◌*◌, length, map}
 use Rattle.shape_font.specs.Bytes.{u32_of}
 use Rattle.shape_items.specs.Buffer.{Buffer}
 use Rattle.apple_substitution.specs.FeatureRanges.{Request, flags_of, flags_work, request_of}
+use Rattle.apple_substitution.specs.Languages.{Spoken, spoken_of}
 use Rattle.apple_substitution.specs.Parts.{all_run, places_from}
 use Rattle.apple_substitution.specs.Ranges.{STEP_WORK}
 use Rattle.apple_substitution.specs.Subtables as subtable_rules
@@ -11,12 +12,14 @@ use Rattle.apple_substitution.specs.Subtables.{ran}
 use Rattle.apple_substitution.specs.declared.chain_runs.Metamorphosis.{Metamorphosis}
 use Rattle.apple_substitution.specs.declared.parts.TheConstants.{CHAIN, SUBTABLE}
 
--- what chains read: the tables morx and GDEF, how many glyphs the font has, and the features that are asked for in ranges of the text
+-- what chains read: the tables morx and GDEF, how many glyphs the font has, the features that are asked for in ranges of the text, and
+-- the languages of the font with that of the text
 pub record Source : Type 0 where
   pub morx : List ℕ
   pub gdef : List ℕ
   pub glyphs : ℕ
   pub requests : List Request
+  pub languages : Spoken
 
 abbrev pub source_of : Metamorphosis → Source
 source_of m = record {
@@ -24,14 +27,15 @@ source_of m = record {
   gdef = m.tables.gdef.now;
   glyphs = m.tables.glyphs;
   requests = map request_of m.features.now;
+  languages = spoken_of m.languages;
 }
 
 -- what its subtables read
 abbrev pub chain_at : Source → ℕ → subtable_rules.Source
-chain_at s chain = record { morx = s.morx; gdef = s.gdef; glyphs = s.glyphs; ranges = flags_of s.morx chain s.requests }
+chain_at s chain = record { morx = s.morx; gdef = s.gdef; glyphs = s.glyphs; ranges = flags_of s.morx s.languages chain s.requests }
 
 abbrev pub chain_work : Source → ℕ → ℕ
-chain_work s chain = flags_work s.morx chain s.requests
+chain_work s chain = flags_work s.morx s.languages chain s.requests
 
 -- ---- its subtables, after its header and its entries of features, of twelve bytes each. Of both it says how many there are
 

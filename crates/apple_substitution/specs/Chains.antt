@@ -1,5 +1,5 @@
--- Chains of the table morx (TrueType Reference Manual, "The 'morx' table"): the flags of a chain by the features that are asked for,
--- and how a subtable of it runs.
+-- Chains of the table morx (TrueType Reference Manual, "The 'morx' table"): the flags of a chain by the features that are asked for
+-- and by the language of the text, and how a subtable of it runs.
 use Prim.Native.Nat.{zero}
 use Rattle.std.specs.Prelude.{ℕ, pos, suc, List, Bool, ◌+◌, ◌&&◌, ◌||◌, not, nat_eq, if◌then◌else◌}
 use Rattle.std.specs.Int.RustNames.{bit_and, bit_or}
@@ -13,6 +13,7 @@ use Rattle.shape_items.specs.Buffer.{Buffer}
 use Rattle.shape_items.specs.Delete.{deleted}
 use Rattle.shape_items.specs.Items.{Item}
 use Rattle.apple_tables.specs.declared.states.TheConstants.{DELETED_GLYPH}
+use Rattle.apple_substitution.specs.Languages.{Spoken, is_spoken}
 use Rattle.apple_substitution.specs.Ranges.{shares}
 use Rattle.apple_substitution.specs.declared.chains.Feature.{Feature}
 
@@ -28,27 +29,32 @@ is_requested features kind setting = list_any (is_feature kind setting) features
 abbrev pub are_capitals : ℕ → ℕ → Bool
 are_capitals kind setting = nat_eq kind 3 && nat_eq setting 3
 
-abbrev pub is_on : List Feature → ℕ → ℕ → Bool
-is_on features kind setting = is_requested features kind setting
+-- and the settings of type 39 are languages, of which those of the text are on
+abbrev pub LANGUAGE : ℕ
+LANGUAGE = 39
+
+abbrev pub is_on : Spoken → List Feature → ℕ → ℕ → Bool
+is_on l features kind setting = is_requested features kind setting
     || (are_capitals kind setting && is_requested features 37 1)
+    || (nat_eq kind LANGUAGE && is_spoken l setting)
 
 -- an entry has a type, a setting, the flags that it sets, and those that it leaves
-abbrev pub flags_after : List ℕ → List Feature → ℕ → ℕ → ℕ
-flags_after t features at flags = if is_on features (u16_of t at) (u16_of t (at + 2))
+abbrev pub flags_after : List ℕ → Spoken → List Feature → ℕ → ℕ → ℕ
+flags_after t l features at flags = if is_on l features (u16_of t at) (u16_of t (at + 2))
     then bit_or (bit_and flags (u32_of t (at + 8))) (u32_of t (at + 4))
     else flags
 
 -- n entries from a place on
-abbrev pub flags_from : List ℕ → List Feature → ℕ → ℕ → ℕ → ℕ
-flags_from t features at zero flags = flags
-flags_from t features at (suc n) flags = flags_from t features (at + 12) n (flags_after t features at flags)
+abbrev pub flags_from : List ℕ → Spoken → List Feature → ℕ → ℕ → ℕ → ℕ
+flags_from t l features at zero flags = flags
+flags_from t l features at (suc n) flags = flags_from t l features (at + 12) n (flags_after t l features at flags)
 
 -- a chain begins with its flags as they are by themselves, its length, and how many entries of features follow, and subtables
 abbrev pub entry_count : List ℕ → ℕ → ℕ
 entry_count t chain = fitting t (u32_of t (chain + 8)) (chain + 16) 12
 
-unfoldable pub chain_flags : List ℕ → List Feature → ℕ → ℕ
-chain_flags t features chain = flags_from t features (chain + 16) (entry_count t chain) (u32_of t chain)
+unfoldable pub chain_flags : List ℕ → Spoken → List Feature → ℕ → ℕ
+chain_flags t l features chain = flags_from t l features (chain + 16) (entry_count t chain) (u32_of t chain)
 
 -- ---- how a subtable runs
 

@@ -5,6 +5,7 @@ use Rattle.std.specs.Option.{option_map}
 use Rattle.apple_substitution.specs.Chains.{chain_flags}
 use Rattle.apple_substitution.specs.FeatureMap.{LAST, features_in, ranges_of}
 use Rattle.apple_substitution.specs.FeatureRanges.{Request, flags_of}
+use Rattle.apple_substitution.specs.Languages.{Spoken}
 use Rattle.apple_substitution.specs.Ranges.{is_on, shares}
 use Rattle.apple_substitution.specs.declared.chains.Feature.{Feature}
 use Rattle.apple_substitution.specs.declared.feature_map.Choice.{Choice}
@@ -20,7 +21,7 @@ abbrev pub RangesHold : Type 0
 RangesHold = (cs : List Choice) (cluster : ℕ) → cluster < LAST
     → features_at cluster (ranges_of cs) ≡ Some (features_in cluster cs)
 
--- a chain has a subtable on in a cluster exactly by its flags by those settings
+-- a chain has a subtable on in a cluster exactly by its flags by those settings, whatever the languages are
 abbrev pub ChainsHold : Type 0
-ChainsHold = (t : List ℕ) (chain : ℕ) (cs : List Choice) (wanted cluster : ℕ) → cluster < LAST
-    → is_on (flags_of t chain (ranges_of cs)) wanted cluster ≡ shares (chain_flags t (features_in cluster cs) chain) wanted
+ChainsHold = (t : List ℕ) (l : Spoken) (chain : ℕ) (cs : List Choice) (wanted cluster : ℕ) → cluster < LAST
+    → is_on (flags_of t l chain (ranges_of cs)) wanted cluster ≡ shares (chain_flags t l (features_in cluster cs) chain) wanted

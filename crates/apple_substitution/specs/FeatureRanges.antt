@@ -3,6 +3,7 @@ use Rattle.std.specs.Prelude.{ℕ, List, ◌+◌, ◌*◌, length, map, min}
 use Rattle.std.specs.List.{sum_by}
 use Rattle.shape_items.specs.Buffer.{most_countable}
 use Rattle.apple_substitution.specs.Chains.{chain_flags, entry_count}
+use Rattle.apple_substitution.specs.Languages.{MOST_LETTERS, Spoken}
 use Rattle.apple_substitution.specs.Ranges.{STEP_WORK}
 use Rattle.apple_substitution.specs.declared.chains.Feature.{Feature}
 use Rattle.apple_substitution.specs.declared.feature_ranges.FeatureRange.{FeatureRange}
@@ -17,19 +18,23 @@ abbrev pub request_of : FeatureRange → Request
 request_of range = record { last = range.last; features = range.features.items }
 
 -- there the chain has the flags of these features
-abbrev pub flags_in : List ℕ → ℕ → Request → FlagRange
-flags_in t chain request = record { last = request.last; flags = chain_flags t request.features chain }
+abbrev pub flags_in : List ℕ → Spoken → ℕ → Request → FlagRange
+flags_in t l chain request = record { last = request.last; flags = chain_flags t l request.features chain }
 
-abbrev pub flags_of : List ℕ → ℕ → List Request → List FlagRange
-flags_of t chain requests = map (flags_in t chain) requests
+abbrev pub flags_of : List ℕ → Spoken → ℕ → List Request → List FlagRange
+flags_of t l chain requests = map (flags_in t l chain) requests
 
--- ---- what they cost: each entry of the chain is looked for in each range, among the features there
+-- ---- what they cost: each entry of the chain is looked for in each range, among the features there, and may be compared to the
+-- ---- language of the text, letter by letter
 
-abbrev pub looks_in : Request → ℕ
-looks_in request = 1 + length request.features
+abbrev pub letter_count : List ℕ → ℕ
+letter_count text = min (length text) MOST_LETTERS
 
-abbrev pub looks : List Request → ℕ
-looks requests = min (sum_by looks_in requests) most_countable
+abbrev pub looks_in : ℕ → Request → ℕ
+looks_in letters request = 1 + letters + length request.features
 
-abbrev pub flags_work : List ℕ → ℕ → List Request → ℕ
-flags_work t chain requests = min (STEP_WORK + entry_count t chain * looks requests) most_countable
+abbrev pub looks : Spoken → List Request → ℕ
+looks l requests = min (sum_by (looks_in (letter_count l.text)) requests) most_countable
+
+abbrev pub flags_work : List ℕ → Spoken → ℕ → List Request → ℕ
+flags_work t l chain requests = min (STEP_WORK + entry_count t chain * looks l requests) most_countable

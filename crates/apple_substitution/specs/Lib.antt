@@ -8,6 +8,7 @@ pub mod Rearrangement
 pub mod Contextual
 pub mod Ligature
 pub mod Insertion
+pub mod Languages
 pub mod Chains
 pub mod Subtables
 pub mod Parts

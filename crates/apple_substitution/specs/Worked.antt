@@ -5,6 +5,7 @@ pub mod Rearranging
 pub mod Contexts
 pub mod Ligating
 pub mod Inserting
+pub mod Languages
 pub mod Chaining
 pub mod Running
 pub mod Parts

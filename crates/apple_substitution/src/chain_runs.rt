@@ -7,6 +7,7 @@ ghost use Rattle.shape_buffer.specs.declared.buffer.error.ShapeError.TheVariants
 
 use crate::feature_ranges::{FeatureRange, flags_of};
 use crate::glyphs::Tables;
+use crate::languages::Languages;
 use crate::parts::{CHAIN, SUBTABLE, charge, is_end, size_of};
 use crate::ranges::STEP_WORK;
 use crate::subtables::{Chain, run_subtable};
@@ -22,6 +23,8 @@ pub struct Metamorphosis<'a> {
     /// The features that are asked for, in ranges of the text in their order. The last range ends
     /// with the greatest cluster.
     pub features: &'a [FeatureRange],
+    /// The languages of the font, and that of the text.
+    pub languages: Languages<'a>,
 }
 
 /// Runs so many subtables of a chain from a place on.
@@ -79,7 +82,7 @@ pub(crate) fn run_chain(
         (chain_rules.chain_run (chain_rules.source_of table.now) at buffer.old) ≡ true }
 {
     let morx = table.tables.morx;
-    let flags = flags_of(alloc, morx, at, table.features)?;
+    let flags = flags_of(alloc, morx, at, table.features, &table.languages)?;
     let chain = Chain {
         tables: table.tables,
         ranges: flags.as_slice(),

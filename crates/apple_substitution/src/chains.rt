@@ -3,8 +3,10 @@
 ghost use Rattle.std.specs.Prelude.{◌≡◌, ◌<◌, ◌^◌};
 ghost use Rattle.std.specs.List.{list_any};
 ghost use Rattle.apple_substitution.specs.Chains;
+ghost use Rattle.apple_substitution.specs.Languages.{spoken_of};
 ghost use Rattle.shape_buffer.specs.Outcome.{Made};
 
+use crate::languages::{Languages, is_spoken};
 use apple_tables::states::DELETED_GLYPH;
 use shape_buffer::position_walks::update_positions;
 use shape_buffer::{Direction, GlyphPosition, hb_buffer_t, hb_glyph_info_t};
@@ -27,20 +29,28 @@ fn is_requested(features: &[Feature], kind: u16, setting: u32) -> bool
 }
 
 /// Whether an entry for this type and this setting counts. Small capitals were setting 3 of type 3,
-/// see <https://github.com/harfbuzz/harfbuzz/issues/1342>.
-fn is_on(features: &[Feature], kind: u16, setting: u32) -> bool
-    ensures { result ≡ Chains.is_on features.now kind setting }
+/// see <https://github.com/harfbuzz/harfbuzz/issues/1342>. The settings of type 39 are languages.
+fn is_on(features: &[Feature], languages: &Languages<'_>, kind: u16, setting: u32) -> bool
+    ensures { result ≡ Chains.is_on (spoken_of languages.now) features.now kind setting }
 {
     is_requested(features, kind, setting)
         || kind == 3 && setting == 3 && is_requested(features, 37, 1)
+        || kind == 39 && is_spoken(languages, setting)
 }
 
 /// The flags after the entry at a place.
-fn flags_after(morx: &[u8], features: &[Feature], at: usize, flags: u32) -> u32
+fn flags_after(
+    morx: &[u8],
+    features: &[Feature],
+    languages: &Languages<'_>,
+    at: usize,
+    flags: u32,
+) -> u32
     requires { at < 2 ^ 39 }
-    ensures { result ≡ Chains.flags_after morx.now features.now at flags }
+    ensures { result ≡ Chains.flags_after morx.now (spoken_of languages.now) features.now at flags }
 {
-    if is_on(features, u16_at(morx, at), u32::from(u16_at(morx, at + 2))) {
+    let setting = u32::from(u16_at(morx, at + 2));
+    if is_on(features, languages, u16_at(morx, at), setting) {
         flags & u32_at(morx, at + 8) | u32_at(morx, at + 4)
     } else {
         flags
@@ -55,18 +65,18 @@ pub(crate) fn entry_count(morx: &[u8], chain: u32) -> u32
     records(morx, u32_at(morx, chain + 8), chain + 16, 12)
 }
 
-/// The flags of the chain that begins at `chain`, by the features that are asked for (TrueType
-/// Reference Manual, "The 'morx' table", "Feature subtables"). Takes time in step with the entries
-/// that the chain has for features, and with the features.
+/// The flags of the chain that begins at `chain`, by the features that are asked for, and by the
+/// language of the text (TrueType Reference Manual, "The 'morx' table", "Feature subtables"). Takes
+/// time in step with the entries that the chain has for features, and with the features.
 #[tactic(auto, unfolding(crate::specs::Chains::chain_flags), using(crate::proofs::ChainLemmas::flags_next, crate::proofs::ChainLemmas::flags_all))]
-pub fn chain_flags(morx: &[u8], features: &[Feature], chain: u32) -> u32
-    ensures { result ≡ Chains.chain_flags morx.now features.now chain }
+pub fn chain_flags(morx: &[u8], features: &[Feature], languages: &Languages<'_>, chain: u32) -> u32
+    ensures { result ≡ Chains.chain_flags morx.now (spoken_of languages.now) features.now chain }
 {
     let first = chain as usize + 16;
     let count = entry_count(morx, chain);
     let mut flags = u32_at(morx, chain as usize);
     for i in 0..count {
-        flags = flags_after(morx, features, first + 12 * i as usize, flags);
+        flags = flags_after(morx, features, languages, first + 12 * i as usize, flags);
     }
     flags
 }

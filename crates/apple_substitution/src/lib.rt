@@ -6,10 +6,10 @@
 //! inserts glyphs of a list. [`noncontextual`] replaces each glyph by itself, with the class that
 //! [`glyphs`] gives. [`ranges`] says where features have a subtable on, [`chains`] by which
 //! flags, and over which text; [`subtables`] runs one by its header. [`chain_runs`] runs those of
-//! a chain, with the flags of [`feature_ranges`], and [`metamorphosis`] the chains of the table;
-//! [`feature_map`] makes the ranges of what is asked for, and [`substitution`] does both. Any bytes are taken, and a walk ends
-//! for each: what it may cost is charged to the buffer. [`worked`] has the definitions computed
-//! by hand.
+//! a chain, with the flags of [`feature_ranges`] by features and by [`languages`], and
+//! [`metamorphosis`] the chains of the table; [`feature_map`] makes the ranges of what is asked
+//! for, and [`substitution`] does both. Any bytes are taken, and a walk ends for each: what it may
+//! cost is charged to the buffer. [`worked`] has the definitions computed by hand.
 #![tactic(auto)]
 #![allow(non_camel_case_types)]
 
@@ -24,6 +24,7 @@ pub mod feature_map;
 pub mod feature_ranges;
 pub mod glyphs;
 pub mod insertion;
+pub mod languages;
 pub mod laws;
 pub mod ligature;
 pub mod metamorphosis;
@@ -43,6 +44,7 @@ pub use chains::{remove_deleted_glyphs, zero_width_deleted};
 pub use driver::{Machine, Subtable};
 pub use feature_map::map_features;
 pub use feature_ranges::FeatureRange;
+pub use languages::Languages;
 pub use metamorphosis::run_table;
 pub use ranges::{FlagRange, Ranges};
 pub use substitution::{MorxFont, substitute};

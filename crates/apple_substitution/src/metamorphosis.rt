@@ -38,7 +38,7 @@ fn run_chains(
     let morx = table.tables.morx;
     let mut at: u32 = 8;
     for _i in 0..count {
-        let work = flags_work(morx, at, table.features);
+        let work = flags_work(morx, at, table.features, &table.languages);
         if is_end(morx, CHAIN, at as usize, work, buffer) {
             return Ok(());
         }

@@ -10,8 +10,8 @@ use crate::ligature::{Ligature, Stack};
 use crate::noncontextual::{Noncontextual, substitute_all};
 use crate::rearrangement::{Marks, Rearrangement};
 use crate::{
-    Chain, FeatureRange, FlagRange, Machine, Metamorphosis, MorxFont, Ranges, map_features,
-    run_subtable, run_table, substitute, zero_width_deleted,
+    Chain, FeatureRange, FlagRange, Languages, Machine, Metamorphosis, MorxFont, Ranges,
+    map_features, run_subtable, run_table, substitute, zero_width_deleted,
 };
 use apple_tables::StateTable;
 use layout_buffer::GapBuffer;
@@ -212,6 +212,10 @@ fn after_chains(alloc: Global, features: Vec<Feature>) -> Result<hb_buffer_t, Sh
             glyphs: 10,
         },
         features: &ranges,
+        languages: Languages {
+            ltag: &[],
+            text: &[],
+        },
     };
     let mut buffer = three(alloc)?;
     run_table(alloc, &table, &mut buffer)?;

@@ -9,12 +9,13 @@ ghost use Rattle.apple_substitution.specs.Worked.Inserting.{WorkedWanted, Worked
 ghost use Rattle.apple_substitution.specs.Worked.Inserting.{WorkedPassed, WorkedMarkedInserted};
 ghost use Rattle.apple_substitution.specs.Worked.Inserting.{WorkedBothInserted, WorkedEmpty};
 ghost use Rattle.apple_substitution.specs.Worked.Chaining.{WorkedFlags, WorkedRanges, WorkedCoverage};
-ghost use Rattle.apple_substitution.specs.Worked.Chaining.{WorkedDeleted};
+ghost use Rattle.apple_substitution.specs.Worked.Chaining.{WorkedDeleted, WorkedLanguageFlags};
 ghost use Rattle.apple_substitution.specs.Worked.Replacing.{WorkedReplacing};
 ghost use Rattle.apple_substitution.specs.Worked.Running.{WorkedKinds, WorkedOrders, WorkedRuns};
 ghost use Rattle.apple_substitution.specs.Worked.Parts.{WorkedPlaces, WorkedEnds, WorkedPartRuns};
 ghost use Rattle.apple_substitution.specs.Worked.Metamorphoses.{WorkedSubtables, WorkedChainCosts};
 ghost use Rattle.apple_substitution.specs.Worked.Metamorphoses.{WorkedChains, WorkedLimits, WorkedConcat};
+ghost use Rattle.apple_substitution.specs.Worked.Languages.{WorkedNames, WorkedLetters, WorkedMatches};
 ghost use Rattle.apple_substitution.specs.Worked.Features.{WorkedFeat, WorkedRegistry};
 ghost use Rattle.apple_substitution.specs.Worked.FeatureMaps.{WorkedChoices, WorkedMapped, WorkedAgainst};
 ghost use Rattle.apple_substitution.specs.Worked.FeatureMaps.{WorkedEdges, WorkedTextRanges};
@@ -75,8 +76,16 @@ pub fn inserting_meets_worked_cases()
 pub fn chaining_meets_worked_cases()
     ensures flags { WorkedFlags }
     ensures ranges { WorkedRanges }
+    ensures languages { WorkedLanguageFlags }
     ensures coverage { WorkedCoverage }
     ensures deleted { WorkedDeleted }
+{}
+
+/// Languages that a font names, and whether a text is in one.
+pub fn languages_meet_worked_cases()
+    ensures names { WorkedNames }
+    ensures letters { WorkedLetters }
+    ensures matches { WorkedMatches }
 {}
 
 /// Subtables that run over a text.

@@ -12,7 +12,7 @@ use Rattle.apple_substitution.specs.Insertion.{current_done, inserted_beside}
 use Rattle.apple_substitution.specs.Metamorphosis.{chains_run, metamorphosed}
 use Rattle.apple_substitution.specs.Noncontextual.{all_substituted_by, substituted_by}
 use Rattle.apple_substitution.specs.Subtables.{acted, acted_in_order, ran}
-use Rattle.apple_substitution.specs.Worked.Chaining.{feature}
+use Rattle.apple_substitution.specs.Worked.Chaining.{feature, silent}
 use Rattle.apple_substitution.specs.Worked.Driving.{glyphs_of, masks_of, text}
 use Rattle.apple_substitution.specs.Worked.Running.{both, insertions, replaces}
 
@@ -46,7 +46,7 @@ abbrev in_zero : List Request
 in_zero = record { last = 0; features = feature 1 1 ∷ [] } ∷ none
 
 abbrev source : List ℕ → List Request → Source
-source table requests = record { morx = table; gdef = []; glyphs = 100; requests = requests }
+source table requests = record { morx = table; gdef = []; glyphs = 100; requests = requests; languages = silent }
 
 -- ---- the subtables of a chain
 
