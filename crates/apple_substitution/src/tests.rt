@@ -15,6 +15,7 @@ use crate::{
 };
 use apple_tables::StateTable;
 use layout_buffer::GapBuffer;
+use shape_buffer::position_walks::update_positions;
 use shape_buffer::{Direction, GlyphPosition, ShapeError, hb_buffer_t, hb_glyph_info_t};
 use shape_common::hb_tag_t;
 use std::alloc::Global;
@@ -262,13 +263,13 @@ fn advances(buffer: &hb_buffer_t) -> (i32, i32, i32) {
 
 /// Advances of 5 for each glyph.
 fn spread(buffer: &mut hb_buffer_t) {
-    let five = GlyphPosition {
-        x_advance: 5,
-        ..GlyphPosition::zero()
-    };
-    for i in 0..buffer.len() {
-        buffer.set_position(i, five);
-    }
+    update_positions(
+        buffer,
+        |_item, position| GlyphPosition {
+            x_advance: 5,
+            ..position
+        },
+    );
 }
 
 /// The last clusters of three ranges.
