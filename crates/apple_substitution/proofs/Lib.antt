@@ -9,6 +9,7 @@ pub mod PartLemmas
 pub mod MapLemmas
 pub mod EdgeLemmas
 pub mod MapLaws
+pub mod OnwardsLemmas
 pub mod PreservedLemmas
 pub mod GlyphPreservation
 pub mod InsertionPreservation

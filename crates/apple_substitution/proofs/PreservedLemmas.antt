@@ -1,23 +1,28 @@
 -- What edits of a list preserve: at the monotone levels the order of clusters, at every level flags; settings stay, and what is left
 -- never rises.
-use Rattle.std.proofs.Common.{◌≡◌, ℕ, ◌≤◌, ◌&&◌, Bool, true, false, List, map, length, nat_le, nat_lt}
-use Rattle.std.proofs.Common.{refl, ap, sym, ◌∙◌, subst, inl, inr, arith, bit_and, ◌==◌, if◌then◌else◌, slice_set}
+use Rattle.std.proofs.Common.{◌≡◌, ℕ, ◌+◌, ◌-◌, ◌<◌, ◌≤◌, ◌&&◌, Bool, true, false, List, drop, map, length, nat_le, nat_lt, take}
+use Rattle.std.proofs.Common.{refl, ap, sym, ◌∙◌, subst, inl, inr, arith, bit_and, ◌==◌, if◌then◌else◌, slice_range, slice_set}
+use Rattle.std.proofs.lemmas.Bool.{cases_Bool, false≢true}
 use Rattle.std.proofs.lemmas.Bool.Decides.{nat_tests}
 use Rattle.std.proofs.Math.Seq.{map-set_same}
 use Rattle.shape_common.specs.FlagNames.{PRODUCE_UNSAFE_TO_CONCAT}
 use Rattle.shape_common.specs.declared.positions.GlyphPosition.{GlyphPosition}
 use Rattle.shape_items.specs.Buffer.{Buffer}
-use Rattle.shape_items.specs.BufferClusters.{merge_clusters, unsafe_to_break, unsafe_to_concat, with_glyph_flags}
+use Rattle.shape_items.specs.BufferClusters.{merge_at, merge_clusters, unsafe_to_break, unsafe_to_concat, with_glyph_flags}
 use Rattle.shape_items.specs.ClusterOrder.{IsMonotoneLevel, PreservesClusters}
-use Rattle.shape_items.specs.Clusters.{clusters, map_range, mark_concat}
+use Rattle.shape_items.specs.Clusters.{clusters, growth_right, least_cluster, map_range, mark_concat, merge}
 use Rattle.shape_items.specs.Items.{Item, new_item}
-use Rattle.shape_items.specs.PreservesFlags.{PreservesFlags}
+use Rattle.shape_items.specs.PreservesFlags.{has_flag, some_has, IsDefinedFlag, PreservesFlags}
 use Rattle.shape_items.proofs.Deletion.DeletePreserves.{merged_preserves}
-use Rattle.shape_items.proofs.Flags.FlagLemmas.{glyph_flags_set, PreservesFlags-same, PreservesFlags-then, unsafe_to_break_preserves}
+use Rattle.shape_items.proofs.Flags.FlagLemmas.{append-cases, drop_in, glyph_flags_set, merge_clusters_preserves, take_in, PreservesFlags-items, PreservesFlags-same, PreservesFlags-then, unsafe_to_break_preserves}
+use Rattle.shape_items.proofs.Merging.ClusterLemmas.{grown_end, level_cases, merge_clusters-monotone}
 use Rattle.shape_items.proofs.Merging.KeyLemmas.{keys-map_range, without_items-merge_clusters, without_items-unsafe_to_break}
+use Rattle.shape_items.proofs.Merging.MergeOrder.{growth_right-within, least_of_span_reached, put_range_draws}
+use Rattle.shape_items.proofs.Order.DrawsInOrder.{DrawsInOrder, DrawsInOrder-same, PreservesClusters-from_draws}
 use Rattle.shape_buffer.specs.Preservation.{PreservesOrder}
 use Rattle.shape_buffer.proofs.Steps.PreservationLemmas.{PreservesClusters-same, PreservesClusters-equal, PreservesClusters-then, flags-same_masks, order-unsafe_to_break}
-use Rattle.apple_substitution.specs.Edits.{broken, charged, item_at, merged, put_at}
+use Rattle.apple_substitution.specs.Edits.{broken, charged, item_at, merge_onwards, merged, merged_onwards, onwards, put_at}
+use Rattle.apple_substitution.proofs.OnwardsLemmas.{marked_onwards, onwards-long, onwards-monotone, onwards-short}
 
 pub record Preserves (b c : Buffer) : Type 0 where
   pub order : IsMonotoneLevel b.cluster_level → PreservesClusters (clusters b.items) (clusters c.items)
@@ -135,6 +140,56 @@ pub Preserves-merged : (start end : ℕ) (b : Buffer) → Preserves b (merged st
 Preserves-merged start end b =
     Preserves-cases (nat_le start end && nat_le end (length b.items)) b (merge_clusters start end b) b
     (λ test. merge-preserves start end b (grind (arith, nat_tests, test))) (λ test. Preserves-same b)
+
+-- a span is merged into the cluster of one of its items
+onwards-draws : (start end : ℕ) (xs : List Item) → end ≤ length xs → DrawsInOrder (clusters xs) (clusters (merge_onwards start end xs))
+onwards-draws start end xs within = elim (cases_Bool (nat_lt (start + 1) end)) [
+  | inl long ↦
+      let some : start + 1 < end = grind (arith, nat_tests, long) in
+      let least : ℕ = least_cluster (slice_range xs start end) in
+      let reached = least_of_span_reached start end xs (omega (arith, some)) within in
+      let right : end - 1 + growth_right xs (end - 1) least < length xs =
+      growth_right-within xs (end - 1) least (omega (arith, some, within)) in
+      rw (onwards-long start end xs some)
+      (put_range_draws start (grown_end start end xs) least xs reached.0 reached.1 (omega (arith, reached.2)) (omega (arith, reached.2, within))
+      (omega (arith, right, some)) reached.3)
+  | inr short ↦ rw (onwards-short start end xs (grind (arith, nat_tests, short))) (DrawsInOrder-same (clusters xs))
+]
+
+onwards-brings_none : (start end flag : ℕ) → IsDefinedFlag flag → (b : Buffer) → IsMonotoneLevel b.cluster_level
+    → some_has flag (merge_onwards start end b.items) ≡ true → some_has flag b.items ≡ true
+onwards-brings_none start end flag defined b monotone some =
+    let rest : Buffer = record b { items = drop start b.items; scratch_flags = record { 0 = 0 } } in
+    let is : merge_clusters 0 (end - start) rest ≡ merge_at 0 (end - start) rest = merge_clusters-monotone 0 (end - start) rest monotone in
+    let keeps : PreservesFlags rest (merge_at 0 (end - start) rest) =
+    subst (PreservesFlags rest) is (merge_clusters_preserves 0 (end - start) rest) in
+    elim (append-cases (has_flag flag) (take start b.items) (merge 0 (end - start) (drop start b.items)) some) [
+      | inl before ↦ take_in (has_flag flag) start b.items before
+      | inr later ↦ elim (keeps.none_new flag defined later) [
+        | inl there ↦ drop_in (has_flag flag) start b.items there
+        | inr set ↦ absurd (false≢true set)
+      ]
+    ]
+
+onwards-preserves : (start end : ℕ) (b : Buffer) → end ≤ length b.items → Preserves b (onwards start end b)
+onwards-preserves start end b within = elim (level_cases b.cluster_level) [
+  | inl monotone ↦ rw (onwards-monotone start end b monotone) (record {
+    order = λ level. PreservesClusters-from_draws (clusters b.items) (clusters (merge_onwards start end b.items))
+        (onwards-draws start end b.items within);
+    flags = PreservesFlags-items b (merge_onwards start end b.items)
+        (λ flag defined some. onwards-brings_none start end flag defined b monotone some);
+    direction = refl;
+    level = refl;
+    limit = refl;
+    left = omega arith;
+  })
+  | inr is ↦ subst (Preserves b) (marked_onwards start end b is) (merge-preserves start end b within)
+]
+
+pub Preserves-merged_onwards : (start end : ℕ) (b : Buffer) → Preserves b (merged_onwards start end b)
+Preserves-merged_onwards start end b =
+    Preserves-cases (nat_le start end && nat_le end (length b.items)) b (onwards start end b) b
+    (λ test. onwards-preserves start end b (grind (arith, nat_tests, test))) (λ test. Preserves-same b)
 
 break-preserves : (start end : ℕ) (b : Buffer) → Preserves b (unsafe_to_break start end b)
 break-preserves start end b =

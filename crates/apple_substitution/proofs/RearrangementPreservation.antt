@@ -9,26 +9,25 @@ use Rattle.std.proofs.lemmas.List.{get_or-map, length-append, length-drop, lengt
 use Rattle.std.proofs.Math.Seq.{map-set_same}
 use Rattle.std.specs.List.{list_any}
 use Rattle.shape_items.specs.Buffer.{Buffer}
-use Rattle.shape_items.specs.BufferClusters.{merge_clusters}
 use Rattle.shape_items.specs.ClusterOrder.{IsMonotoneLevel}
-use Rattle.shape_items.specs.Clusters.{clusters, merge, least_cluster}
+use Rattle.shape_items.specs.Clusters.{clusters, least_cluster}
 use Rattle.shape_items.specs.Items.{Item, new_item}
 use Rattle.shape_items.specs.PreservesFlags.{has_flag}
 use Rattle.shape_items.proofs.Flags.FlagLemmas.{PreservesFlags-items, append-cases, drop_in, take_in}
-use Rattle.shape_items.proofs.Merging.ClusterLemmas.{grown_end, grown_start, merge_clusters-monotone, merge_long}
+use Rattle.shape_items.proofs.Merging.ClusterLemmas.{grown_end}
 use Rattle.shape_items.proofs.Merging.JoinLemmas.{cluster_at}
-use Rattle.shape_items.proofs.Merging.KeyLemmas.{length-merge_clusters}
 use Rattle.shape_items.proofs.Merging.MergeOrder.{growth_right-within, put_range_inside}
 use Rattle.shape_items.proofs.Order.PreservesClusterLemmas.{PreservesClusters-equal}
 use Rattle.apple_tables.specs.declared.states.Entry.{Entry}
 use Rattle.apple_substitution.specs.Driver.{Spot}
-use Rattle.apple_substitution.specs.Edits.{charged, item_at, merged, put_at, written}
+use Rattle.apple_substitution.specs.Edits.{charged, item_at, merge_onwards, merged_onwards, onwards, put_at, written}
 use Rattle.apple_substitution.specs.Rearrangement.{actions, count_of, done, is_actionable, is_fitting, marks_of, moved, rearranged, rearranged_at, side_of, sides_of, turns}
 use Rattle.apple_substitution.specs.declared.rearrangement.Marks.{Marks}
 use Rattle.apple_substitution.specs.declared.rearrangement.Side.{Side}
 use Rattle.apple_substitution.specs.declared.rearrangement.Side.TheVariants.{Stays, One, Two, Turned}
 use Rattle.apple_substitution.proofs.EditLemmas.{length_put}
-use Rattle.apple_substitution.proofs.PreservedLemmas.{Preserves, Preserves-cases, Preserves-merged, Preserves-paid, Preserves-same, Preserves-then}
+use Rattle.apple_substitution.proofs.OnwardsLemmas.{length-onwards, onwards-long, onwards-monotone}
+use Rattle.apple_substitution.proofs.PreservedLemmas.{Preserves, Preserves-cases, Preserves-merged_onwards, Preserves-paid, Preserves-same, Preserves-then}
 
 -- ---- what is rearranged is of the list
 
@@ -212,28 +211,23 @@ written-rest at (x ∷ xs) b =
 
 -- ---- a span that merges is in one cluster
 
-merged-one : (start end : ℕ) (b : Buffer) → IsMonotoneLevel b.cluster_level → start < end → end ≤ length b.items
-    → (c : ℕ) × AreInSpan c start end (merge_clusters start end b).items
-merged-one start end b monotone some within =
-    let xs : List Item = b.items in
-    let is : (merge_clusters start end b).items ≡ merge start end xs =
-    ap (λ (c : Buffer). c.items) (merge_clusters-monotone start end b monotone) in
-    let least : ℕ = least_cluster (slice_range xs start end) in
-    elim (cases_Bool (nat_lt (start + 1) end)) [
-      | inl long ↦
-          let last : end - 1 < length xs = omega (arith, some, within) in
-          let total : grown_end start end xs ≤ length xs = omega (arith, growth_right-within xs (end - 1) least last, some) in (
-            least,
-            λ k from to inside. ap (λ (ys : List Item). cluster_at ys k) (is ∙ merge_long start end xs long)
-                ∙ put_range_inside (grown_start start end xs) (grown_end start end xs) least xs k (omega (arith, from)) total
-                (omega (arith, to)),
-          )
-      | inr short ↦
-          let one : end ≡ start + 1 = grind (arith, nat_tests, short, some) in (
-            cluster_at (merge_clusters start end b).items start,
-            λ k from to inside. ap (cluster_at (merge_clusters start end b).items) (omega (arith, from, to, one)),
-          )
-    ]
+merged-one : (start end : ℕ) (xs : List Item) → start < end → end ≤ length xs
+    → (c : ℕ) × AreInSpan c start end (merge_onwards start end xs)
+merged-one start end xs some within = elim (cases_Bool (nat_lt (start + 1) end)) [
+  | inl long ↦
+      let least : ℕ = least_cluster (slice_range xs start end) in
+      let last : end - 1 < length xs = omega (arith, some, within) in
+      let total : grown_end start end xs ≤ length xs = omega (arith, growth_right-within xs (end - 1) least last, some) in (
+        least,
+        λ k from to inside. ap (λ (ys : List Item). cluster_at ys k) (onwards-long start end xs (grind (arith, nat_tests, long)))
+            ∙ put_range_inside start (grown_end start end xs) least xs k from total (omega (arith, to)),
+      )
+  | inr short ↦
+      let one : end ≡ start + 1 = grind (arith, nat_tests, short, some) in (
+        cluster_at (merge_onwards start end xs) start,
+        λ k from to inside. ap (cluster_at (merge_onwards start end xs)) (omega (arith, from, to, one)),
+      )
+]
 
 -- ---- a verb
 
@@ -263,10 +257,10 @@ moved-preserves e marks b one some within fits =
       left = omega arith;
     })
 
-length-merged : (start end : ℕ) (b : Buffer) → length (merged start end b).items ≡ length b.items
+length-merged : (start end : ℕ) (b : Buffer) → length (merged_onwards start end b).items ≡ length b.items
 length-merged start end b = elim (nat_le start end && nat_le end (length b.items)) as
-    (λ t. length (if t then merge_clusters start end b else b).items ≡ length b.items) [
-      | true ↦ length-merge_clusters start end b
+    (λ t. length (if t then onwards start end b else b).items ≡ length b.items) [
+      | true ↦ length-onwards start end b
       | false ↦ refl
     ]
 
@@ -275,19 +269,20 @@ done-preserves : (e : Entry) (next : ℕ) (marks : Marks) (b : Buffer) → marks
 done-preserves e next marks b some within fits =
     let work : ℕ = next - marks.first in
     let paid : Buffer = charged work b in
-    let first : Buffer = merged marks.first next paid in
-    let whole : Buffer = merged marks.first marks.end first in
+    let first : Buffer = merged_onwards marks.first next paid in
+    let whole : Buffer = merged_onwards marks.first marks.end first in
     let same : length first.items ≡ length b.items = length-merged marks.first next paid in
     let still : length whole.items ≡ length first.items = length-merged marks.first marks.end first in
     let test : (nat_le marks.first marks.end && nat_le marks.end (length first.items)) ≡ true =
     grind (arith, nat_tests, some, within, same) in
-    let is : whole ≡ merge_clusters marks.first marks.end first = rw test refl in
-    let keeps : Preserves first whole = Preserves-merged marks.first marks.end first in
+    let is : whole ≡ onwards marks.first marks.end first = rw test refl in
+    let keeps : Preserves first whole = Preserves-merged_onwards marks.first marks.end first in
     let one : IsMonotoneLevel whole.cluster_level → (c : ℕ) × AreInSpan c marks.first marks.end whole.items =
-    λ monotone. subst (λ (b' : Buffer). (c : ℕ) × AreInSpan c marks.first marks.end b'.items) (sym is)
-    (merged-one marks.first marks.end first (subst IsMonotoneLevel keeps.level monotone) some (omega (arith, within, same))) in
+    λ monotone. subst (λ (b' : Buffer). (c : ℕ) × AreInSpan c marks.first marks.end b'.items)
+    (sym (is ∙ onwards-monotone marks.first marks.end first (subst IsMonotoneLevel keeps.level monotone)))
+    (merged-one marks.first marks.end first.items some (omega (arith, within, same))) in
     Preserves-paid (nat_lt b.max_ops work) work b (moved e marks whole)
-    (Preserves-then paid first (moved e marks whole) (Preserves-merged marks.first next paid)
+    (Preserves-then paid first (moved e marks whole) (Preserves-merged_onwards marks.first next paid)
     (Preserves-then first whole (moved e marks whole) keeps
     (moved-preserves e marks whole one some (omega (arith, within, same, still)) fits)))
 

@@ -6,7 +6,7 @@ use Rattle.shape_items.specs.Buffer.{Buffer}
 use Rattle.shape_items.specs.Items.{Item}
 use Rattle.apple_tables.specs.declared.states.Entry.{Entry}
 use Rattle.apple_substitution.specs.Driver.{Actions, Spot}
-use Rattle.apple_substitution.specs.Edits.{charged, merged, written}
+use Rattle.apple_substitution.specs.Edits.{charged, merged_onwards, written}
 use Rattle.apple_substitution.specs.Ranges.{shares}
 use Rattle.apple_substitution.specs.declared.rearrangement.Marks.{Marks}
 use Rattle.apple_substitution.specs.declared.rearrangement.Side.{Side}
@@ -61,9 +61,9 @@ is_fitting e marks count = let sides = sides_of e in
     nat_le (count_of sides.0 + count_of sides.1) (marks.end - marks.first)
     && (nat_le (marks.end - marks.first) MAX_SPAN && nat_le marks.end count)
 
--- the clusters of the span merge, and of what follows it up to the current glyph
+-- the clusters of the span merge, and of what follows it up to the current glyph; no glyph before the span merges
 abbrev pub merged_to : ℕ → Marks → Buffer → Buffer
-merged_to next marks b = merged marks.first marks.end (merged marks.first next b)
+merged_to next marks b = merged_onwards marks.first marks.end (merged_onwards marks.first next b)
 
 abbrev pub moved : Entry → Marks → Buffer → Buffer
 moved e marks b = let sides = sides_of e in

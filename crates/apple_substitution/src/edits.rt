@@ -1,11 +1,13 @@
 //! Edits of a list at a place.
 //!
 //! Past the end nothing changes, so that no caller has to show that a place is inside.
-ghost use Rattle.std.specs.Prelude.{◌≡◌, ◌<◌, ◌≤◌, ◌+◌, ◌++◌, length, min, nat_le, slice_range, OnOk, IsOkUnless};
+ghost use Rattle.std.specs.Prelude.{◌≡◌, ◌≢◌, ◌<◌, ◌≤◌, ◌+◌, ◌++◌, length, min, nat_le};
+ghost use Rattle.std.specs.Prelude.{slice_range, OnOk, IsOkUnless};
+ghost use Rattle.shape_items.specs.ClusterOrder.{IsMonotoneLevel};
 ghost use Rattle.apple_substitution.specs.Edits;
 
 use layout_buffer::GapBuffer;
-use shape_buffer::{ShapeError, hb_glyph_info_t};
+use shape_buffer::{BufferClusterLevel, ShapeError, hb_glyph_info_t};
 
 /// The item at a place, a new one past the end.
 pub(crate) fn item(buffer: &GapBuffer, i: usize) -> hb_glyph_info_t
@@ -64,6 +66,49 @@ pub(crate) fn merge(buffer: &mut GapBuffer, start: usize, end: usize)
 {
     if start <= end && end <= buffer.len() {
         buffer.merge_clusters(start, end);
+    }
+}
+
+/// A cluster other than one.
+fn other_than(cluster: u32) -> u32
+    ensures { result ≢ cluster }
+{
+    if cluster == 0 { 1 } else { 0 }
+}
+
+/// Merges the clusters of a span that stands behind other items. A new item of another cluster
+/// stands in for the one before it meanwhile, so that the merge takes in none of them.
+#[tactic(auto, using(crate::proofs::OnwardsLemmas::merged_apart))]
+fn merge_behind(buffer: &mut GapBuffer, start: usize, end: usize)
+    requires behind { 0 < start }
+    requires ordered { start ≤ end }
+    requires within { end ≤ length buffer.old.items }
+    requires monotone { IsMonotoneLevel buffer.old.cluster_level }
+    ensures made { buffer.new ≡ Edits.onwards start end buffer.old }
+    ensures as_many { length buffer.new.items ≡ length buffer.old.items }
+{
+    let before = item(buffer, start - 1);
+    let first = item(buffer, start);
+    let stand_in = hb_glyph_info_t::new('\0', other_than(first.cluster));
+    buffer.set_info(start - 1, stand_in);
+    buffer.merge_clusters(start, end);
+    buffer.set_info(start - 1, before);
+}
+
+/// Merges the clusters of a span, and of what follows it in the cluster of its last item. What
+/// stands before it stays, even in the cluster of its first item.
+#[tactic(auto, using(crate::proofs::OnwardsLemmas::merged_first, crate::proofs::OnwardsLemmas::marked_onwards))]
+pub(crate) fn merge_onwards(buffer: &mut GapBuffer, start: usize, end: usize)
+    ensures made { buffer.new ≡ Edits.merged_onwards start end buffer.old }
+    ensures as_many { length buffer.new.items ≡ length buffer.old.items }
+{
+    if start > end || end > buffer.len() {
+        return;
+    }
+    if start == 0 || buffer.cluster_level() == BufferClusterLevel::Characters {
+        buffer.merge_clusters(start, end);
+    } else {
+        merge_behind(buffer, start, end);
     }
 }
 

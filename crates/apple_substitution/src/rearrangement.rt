@@ -4,7 +4,7 @@ ghost use Rattle.std.specs.Prelude.{IfOk, OnOk, IsOkUnless};
 ghost use Rattle.apple_substitution.specs.Rearrangement as rearrangement_rules;
 
 use crate::driver::Subtable;
-use crate::edits::{charge, merge, place_after, push_span, write};
+use crate::edits::{charge, merge_onwards, place_after, push_span, write};
 use apple_tables::Entry;
 use layout_buffer::GapBuffer;
 use shape_buffer::{ShapeError, hb_glyph_info_t};
@@ -203,8 +203,8 @@ fn rearrange(
     if !charge(buffer, next.saturating_sub(marks.first)) {
         return Ok(());
     }
-    merge(buffer, marks.first, next);
-    merge(buffer, marks.first, marks.end);
+    merge_onwards(buffer, marks.first, next);
+    merge_onwards(buffer, marks.first, marks.end);
     move_glyphs(alloc, buffer, entry, marks)
 }
 

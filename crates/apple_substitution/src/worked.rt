@@ -20,7 +20,7 @@ ghost use Rattle.apple_substitution.specs.Worked.Features.{WorkedFeat, WorkedReg
 ghost use Rattle.apple_substitution.specs.Worked.FeatureMaps.{WorkedChoices, WorkedMapped, WorkedAgainst};
 ghost use Rattle.apple_substitution.specs.Worked.FeatureMaps.{WorkedEdges, WorkedTextRanges};
 ghost use Rattle.apple_substitution.specs.Worked.Substituting.{WorkedSubstitutions};
-ghost use Rattle.apple_substitution.specs.Worked.Rearranging.{WorkedVerbs, WorkedSpans};
+ghost use Rattle.apple_substitution.specs.Worked.Rearranging.{WorkedVerbs, WorkedSpans, WorkedMerges};
 
 /// Walks of a driver, where they leave a text unsafe to break, and what they cost.
 pub fn drives_meet_worked_cases()
@@ -34,10 +34,11 @@ pub fn replacing_meets_worked_cases()
     ensures { WorkedReplacing }
 {}
 
-/// The verbs of rearrangement, and the spans that entries mark.
+/// The verbs of rearrangement, the spans that entries mark, and what merges.
 pub fn rearranging_meets_worked_cases()
     ensures verbs { WorkedVerbs }
     ensures spans { WorkedSpans }
+    ensures merges { WorkedMerges }
 {}
 
 /// Glyphs that contextual subtables replace.

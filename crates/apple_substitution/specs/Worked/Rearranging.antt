@@ -1,9 +1,13 @@
 -- Rearrangement, computed by hand.
 use Rattle.std.specs.Prelude.{◌≡◌, ℕ, List, [], ◌∷◌, true, false, length, map, refl}
+use Rattle.shape_common.specs.declared.text_types.BufferClusterLevel.TheVariants.{Characters}
+use Rattle.shape_items.specs.Buffer.{Buffer}
 use Rattle.shape_items.specs.Clusters.{clusters, merge}
+use Rattle.shape_items.specs.Items.{Item}
 use Rattle.apple_substitution.specs.Driver.{Spot}
+use Rattle.apple_substitution.specs.Edits.{merged_onwards}
 use Rattle.apple_substitution.specs.Rearrangement.{is_actionable, is_fitting, marks_of, moved, transition}
-use Rattle.apple_substitution.specs.Worked.Driving.{entry, glyph, glyphs_of, text}
+use Rattle.apple_substitution.specs.Worked.Driving.{entry, glyph, glyphs_of, masks_of, text}
 use Rattle.apple_substitution.specs.declared.rearrangement.Marks.{Marks}
 
 abbrev marked : ℕ → ℕ → Marks
@@ -108,4 +112,47 @@ worked_spans = record {
   suffices = refl;
   too_little = refl;
   nothing_left = refl;
+}
+
+-- five glyphs in these clusters
+abbrev five : ℕ → ℕ → ℕ → ℕ → ℕ → List Item
+five a b c d e = glyph 5 a ∷ glyph 8 b ∷ glyph 1 c ∷ glyph 9 d ∷ glyph 4 e ∷ []
+
+-- a list after an entry at one of its glyphs
+abbrev after : List Item → ℕ → ℕ → Marks → Buffer
+after items flags at marks = (transition (entry 0 flags 0) (record { buffer = text items 40; at = at; memory = marks })).buffer
+
+-- four glyphs at level CHARACTERS
+abbrev at_characters : Buffer
+at_characters = record (text (glyph 8 3 ∷ glyph 1 3 ∷ glyph 4 0 ∷ glyph 9 0 ∷ []) 40) { cluster_level = Characters }
+
+pub record WorkedMerges : Type 0 where
+  -- the glyph before the span is in the cluster of its first one, and stays
+  pub before_stays : clusters (after (five 4 2 2 0 0) 0x2003 4 (marked 2 0)).items ≡ 4 ∷ 2 ∷ 0 ∷ 0 ∷ 0 ∷ []
+  pub ends_change : glyphs_of (after (five 4 2 2 0 0) 0x2003 4 (marked 2 0)) ≡ 5 ∷ 8 ∷ 4 ∷ 9 ∷ 1 ∷ []
+  -- the glyph after the span is in the cluster of its last one, and merges
+  pub after_merges : clusters (after (five 0 1 2 2 4) 0x2003 2 (marked 1 0)).items ≡ 0 ∷ 1 ∷ 1 ∷ 1 ∷ 4 ∷ []
+  -- but not if that one is the least
+  pub after_stays : clusters (after (five 4 2 0 0 0) 0x2003 2 (marked 1 0)).items ≡ 4 ∷ 0 ∷ 0 ∷ 0 ∷ 0 ∷ []
+  -- the current glyph is after the span: it merges, and what is before the span stays
+  pub current_merges : clusters (after (five 3 3 2 1 0) 3 3 (marked 1 3)).items ≡ 3 ∷ 1 ∷ 1 ∷ 1 ∷ 0 ∷ []
+  -- at level CHARACTERS no cluster changes: what isn't in the least one is unsafe to break and to concat
+  pub characters : clusters (merged_onwards 1 3 at_characters).items ≡ 3 ∷ 3 ∷ 0 ∷ 0 ∷ []
+  pub marks : masks_of (merged_onwards 1 3 at_characters) ≡ 0 ∷ 3 ∷ 0 ∷ 0 ∷ []
+  -- one glyph alone stays, and so does a list that is shorter
+  pub one_alone : clusters (merged_onwards 1 2 (text (glyph 8 2 ∷ glyph 1 2 ∷ glyph 4 2 ∷ []) 40)).items ≡ 2 ∷ 2 ∷ 2 ∷ []
+  pub past_the_end : clusters (merged_onwards 0 3 (text (glyph 8 2 ∷ glyph 1 0 ∷ []) 40)).items ≡ 2 ∷ 0 ∷ []
+
+pub worked_merges : WorkedMerges
+unfolding merge
+worked_merges = record {
+  before_stays = refl;
+  ends_change = refl;
+  after_merges = refl;
+  after_stays = refl;
+  current_merges = refl;
+  characters = refl;
+  marks = refl;
+  one_alone = refl;
+  past_the_end = refl;
 }
