@@ -1,6 +1,6 @@
 -- two glyphs of which one stands in no pair have no value
 use Prim.Native.Nat.{zero}
-use Rattle.std.proofs.Common.{◌≡◌, ℕ, suc, ℤ, ◌<◌, ◌≤◌, ◌+◌, ◌-◌, ◌*◌, ◌/◌, Bool, true, false, ◌||◌, if◌then◌else◌, List, length, None, nat_lt, nat_eq, slice_index_or, refl, sym, ap, subst, ◌∙◌, arith}
+use Rattle.std.proofs.Common.{◌≡◌, ℕ, suc, ℤ, ◌<◌, ◌≤◌, ◌+◌, ◌-◌, ◌*◌, ◌/◌, Bool, true, false, ◌||◌, if◌then◌else◌, List, length, None, nat_lt, slice_index_or, refl, sym, ap, subst, ◌∙◌, arith}
 use Rattle.std.specs.Prelude.{pos}
 use Rattle.std.specs.Option.{option_map_or}
 use Rattle.std.proofs.lemmas.Bool.Decides.{nat_tests}
@@ -60,7 +60,7 @@ none_past false true x inside = refl
 none_past false false x inside = inside refl
 
 -- two glyphs that no pair lists have no value in a subtable of format 0
-unlisted : (t : List ℕ) (start count left right : ℕ) → nat_eq (format_of t start) 2 ≡ false
+unlisted : (t : List ℕ) (start count left right : ℕ) → format_of t start ≡ 0
     → count ≡ fitting t (u16_of t (body_of t start)) (body_of t start + 8) 6
     → ((i : ℕ) → i < count → right < 65536 → u32_of t (body_of t start + 8 + 6 * i) ≡ left * 65536 + right → ⊥)
     → value_of t start left right ≡ pos 0
@@ -76,7 +76,7 @@ unlisted t start count left right listed counted none =
     (λ i within equal. none i within small (sym (side_equal (left * 65536 + right) (u32_of t (body_of t start + 8 + 6 * i)) equal))) (omega arith)) in
     ap (λ o. option_map_or value o (pos 0)) missed))
 
-left_unmarked : (t : List ℕ) (start count left right : ℕ) (lefts : List Bool) → nat_eq (format_of t start) 2 ≡ false
+left_unmarked : (t : List ℕ) (start count left right : ℕ) (lefts : List Bool) → format_of t start ≡ 0
     → count ≡ fitting t (u16_of t (body_of t start)) (body_of t start + 8) 6 → AreMarked t start true count lefts
     → left < length lefts → slice_index_or lefts left false ≡ false → value_of t start left right ≡ pos 0
 left_unmarked t start count left right lefts listed counted marked inside unmarked =
@@ -86,7 +86,7 @@ left_unmarked t start count left right lefts listed counted marked inside unmark
     let no : true ≡ false = sym set ∙ ap (λ g. slice_index_or lefts g false) same ∙ unmarked in
     absurd cc)
 
-right_unmarked : (t : List ℕ) (start count left right : ℕ) (rights : List Bool) → nat_eq (format_of t start) 2 ≡ false
+right_unmarked : (t : List ℕ) (start count left right : ℕ) (rights : List Bool) → format_of t start ≡ 0
     → count ≡ fitting t (u16_of t (body_of t start)) (body_of t start + 8) 6 → AreMarked t start false count rights
     → right < length rights → slice_index_or rights right false ≡ false → value_of t start left right ≡ pos 0
 right_unmarked t start count left right rights listed counted marked inside unmarked =
@@ -100,10 +100,10 @@ counted : (s : Subtable) → IsRead s → s.count ≡ fitting s.kern.now (u16_of
 counted s read = subst (λ body. s.count ≡ fitting s.kern.now (u16_of s.kern.now body) (body + 8) 6) read.body read.count
 
 -- what is stored of a subtable of format 0 holds
-pub HoldSides-marked : (s : Subtable) (lefts rights : List Bool) → IsRead s → s.classed ≡ false
+pub HoldSides-marked : (s : Subtable) (lefts rights : List Bool) → IsRead s → s.format ≡ 0
     → AreMarked s.kern.now s.start true s.count lefts → AreMarked s.kern.now s.start false s.count rights
     → HoldSides s.kern.now s.start lefts rights
 HoldSides-marked s lefts rights read listed at_left at_right = record {
-  left = λ left right. left_unmarked s.kern.now s.start s.count left right lefts (sym read.classed ∙ listed) (counted s read) at_left;
-  right = λ left right. right_unmarked s.kern.now s.start s.count left right rights (sym read.classed ∙ listed) (counted s read) at_right;
+  left = λ left right. left_unmarked s.kern.now s.start s.count left right lefts (sym read.format ∙ listed) (counted s read) at_left;
+  right = λ left right. right_unmarked s.kern.now s.start s.count left right rights (sym read.format ∙ listed) (counted s read) at_right;
 }

@@ -1,6 +1,6 @@
--- Values of pairs of glyphs, by formats 0 and 2 of `kern`. The fields of a format stand after the header of its subtable.
+-- Values of pairs of glyphs, by formats 0, 2 and 3 of `kern`. The fields of a format stand after the header of its subtable.
 use Rattle.std.specs.Prelude.{◌≡◌, ◌<◌, ◌≤◌, ◌^◌, ℕ, ℤ, pos, List, Bool, Option, ◌+◌, ◌-◌, ◌*◌, ◌/◌, ◌&&◌, ◌||◌, not, nat_eq, nat_lt, nat_le}
-use Rattle.std.specs.Prelude.{slice_index_or, length, false, if◌then◌else◌}
+use Rattle.std.specs.Prelude.{slice_index, slice_index_or, length, false, if◌then◌else◌}
 use Rattle.std.specs.Option.{option_map_or}
 use Rattle.std.specs.declared.cmp.Ordering.{Ordering}
 use Rattle.shape_font.specs.Bytes.{u16_of, u32_of, i16_of, fitting}
@@ -47,11 +47,37 @@ classed_value t start left right = let lefts = start + u16_of t (body_of t start
     (if is_classed t lefts left && is_classed t rights right
     then value_at t start (class_of t lefts left + class_of t rights right) else pos 0)
 
+-- ---- format 3: values by number, for two classes (TrueType Reference Manual, "The 'kern' table")
+
+-- how many glyphs there are (16 bits), how many values, left classes and right ones (8 bits each), and flags; then the values, a left
+-- class for each glyph, a right one for each, and for two classes the number of their value. A glyph that is past the count has class 0
+abbrev pub numbers_at : List ℕ → ℕ → ℕ
+numbers_at t body = body + 6 + 2 * slice_index t (body + 2)
+
+abbrev pub number_of : List ℕ → ℕ → ℕ → ℕ → ℕ
+number_of t at count glyph = if nat_lt glyph count then slice_index t (at + glyph) else 0
+
+-- a number past the count of values is no value
+abbrev pub numbered_value : List ℕ → ℕ → ℕ → ℤ
+numbered_value t body n = if nat_lt n (slice_index t (body + 2)) then i16_of t (body + 6 + 2 * n) else pos 0
+
+-- two glyphs of which one has a class past the count have no value
+abbrev pub indexed_value : List ℕ → ℕ → ℕ → ℕ → ℤ
+indexed_value t start left right = let body = body_of t start in
+    let count = u16_of t body in
+    let lefts = numbers_at t body in
+    let l = number_of t lefts count left in
+    let r = number_of t (lefts + count) count right in
+    (if nat_lt l (slice_index t (body + 3)) && nat_lt r (slice_index t (body + 4))
+    then numbered_value t body (slice_index t (lefts + 2 * count + (l * slice_index t (body + 4) + r))) else pos 0)
+
 -- ---- by the format of the subtable
 
 unfoldable pub value_of : List ℕ → ℕ → ℕ → ℕ → ℤ
 value_of t start left right =
-    if nat_eq (format_of t start) 2 then classed_value t start left right else listed_value t start left right
+    if nat_eq (format_of t start) 2 then classed_value t start left right
+    else (if nat_eq (format_of t start) 3 then indexed_value t start left right
+    else listed_value t start left right)
 
 -- a glyph that isn't marked has no value as the left one of two, or as the right one
 pub record HoldSides (t : List ℕ) (start : ℕ) (lefts rights : List Bool) : Type 0 where
@@ -64,5 +90,5 @@ pub record IsRead (s : Subtable) : Type 0 where
   pub inside : s.body ≤ s.start + 8
   pub body : s.body ≡ body_of s.kern.now s.start
   pub sides : HoldSides s.kern.now s.start s.sides.lefts.now s.sides.rights.now
-  pub classed : s.classed ≡ nat_eq (format_of s.kern.now s.start) 2
+  pub format : s.format ≡ format_of s.kern.now s.start
   pub count : s.count ≡ fitting s.kern.now (u16_of s.kern.now s.body) (s.body + 8) 6

@@ -25,9 +25,13 @@ abbrev pub runs_along : List ℕ → ℕ → Bool → Bool
 runs_along t start horizontal = if is_apple t then is_along_apple (coverage_of t start) horizontal
     else is_along (coverage_of t start) horizontal
 
--- a subtable of format 0 or 2, along lines of this kind
+-- formats that have values of pairs
+abbrev pub has_pairs : ℕ → Bool
+has_pairs format = nat_eq format 0 || (nat_eq format 2 || nat_eq format 3)
+
+-- a subtable of such a format, along lines of this kind
 abbrev pub is_read : List ℕ → ℕ → Bool → Bool
-is_read t start horizontal = (nat_eq (format_of t start) 0 || nat_eq (format_of t start) 2) && runs_along t start horizontal
+is_read t start horizontal = has_pairs (format_of t start) && runs_along t start horizontal
 
 abbrev pub reversed : Buffer → Buffer
 reversed b = record b { items = reverse b.items; positions = reverse b.positions }

@@ -16,7 +16,7 @@ use shape_font::FontFace;
 use std::alloc::Global;
 
 /// The engine that kerns by the table `kern` of a font file, and does nothing else: it chooses no
-/// script, and has no stage. Read are the subtables of formats 0 and 2, those along the line, of
+/// script, and has no stage. Read are the subtables of formats 0, 2 and 3 along the line, of
 /// OpenType's version of the table and of Apple's. Takes no memory, and refuses nothing: its calls
 /// say so beside what the trait asks.
 pub struct KernTable;

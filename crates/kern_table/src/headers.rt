@@ -7,7 +7,7 @@ ghost use Rattle.kern_table.specs.Headers;
 use shape_font::bytes::{u8_at, u16_at, u32_at};
 
 /// Whether the table has Apple's headers.
-pub(crate) fn is_apple(kern: &[u8]) -> bool
+pub fn is_apple(kern: &[u8]) -> bool
     ensures { result ≡ Headers.is_apple kern.now }
 {
     u16_at(kern, 0) == 1
@@ -15,7 +15,7 @@ pub(crate) fn is_apple(kern: &[u8]) -> bool
 
 /// Where the first subtable begins.
 #[tactic(auto, unfolding(crate::specs::Headers::first_start))]
-pub(crate) fn first_start(kern: &[u8]) -> usize
+pub fn first_start(kern: &[u8]) -> usize
     ensures value { result ≡ Headers.first_start kern.now }
     ensures small { result ≤ 8 }
 {
@@ -24,7 +24,7 @@ pub(crate) fn first_start(kern: &[u8]) -> usize
 
 /// How many bytes the header of a subtable has.
 #[tactic(auto, unfolding(crate::specs::Headers::header_size))]
-pub(crate) fn header_size(kern: &[u8]) -> usize
+pub fn header_size(kern: &[u8]) -> usize
     ensures value { result ≡ Headers.header_size kern.now }
     ensures small { result ≤ 8 }
 {
@@ -33,7 +33,7 @@ pub(crate) fn header_size(kern: &[u8]) -> usize
 
 /// How many bytes the subtable that begins at `start` says that it has.
 #[tactic(auto, unfolding(crate::specs::Headers::length_of))]
-pub(crate) fn stated_length(kern: &[u8], start: usize) -> usize
+pub fn stated_length(kern: &[u8], start: usize) -> usize
     requires { start < 2 ^ 34 }
     ensures value { result ≡ Headers.length_of kern.now start }
     ensures small { result < 2 ^ 32 }
@@ -47,7 +47,7 @@ pub(crate) fn stated_length(kern: &[u8], start: usize) -> usize
 
 /// The format of a subtable.
 #[tactic(auto, unfolding(crate::specs::Headers::format_of))]
-pub(crate) fn format(kern: &[u8], start: usize) -> u8
+pub fn format(kern: &[u8], start: usize) -> u8
     requires { start < 2 ^ 34 }
     ensures { result ≡ Headers.format_of kern.now start }
 {
@@ -60,7 +60,7 @@ pub(crate) fn format(kern: &[u8], start: usize) -> u8
 
 /// What a subtable covers: the bits beside its format.
 #[tactic(auto, unfolding(crate::specs::Headers::coverage_of))]
-pub(crate) fn coverage(kern: &[u8], start: usize) -> u8
+pub fn coverage(kern: &[u8], start: usize) -> u8
     requires { start < 2 ^ 34 }
     ensures { result ≡ Headers.coverage_of kern.now start }
 {
@@ -72,4 +72,4 @@ pub(crate) fn coverage(kern: &[u8], start: usize) -> u8
 }
 
 /// The most bytes that a table can have.
-pub(crate) const MOST_BYTES: usize = 0xFFFF_FFFF;
+pub const MOST_BYTES: usize = 0xFFFF_FFFF;

@@ -3,7 +3,7 @@
 //!
 //! Two glyphs side by side, with marks and ignorables between them skipped, are moved together or
 //! apart by the value that the table has for them: half of it goes to the advance of the first, the
-//! rest to the second. The table is read in place, and no memory is taken. `headers` reads both
+//! rest to the second. The table is read in place, and no memory is taken. [`headers`] reads both
 //! versions of the table, OpenType's and Apple's; [`pairs`] finds the value of two glyphs,
 //! [`sides`] stores which glyphs have pairs, [`walk`] goes over a buffer, [`tables`] over the
 //! subtables of a table, [`map`] reads from the requests of a plan where kerning is on, and
@@ -12,7 +12,7 @@
 #![allow(non_camel_case_types)]
 
 pub mod engine;
-mod headers;
+pub mod headers;
 pub mod laws;
 pub mod map;
 pub mod pairs;

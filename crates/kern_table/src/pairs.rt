@@ -1,4 +1,4 @@
-//! Values of pairs of glyphs: formats 0 and 2 of the table `kern`, whose fields stand after the
+//! Values of pairs of glyphs: formats 0, 2 and 3 of the table `kern`, whose fields stand after the
 //! header of a subtable.
 ghost use Rattle.std.specs.Prelude.{◌≡◌, ◌+◌, ◌*◌, ◌<◌, ◌^◌, ◌≤ℤ◌, pos, negsuc, length, not, ◌||◌, false, nat_lt, slice_index_or};
 ghost use Rattle.kern_table.specs.Pairs;
@@ -6,19 +6,19 @@ ghost use Rattle.std.specs.Option.{IfSome};
 
 use crate::headers::{format, header_size};
 use crate::sides::Sides;
-use shape_font::bytes::{i16_at, long, records, u16_at};
+use shape_font::bytes::{i16_at, long, records, u8_at, u16_at};
 use shape_font::search::{found_within, side};
 use std::cmp::Ordering;
 
 /// A subtable of the table, what is stored of it, and what is read of it once for all pairs: where
-/// the fields of its format begin, whether it is of format 2, and how many pairs it has room for.
+/// the fields of its format begin, the format, and how many pairs of format 0 it has room for.
 #[derive(Clone, Copy)]
 pub(crate) struct Subtable<'a> {
     pub kern: &'a [u8],
     pub start: usize,
     pub body: usize,
     pub sides: Sides<'a>,
-    pub classed: bool,
+    pub format: u8,
     pub count: u32,
 }
 
@@ -36,7 +36,7 @@ pub(crate) fn read_subtable<'a>(kern: &'a [u8], start: usize, sides: Sides<'a>) 
         start,
         body,
         sides,
-        classed: format(kern, start) == 2,
+        format: format(kern, start),
         count: records(kern, u32::from(u16_at(kern, body)), body + 8, 6),
     }
 }
@@ -142,6 +142,55 @@ fn classed_value(subtable: Subtable<'_>, left: u32, right: u32) -> i32
     )
 }
 
+/// The class of a glyph among so many that stand one after the other; 0 past the last one.
+fn number(kern: &[u8], at: usize, count: u32, glyph: u32) -> u32
+    requires { at < 2 ^ 36 }
+    ensures value { result ≡ Pairs.number_of kern.now at count glyph }
+    ensures small { result < 256 }
+{
+    if glyph < count {
+        u32::from(u8_at(kern, at + glyph as usize))
+    } else {
+        0
+    }
+}
+
+/// The value of a number in a subtable of format 3, 0 past the last one.
+fn numbered_value(subtable: Subtable<'_>, n: u8) -> i32
+    requires { Pairs.IsRead subtable }
+    ensures value { result ≡ Pairs.numbered_value subtable.entry.kern.now subtable.entry.body n }
+    ensures low { negsuc 32767 ≤ℤ result }
+    ensures high { result ≤ℤ pos 32767 }
+{
+    if n < u8_at(subtable.kern, subtable.body + 2) {
+        i16_at(subtable.kern, subtable.body + 6 + 2 * usize::from(n))
+    } else {
+        0
+    }
+}
+
+/// The value of two glyphs in a subtable of format 3, by the number that their classes have; 0 if
+/// one has a class past the count.
+fn indexed_value(subtable: Subtable<'_>, left: u32, right: u32) -> i32
+    requires { Pairs.IsRead subtable }
+    ensures value { result ≡ Pairs.indexed_value subtable.entry.kern.now subtable.entry.start left
+        right }
+    ensures low { negsuc 32767 ≤ℤ result }
+    ensures high { result ≤ℤ pos 32767 }
+{
+    let (kern, body) = (subtable.kern, subtable.body);
+    let count = u32::from(u16_at(kern, body));
+    let lefts = body + 6 + 2 * usize::from(u8_at(kern, body + 2));
+    let l = number(kern, lefts, count, left);
+    let r = number(kern, lefts + count as usize, count, right);
+    let columns = u32::from(u8_at(kern, body + 4));
+    if u32::from(u8_at(kern, body + 3)) <= l || columns <= r {
+        return 0;
+    }
+    let at = lefts + 2 * count as usize + (l * columns + r) as usize;
+    numbered_value(subtable, u8_at(kern, at))
+}
+
 /// Whether a glyph is marked, or has no mark.
 fn may_stand(marks: &[bool], glyph: u32) -> bool
     ensures { result ≡ (not (nat_lt glyph
@@ -159,10 +208,10 @@ fn sought_value(subtable: Subtable<'_>, left: u32, right: u32) -> i32
     ensures low { negsuc 32767 ≤ℤ result }
     ensures high { result ≤ℤ pos 32767 }
 {
-    if subtable.classed {
-        classed_value(subtable, left, right)
-    } else {
-        listed_value(subtable, left, right)
+    match subtable.format {
+        2 => classed_value(subtable, left, right),
+        3 => indexed_value(subtable, left, right),
+        _ => listed_value(subtable, left, right),
     }
 }
 
@@ -182,8 +231,8 @@ pub(crate) fn pair_value(subtable: Subtable<'_>, left: u32, right: u32) -> i32
 }
 
 /// How far two glyphs are moved apart by the subtable of the table that begins at `start`, in units
-/// of the face; together if it is negative, and 0 if the subtable doesn't have them. A subtable of
-/// format 2 has values by classes, every other one is read as format 0.
+/// of the face; together if it is negative, and 0 if the subtable doesn't have them. Subtables of
+/// formats 2 and 3 have values by classes, every other one is read as format 0.
 pub fn value(kern: &[u8], start: usize, left: u32, right: u32) -> i32
     requires { start < 2 ^ 34 }
     ensures value { result ≡ Pairs.value_of kern.now start left right }

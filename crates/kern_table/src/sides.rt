@@ -91,7 +91,7 @@ impl PairGlyphs {
         ensures memory { IsOkUnless result ShapeError.Memory }
     {
         let subtable = read_subtable(kern, 4, Sides::none());
-        if is_apple(kern) || subtable.classed || subtable.count == 0 {
+        if is_apple(kern) || subtable.format != 0 || subtable.count == 0 {
             return Ok(PairGlyphs {
                 lefts: Vec::new(alloc),
                 rights: Vec::new(alloc),

@@ -1,4 +1,4 @@
-//! Kerning by a whole table `kern`: its subtables in order, those of formats 0 and 2 that move
+//! Kerning by a whole table `kern`: its subtables in order, those of formats 0, 2 and 3 that move
 //! glyphs along the line.
 ghost use Rattle.std.specs.Prelude.{◌≡◌, ℕ, List, ◌<◌, ◌≤◌, ◌^◌, length, nat_lt, not};
 ghost use Rattle.shape_items.specs.Buffer.{limit_of};
@@ -59,13 +59,13 @@ fn runs_along(kern: &[u8], start: usize, horizontal: bool) -> bool
     }
 }
 
-/// Whether the subtable that begins at `start` kerns lines of this kind: it is of format 0 or 2,
+/// Whether the subtable that begins at `start` kerns lines of this kind: it is of format 0, 2 or 3,
 /// for lines of this kind, and doesn't move glyphs across the line.
 fn is_read(kern: &[u8], start: usize, horizontal: bool) -> bool
     requires { start < 2 ^ 34 }
     ensures { result ≡ Tables.is_read kern.now start horizontal }
 {
-    matches!(format(kern, start), 0 | 2) && runs_along(kern, start, horizontal)
+    matches!(format(kern, start), 0 | 2 | 3) && runs_along(kern, start, horizontal)
 }
 
 /// Kerns a buffer by a subtable whose head was read, from the left of the line to its right.
@@ -95,18 +95,41 @@ fn kern_subtable(
     }
 }
 
+/// Kerns a buffer by the subtable that begins at `start`, from the left of the line to its right, if
+/// it is read for such a line. Values are scaled if the font has a size. Takes no memory, and isn't
+/// charged for.
+pub fn run_subtable(
+    kern: &[u8],
+    scale: Option<Scale>,
+    start: usize,
+    mask: hb_mask_t,
+    buffer: &mut hb_buffer_t,
+)
+    requires { start < 2 ^ 34 }
+    ensures made { buffer.new ≡ Tables.subtable_kerned scale kern.now start mask buffer.old }
+    ensures len { length buffer.new.items ≡ length buffer.old.items }
+    ensures limit { limit_of buffer.new ≡ limit_of buffer.old }
+{
+    kern_subtable(
+        read_subtable(kern, start, Sides::none()),
+        scale,
+        mask,
+        buffer,
+    );
+}
+
 /// What a subtable costs at each item, in units of about one look at a glyph.
 const SUBTABLE_WORK: usize = 16;
 
 /// What a subtable costs a buffer of so many items.
-fn subtable_work(count: usize) -> usize
+pub fn subtable_work(count: usize) -> usize
     ensures { result ≡ Tables.subtable_work count }
 {
     count.saturating_mul(SUBTABLE_WORK).max(1)
 }
 
 /// Charges a buffer for a subtable. Returns whether what was left suffices; else nothing is left.
-fn charge(buffer: &mut hb_buffer_t) -> bool
+pub fn charge(buffer: &mut hb_buffer_t) -> bool
     ensures made { buffer.new ≡ Tables.charged buffer.old }
     ensures enough { result
         ≡ not (nat_lt buffer.old.max_ops (Tables.subtable_work (length buffer.old.items))) }

@@ -20,7 +20,7 @@ use shape_buffer::wrapping::{difference, sum};
 use shape_font::metrics::half_below;
 
 /// Whether a glyph between two others doesn't part them: a mark, or one of a default ignorable.
-fn is_skipped(item: &hb_glyph_info_t) -> bool
+pub fn is_skipped(item: &hb_glyph_info_t) -> bool
     ensures { result ≡ Walk.is_skipped item.now }
 {
     item._hb_glyph_info_get_glyph_class()
@@ -55,7 +55,7 @@ fn moved(horizontal: bool, by: i32, position: GlyphPosition) -> GlyphPosition
 }
 
 /// Adds to a glyph's advance along the line.
-fn move_on(buffer: &mut hb_buffer_t, i: usize, along: bool, by: i32)
+pub fn move_on(buffer: &mut hb_buffer_t, i: usize, along: bool, by: i32)
     requires { i < length buffer.old.items }
     ensures { buffer.new
         ≡ Walk.position_put i (Walk.moved_on along by (Walk.position_at buffer.old i)) buffer.old }
@@ -64,8 +64,8 @@ fn move_on(buffer: &mut hb_buffer_t, i: usize, along: bool, by: i32)
     buffer.set_position(i, position);
 }
 
-/// The same, and moves the glyph along the line.
-fn move_both(buffer: &mut hb_buffer_t, j: usize, along: bool, by: i32)
+/// Adds to a glyph's advance along the line, and moves the glyph by as much.
+pub fn move_both(buffer: &mut hb_buffer_t, j: usize, along: bool, by: i32)
     requires { j < length buffer.old.items }
     ensures { buffer.new ≡ Walk.position_put j
         (Walk.moved along by (Walk.moved_on along by (Walk.position_at buffer.old j))) buffer.old }

@@ -1,5 +1,6 @@
 //! The definitions, computed on tables and buffers that were read by hand.
-ghost use Rattle.kern_table.specs.Worked.Kern.{WorkedValues, WorkedClasses, WorkedLines, WorkedMaps};
+ghost use Rattle.kern_table.specs.Worked.Kern.{WorkedValues, WorkedClasses, WorkedNumbers};
+ghost use Rattle.kern_table.specs.Worked.Kern.{WorkedLines, WorkedMaps};
 ghost use Rattle.kern_table.specs.Worked.Apple.{WorkedApple};
 ghost use Rattle.kern_table.specs.Worked.Charges.{WorkedCharges};
 ghost use Rattle.kern_table.specs.Worked.Engine.{WorkedEngine};
@@ -10,6 +11,7 @@ ghost use Rattle.kern_table.specs.Worked.Sides.{WorkedSides};
 pub fn kerning_meets_worked_cases()
     ensures values { WorkedValues }
     ensures classes { WorkedClasses }
+    ensures numbers { WorkedNumbers }
     ensures apple { WorkedApple }
     ensures sides { WorkedSides }
     ensures lines { WorkedLines }

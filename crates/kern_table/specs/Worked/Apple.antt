@@ -9,7 +9,7 @@ use Rattle.kern_table.specs.Headers.{first_start, length_of, format_of, coverage
 use Rattle.kern_table.specs.Pairs.{value_of}
 use Rattle.kern_table.specs.Sides.{glyph_of_pair}
 use Rattle.kern_table.specs.Tables.{subtable_count_of, is_read, table_kerned}
-use Rattle.kern_table.specs.Worked.Kern.{on, line, along, down, still}
+use Rattle.kern_table.specs.Worked.Kern.{on, line, along, down, numbers_body, still}
 
 -- version 1.0, and so many subtables
 abbrev pub apple : ℕ → List ℕ
@@ -30,6 +30,10 @@ classes = 0 ∷ 0 ∷ 0 ∷ 40 ∷ 0 ∷ 2 ∷ 0 ∷ 0 ∷ 0 ∷ 4 ∷ 0 ∷ 16 
     ∷ 0 ∷ 2 ∷ 0 ∷ 2 ∷ 0 ∷ 32 ∷ 0 ∷ 36
     ∷ 0 ∷ 2 ∷ 0 ∷ 2 ∷ 0 ∷ 0 ∷ 0 ∷ 2
     ∷ 0 ∷ 0 ∷ 0xFF ∷ 0xCE ∷ 0xFF ∷ 0xDD ∷ 0 ∷ 7 ∷ []
+
+-- 32 bytes of format 3, with 4 glyphs and the values 7, -50 and -35: glyph 2 has left class 1, and glyph 3 right class 1
+abbrev pub numbers : ℕ → ℕ → ℕ → List ℕ
+numbers values lefts rights = 0 ∷ 0 ∷ 0 ∷ 32 ∷ 0 ∷ 3 ∷ 0 ∷ 0 ∷ numbers_body values lefts rights
 
 -- 8 bytes of a state machine
 abbrev pub machine : List ℕ
@@ -69,7 +73,10 @@ pub record WorkedApple : Type 0 where
   pub other_bits : is_read (apple 1 ++ pairs 0x1F) 8 true ≡ true
   pub by_classes : is_read (apple 1 ++ classes) 8 true ≡ true
   pub state_machine : is_read (apple 1 ++ pairs_of 0 28 0 1) 8 true ≡ false
-  pub other_format : is_read (apple 1 ++ pairs_of 0 28 0 3) 8 true ≡ false
+  pub other_format : is_read (apple 1 ++ pairs_of 0 28 0 4) 8 true ≡ false
+  pub format_3 : is_read (apple 1 ++ numbers 3 2 2) 8 true ≡ true
+  pub by_numbers : value_of (apple 1 ++ numbers 3 2 2) 8 2 3 ≡ negsuc 49
+  pub kerned_by_numbers : kerned_by (apple 1 ++ numbers 3 2 2) LeftToRight ≡ once
   pub one : kerned_by (apple 1 ++ pairs 0) LeftToRight ≡ once
   -- from the left of the line: 3 stands there, before 2
   pub backward : kerned_by (apple 1 ++ pairs 0) RightToLeft ≡ (pos 583, negsuc 16) ∷ (pos 582, pos 0) ∷ []
@@ -111,6 +118,9 @@ worked_apple = record {
   by_classes = refl;
   state_machine = refl;
   other_format = refl;
+  format_3 = refl;
+  by_numbers = refl;
+  kerned_by_numbers = refl;
   one = refl;
   backward = refl;
   not_downwards = refl;

@@ -105,6 +105,48 @@ worked_classes = record {
   first_of_the_array = refl;
 }
 
+-- the fields of format 3, for 4 glyphs: so many values, left classes and right ones are stated. The values are 7, -50 and -35; glyph 2 has
+-- left class 1, glyph 3 right class 1, and the others have class 0. Left class 0 leads to numbers 0 and 2, left class 1 to 3 and 1
+abbrev pub numbers_body : ℕ → ℕ → ℕ → List ℕ
+numbers_body values lefts rights = 0 ∷ 4 ∷ values ∷ lefts ∷ rights ∷ 0
+    ∷ 0 ∷ 7 ∷ 0xFF ∷ 0xCE ∷ 0xFF ∷ 0xDD
+    ∷ 0 ∷ 0 ∷ 1 ∷ 0 ∷ 0 ∷ 0 ∷ 0 ∷ 1 ∷ 0 ∷ 2 ∷ 3 ∷ 1 ∷ []
+
+abbrev pub numbers : ℕ → ℕ → ℕ → List ℕ
+numbers values lefts rights = 0 ∷ 0 ∷ 0 ∷ 1 ∷ 0 ∷ 0 ∷ 0 ∷ 30 ∷ 3 ∷ 1 ∷ numbers_body values lefts rights
+
+pub record WorkedNumbers : Type 0 where
+  pub both : value_of (numbers 3 2 2) 4 2 3 ≡ negsuc 49
+  pub neither : value_of (numbers 3 2 2) 4 3 2 ≡ pos 7
+  pub right_alone : value_of (numbers 3 2 2) 4 3 3 ≡ negsuc 34
+  -- number 3 is that of no value
+  pub past_the_values : value_of (numbers 3 2 2) 4 2 2 ≡ pos 0
+  -- glyph 9 has class 0 at both sides
+  pub left_past_all_glyphs : value_of (numbers 3 2 2) 4 9 3 ≡ negsuc 34
+  pub right_past_all_glyphs : value_of (numbers 3 2 2) 4 3 9 ≡ pos 7
+  pub left_class_past_the_count : value_of (numbers 3 1 2) 4 2 3 ≡ pos 0
+  pub right_class_past_the_count : value_of (numbers 3 2 1) 4 3 3 ≡ pos 0
+  -- rows of one number: left class 1 leads to number 2
+  pub rows_of_one : value_of (numbers 3 2 1) 4 2 2 ≡ negsuc 34
+  pub of_this_line : is_read (numbers 3 2 2) 4 true ≡ true
+  pub of_the_other_line : is_read (numbers 3 2 2) 4 false ≡ false
+
+pub worked_numbers : WorkedNumbers
+unfolding i16_of value_of format_of coverage_of header_size
+worked_numbers = record {
+  both = refl;
+  neither = refl;
+  right_alone = refl;
+  past_the_values = refl;
+  left_past_all_glyphs = refl;
+  right_past_all_glyphs = refl;
+  left_class_past_the_count = refl;
+  right_class_past_the_count = refl;
+  rows_of_one = refl;
+  of_this_line = refl;
+  of_the_other_line = refl;
+}
+
 pub record WorkedValues : Type 0 where
   pub first : value_of (table 1 1) 4 2 3 ≡ negsuc 49
   pub second : value_of (table 1 1) 4 3 2 ≡ negsuc 34
@@ -119,7 +161,7 @@ pub record WorkedValues : Type 0 where
   pub not_in_the_other_line : is_read (table 1 1) 4 false ≡ false
   pub vertical : is_read (table 1 0) 4 false ≡ true
   pub not_in_a_horizontal_line : is_read (table 1 0) 4 true ≡ false
-  pub other_format : is_read (0 ∷ 0 ∷ 0 ∷ 1 ∷ 0 ∷ 0 ∷ 0 ∷ 14 ∷ 3 ∷ 1 ∷ []) 4 true ≡ false
+  pub other_format : is_read (0 ∷ 0 ∷ 0 ∷ 1 ∷ 0 ∷ 0 ∷ 0 ∷ 14 ∷ 4 ∷ 1 ∷ []) 4 true ≡ false
   pub subtables : subtable_count_of (table 3 1) ≡ 3
   pub other_version : subtable_count_of (0 ∷ 2 ∷ 0 ∷ 0 ∷ 0 ∷ 0 ∷ 0 ∷ 1 ∷ []) ≡ 0
   -- where a count would stand if the version were 0

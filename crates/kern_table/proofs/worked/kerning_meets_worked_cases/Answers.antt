@@ -1,7 +1,7 @@
 use Rattle.kern_table.specs.Worked.Apple.{worked_apple}
 use Rattle.kern_table.specs.Worked.Charges.{worked_charges}
 use Rattle.kern_table.specs.Worked.Engine.{worked_engine}
-use Rattle.kern_table.specs.Worked.Kern.{worked_values, worked_classes, worked_lines, worked_maps}
+use Rattle.kern_table.specs.Worked.Kern.{worked_values, worked_classes, worked_numbers, worked_lines, worked_maps}
 use Rattle.kern_table.proofs.SideRows.{worked_sides}
 use Rattle.kern_table.proofs.worked.kerning_meets_worked_cases.Goals as goal
 
@@ -10,6 +10,9 @@ returns-clause-values c = worked_values
 
 pub returns-clause-classes : goal.returns-clause-classes
 returns-clause-classes c = worked_classes
+
+pub returns-clause-numbers : goal.returns-clause-numbers
+returns-clause-numbers c = worked_numbers
 
 pub returns-clause-apple : goal.returns-clause-apple
 returns-clause-apple c = worked_apple
