@@ -20,20 +20,19 @@ use Rattle.apple_tables.specs.declared.states.Entry.{Entry}
 use Rattle.kern_table.specs.Tables.{charged, reversed, subtable_work}
 use Rattle.kern_table.specs.Walk.{is_skipped_by, item_at, moved, moved_on, position_at, position_put}
 use Rattle.apple_positioning.specs.Attaching as attaching_rules
-use Rattle.apple_positioning.specs.Attachments.{action_index}
-use Rattle.apple_positioning.specs.Chains.{header_of, subtables_of}
+use Rattle.apple_positioning.specs.Chains.{subtables_of}
 use Rattle.apple_positioning.specs.Deeds.{Deeds, Spot}
 use Rattle.apple_positioning.specs.Driver.{Drive, STEP_WORK, advanced, driven, driven_on, first_drive, is_safe_to_break, looks_again, marked, met_at}
 use Rattle.apple_positioning.specs.Driver.{most_steps, stepped}
 use Rattle.apple_positioning.specs.Pairs.{glyph_shifted, kerned, kerned_at, kerned_to, kerned_with, pair_moved, pair_put, pair_spaced, run_kerned}
 use Rattle.apple_positioning.specs.Pairs.{scaled, shifted}
-use Rattle.apple_positioning.specs.Runs.{HAS_ATTACHMENT, Source, is_on, with_attachment}
+use Rattle.apple_positioning.specs.Layouts.{attaches, has_pairs, list_by}
+use Rattle.apple_positioning.specs.Runs.{HAS_ATTACHMENT, Source, action_for, header, is_on, kerning_for, with_attachment}
 use Rattle.apple_positioning.specs.Stacking as stacking_rules
 use Rattle.apple_positioning.specs.Stacking.{Popped, glyph_popped, glyph_raised, glyph_spaced, next_pop, place_in, popped, popped_one}
-use Rattle.apple_positioning.specs.Stacks.{list_of, value_at}
-use Rattle.apple_positioning.specs.Subtables.{acted, acted_in_order, attached, has_pairs, is_for, is_reversed, stacked, subtable_run}
+use Rattle.apple_positioning.specs.Stacks.{value_at}
+use Rattle.apple_positioning.specs.Subtables.{acted, acted_in_order, attached, is_for, is_reversed, stacked, subtable_run}
 use Rattle.apple_positioning.specs.Tables.{Font, all_chained, chained, chains, finished, loose, one_run, runs_from, source, table_run}
-use Rattle.apple_positioning.specs.Values.{kerning_of}
 use Rattle.apple_positioning.specs.declared.driver.Met.{Met}
 use Rattle.apple_positioning.specs.declared.driver.Walk.{Walk}
 use Rattle.apple_positioning.specs.declared.stacking.Stack.{Stack}
@@ -74,7 +73,7 @@ put-preserves across i j by b =
 
 moved-preserves : (s : Source) (i j : ℕ) (value : ℤ) (b : Buffer) → Preserves b (pair_moved s i j value b)
 moved-preserves s i j value b =
-    let across = (header_of s.bytes).is_cross_stream in
+    let across = (header s).is_cross_stream in
     let by = scaled s (is_horizontal b.direction) value in
     let put : Buffer = pair_put across i j by b in
     Preserves-if (int_eq value (pos 0)) b b (unsafe_to_break i (j + 1) put) (Preserves-same b)
@@ -85,7 +84,7 @@ moved-preserves s i j value b =
 with-preserves : (s : Source) (j : ℕ) (left : Option ℕ) (b : Buffer) → Preserves b (kerned_with s j left b)
 with-preserves s j None b = Preserves-same b
 with-preserves s j (Some i) b =
-    moved-preserves s i j (kerning_of s.bytes s.glyphs (item_at b.items i).glyph_id (item_at b.items j).glyph_id) b
+    moved-preserves s i j (kerning_for s (item_at b.items i).glyph_id (item_at b.items j).glyph_id) b
 
 at-preserves : (s : Source) (j : ℕ) (left : Option ℕ) (b : Buffer) → Preserves b (kerned_at s j left b)
 at-preserves s j left b =
@@ -109,7 +108,7 @@ kerned-preserves s b =
 
 run-preserves : (s : Source) (b : Buffer) → Preserves b (run_kerned s b)
 run-preserves s b =
-    Preserves-if (nat_eq s.mask 0 || (header_of s.bytes).is_backward) b b (kerned s b) (Preserves-same b) (kerned-preserves s b)
+    Preserves-if (nat_eq s.mask 0 || (header s).is_backward) b b (kerned s b) (Preserves-same b) (kerned-preserves s b)
 
 -- ---- a walk of which each transition preserves
 
@@ -151,7 +150,7 @@ drive-preserves {T} s deeds each (suc n) d =
 
 driven-preserves : {T : Type 0} (s : Source) (deeds : Deeds T) (memory : T) → EachPreserves deeds → (b : Buffer)
     → Preserves b (driven s deeds memory b)
-driven-preserves s deeds memory each b = drive-preserves s deeds each (most_steps b) (first_drive memory b)
+driven-preserves s deeds memory each b = drive-preserves s deeds each (most_steps b) (first_drive s memory b)
 
 -- ---- a stack
 
@@ -174,7 +173,7 @@ glyph_raised-preserves s i v b =
 
 glyph_popped-preserves : (s : Source) (i : ℕ) (v : ℤ) (b : Buffer) → Preserves b (glyph_popped s i v b)
 glyph_popped-preserves s i v b =
-    Preserves-if (header_of s.bytes).is_cross_stream b (glyph_raised s i v b) (glyph_spaced s i v b) (glyph_raised-preserves s i v b)
+    Preserves-if (header s).is_cross_stream b (glyph_raised s i v b) (glyph_spaced s i v b) (glyph_raised-preserves s i v b)
     (glyph_spaced-preserves s i v b)
 
 popped_one-preserves : (s : Source) (places : List ℕ) (d : Popped) → Preserves d.buffer (popped_one s places d).buffer
@@ -197,7 +196,7 @@ popped-preserves s places (suc n) d =
 
 performed-preserves : (s : Source) (k : Stack) (index : ℕ) (b : Buffer) → Preserves b (stacking_rules.performed s k index b).buffer
 performed-preserves s k index b =
-    of_option (λ (x : Spot Stack). Preserves b x.buffer) (λ at. stacking_rules.spot_popped s k at b) (list_of s.bytes index k.depth)
+    of_option (λ (x : Spot Stack). Preserves b x.buffer) (λ at. stacking_rules.spot_popped s k at b) (list_by s.layout s.bytes index k.depth)
     (record { buffer = b; memory = record k { depth = 0 } })
     (λ at. popped-preserves s k.places k.depth
     (record { buffer = b; popping = record { depth = k.depth; at = at; has_ended = false } }))
@@ -205,9 +204,9 @@ performed-preserves s k index b =
 
 stacking-preserves : (s : Source) → EachPreserves (stacking_rules.deeds s)
 stacking-preserves s e at p =
-    let k : Stack = stacking_rules.stack_after e at p.memory in
+    let k : Stack = stacking_rules.stack_after s e at p.memory in
     of_option (λ (x : Spot Stack). Preserves p.buffer x.buffer) (λ index. stacking_rules.performed s k index p.buffer)
-    (action_index s.bytes e) (record { buffer = p.buffer; memory = k }) (λ index. performed-preserves s k index p.buffer)
+    (action_for s e) (record { buffer = p.buffer; memory = k }) (λ index. performed-preserves s k index p.buffer)
     (Preserves-same p.buffer)
 
 -- ---- glyphs that are attached
@@ -229,8 +228,8 @@ acted_by-preserves s e at mark b =
     let P : attaching_rules.Acted → Type 0 = λ x. Preserves b x.buffer in
     let nothing : attaching_rules.Acted = record { buffer = b; is_done = true } in
     let act : ℕ → attaching_rules.Acted = λ index. attaching_rules.acted s index at mark b in
-    of_if P (nat_lt at (length b.items)) (option_map_or act (action_index s.bytes e) nothing) nothing
-    (of_option P act (action_index s.bytes e) nothing (λ index. acted-attaching s index at mark b) (Preserves-same b)) (Preserves-same b)
+    of_if P (nat_lt at (length b.items)) (option_map_or act (action_for s e) nothing) nothing
+    (of_option P act (action_for s e) nothing (λ index. acted-attaching s index at mark b) (Preserves-same b)) (Preserves-same b)
 
 attaching-preserves : (s : Source) → EachPreserves (attaching_rules.deeds s)
 attaching-preserves s e at p =
@@ -242,7 +241,7 @@ attaching-preserves s e at p =
 stacked-preserves : (s : Source) (b : Buffer) → Preserves b (stacked s b)
 stacked-preserves s b =
     let empty : Stack = record { depth = 0; places = replicate 8 0 } in
-    Preserves-if (nat_eq s.mask 0 && not (header_of s.bytes).is_cross_stream) b b (driven s (stacking_rules.deeds s) empty b)
+    Preserves-if (nat_eq s.mask 0 && not (header s).is_cross_stream) b b (driven s (stacking_rules.deeds s) empty b)
     (Preserves-same b) (driven-preserves s (stacking_rules.deeds s) empty (stacking-preserves s) b)
 
 attached-preserves : (s : Source) (b : Buffer) → Preserves b (attached s b)
@@ -251,25 +250,25 @@ attached-preserves s b = driven-preserves s (attaching_rules.deeds s) None (atta
 acted-preserves : (s : Source) (b : Buffer) → Preserves b (acted s b)
 unfolding acted
 acted-preserves s b =
-    let h = header_of s.bytes in
-    Preserves-if (has_pairs h) b (run_kerned s b) _ (run-preserves s b)
+    let h = header s in
+    Preserves-if (has_pairs s.layout h.format) b (run_kerned s b) _ (run-preserves s b)
     (Preserves-if (nat_eq h.format 1) b (stacked s b) _ (stacked-preserves s b)
-    (Preserves-if (nat_eq h.format 4) b (attached s b) b (attached-preserves s b) (Preserves-same b)))
+    (Preserves-if (attaches s.layout h.format) b (attached s b) b (attached-preserves s b) (Preserves-same b)))
 
 in_order-preserves : (s : Source) (b : Buffer) → Preserves b (acted_in_order s b)
 unfolding acted_in_order
 in_order-preserves s b =
-    Preserves-if (is_reversed (header_of s.bytes) b.direction) b (reversed (acted s (reversed b))) (acted s b)
+    Preserves-if (is_reversed (header s) b.direction) b (reversed (acted s (reversed b))) (acted s b)
     (Preserves-turned (acted s) (acted-preserves s) b) (acted-preserves s b)
 
 subtable-preserves : (s : Source) (b : Buffer) → Preserves b (subtable_run s b)
 subtable-preserves s b =
-    Preserves-if (is_for (header_of s.bytes) (is_horizontal b.direction)) b (acted_in_order s b) b (in_order-preserves s b)
+    Preserves-if (is_for (header s) (is_horizontal b.direction)) b (acted_in_order s b) b (in_order-preserves s b)
     (Preserves-same b)
 
 -- ---- the table
 
-one-preserves : (s : Source) (is_chained : Bool) (b : Buffer) → Preserves b (one_run s is_chained b)
+pub one-preserves : (s : Source) (is_chained : Bool) (b : Buffer) → Preserves b (one_run s is_chained b)
 one-preserves s is_chained b =
     let ready : Buffer = if chains s is_chained b then all_chained b else b in
     Preserves-then b ready (subtable_run s ready)
@@ -288,7 +287,7 @@ from-preserves f (bytes ∷ rest) is_chained b =
     (Preserves-then b paid (runs_from f rest after there) (Preserves-charged b)
     (Preserves-then paid there (runs_from f rest after there) (one-preserves s is_chained paid) (from-preserves f rest after there)))
 
-finished-preserves : (b : Buffer) → Preserves b (finished b)
+pub finished-preserves : (b : Buffer) → Preserves b (finished b)
 unfolding finished
 finished-preserves b =
     Preserves-if (nat_eq (bit_and b.scratch_flags.0 HAS_ATTACHMENT) 0) b (positions_mapped (λ (item : Item). loose) b) b

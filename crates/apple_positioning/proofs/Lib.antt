@@ -1,6 +1,8 @@
 pub mod ChainLemmas
 pub mod DriverLemmas
+pub mod KernPreservation
 pub mod KerxPreservation
+pub mod OldTableLemmas
 pub mod PairLemmas
 pub mod PreservedLemmas
 pub mod SignedLemmas

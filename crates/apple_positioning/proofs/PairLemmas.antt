@@ -7,9 +7,8 @@ use Rattle.shape_items.specs.Buffer.{Buffer, limit_of}
 use Rattle.shape_items.specs.BufferClusters.{unsafe_to_break}
 use Rattle.shape_items.proofs.Merging.KeyLemmas.{length-unsafe_to_break, without_items-unsafe_to_break}
 use Rattle.kern_table.specs.Walk.{left_after}
-use Rattle.apple_positioning.specs.Chains.{header_of}
 use Rattle.apple_positioning.specs.Pairs.{kerned_at, kerned_to, pair_moved, pair_put, scaled}
-use Rattle.apple_positioning.specs.Runs.{Source}
+use Rattle.apple_positioning.specs.Runs.{Source, header}
 
 -- ---- the number of items, and the limit
 
@@ -26,7 +25,7 @@ limit_break start end b = ap limit_of (without_items-unsafe_to_break start end b
 
 pub length_pair_moved : (s : Source) (i j : ℕ) (value : ℤ) (b : Buffer) → length (pair_moved s i j value b).items ≡ length b.items
 length_pair_moved s i j value b =
-    let across = (header_of s.bytes).is_cross_stream in
+    let across = (header s).is_cross_stream in
     let by = scaled s (is_horizontal b.direction) value in
     elim (int_eq value (pos 0)) as (λ t. length (if t then b else unsafe_to_break i (j + 1) (pair_put across i j by b)).items ≡ length b.items) [
       | true ↦ refl
@@ -35,7 +34,7 @@ length_pair_moved s i j value b =
 
 pub limit_pair_moved : (s : Source) (i j : ℕ) (value : ℤ) (b : Buffer) → limit_of (pair_moved s i j value b) ≡ limit_of b
 limit_pair_moved s i j value b =
-    let across = (header_of s.bytes).is_cross_stream in
+    let across = (header s).is_cross_stream in
     let by = scaled s (is_horizontal b.direction) value in
     elim (int_eq value (pos 0)) as (λ t. limit_of (if t then b else unsafe_to_break i (j + 1) (pair_put across i j by b)) ≡ limit_of b) [
       | true ↦ refl

@@ -6,10 +6,10 @@ use Rattle.shape_items.specs.Buffer.{Buffer}
 use Rattle.apple_tables.specs.declared.states.Entry.{Entry}
 use Rattle.kern_table.specs.Walk.{item_at, position_at, position_put}
 use Rattle.apple_positioning.specs.Anchors.{anchor_of}
-use Rattle.apple_positioning.specs.Attachments.{action_index, action_of, apart}
+use Rattle.apple_positioning.specs.Attachments.{action_of, apart}
 use Rattle.apple_positioning.specs.Chains.{bit_of}
 use Rattle.apple_positioning.specs.Deeds.{Deeds, Spot}
-use Rattle.apple_positioning.specs.Runs.{Source, to_right, upwards, with_attachment}
+use Rattle.apple_positioning.specs.Runs.{Source, action_for, to_right, upwards, with_attachment}
 use Rattle.apple_positioning.specs.declared.anchors.Anchor.{Anchor}
 use Rattle.apple_positioning.specs.declared.attachments.Action.{Action}
 use Rattle.apple_positioning.specs.declared.attachments.Numbers.{Numbers}
@@ -76,7 +76,7 @@ acted s index at mark b = option_map_or (λ p. record { buffer = glyph_hung at m
 -- nothing is asked at the end of the text, by an entry that names no action, or before a glyph is marked
 abbrev pub acted_by : Source → Entry → ℕ → ℕ → Buffer → Acted
 acted_by s e at mark b = if nat_lt at (length b.items)
-    then option_map_or (λ index. acted s index at mark b) (action_index s.bytes e) (nothing_asked b)
+    then option_map_or (λ index. acted s index at mark b) (action_for s e) (nothing_asked b)
     else nothing_asked b
 
 abbrev pub acted_with : Source → Entry → ℕ → Option ℕ → Buffer → Acted

@@ -1,18 +1,17 @@
--- The driver of a state table over a run (formats 1 and 4 of `kerx`; TrueType Reference Manual, "Font Tables", "State tables"). The state
+-- The driver of a state table over a run (formats 1 and 4 of `kerx`, 1 of `kern`; TrueType Reference Manual, "Font Tables", "State tables"). The state
 -- and the class of a glyph lead to an entry, which says what is done there, and which state is next. The next glyph is looked at then, or
 -- the same one again ("don't advance"), which is charged for, so that a run ends.
 use Prim.Native.Nat.{zero}
 use Rattle.std.specs.Prelude.{ℕ, suc, Bool, true, false, ◌+◌, ◌-◌, ◌&&◌, ◌||◌, not, min, length, is_some, nat_eq, nat_le, if◌then◌else◌}
 use Rattle.shape_items.specs.Buffer.{Buffer, most_countable}
 use Rattle.shape_items.specs.BufferClusters.{unsafe_to_break}
-use Rattle.apple_tables.specs.States.{class_of, entry_of}
 use Rattle.apple_tables.specs.declared.states.Entry.{Entry}
-use Rattle.apple_tables.specs.declared.states.TheConstants.{END_OF_TEXT, START_OF_TEXT}
+use Rattle.apple_tables.specs.declared.states.TheConstants.{END_OF_TEXT}
 use Rattle.kern_table.specs.Walk.{item_at}
-use Rattle.apple_positioning.specs.Attachments.{MACHINE, action_index}
 use Rattle.apple_positioning.specs.Chains.{bit_of}
 use Rattle.apple_positioning.specs.Deeds.{Deeds, Spot}
-use Rattle.apple_positioning.specs.Runs.{Source}
+use Rattle.apple_positioning.specs.Layouts.{class_by, entry_by, first_by}
+use Rattle.apple_positioning.specs.Runs.{Source, action_for}
 use Rattle.apple_positioning.specs.declared.driver.Met.{Met}
 use Rattle.apple_positioning.specs.declared.driver.Walk.{Walk}
 
@@ -23,15 +22,19 @@ is_at_end at b = nat_le (length b.items) at
 
 -- the class of a glyph
 unfoldable pub class_for : Source → ℕ → ℕ
-class_for s glyph = class_of s.bytes MACHINE s.glyphs glyph
+class_for s glyph = class_by s.layout s.bytes s.glyphs glyph
 
 -- the class of the current glyph, or of the end of the text
 abbrev pub class_at : Source → ℕ → Buffer → ℕ
 class_at s at b = if is_at_end at b then END_OF_TEXT else class_for s (item_at b.items at).glyph_id
 
--- the entry for a class in a state: four bytes, and the number of an action
+-- the entry for a class in a state
 unfoldable pub entry_for : Source → ℕ → ℕ → Entry
-entry_for s state class = entry_of s.bytes MACHINE 6 state class
+entry_for s state class = entry_by s.layout s.bytes state class
+
+-- the state in which a text begins
+unfoldable pub first_state : Source → ℕ
+first_state s = first_by s.layout s.bytes
 
 -- what a walk meets where it stands
 unfoldable pub met_at : Source → Walk → Buffer → Met
@@ -40,7 +43,7 @@ met_at s walk b = let class = class_at s walk.at b in
 
 -- an entry does something if it names an action
 abbrev pub is_actionable : Source → Entry → Bool
-is_actionable s e = is_some (action_index s.bytes e)
+is_actionable s e = is_some (action_for s e)
 
 -- flag 0x4000 of an entry, "don't advance": the same glyph is looked at again
 abbrev pub stays : Entry → Bool
@@ -54,14 +57,14 @@ leads_alike e f = nat_eq e.next f.next && (if stays e then stays f else not (sta
 
 -- a text that begins with the glyph does nothing there, and leads to the same
 abbrev pub is_as_first : Source → Met → Bool
-is_as_first s met = let first = entry_for s START_OF_TEXT met.class in
+is_as_first s met = let first = entry_for s (first_state s) met.class in
     not (is_actionable s first) && leads_alike met.entry first
 
 -- the text before a glyph doesn't count: the state is the first one, or the glyph is looked at again in the first state, or a text
 -- that begins with the glyph leads to the same
 abbrev pub is_apart : Source → Met → Bool
-is_apart s met = nat_eq met.state START_OF_TEXT
-    || ((stays met.entry && nat_eq met.entry.next START_OF_TEXT) || is_as_first s met)
+is_apart s met = nat_eq met.state (first_state s)
+    || ((stays met.entry && nat_eq met.entry.next (first_state s)) || is_as_first s met)
 
 -- a break before the glyph changes nothing: nothing is done at the glyph; the text before it doesn't count; and nothing would be
 -- done at the end of a text there
@@ -120,9 +123,9 @@ driven_on s deeds (suc n) d = driven_on s deeds n (if d.walk.has_ended then d el
 abbrev pub most_steps : Buffer → ℕ
 most_steps b = min (length b.items + b.max_ops + 1) most_countable
 
-abbrev pub first_drive : {T : Type 0} → T → Buffer → Drive T
-first_drive memory b =
-    record { buffer = b; memory = memory; walk = record { at = 0; state = START_OF_TEXT; has_ended = false } }
+abbrev pub first_drive : {T : Type 0} → Source → T → Buffer → Drive T
+first_drive s memory b =
+    record { buffer = b; memory = memory; walk = record { at = 0; state = first_state s; has_ended = false } }
 
 abbrev pub driven : {T : Type 0} → Source → Deeds T → T → Buffer → Buffer
-driven s deeds memory b = (driven_on s deeds (most_steps b) (first_drive memory b)).buffer
+driven s deeds memory b = (driven_on s deeds (most_steps b) (first_drive s memory b)).buffer

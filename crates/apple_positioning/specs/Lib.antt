@@ -4,6 +4,8 @@ pub mod Chains
 pub mod Values
 pub mod Attachments
 pub mod Stacks
+pub mod OldStates
+pub mod Layouts
 pub mod Runs
 pub mod Pairs
 pub mod Deeds
@@ -12,4 +14,5 @@ pub mod Stacking
 pub mod Attaching
 pub mod Subtables
 pub mod Tables
+pub mod OldTables
 pub mod Worked

@@ -1,4 +1,4 @@
--- Kerning of a run by a subtable of pairs (formats 0, 2 and 6 of `kerx`), as HarfBuzz 10.2.0 does it (`hb_kern_machine_t`). Which glyphs
+-- Kerning of a run by a subtable of pairs (formats 0, 2 and 6 of `kerx`; 0, 2 and 3 of `kern`), as HarfBuzz 10.2.0 does it (`hb_kern_machine_t`). Which glyphs
 -- are a pair is decided as for `kern`.
 use Prim.Native.Nat.{zero}
 use Rattle.std.specs.Prelude.{ℕ, suc, ℤ, pos, Bool, true, false, Option, Some, None, ◌+◌, ◌||◌, length, nat_eq, if◌then◌else◌}
@@ -10,9 +10,7 @@ use Rattle.shape_font.specs.Metrics.{half_down}
 use Rattle.shape_items.specs.Buffer.{Buffer}
 use Rattle.shape_items.specs.BufferClusters.{unsafe_to_break, unsafe_to_concat}
 use Rattle.kern_table.specs.Walk.{is_skipped_by, item_at, left_after, moved, moved_on, position_at, position_put}
-use Rattle.apple_positioning.specs.Chains.{header_of}
-use Rattle.apple_positioning.specs.Values.{kerning_of}
-use Rattle.apple_positioning.specs.Runs.{Source, is_on, to_right, upwards, with_attachment}
+use Rattle.apple_positioning.specs.Runs.{Source, header, is_on, kerning_for, to_right, upwards, with_attachment}
 
 -- ---- two glyphs
 
@@ -44,11 +42,11 @@ scaled s horizontal value = if horizontal then to_right s value else upwards s v
 abbrev pub pair_moved : Source → ℕ → ℕ → ℤ → Buffer → Buffer
 pair_moved s i j value b = if int_eq value (pos 0) then b
     else unsafe_to_break i (j + 1)
-    (pair_put (header_of s.bytes).is_cross_stream i j (scaled s (is_horizontal b.direction) value) b)
+    (pair_put (header s).is_cross_stream i j (scaled s (is_horizontal b.direction) value) b)
 
 abbrev pub pair_kerned : Source → ℕ → ℕ → Buffer → Buffer
 pair_kerned s i j b =
-    pair_moved s i j (kerning_of s.bytes s.glyphs (item_at b.items i).glyph_id (item_at b.items j).glyph_id) b
+    pair_moved s i j (kerning_for s (item_at b.items i).glyph_id (item_at b.items j).glyph_id) b
 
 -- ---- a run, from the first glyph to the last: each glyph with the one that waits
 
@@ -82,4 +80,4 @@ kerned s b = (kerned_to s (length b.items) (unsafe_to_concat 0 (length b.items) 
 -- ---- first
 
 abbrev pub run_kerned : Source → Buffer → Buffer
-run_kerned s b = if nat_eq s.mask 0 || (header_of s.bytes).is_backward then b else kerned s b
+run_kerned s b = if nat_eq s.mask 0 || (header s).is_backward then b else kerned s b

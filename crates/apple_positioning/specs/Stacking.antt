@@ -1,4 +1,4 @@
--- Contextual kerning of a run (format 1 of `kerx`): what an entry does to the stack, and to the glyphs that it pops.
+-- Contextual kerning of a run (format 1 of `kerx`, and of `kern`): what an entry does to the stack, and to the glyphs that it pops.
 use Prim.Native.Nat.{zero}
 use Rattle.std.specs.Prelude.{ℕ, suc, ℤ, pos, negsuc, List, Bool, true, false, ◌+◌, ◌-◌, ◌&&◌, not, min, length, nat_eq, nat_le, nat_lt}
 use Rattle.std.specs.Prelude.{slice_index_or, slice_set, if◌then◌else◌}
@@ -10,18 +10,17 @@ use Rattle.shape_common.specs.declared.positions.GlyphPosition.{GlyphPosition}
 use Rattle.shape_items.specs.Buffer.{Buffer}
 use Rattle.apple_tables.specs.declared.states.Entry.{Entry}
 use Rattle.kern_table.specs.Walk.{item_at, position_at, position_put}
-use Rattle.apple_positioning.specs.Attachments.{action_index}
-use Rattle.apple_positioning.specs.Chains.{header_of}
 use Rattle.apple_positioning.specs.Deeds.{Deeds, Spot}
-use Rattle.apple_positioning.specs.Runs.{Source, is_on, to_right, upwards, with_attachment}
-use Rattle.apple_positioning.specs.Stacks.{MOST_PUSHED, depth_after, list_of, pushes, step_of, value_at}
+use Rattle.apple_positioning.specs.Layouts.{empties, list_by, step_by}
+use Rattle.apple_positioning.specs.Runs.{Source, action_for, header, is_on, to_right, upwards, with_attachment}
+use Rattle.apple_positioning.specs.Stacks.{MOST_PUSHED, depth_after, pushes, value_at}
 use Rattle.apple_positioning.specs.declared.stacking.Popping.{Popping}
 use Rattle.apple_positioning.specs.declared.stacking.Stack.{Stack}
 
 -- ---- the stack: the places of up to eight glyphs, that of the glyph that was pushed last at `depth - 1`
 
-abbrev pub stack_after : Entry → ℕ → Stack → Stack
-stack_after e at k = let depth = depth_after e (min k.depth MOST_PUSHED) in record {
+abbrev pub stack_after : Source → Entry → ℕ → Stack → Stack
+stack_after s e at k = let depth = depth_after (empties s.layout e) (pushes e) (min k.depth MOST_PUSHED) in record {
   depth = depth;
   places = if pushes e && not (nat_eq depth 0) then slice_set k.places (depth - 1) at else k.places;
 }
@@ -58,7 +57,7 @@ glyph_raised s i v b = let along = is_horizontal b.direction in let p = position
     else with_attachment (position_put i (raised s along v p) b)))
 
 abbrev pub glyph_popped : Source → ℕ → ℤ → Buffer → Buffer
-glyph_popped s i v b = if (header_of s.bytes).is_cross_stream then glyph_raised s i v b else glyph_spaced s i v b
+glyph_popped s i v b = if (header s).is_cross_stream then glyph_raised s i v b else glyph_spaced s i v b
 
 -- ---- an entry that names values pops glyphs, each with a value, until the value that is the last one
 
@@ -68,7 +67,7 @@ pub record Popped : Type 0 where
   pub popping : Popping
 
 abbrev pub next_pop : Source → Popping → Popping
-next_pop s p = record p { depth = p.depth - 1; at = p.at + step_of s.bytes }
+next_pop s p = record p { depth = p.depth - 1; at = p.at + step_by s.layout s.bytes }
 
 abbrev pub place_in : List ℕ → ℕ → ℕ
 place_in places i = if nat_lt i (length places) then slice_index_or places i 0 else 0
@@ -100,12 +99,12 @@ spot_popped s k at b = spot_after k
 
 -- a subtable that lacks a value for one of them empties the stack
 abbrev pub performed : Source → Stack → ℕ → Buffer → Spot Stack
-performed s k index b = option_map_or (λ at. spot_popped s k at b) (list_of s.bytes index k.depth)
+performed s k index b = option_map_or (λ at. spot_popped s k at b) (list_by s.layout s.bytes index k.depth)
     (record { buffer = b; memory = record k { depth = 0 } })
 
 abbrev pub transition : Source → Entry → ℕ → Spot Stack → Spot Stack
-transition s e at p = let k = stack_after e at p.memory in
-    option_map_or (λ index. performed s k index p.buffer) (action_index s.bytes e) (record { buffer = p.buffer; memory = k })
+transition s e at p = let k = stack_after s e at p.memory in
+    option_map_or (λ index. performed s k index p.buffer) (action_for s e) (record { buffer = p.buffer; memory = k })
 
 abbrev pub deeds : Source → Deeds Stack
 deeds s = record { transition = transition s }

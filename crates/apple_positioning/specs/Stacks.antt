@@ -18,9 +18,9 @@ empties e = bit_of e.flags 0x2000
 abbrev pub MOST_PUSHED : ℕ
 MOST_PUSHED = 8
 
-abbrev pub depth_after : Entry → ℕ → ℕ
-depth_after e depth = let kept = if empties e then 0 else depth in
-    (if pushes e then (if nat_le MOST_PUSHED kept then 0 else kept + 1) else kept)
+abbrev pub depth_after : Bool → Bool → ℕ → ℕ
+depth_after is_emptied is_pushed depth = let kept = if is_emptied then 0 else depth in
+    (if is_pushed then (if nat_le MOST_PUSHED kept then 0 else kept + 1) else kept)
 
 -- after the header of the state table stands the place of the values (32 bits), from the start of the state table; the number of an
 -- entry's action is that of bytes from there

@@ -10,10 +10,11 @@ use Rattle.shape_common.specs.declared.positions.GlyphPosition.{GlyphPosition}
 use Rattle.shape_items.specs.Buffer.{Buffer}
 use Rattle.shape_items.specs.BufferClusters.{unsafe_to_concat}
 use Rattle.shape_items.specs.Items.{Item}
-use Rattle.apple_positioning.specs.Chains.{header_of, subtables_of}
-use Rattle.apple_positioning.specs.Runs.{HAS_ATTACHMENT, Source}
+use Rattle.apple_positioning.specs.Chains.{subtables_of}
+use Rattle.apple_positioning.specs.Runs.{HAS_ATTACHMENT, Source, header}
 use Rattle.apple_positioning.specs.Subtables.{is_for, subtable_run}
 use Rattle.apple_positioning.specs.declared.tables.ExtendedKerning.{ExtendedKerning}
+use Rattle.apple_positioning.specs.declared.values.Layout.TheVariants.{Kerx}
 
 -- the tables `kerx` and `ankr`, how many glyphs the font has, the size of the font, if it has one, and the mask of kerning
 pub record Font : Type 0 where
@@ -27,7 +28,7 @@ abbrev pub font_of : ExtendedKerning → Font
 font_of k = record { kerx = k.kerx.now; ankr = k.ankr.now; glyphs = k.glyphs; scale = k.scale; mask = k.mask }
 
 abbrev pub source : Font → List ℕ → Source
-source f bytes = record { bytes = bytes; ankr = f.ankr; glyphs = f.glyphs; scale = f.scale; mask = f.mask }
+source f bytes = record { layout = Kerx; bytes = bytes; ankr = f.ankr; glyphs = f.glyphs; scale = f.scale; mask = f.mask }
 
 -- ---- a line whose glyphs move across it
 
@@ -40,7 +41,7 @@ all_chained b = positions_mapped (λ (item : Item). chained (is_forward b.direct
 
 -- that is so from the first subtable on that is for lines of this kind and moves glyphs across them
 abbrev pub chains : Source → Bool → Buffer → Bool
-chains s is_chained b = let h = header_of s.bytes in
+chains s is_chained b = let h = header s in
     not is_chained && (h.is_cross_stream && is_for h (is_horizontal b.direction))
 
 -- a glyph that follows none

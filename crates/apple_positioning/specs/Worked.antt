@@ -6,3 +6,4 @@ pub mod Machines
 pub mod Lines
 pub mod Tables
 pub mod Driving
+pub mod Older

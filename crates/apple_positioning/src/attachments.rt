@@ -86,8 +86,8 @@ fn whole(bytes: &[u8], end: usize, action: Action) -> Option<Action>
 }
 
 impl<'a> Subtable<'a> {
-    /// The state table of a subtable of format 1 or 4.
-    pub fn states(&self) -> StateTable<'a>
+    /// The state table of a subtable of `kerx` of format 1 or 4.
+    pub(crate) fn states(&self) -> StateTable<'a>
         ensures table { result.table.now ≡ self.now.bytes.now }
         ensures start { result.start ≡ attachment_rules.MACHINE }
         ensures size { result.entry_size ≡ 6 }
@@ -101,8 +101,8 @@ impl<'a> Subtable<'a> {
         }
     }
 
-    /// The number of the action of an entry; none if it has none.
-    pub fn action_index(&self, entry: &Entry) -> Option<u16>
+    /// The number of the action of an entry of `kerx`; none if it has none.
+    pub(crate) fn numbered_action(&self, entry: &Entry) -> Option<u16>
         requires { entry.now.at < 2 ^ 37 }
         ensures { result ≡ attachment_rules.action_index self.now.bytes.now entry.now }
     {

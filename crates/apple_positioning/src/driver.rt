@@ -1,4 +1,4 @@
-//! The driver of a state table over a run: formats 1 and 4 of `kerx`.
+//! The driver of a state table over a run: formats 1 and 4 of `kerx`, and 1 of `kern`.
 //!
 //! At each glyph the state and the class of the glyph lead to an entry, which says what is done
 //! there, which state is next, and whether the next glyph is looked at then or the same one again.
@@ -11,7 +11,7 @@ ghost use Rattle.shape_items.specs.Buffer.{limit_of};
 use crate::chains::bit_of;
 use crate::runs::{Kerning, next_place};
 use apple_tables::Entry;
-use apple_tables::states::{END_OF_TEXT, START_OF_TEXT};
+use apple_tables::states::END_OF_TEXT;
 use shape_buffer::buffer::hb_buffer_t;
 
 /// What a look at a glyph costs: its class is searched for, and entries are read.
@@ -72,7 +72,7 @@ pub(crate) trait Machine {
 fn class_for(kerning: &Kerning<'_>, glyph: u32) -> u32
     ensures { result ≡ driver_rules.class_for (source_of kerning.now) glyph }
 {
-    kerning.subtable.states().class(glyph)
+    kerning.subtable.class_for(glyph)
 }
 
 /// The class of the current glyph, or of the end of the text.
@@ -93,7 +93,16 @@ fn entry_for(kerning: &Kerning<'_>, state: u32, class: u32) -> Entry
     ensures next { result.next < 2 ^ 16 }
     ensures near { result.at < 2 ^ 37 }
 {
-    kerning.subtable.states().entry(state, class)
+    kerning.subtable.entry_for(state, class)
+}
+
+/// The state in which a text begins.
+#[tactic(auto, unfolding(crate::specs::Driver::first_state))]
+fn first_state(kerning: &Kerning<'_>) -> u32
+    ensures value { result ≡ driver_rules.first_state (source_of kerning.now) }
+    ensures few { result < 2 ^ 16 }
+{
+    kerning.subtable.first_state()
 }
 
 /// What a walk meets where it stands.
@@ -148,7 +157,7 @@ fn leads_alike(one: &Entry, other: &Entry) -> bool
 fn is_as_first(kerning: &Kerning<'_>, met: &Met) -> bool
     ensures { result ≡ driver_rules.is_as_first (source_of kerning.now) met.now }
 {
-    let first = entry_for(kerning, START_OF_TEXT, met.class);
+    let first = entry_for(kerning, first_state(kerning), met.class);
     !is_actionable(kerning, &first) && leads_alike(&met.entry, &first)
 }
 
@@ -156,9 +165,8 @@ fn is_as_first(kerning: &Kerning<'_>, met: &Met) -> bool
 fn is_apart(kerning: &Kerning<'_>, met: &Met) -> bool
     ensures { result ≡ driver_rules.is_apart (source_of kerning.now) met.now }
 {
-    met.state == START_OF_TEXT
-        || stays(&met.entry) && met.entry.next == START_OF_TEXT
-        || is_as_first(kerning, met)
+    let first = first_state(kerning);
+    met.state == first || stays(&met.entry) && met.entry.next == first || is_as_first(kerning, met)
 }
 
 /// Whether a break before the glyph changes nothing: nothing is done at the glyph, the text before
@@ -274,7 +282,7 @@ pub(crate) fn drive<M: Machine>(
     let mut remembered = memory;
     let mut walk = Walk {
         at: 0,
-        state: 0,
+        state: first_state(kerning),
         has_ended: false,
     };
     for _i in 0..most {

@@ -1,10 +1,12 @@
 //! What positioning by Apple's tables preserves.
-ghost use Rattle.std.specs.Prelude.{◌≡◌, ℕ, List, Option, ◌≤◌};
+ghost use Rattle.std.specs.Prelude.{◌≡◌, ℕ, List, Option, ◌≤◌, true};
 ghost use Rattle.std.specs.Float.{Float};
 ghost use Rattle.font_sizes.specs.declared.scales.Scale.{Scale as Size};
 ghost use Rattle.shape_buffer.specs.Layout.{PreservesCount};
 ghost use Rattle.shape_buffer.specs.Preservation.{IsClusterPreserving, IsFlagPreserving};
 ghost use Rattle.shape_items.specs.Buffer.{Buffer};
+ghost use Rattle.kern_table.specs.Tables.{table_kerned};
+ghost use Rattle.apple_positioning.specs.OldTables.{Font as OldFont, is_plain, kern_run};
 ghost use Rattle.apple_positioning.specs.Tables.{Font, table_run};
 ghost use Rattle.apple_positioning.specs.Tracking.{run_tracked};
 
@@ -31,4 +33,20 @@ pub fn trak_preserves()
         → (run_tracked t size points mask b).length_limit ≡ b.length_limit }
     ensures left { (t : List ℕ) (size : Option Size) (points : Float) (mask : ℕ) (b : Buffer)
         → (run_tracked t size points mask b).max_ops ≤ b.max_ops }
+{}
+
+/// The older table `kern` preserves all that `kerx` does, with state tables and without.
+pub fn kern_preserves()
+    ensures clusters { (f : OldFont) → IsClusterPreserving (kern_run f) }
+    ensures flags { (f : OldFont) → IsFlagPreserving (kern_run f) }
+    ensures count { (f : OldFont) → PreservesCount (kern_run f) }
+    ensures limit { (f : OldFont) (b : Buffer) → (kern_run f b).length_limit ≡ b.length_limit }
+    ensures left { (f : OldFont) (b : Buffer) → (kern_run f b).max_ops ≤ b.max_ops }
+{}
+
+/// A table `kern` without a state table that moves no glyph across the line kerns by pairs alone,
+/// as `kern_table` does.
+pub fn kern_without_machines_is_kerned_by_pairs()
+    ensures { (f : OldFont) (b : Buffer) → is_plain f.kern ≡ true
+        → kern_run f b ≡ table_kerned f.scale f.kern f.mask b }
 {}

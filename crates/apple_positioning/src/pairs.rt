@@ -1,4 +1,5 @@
-//! Kerning of a run by a subtable of pairs: formats 0, 2 and 6 of `kerx`.
+//! Kerning of a run by a subtable of pairs: formats 0, 2 and 6 of `kerx`, and those of `kern` that
+//! move glyphs across the line.
 //!
 //! Each glyph for which kerning is on is moved apart from the next one for which it is, if only
 //! marks and default ignorables stand between them. Half of their value goes to each of the two;
@@ -10,47 +11,11 @@ ghost use Rattle.shape_items.specs.Buffer.{limit_of};
 ghost use Rattle.apple_positioning.specs.Pairs as pair_rules;
 ghost use Rattle.apple_positioning.specs.Runs.{source_of};
 
-use crate::chains::read_header;
 use crate::runs::{Kerning, next_place, note_attachment};
-use bitflags::Flags;
-use shape_buffer::buffer::{GlyphPosition, GlyphPropsFlags, hb_buffer_t, hb_glyph_info_t};
-use shape_buffer::wrapping::{difference, sum};
+use kern_table::walk::{is_skipped, move_both, move_on};
+use shape_buffer::buffer::{GlyphPosition, hb_buffer_t};
+use shape_buffer::wrapping::difference;
 use shape_font::metrics::half_below;
-
-/// Whether a glyph between two others doesn't part them: a mark, or one of a default ignorable.
-fn is_skipped(item: &hb_glyph_info_t) -> bool
-    ensures { result ≡ Walk.is_skipped item.now }
-{
-    item._hb_glyph_info_get_glyph_class()
-        .contains(GlyphPropsFlags::MARK)
-        || item._hb_glyph_info_is_default_ignorable()
-}
-
-/// A position with a longer advance along the line.
-fn moved_on(horizontal: bool, by: i32, position: GlyphPosition) -> GlyphPosition
-    ensures { result ≡ Walk.moved_on horizontal by position }
-{
-    let mut position = position;
-    if horizontal {
-        position.x_advance = sum(position.x_advance, by);
-    } else {
-        position.y_advance = sum(position.y_advance, by);
-    }
-    position
-}
-
-/// A position moved along the line.
-fn moved(horizontal: bool, by: i32, position: GlyphPosition) -> GlyphPosition
-    ensures { result ≡ Walk.moved horizontal by position }
-{
-    let mut position = position;
-    if horizontal {
-        position.x_offset = sum(position.x_offset, by);
-    } else {
-        position.y_offset = sum(position.y_offset, by);
-    }
-    position
-}
 
 /// A position that is put across the line.
 fn shifted(horizontal: bool, by: i32, position: GlyphPosition) -> GlyphPosition
@@ -63,26 +28,6 @@ fn shifted(horizontal: bool, by: i32, position: GlyphPosition) -> GlyphPosition
         position.x_offset = by;
     }
     position
-}
-
-/// Adds to a glyph's advance along the line.
-fn move_on(buffer: &mut hb_buffer_t, i: usize, along: bool, by: i32)
-    requires { i < length buffer.old.items }
-    ensures { buffer.new
-        ≡ Walk.position_put i (Walk.moved_on along by (Walk.position_at buffer.old i)) buffer.old }
-{
-    let position = moved_on(along, by, buffer.positions()[i]);
-    buffer.set_position(i, position);
-}
-
-/// The same, and moves the glyph along the line.
-fn move_both(buffer: &mut hb_buffer_t, j: usize, along: bool, by: i32)
-    requires { j < length buffer.old.items }
-    ensures { buffer.new ≡ Walk.position_put j
-        (Walk.moved along by (Walk.moved_on along by (Walk.position_at buffer.old j))) buffer.old }
-{
-    let position = moved_on(along, by, buffer.positions()[j]);
-    buffer.set_position(j, moved(along, by, position));
 }
 
 /// A value at the size of the font, as a number along lines of a kind, whatever it moves.
@@ -143,7 +88,7 @@ fn put_value(kerning: &Kerning<'_>, buffer: &mut hb_buffer_t, i: usize, j: usize
         return;
     }
     let by = scaled(kerning, buffer.direction().is_horizontal(), value);
-    let header = read_header(kerning.subtable.bytes);
+    let header = kerning.subtable.header();
     put_pair(header.is_cross_stream, buffer, i, j, by);
     let end = next_place(buffer.len(), j);
     buffer.unsafe_to_break(i, end);
@@ -214,7 +159,7 @@ pub(crate) fn kern_run(kerning: &Kerning<'_>, buffer: &mut hb_buffer_t)
     ensures len { length buffer.new.items ≡ length buffer.old.items }
     ensures limit { limit_of buffer.new ≡ limit_of buffer.old }
 {
-    if kerning.mask == 0 || read_header(kerning.subtable.bytes).is_backward {
+    if kerning.mask == 0 || kerning.subtable.header().is_backward {
         return;
     }
     kern_each(kerning, buffer);

@@ -1,4 +1,4 @@
-//! Contextual kerning of a run: subtables of format 1 of `kerx`.
+//! Contextual kerning of a run: subtables of format 1.
 //!
 //! Entries push glyphs onto a stack, and pop them with lists of values. Along the line a glyph
 //! becomes wider by its value; across it, the glyph moves, and all that follow it.
@@ -8,10 +8,9 @@ ghost use Rattle.apple_positioning.specs.Stacking as stacking_rules;
 ghost use Rattle.apple_positioning.specs.Stacks as stack_rules;
 ghost use Rattle.shape_items.specs.Buffer.{limit_of};
 
-use crate::chains::{bit_of, read_header};
 use crate::driver::Machine;
 use crate::runs::{Kerning, note_attachment};
-use crate::stacks::{MOST_PUSHED, depth_after};
+use crate::stacks::{MOST_PUSHED, depth_after, pushes};
 use apple_tables::Entry;
 use shape_buffer::buffer::{GlyphPosition, hb_buffer_t};
 use shape_buffer::wrapping::sum;
@@ -56,13 +55,15 @@ impl Stack {
 }
 
 /// The stack after an entry has emptied it or pushed the glyph at a place, before any is popped.
-fn stack_after(entry: &Entry, at: usize, stack: &Stack) -> Stack
-    ensures value { result ≡ stacking_rules.stack_after entry.now at stack.now }
+fn stack_after(kerning: &Kerning<'_>, entry: &Entry, at: usize, stack: &Stack) -> Stack
+    ensures value { result
+        ≡ stacking_rules.stack_after (source_of kerning.now) entry.now at stack.now }
     ensures few { result.depth ≤ stack_rules.MOST_PUSHED }
 {
-    let depth = depth_after(entry, stack.depth.min(MOST_PUSHED));
+    let is_emptied = kerning.subtable.empties(entry);
+    let depth = depth_after(is_emptied, pushes(entry), stack.depth.min(MOST_PUSHED));
     let mut places = stack.places;
-    if bit_of(entry.flags, 0x8000) && depth != 0 {
+    if pushes(entry) && depth != 0 {
         places[depth - 1] = at;
     }
     Stack { depth, places }
@@ -160,7 +161,7 @@ fn move_popped(kerning: &Kerning<'_>, buffer: &mut hb_buffer_t, i: usize, by: i3
     ensures items { buffer.new.items ≡ buffer.old.items }
     ensures limit { limit_of buffer.new ≡ limit_of buffer.old }
 {
-    if read_header(kerning.subtable.bytes).is_cross_stream {
+    if kerning.subtable.header().is_cross_stream {
         raise(kerning, buffer, i, by);
     } else {
         space(kerning, buffer, i, by);
@@ -251,7 +252,7 @@ impl<'a> Machine for Stacking<'a> {
     ghost deeds = { λ machine. stacking_rules.deeds (source_of machine.kerning) };
 
     fn transition(&self, buffer: &mut hb_buffer_t, at: usize, memory: &mut Stack, entry: &Entry) {
-        *memory = stack_after(entry, at, memory);
+        *memory = stack_after(&self.kerning, entry, at, memory);
         if let Some(index) = self.kerning.subtable.action_index(entry) {
             perform(&self.kerning, buffer, memory, index);
         }

@@ -1,5 +1,5 @@
-//! Contextual kerning: subtables of format 1 of `kerx`, whose state table pushes glyphs onto a stack,
-//! and pops them with lists of values.
+//! Contextual kerning: subtables of format 1, whose state table pushes glyphs onto a stack, and pops
+//! them with lists of values.
 ghost use Rattle.std.specs.Prelude.{◌≡◌, ◌<◌, ◌≤◌, ◌+◌, ◌^◌, length};
 ghost use Rattle.std.specs.Option.{IfSome};
 ghost use Rattle.apple_positioning.specs.Stacks as stack_rules;
@@ -21,48 +21,52 @@ pub struct StackValue {
     pub is_last: bool,
 }
 
-/// How many glyphs are on the stack after an entry has emptied it or pushed the current glyph, before
-/// any is popped.
-pub fn depth_after(entry: &Entry, depth: usize) -> usize
+/// Whether an entry pushes the current glyph.
+pub fn pushes(entry: &Entry) -> bool
+    ensures { result ≡ stack_rules.pushes entry.now }
+{
+    bit_of(entry.flags, 0x8000)
+}
+
+/// How many glyphs are on the stack after an entry has emptied it or pushed the current glyph,
+/// before any is popped.
+pub fn depth_after(is_emptied: bool, is_pushed: bool, depth: usize) -> usize
     requires { depth ≤ stack_rules.MOST_PUSHED }
-    ensures value { result ≡ stack_rules.depth_after entry.now depth }
+    ensures value { result ≡ stack_rules.depth_after is_emptied is_pushed depth }
     ensures few { result ≤ stack_rules.MOST_PUSHED }
 {
-    let kept = if bit_of(entry.flags, 0x2000) {
-        0
-    } else {
-        depth
-    };
-    if !bit_of(entry.flags, 0x8000) {
+    let kept = if is_emptied { 0 } else { depth };
+    if !is_pushed {
         return kept;
     }
     if MOST_PUSHED <= kept { 0 } else { kept + 1 }
 }
 
+/// How many bytes the value of a glyph takes in a subtable of `kerx`, with those for other
+/// instances.
+pub(crate) fn step(bytes: &[u8]) -> usize
+    ensures value { result ≡ stack_rules.step_of bytes.now }
+    ensures few { result < 2 ^ 34 }
+{
+    2 * (u32_at(bytes, 8) as usize).max(1)
+}
+
+/// Where the values of an action of `kerx` stand; none if the subtable lacks some of those for so
+/// many glyphs on the stack.
+pub(crate) fn values_of(bytes: &[u8], index: u16, depth: usize) -> Option<usize>
+    requires { depth ≤ stack_rules.MOST_PUSHED }
+    ensures value { result ≡ stack_rules.list_of bytes.now index depth }
+    ensures inside { IfSome result (λ at. at < 2 ^ 34) }
+{
+    let at = 12 + u32_at(bytes, 28) as usize + 2 * usize::from(index / 2);
+    if at + step(bytes) * depth <= bytes.len() {
+        Some(at)
+    } else {
+        None
+    }
+}
+
 impl<'a> Subtable<'a> {
-    /// How many bytes the value of a glyph takes, with those for other instances.
-    pub fn step(&self) -> usize
-        ensures value { result ≡ stack_rules.step_of self.now.bytes.now }
-        ensures few { result < 2 ^ 34 }
-    {
-        2 * (u32_at(self.bytes, 8) as usize).max(1)
-    }
-
-    /// Where the values of an action stand; none if the subtable lacks some of those for so many
-    /// glyphs on the stack.
-    pub fn stack_values(&self, index: u16, depth: usize) -> Option<usize>
-        requires { depth ≤ stack_rules.MOST_PUSHED }
-        ensures value { result ≡ stack_rules.list_of self.now.bytes.now index depth }
-        ensures inside { IfSome result (λ at. at < 2 ^ 34) }
-    {
-        let at = 12 + u32_at(self.bytes, 28) as usize + 2 * usize::from(index / 2);
-        if at + self.step() * depth <= self.bytes.len() {
-            Some(at)
-        } else {
-            None
-        }
-    }
-
     /// The value that stands there.
     pub fn stack_value(&self, at: usize) -> StackValue
         requires { at < 2 ^ 39 }

@@ -1,15 +1,16 @@
-//! A run of one subtable of `kerx` over a line.
+//! A run of one subtable of `kerx` or `kern` over a line.
 ghost use Rattle.std.specs.Prelude.{◌≡◌, length};
 ghost use Rattle.shape_buffer.specs.Outcome.{Made};
 ghost use Rattle.shape_items.specs.Buffer.{limit_of};
 ghost use Rattle.kern_table.specs.Tables.{reversed};
-ghost use Rattle.apple_positioning.specs.Chains.{header_of};
+ghost use Rattle.apple_positioning.specs.Layouts.{header_for};
 ghost use Rattle.apple_positioning.specs.Runs.{source_of};
 ghost use Rattle.apple_positioning.specs.Subtables as subtable_rules;
 
 use crate::attaching::Attaching;
-use crate::chains::{Header, read_header};
+use crate::chains::Header;
 use crate::driver::drive;
+use crate::layouts::{attaches, has_pairs};
 use crate::pairs::kern_run;
 use crate::runs::Kerning;
 use crate::stacking::{Stack, Stacking};
@@ -40,7 +41,7 @@ fn is_reversed(header: Header, direction: Direction) -> bool
 /// Runs a subtable of format 1 over a list. One that moves glyphs along the line does nothing if
 /// kerning is off everywhere.
 fn stack_run(kerning: &Kerning<'_>, header: Header, buffer: &mut hb_buffer_t)
-    requires { header ≡ header_of kerning.now.subtable.bytes.now }
+    requires { header ≡ header_for kerning.now.subtable.layout kerning.now.subtable.bytes.now }
     ensures made { buffer.new ≡ subtable_rules.stacked (source_of kerning.now) buffer.old }
     ensures len { length buffer.new.items ≡ length buffer.old.items }
     ensures limit { limit_of buffer.new ≡ limit_of buffer.old }
@@ -65,22 +66,24 @@ fn attach_run(kerning: &Kerning<'_>, buffer: &mut hb_buffer_t)
 /// Does what the format of a subtable does, over a list in the order of processing.
 #[tactic(auto, unfolding(crate::specs::Subtables::acted))]
 fn act(kerning: &Kerning<'_>, header: Header, buffer: &mut hb_buffer_t)
-    requires { header ≡ header_of kerning.now.subtable.bytes.now }
+    requires { header ≡ header_for kerning.now.subtable.layout kerning.now.subtable.bytes.now }
     ensures made { buffer.new ≡ subtable_rules.acted (source_of kerning.now) buffer.old }
     ensures len { length buffer.new.items ≡ length buffer.old.items }
     ensures limit { limit_of buffer.new ≡ limit_of buffer.old }
 {
-    match header.format {
-        0 | 2 | 6 => kern_run(kerning, buffer),
-        1 => stack_run(kerning, header, buffer),
-        4 => attach_run(kerning, buffer),
-        _ => {}
+    let layout = kerning.subtable.layout;
+    if has_pairs(layout, header.format) {
+        kern_run(kerning, buffer);
+    } else if header.format == 1 {
+        stack_run(kerning, header, buffer);
+    } else if attaches(layout, header.format) {
+        attach_run(kerning, buffer);
     }
 }
 
 /// Does it over a list the other way round.
 fn act_reversed(kerning: &Kerning<'_>, header: Header, buffer: &mut hb_buffer_t)
-    requires { header ≡ header_of kerning.now.subtable.bytes.now }
+    requires { header ≡ header_for kerning.now.subtable.layout kerning.now.subtable.bytes.now }
     ensures made { buffer.new ≡ reversed
         (subtable_rules.acted (source_of kerning.now) (reversed buffer.old)) }
     ensures len { length buffer.new.items ≡ length buffer.old.items }
@@ -98,7 +101,7 @@ fn act_reversed(kerning: &Kerning<'_>, header: Header, buffer: &mut hb_buffer_t)
 pub fn run_subtable(kerning: &Kerning<'_>, buffer: &mut hb_buffer_t)
     ensures { Made (subtable_rules.subtable_run (source_of kerning.now)) buffer.old buffer.new }
 {
-    let header = read_header(kerning.subtable.bytes);
+    let header = kerning.subtable.header();
     if !is_for(header, buffer.direction().is_horizontal()) {
         return;
     }

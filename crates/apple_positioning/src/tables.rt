@@ -4,17 +4,17 @@ ghost use Rattle.apple_positioning.specs.Chains as chain_rules;
 ghost use Rattle.apple_positioning.specs.Runs.{source_of};
 ghost use Rattle.apple_positioning.specs.Tables as table_rules;
 ghost use Rattle.apple_positioning.specs.Tables.{font_of};
-ghost use Rattle.kern_table.specs.Tables as kern_tables;
 ghost use Rattle.shape_buffer.specs.Outcome.{Made};
 ghost use Rattle.shape_buffer.specs.PositionWalks.{positions_mapped};
 ghost use Rattle.shape_items.specs.Buffer.{limit_of};
 ghost use Rattle.shape_items.specs.Items.{Item};
 
-use crate::chains::{Chain, read_header, subtable_count};
+use crate::chains::{Chain, subtable_count};
 use crate::runs::{HAS_ATTACHMENT, Kerning};
 use crate::subtables::{is_for, run_subtable};
-use crate::values::Subtable;
+use crate::values::{Layout, Subtable};
 use font_sizes::Scale;
+use kern_table::tables::charge;
 use shape_buffer::buffer::{GlyphPosition, hb_buffer_t, hb_mask_t};
 use shape_buffer::position_walks::update_positions;
 
@@ -41,6 +41,7 @@ impl<'a> ExtendedKerning<'a> {
     {
         Kerning {
             subtable: Subtable {
+                layout: Layout::Kerx,
                 bytes,
                 glyphs: self.glyphs,
             },
@@ -87,7 +88,7 @@ fn free_each(buffer: &mut hb_buffer_t)
 
 /// Ends a run: if no glyph was moved across the line or attached, none follows another one.
 #[tactic(auto, unfolding(crate::specs::Tables::finished))]
-fn finish(buffer: &mut hb_buffer_t)
+pub(crate) fn finish(buffer: &mut hb_buffer_t)
     ensures { Made table_rules.finished buffer.old buffer.new }
 {
     if buffer.scratch_flags().0 & HAS_ATTACHMENT.0 == 0 {
@@ -96,10 +97,10 @@ fn finish(buffer: &mut hb_buffer_t)
 }
 
 /// Whether a subtable is the first one that is for lines of this kind and moves glyphs across them.
-fn chains(kerning: &Kerning<'_>, is_chained: bool, buffer: &hb_buffer_t) -> bool
+pub(crate) fn chains(kerning: &Kerning<'_>, is_chained: bool, buffer: &hb_buffer_t) -> bool
     ensures { result ≡ table_rules.chains (source_of kerning.now) is_chained buffer.now }
 {
-    let header = read_header(kerning.subtable.bytes);
+    let header = kerning.subtable.header();
     !is_chained && header.is_cross_stream && is_for(header, buffer.direction().is_horizontal())
 }
 
@@ -119,32 +120,9 @@ fn prepare(kerning: &Kerning<'_>, is_chained: bool, buffer: &mut hb_buffer_t) ->
     true
 }
 
-/// What a subtable costs at each item, in units of about one look at a glyph.
-const SUBTABLE_WORK: usize = 16;
-
-/// What a subtable costs a buffer of so many items.
-fn subtable_work(count: usize) -> usize
-    ensures { result ≡ kern_tables.subtable_work count }
-{
-    count.saturating_mul(SUBTABLE_WORK).max(1)
-}
-
-/// Charges a buffer for a subtable. Returns whether what was left suffices; else nothing is left.
-fn charge(buffer: &mut hb_buffer_t) -> bool
-    ensures made { buffer.new ≡ kern_tables.charged buffer.old }
-    ensures enough { result
-        ≡ not (nat_lt buffer.old.max_ops (kern_tables.subtable_work (length buffer.old.items))) }
-    ensures items { buffer.new.items ≡ buffer.old.items }
-    ensures limit { limit_of buffer.new ≡ limit_of buffer.old }
-{
-    let (left, work) = (buffer.max_ops(), subtable_work(buffer.len()));
-    buffer.set_max_ops(left.saturating_sub(work));
-    work <= left
-}
-
 /// Runs a subtable, before which each glyph follows the one before it if it is the first one that
 /// needs that. Returns whether they do so.
-fn run_one(kerning: &Kerning<'_>, is_chained: bool, buffer: &mut hb_buffer_t) -> bool
+pub(crate) fn run_one(kerning: &Kerning<'_>, is_chained: bool, buffer: &mut hb_buffer_t) -> bool
     ensures made { buffer.new ≡ table_rules.one_run (source_of kerning.now) is_chained buffer.old }
     ensures chained { result
         ≡ (is_chained || table_rules.chains (source_of kerning.now) is_chained buffer.old) }

@@ -1,6 +1,10 @@
 //! A run of each kind of subtable over glyphs 2, 3 and 4.
 
-use crate::{ExtendedKerning, Kerning, Subtable, run_subtable, run_table};
+use crate::old_tables::{has_across, has_machine};
+use crate::{
+    ExtendedKerning, Kerning, Layout, OldKerning, Subtable, run_kern, run_subtable, run_table,
+};
+use kern_table::Sides;
 use shape_buffer::{Direction, ShapeError, hb_buffer_t, hb_glyph_info_t};
 use std::alloc::Global;
 
@@ -70,7 +74,11 @@ fn three(alloc: Global) -> Result<hb_buffer_t, ShapeError> {
 /// A subtable where kerning is on by mask 16.
 fn kerning(bytes: &[u8]) -> Kerning<'_> {
     Kerning {
-        subtable: Subtable { bytes, glyphs: 10 },
+        subtable: Subtable {
+            layout: Layout::Kerx,
+            bytes,
+            glyphs: 10,
+        },
         ankr: &[],
         scale: None,
         mask: 16,
@@ -139,6 +147,38 @@ fn a_table_moves_pairs_along_and_across(rt: HostRuntime) {
 fn glyphs_are_pushed_and_popped(rt: HostRuntime) {
     let buffer = by_subtable(rt.alloc(), STACKS).expect(&rt, "memory");
     assert_eq!(rt; advances(&buffer), (-20, 10, 0));
+}
+
+/// Apple's table `kern` with the state table of `STACKS`.
+const OLD_STACKS: &[u8] = &[
+    0, 1, 0, 0, 0, 0, 0, 1, // its version, and how many subtables
+    0, 0, 0, 52, 0, 1, 0, 0, // the length, the coverage and the format of the subtable
+    0, 6, 0, 10, 0, 16, 0, 28, 0, 40, // where its parts begin
+    0, 2, 0, 2, 4, 5, // classes
+    0, 0, 0, 0, 1, 0, // states
+    0, 0, 0, 0, 1, 2, //
+    0, 16, 0, 0, 0, 22, 0x80, 0, 0, 16, 0x80, 40, // entries
+    0, 10, 255, 237,
+];
+
+/// The glyphs after an older table.
+fn by_old_table(alloc: Global, kern: &[u8]) -> Result<hb_buffer_t, ShapeError> {
+    let table = OldKerning {
+        kern,
+        scale: None,
+        mask: 16,
+    };
+    let mut buffer = three(alloc)?;
+    run_kern(&table, Sides::none(), &mut buffer);
+    Ok(buffer)
+}
+
+#[test]
+fn glyphs_are_pushed_and_popped_by_an_older_table(rt: HostRuntime) {
+    let buffer = by_old_table(rt.alloc(), OLD_STACKS).expect(&rt, "memory");
+    assert_eq!(rt; advances(&buffer), (-20, 10, 0));
+    assert!(rt; has_machine(OLD_STACKS));
+    assert!(rt; !has_across(OLD_STACKS));
 }
 
 #[test]

@@ -8,10 +8,22 @@ use font_bytes::bytes::i32_at;
 use shape_font::bytes::{i16_at, records, u16_at, u32_at};
 use shape_font::search::{found_within, side};
 
+/// How a subtable is laid out.
+#[derive(Clone, Copy, Debug)]
+pub enum Layout {
+    /// As one of `kerx`, whose own bytes are given.
+    Kerx,
+    /// As one of the older table `kern`, which begins there. The bytes of the table up to its end
+    /// are given.
+    Kern(u32),
+}
+
 /// A subtable, by its bytes.
 #[derive(Clone, Copy, Debug)]
 pub struct Subtable<'a> {
-    /// Its bytes, from its header on.
+    /// How it is laid out.
+    pub layout: Layout,
+    /// Its bytes, from its header on; of the table `kern` all up to its end.
     pub bytes: &'a [u8],
     /// How many glyphs the font has.
     pub glyphs: u32,
@@ -185,16 +197,17 @@ impl<'a> Subtable<'a> {
             0
         }
     }
+}
 
-    /// How far two glyphs are moved apart, in units of the em square; together if it is negative,
-    /// and 0 if the subtable doesn't name one of them, or is of another format than 0, 2 and 6.
-    #[tactic(auto, unfolding(crate::specs::Values::kerning_of), using(crate::proofs::SignedLemmas::kept_bits))]
-    pub fn kerning(&self, left: u32, right: u32) -> i32
-        ensures { result ≡ value_rules.kerning_of self.now.bytes.now self.now.glyphs left right }
-    {
-        match self.found_value(left, right) {
-            Some(value) => first_of_tuple(self.bytes, self.tuples(), value),
-            None => 0,
-        }
+/// How far two glyphs are moved apart by a subtable of `kerx`; 0 if it doesn't name one of them, or
+/// is of another format than 0, 2 and 6.
+#[tactic(auto, unfolding(crate::specs::Values::kerning_of), using(crate::proofs::SignedLemmas::kept_bits))]
+pub(crate) fn kerning_of(subtable: &Subtable<'_>, left: u32, right: u32) -> i32
+    ensures { result ≡ value_rules.kerning_of subtable.now.bytes.now subtable.now.glyphs
+        left right }
+{
+    match subtable.found_value(left, right) {
+        Some(value) => first_of_tuple(subtable.bytes, subtable.tuples(), value),
+        None => 0,
     }
 }

@@ -5,6 +5,9 @@ ghost use Rattle.apple_positioning.specs.Worked.Driving.{WorkedAttaching, Worked
 ghost use Rattle.apple_positioning.specs.Worked.Driving.{WorkedStacking};
 ghost use Rattle.apple_positioning.specs.Worked.Lines.{WorkedLines, WorkedRises};
 ghost use Rattle.apple_positioning.specs.Worked.Machines.{WorkedAttachments, WorkedStacks};
+ghost use Rattle.apple_positioning.specs.Worked.Older.{WorkedOldHeaders, WorkedOldKinds};
+ghost use Rattle.apple_positioning.specs.Worked.Older.{WorkedOldLines, WorkedOldLists};
+ghost use Rattle.apple_positioning.specs.Worked.Older.{WorkedOldRises, WorkedOldStates};
 ghost use Rattle.apple_positioning.specs.Worked.Points.{WorkedAnchors};
 ghost use Rattle.apple_positioning.specs.Worked.Tables.{WorkedLinks, WorkedTables};
 ghost use Rattle.apple_positioning.specs.Worked.Spacing.{WorkedTracking, WorkedParts};
@@ -55,4 +58,15 @@ pub fn state_tables_meet_worked_cases()
     ensures stacking { WorkedStacking }
     ensures crossing { WorkedCrossing }
     ensures attaching { WorkedAttaching }
+{}
+
+/// The older table `kern`: its state tables and headers, lines that it kerns by them, along them
+/// and across them, and what it has.
+pub fn older_tables_meet_worked_cases()
+    ensures states { WorkedOldStates }
+    ensures lists { WorkedOldLists }
+    ensures headers { WorkedOldHeaders }
+    ensures lines { WorkedOldLines }
+    ensures rises { WorkedOldRises }
+    ensures kinds { WorkedOldKinds }
 {}

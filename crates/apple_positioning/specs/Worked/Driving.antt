@@ -13,7 +13,7 @@ use Rattle.shape_font.specs.Worked.Glyphs.{words}
 use Rattle.shape_items.specs.Buffer.{Buffer}
 use Rattle.shape_items.specs.Items.{Item}
 use Rattle.apple_positioning.specs.Attaching.{chain_to}
-use Rattle.apple_positioning.specs.Driver.{class_for, entry_for, marked, met_at, stepped}
+use Rattle.apple_positioning.specs.Driver.{class_for, entry_for, first_state, marked, met_at, stepped}
 use Rattle.apple_positioning.specs.Runs.{Source}
 use Rattle.apple_positioning.specs.Stacking.{popped_one}
 use Rattle.apple_positioning.specs.Subtables.{acted, acted_in_order, subtable_run}
@@ -191,7 +191,7 @@ pub record WorkedAttaching : Type 0 where
   pub after_it : chain_to 1 3 ≡ pos 2
 
 pub worked_stacking : WorkedStacking
-unfolding acted acted_in_order stepped met_at marked class_for entry_for popped_one as_short nearest if_short i16_of ◌+ʷ◌ ◌-ʷ◌ int_wrap
+unfolding acted acted_in_order stepped met_at marked class_for entry_for first_state popped_one as_short nearest if_short i16_of ◌+ʷ◌ ◌-ʷ◌ int_wrap
 worked_stacking = record {
   popped = refl;
   unsafe = refl;
@@ -219,7 +219,7 @@ worked_stacking = record {
 }
 
 pub worked_crossing : WorkedCrossing
-unfolding acted acted_in_order stepped met_at marked class_for entry_for popped_one as_short nearest if_short i16_of ◌+ʷ◌ ◌-ʷ◌ int_wrap
+unfolding acted acted_in_order stepped met_at marked class_for entry_for first_state popped_one as_short nearest if_short i16_of ◌+ʷ◌ ◌-ʷ◌ int_wrap
 worked_crossing = record {
   raised = refl;
   noted = refl;
@@ -234,7 +234,7 @@ worked_crossing = record {
 }
 
 pub worked_attaching : WorkedAttaching
-unfolding acted acted_in_order stepped met_at marked class_for entry_for popped_one as_short nearest if_short i16_of ◌+ʷ◌ ◌-ʷ◌ int_wrap
+unfolding acted acted_in_order stepped met_at marked class_for entry_for first_state popped_one as_short nearest if_short i16_of ◌+ʷ◌ ◌-ʷ◌ int_wrap
 worked_attaching = record {
   by_coordinates = refl;
   follows = refl;

@@ -20,6 +20,7 @@ use Rattle.apple_positioning.specs.Runs.{Source}
 use Rattle.apple_positioning.specs.Subtables.{acted, acted_in_order, subtable_run}
 use Rattle.apple_positioning.specs.Values.{kerning_of}
 use Rattle.apple_positioning.specs.Worked.Kerning.{long_rows}
+use Rattle.apple_positioning.specs.declared.values.Layout.TheVariants.{Kerx}
 
 -- format 0 with this coverage: glyphs 2 and 3 by -50, 3 and 2 by -35
 abbrev pub pairs_of : ℕ → List ℕ
@@ -27,7 +28,7 @@ pairs_of coverage = words (0 ∷ 40 ∷ coverage ∷ 0 ∷ 0 ∷ 0 ∷ 0 ∷ 2 �
 
 -- a subtable of a font of 9 glyphs, where kerning is on by bit 4
 abbrev pub plain : List ℕ → Source
-plain bytes = record { bytes = bytes; ankr = []; glyphs = 9; scale = None; mask = 16 }
+plain bytes = record { layout = Kerx; bytes = bytes; ankr = []; glyphs = 9; scale = None; mask = 16 }
 
 abbrev pub run : ℕ → Direction → List Item → Buffer
 run coverage direction items = subtable_run (plain (pairs_of coverage)) (line direction items)

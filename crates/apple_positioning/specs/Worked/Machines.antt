@@ -6,7 +6,7 @@ use Rattle.shape_font.specs.Bytes.{i16_of}
 use Rattle.shape_font.specs.Worked.Glyphs.{words}
 use Rattle.apple_tables.specs.declared.states.Entry.{Entry}
 use Rattle.apple_positioning.specs.Attachments.{action_index, action_of, apart}
-use Rattle.apple_positioning.specs.Stacks.{depth_after, list_of, value_at}
+use Rattle.apple_positioning.specs.Stacks.{depth_after, empties, list_of, pushes, value_at}
 use Rattle.apple_positioning.specs.Worked.Points.{anchor}
 use Rattle.apple_positioning.specs.declared.attachments.Action.TheVariants.{ControlPoints, AnchorPoints, Coordinates, Attached}
 
@@ -45,12 +45,16 @@ abbrev pub stacking : ℕ → List ℕ → List ℕ
 stacking tuples values = subtable 1 tuples 0 20 values
 
 pub record WorkedStacks : Type 0 where
-  pub pushed : depth_after (entry 0x8000) 0 ≡ 1
-  pub eighth : depth_after (entry 0x8000) 7 ≡ 8
-  pub ninth : depth_after (entry 0x8000) 8 ≡ 0
-  pub emptied : depth_after (entry 0x2000) 5 ≡ 0
-  pub emptied_and_pushed : depth_after (entry 0xA000) 8 ≡ 1
-  pub kept : depth_after (entry 0x4000) 5 ≡ 5
+  pub pushed : depth_after false true 0 ≡ 1
+  pub eighth : depth_after false true 7 ≡ 8
+  pub ninth : depth_after false true 8 ≡ 0
+  pub emptied : depth_after true false 5 ≡ 0
+  pub emptied_and_pushed : depth_after true true 8 ≡ 1
+  pub kept : depth_after false false 5 ≡ 5
+  pub push_flag : pushes (entry 0x8000) ≡ true
+  pub no_push_flag : pushes (entry 0x7FFF) ≡ false
+  pub empty_flag : empties (entry 0x2000) ≡ true
+  pub no_empty_flag : empties (entry 0xDFFF) ≡ false
   pub two : list_of (stacking 0 (10 ∷ 21 ∷ [])) 0 2 ≡ Some 32
   pub three : list_of (stacking 0 (10 ∷ 21 ∷ [])) 0 3 ≡ None
   pub second : list_of (stacking 0 (10 ∷ 21 ∷ [])) 2 1 ≡ Some 34
@@ -90,6 +94,10 @@ worked_stacks = record {
   emptied = refl;
   emptied_and_pushed = refl;
   kept = refl;
+  push_flag = refl;
+  no_push_flag = refl;
+  empty_flag = refl;
+  no_empty_flag = refl;
   two = refl;
   three = refl;
   second = refl;

@@ -9,7 +9,7 @@ abbrev pub invariant-loop-i : goal.invariant-loop-i
 invariant-loop-i g l = record {
   made : driven_on (source_of l.kerning) (g.M.Machine.deeds l.machine) (l.most - l._i)
       (record { buffer = l.buffer; memory = l.remembered; walk = l.walk })
-      ≡ driven_on (source_of l.kerning) (g.M.Machine.deeds l.machine) l.most (first_drive l.fn.memory l.fn.buffer);
+      ≡ driven_on (source_of l.kerning) (g.M.Machine.deeds l.machine) l.most (first_drive (source_of l.kerning) l.fn.memory l.fn.buffer);
   state : l.walk.state < 2 ^ 16;
   len : length l.buffer.items ≡ length l.fn.buffer.items;
   limit : limit_of l.buffer ≡ limit_of l.fn.buffer;
