@@ -15,11 +15,14 @@ use Rattle.shape_items.specs.Clusters.{map_range, mark_concat}
 use Rattle.shape_buffer.specs.Preservation.{EachLookup}
 use Rattle.shape_buffer.specs.Walks.{items_mapped}
 use Rattle.shape_buffer.specs.PositionWalks.{positions_mapped}
-use Rattle.font_sizes.specs.declared.scales.Scale.{Scale}
-use Rattle.kern_table.specs.Headers.{first_start, length_of, ends_table}
-use Rattle.kern_table.specs.StepLaws.{step-kerned}
-use Rattle.kern_table.specs.Tables.{subtable_count_of, is_read, reversed, subtable_kerned, subtable_work, charged, kerned_from, table_kerned}
-use Rattle.kern_table.specs.Walk.{kerned}
+use Rattle.shape_common.specs.declared.text_types.Feature.{Feature}
+use Rattle.apple_positioning.proofs.KernPreservation.{kern-preserves}
+use Rattle.apple_positioning.proofs.KerxPreservation.{kerx-preserves}
+use Rattle.apple_positioning.proofs.TrakPreservation.{trak-preserves}
+use Rattle.apple_substitution.proofs.DeletedLemmas.{without_deleted-left}
+use Rattle.apple_substitution.proofs.MorxPreservation.{morx-preserves}
+use Rattle.apple_substitution.specs.Chains.{deleted_narrowed}
+use Rattle.apple_substitution.specs.Substitution.{Font, language_of, source_for, substituted}
 use Rattle.layout_context.proofs.TriesLemmas as context
 use Rattle.layout_context.specs.Tries.{Substitutes}
 use Rattle.layout_map.specs.Map.{OtMap}
@@ -32,6 +35,7 @@ use Rattle.layout_positions.specs.Attachment.{offsets_finished}
 use Rattle.layout_positions.specs.Edits.{broken, concat_marked, position_put}
 use Rattle.layout_positions.specs.Walk.{started}
 use Rattle.layout_tables.specs.Lookups as tables
+use Rattle.opentype_layout.specs.Apple.{morx_of, kerx_of, kern_of}
 use Rattle.opentype_layout.specs.Classes.{glyphs_begun}
 use Rattle.opentype_layout.specs.Engine.{gsub_tables, gpos_tables, positioned_by, opentype_lookups}
 use Rattle.opentype_layout.specs.Lookups.{lookup_at, with_lookup, lookups_of}
@@ -95,42 +99,6 @@ same-put i p b = same-if (nat_lt i (length b.items)) b (record b { positions = s
 same-finished : (b : Buffer) → SameWork b (offsets_finished b)
 same-finished = step-finished SameWork (λ b. refl) (λ a b c first later. later ∙ first) same-broken same-concat_marked same-put
 
-same-kerned : (scale : Option Scale) (t : List ℕ) (start mask : ℕ) (b : Buffer) → SameWork b (kerned scale t start mask b)
-same-kerned = step-kerned SameWork (λ b. refl) (λ a b c first later. later ∙ first) same-break (λ end b. same-concat 0 end b) (λ i p b. refl)
-
-same-subtable : (scale : Option Scale) (t : List ℕ) (start mask : ℕ) (b : Buffer) → SameWork b (subtable_kerned scale t start mask b)
-same-subtable scale t start mask b =
-    same-if (is_read t start (is_horizontal b.direction)) b
-    (if is_backward b.direction then reversed (kerned scale t start mask (reversed b)) else kerned scale t start mask b) b
-    (same-if (is_backward b.direction) b (reversed (kerned scale t start mask (reversed b))) (kerned scale t start mask b)
-    (same-kerned scale t start mask (reversed b)) (same-kerned scale t start mask b)) refl
-
--- ---- kerning is charged
-
-less-from : (scale : Option Scale) (t : List ℕ) (mask n start : ℕ) (b : Buffer) → (kerned_from scale t mask n start b).max_ops ≤ b.max_ops
-less-from scale t mask zero start b = omega arith
-less-from scale t mask (suc n) start b =
-    let next = subtable_kerned scale t start mask (charged b) in
-    let rest = kerned_from scale t mask n (start + length_of t start) next in
-    let spent = nat_lt b.max_ops (subtable_work (length b.items)) in
-    let paid : (charged b).max_ops ≤ b.max_ops = omega arith in
-    let same = same-subtable scale t start mask (charged b) in
-    let later = less-from scale t mask n (start + length_of t start) next in
-    elim (ends_table t start) as (λ s. (if s then b else (if spent then charged b else rest)).max_ops ≤ b.max_ops) [
-      | true ↦ omega arith
-      | false ↦ elim spent as (λ s. (if s then charged b else rest).max_ops ≤ b.max_ops) [
-        | true ↦ paid
-        | false ↦ omega (arith, paid, same, later)
-      ]
-    ]
-
-less-kerned : (scale : Option Scale) (t : List ℕ) (mask : ℕ) → NeverRaises (table_kerned scale t mask)
-less-kerned scale t mask b =
-    elim (nat_eq mask 0) as (λ s. (if s then b else kerned_from scale t mask (subtable_count_of t) (first_start t) b).max_ops ≤ b.max_ops) [
-      | true ↦ omega arith
-      | false ↦ less-from scale t mask (subtable_count_of t) (first_start t) b
-    ]
-
 -- ---- no call raises what is left
 
 stays : (b c : Buffer) → SameWork b c → c.max_ops ≤ b.max_ops
@@ -147,19 +115,28 @@ same-started : (b : Buffer) → SameWork b (started b)
 unfolding positions_mapped
 same-started b = refl
 
+less-substituted : (s : Font) (features : List Feature) → NeverRaises (substituted s features)
+unfolding substituted
+less-substituted s features b = (morx-preserves (source_for s features (language_of b)) b).left
+
+same-narrowed : (b : Buffer) → SameWork b (deleted_narrowed b)
+unfolding positions_mapped
+same-narrowed b = refl
+
 pub never-raises : (m : OtMap) (f : OpenTypeFace) → EachLookup NeverRaises (opentype_lookups m f)
 never-raises m f = record {
   substitute_start = λ b. stays b (glyphs_begun f.gdef.now b) (same-begun f.gdef.now b);
   stage = λ i b. paid-less ((stage_call m f i).tries b) b ((stage_call m f i).makes b) (stage-pays m f i b);
-  aat_substitute = λ features b. omega arith;
-  aat_remove_deleted = λ b. omega arith;
-  aat_zero_width_deleted = λ b. omega arith;
+  aat_substitute = λ features. less-substituted (morx_of f) features;
+  aat_remove_deleted = without_deleted-left;
+  aat_zero_width_deleted = λ b. stays b (deleted_narrowed b) (same-narrowed b);
   position_start = λ b. stays b (started b) (same-started b);
   position = λ b. paid-less ((position_call m f).tries b) b ((position_call m f).makes b) (position-pays m f b);
   position_finish_advances = λ b. omega arith;
   position_finish_offsets = λ b. stays b (offsets_finished b) (same-finished b);
-  aat_position = λ mask b. omega arith;
-  kern = λ mask. less-kerned f.scale f.font.kern.now mask;
+  aat_position = λ mask b. (kerx-preserves (kerx_of f mask) b).left;
+  kern = λ mask b. (kern-preserves (kern_of f mask) b).left;
+  aat_track = λ mask b. (trak-preserves f.font.apple.trak.now f.scale f.font.points mask b).left;
 }
 
 -- ---- one call after the other

@@ -10,12 +10,14 @@ use Rattle.shape_font.specs.Metrics.{long_metrics}
 use Rattle.shape_font.specs.Subtables.{chosen_subtable}
 use Rattle.shape_font.specs.Variations.{sequences_of}
 use Rattle.shape_font.specs.declared.face.FontFace.{FontFace}
+use Rattle.apple_positioning.specs.declared.tracking.TheConstants.{NO_SIZE}
 
 -- how many units the em square has; 0 if the bytes have no font with this number
 abbrev pub units_of : List ℕ → ℕ → ℕ
 units_of bytes index = u16_of (bytes_of bytes index 0x68656164) 18
 
--- a font's numbers and tables are those of the bytes, at the default instance and at no size; a table is named by its tag, as 0x68656164 is `head`
+-- a font's numbers and tables are those of the bytes, at the default instance, at no size and of no known number of points; a table is
+-- named by its tag, as 0x68656164 is `head`
 pub record IsFontOf (bytes : List ℕ) (index : ℕ) (font : FontFace) : Type 0 where
   pub units_per_em : font.units_per_em ≡ units_of bytes index
   pub glyph_count : font.glyph_count ≡ u16_of (bytes_of bytes index 0x6D617870) 4
@@ -53,8 +55,15 @@ pub record IsFontOf (bytes : List ℕ) (index : ℕ) (font : FontFace) : Type 0 
   pub vvar : font.vvar.now ≡ bytes_of bytes index 0x56564152
   pub gvar : font.gvar.now ≡ bytes_of bytes index 0x67766172
   pub mvar : font.mvar.now ≡ bytes_of bytes index 0x4D564152
+  pub morx : font.apple.morx.now ≡ bytes_of bytes index 0x6D6F7278
+  pub feat : font.apple.feat.now ≡ bytes_of bytes index 0x66656174
+  pub ltag : font.apple.ltag.now ≡ bytes_of bytes index 0x6C746167
+  pub kerx : font.apple.kerx.now ≡ bytes_of bytes index 0x6B657278
+  pub ankr : font.apple.ankr.now ≡ bytes_of bytes index 0x616E6B72
+  pub trak : font.apple.trak.now ≡ bytes_of bytes index 0x7472616B
   pub coordinates : font.coordinates.now ≡ []
   pub scale : font.scale ≡ None
+  pub points : font.points ≡ NO_SIZE
 
 -- a face is that of a font with its three tables of layout, at the default instance and at no size
 pub record IsFaceOf (bytes : List ℕ) (index : ℕ) (face : OpenTypeFace) : Type 0 where

@@ -1,4 +1,5 @@
 pub mod Face
+pub mod Apple
 pub mod Chosen
 pub mod Lookups
 pub mod Classes

@@ -8,6 +8,7 @@ ghost use Rattle.opentype_layout.specs.Lookups.{lookups_of};
 ghost use Rattle.opentype_layout.specs.EngineLaws.{opentype_lookups-lawful};
 ghost use Rattle.layout_map.proofs.LawfulLemmas.{map_meaning-lawful};
 
+use crate::apple::{kern_by, position_by_kerx, substitute_by_morx, track};
 use crate::chosen::{chosen_for, script_in};
 use crate::classes::{GlyphClasses, begin_glyphs};
 use crate::face::OpenTypeFace;
@@ -15,7 +16,10 @@ use crate::lookups::{LookupTables, Stored};
 use crate::positioning::position_by;
 use crate::stage::substitute_by;
 use crate::would::feature_would;
-use kern_table::tables::{kern_table, subtable_count};
+use apple_positioning::old_tables::{has_across, has_machine};
+use apple_substitution::{remove_deleted_glyphs, zero_width_deleted};
+use kern_table::Sides;
+use kern_table::tables::subtable_count;
 use layout_map::map::hb_ot_map_t;
 use layout_matching::would::Alone;
 use layout_positions::attachment::finish_offsets;
@@ -122,12 +126,12 @@ impl<'a> hb_ot_layout_t<OpenTypeFace<'a>> for OpenTypeLayout {
         subtable_count(face.kern()) != 0
     }
 
-    fn has_machine_kerning(_face: &OpenTypeFace<'a>) -> bool {
-        false
+    fn has_machine_kerning(face: &OpenTypeFace<'a>) -> bool {
+        has_machine(face.kern())
     }
 
-    fn has_cross_kerning(_face: &OpenTypeFace<'a>) -> bool {
-        false
+    fn has_cross_kerning(face: &OpenTypeFace<'a>) -> bool {
+        has_across(face.kern())
     }
 
     fn global_mask(map: &hb_ot_map_t) -> hb_mask_t
@@ -206,29 +210,28 @@ impl<'a> hb_ot_layout_t<OpenTypeFace<'a>> for OpenTypeLayout {
     }
 
     fn aat_substitute(
-        _alloc: Global,
-        map: &hb_ot_map_t,
+        alloc: Global,
+        _map: &hb_ot_map_t,
         user_features: &[Feature],
         face: &OpenTypeFace<'a>,
         buffer: &mut hb_buffer_t,
-    ) -> Result<(), ShapeError>
-        requires { IsWithinLimit buffer.old }
-        ensures made { Outcome (step ((Engine.opentype_lookups map.now face.now).aat_substitute user_features.now))
-            buffer.old buffer.new result }
-        ensures ok { IsOk result }
-    {
-        Ok(())
+    ) -> Result<(), ShapeError> {
+        substitute_by_morx(alloc, face, user_features, buffer)
     }
 
     fn aat_remove_deleted(buffer: &mut hb_buffer_t)
         ensures { (map : OtMap) (face : Face)
             → Made (Engine.opentype_lookups map face).aat_remove_deleted buffer.old buffer.new }
-    {}
+    {
+        remove_deleted_glyphs(buffer);
+    }
 
     fn aat_zero_width_deleted(buffer: &mut hb_buffer_t)
         ensures { (map : OtMap) (face : Face)
             → Made (Engine.opentype_lookups map face).aat_zero_width_deleted buffer.old buffer.new }
-    {}
+    {
+        zero_width_deleted(buffer);
+    }
 
     fn position_start(_face: &OpenTypeFace<'a>, buffer: &mut hb_buffer_t) {
         walk::position_start(buffer);
@@ -268,6 +271,7 @@ impl<'a> hb_ot_layout_t<OpenTypeFace<'a>> for OpenTypeLayout {
             buffer.old buffer.new result }
         ensures ok { IsOk result }
     {
+        position_by_kerx(face, kern_mask, buffer);
         Ok(())
     }
 
@@ -282,8 +286,12 @@ impl<'a> hb_ot_layout_t<OpenTypeFace<'a>> for OpenTypeLayout {
             buffer.old buffer.new result }
         ensures ok { IsOk result }
     {
-        kern_table(face.kern(), face.scale(), kern_mask, buffer);
+        kern_by(face, Sides::none(), kern_mask, buffer);
         Ok(())
+    }
+
+    fn aat_track(trak_mask: hb_mask_t, face: &OpenTypeFace<'a>, buffer: &mut hb_buffer_t) {
+        track(face, trak_mask, buffer);
     }
 
     ghost lawful_masks = { map_meaning-lawful };

@@ -4,15 +4,16 @@ ghost use Rattle.layout_positions.specs.Devices;
 ghost use Rattle.opentype_layout.specs.Fonts.{IsFaceOf, IsFontOf, units_of};
 ghost use Rattle.opentype_layout.specs.Face;
 
+use apple_positioning::tracking::has_tracking;
+use apple_substitution::metamorphosis::is_present;
 use font_sizes::Scale;
 use layout_positions::devices::device_work;
 use shape_buffer::{GlyphId, hb_font_t, hb_glyph_extents_t, hb_tables_t};
-use shape_font::FontFace;
 use shape_font::bytes::u16_at;
+use shape_font::{AppleTables, FontFace};
 
-/// A font file as OpenType layout sees it: a [`FontFace`] without tables that this engine doesn't
-/// read. So no plan leaves kerning or marks to a table (`morx`, `kerx`, `trak`, or tables of
-/// lookups of a version to come) that nobody reads.
+/// A font file as layout sees it: a [`FontFace`] without tables that this engine doesn't read. So no
+/// plan leaves kerning or marks to a table (one of a version to come) that nobody reads.
 #[derive(Clone, Copy)]
 pub struct OpenTypeFace<'a> {
     font: FontFace<'a>,
@@ -29,6 +30,13 @@ fn is_read(table: &[u8]) -> bool
     ensures { result ≡ Face.is_read table.now }
 {
     u16_at(table, 0) == 1
+}
+
+/// Whether `kerx` is read: it is of version 2 at least.
+fn reads_kerx(kerx: &[u8]) -> bool
+    ensures { result ≡ Face.reads_kerx kerx.now }
+{
+    2 <= u16_at(kerx, 0)
 }
 
 /// The font with this number in a collection, or number 0, the one of a file of one font.
@@ -131,16 +139,31 @@ impl<'a> OpenTypeFace<'a> {
         self.font.kern_table()
     }
 
+    /// Apple's tables.
+    pub(crate) fn apple_tables(&self) -> AppleTables<'a>
+        ensures { result ≡ self.now.font.apple }
+    {
+        self.font.apple_tables()
+    }
+
+    /// How many points the em square has; 0 if that is not known.
+    pub(crate) fn points(&self) -> f32
+        ensures { result ≡ self.now.font.points }
+    {
+        self.font.points()
+    }
+
     /// The tables of lookups that the engine reads.
     fn read_tables(&self) -> hb_tables_t
         ensures { result ≡ Face.tables_of self.now }
     {
+        let apple = self.apple_tables();
         hb_tables_t {
             gsub: is_read(self.gsub),
             gpos: is_read(self.gpos),
-            morx: false,
-            kerx: false,
-            trak: false,
+            morx: is_present(apple.morx),
+            kerx: reads_kerx(apple.kerx),
+            trak: has_tracking(apple.trak),
         }
     }
 }

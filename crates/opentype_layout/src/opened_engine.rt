@@ -10,6 +10,7 @@ ghost use Rattle.opentype_layout.specs.EngineLaws.{opentype_lookups-lawful};
 ghost use Rattle.opentype_layout.specs.Lookups.{lookups_of};
 ghost use Rattle.layout_map.proofs.LawfulLemmas.{map_meaning-lawful};
 
+use crate::apple::{kern_by, position_by_kerx, substitute_by_morx, track};
 use crate::chosen::script_in;
 use crate::classes::begin_glyphs;
 use crate::engine::{OpenTypeLayout, compiled, gpos_tables, gsub_tables, table_of};
@@ -17,7 +18,9 @@ use crate::opened::OpenedOpenTypeFace;
 use crate::positioning::position_by;
 use crate::stage::substitute_by;
 use crate::would::feature_would;
-use kern_table::tables::{kern_table_by, subtable_count};
+use apple_positioning::old_tables::{has_across, has_machine};
+use apple_substitution::{remove_deleted_glyphs, zero_width_deleted};
+use kern_table::tables::subtable_count;
 use layout_map::lookups::LookupMap;
 use layout_map::map::hb_ot_map_t;
 use layout_matching::would::Alone;
@@ -85,12 +88,12 @@ impl<'a> hb_ot_layout_t<OpenedOpenTypeFace<'a>> for OpenTypeLayout {
         subtable_count(face.face().kern()) != 0
     }
 
-    fn has_machine_kerning(_face: &OpenedOpenTypeFace<'a>) -> bool {
-        false
+    fn has_machine_kerning(face: &OpenedOpenTypeFace<'a>) -> bool {
+        has_machine(face.face().kern())
     }
 
-    fn has_cross_kerning(_face: &OpenedOpenTypeFace<'a>) -> bool {
-        false
+    fn has_cross_kerning(face: &OpenedOpenTypeFace<'a>) -> bool {
+        has_across(face.face().kern())
     }
 
     fn global_mask(map: &hb_ot_map_t) -> hb_mask_t
@@ -162,29 +165,28 @@ impl<'a> hb_ot_layout_t<OpenedOpenTypeFace<'a>> for OpenTypeLayout {
     }
 
     fn aat_substitute(
-        _alloc: Global,
-        map: &hb_ot_map_t,
+        alloc: Global,
+        _map: &hb_ot_map_t,
         user_features: &[Feature],
         face: &OpenedOpenTypeFace<'a>,
         buffer: &mut hb_buffer_t,
-    ) -> Result<(), ShapeError>
-        requires { IsWithinLimit buffer.old }
-        ensures made { Outcome (step ((opentype_lookups map.now face.now).aat_substitute user_features.now))
-            buffer.old buffer.new result }
-        ensures ok { IsOk result }
-    {
-        Ok(())
+    ) -> Result<(), ShapeError> {
+        substitute_by_morx(alloc, face.face(), user_features, buffer)
     }
 
     fn aat_remove_deleted(buffer: &mut hb_buffer_t)
         ensures { (map : OtMap) (face : Face)
             → Made (opentype_lookups map face).aat_remove_deleted buffer.old buffer.new }
-    {}
+    {
+        remove_deleted_glyphs(buffer);
+    }
 
     fn aat_zero_width_deleted(buffer: &mut hb_buffer_t)
         ensures { (map : OtMap) (face : Face)
             → Made (opentype_lookups map face).aat_zero_width_deleted buffer.old buffer.new }
-    {}
+    {
+        zero_width_deleted(buffer);
+    }
 
     fn position_start(_face: &OpenedOpenTypeFace<'a>, buffer: &mut hb_buffer_t) {
         walk::position_start(buffer);
@@ -219,6 +221,7 @@ impl<'a> hb_ot_layout_t<OpenedOpenTypeFace<'a>> for OpenTypeLayout {
             buffer.old buffer.new result }
         ensures ok { IsOk result }
     {
+        position_by_kerx(face.face(), kern_mask, buffer);
         Ok(())
     }
 
@@ -233,10 +236,12 @@ impl<'a> hb_ot_layout_t<OpenedOpenTypeFace<'a>> for OpenTypeLayout {
             buffer.old buffer.new result }
         ensures ok { IsOk result }
     {
-        let font = face.face();
-        let (kern, sides) = (font.kern(), face.pair_sides());
-        kern_table_by(kern, sides, font.scale(), kern_mask, buffer);
+        kern_by(face.face(), face.pair_sides(), kern_mask, buffer);
         Ok(())
+    }
+
+    fn aat_track(trak_mask: hb_mask_t, face: &OpenedOpenTypeFace<'a>, buffer: &mut hb_buffer_t) {
+        track(face.face(), trak_mask, buffer);
     }
 
     ghost lawful_masks = { map_meaning-lawful };

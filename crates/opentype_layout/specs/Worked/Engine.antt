@@ -1,15 +1,22 @@
 -- What the engine takes of the tables of a small font, read by hand.
 use Rattle.std.specs.Prelude.{◌≡◌, ℕ, List, [], ◌∷◌, Some, None, Bool, true, false, map, refl}
+use Rattle.apple_positioning.specs.OldTables.{kern_run}
+use Rattle.apple_positioning.specs.Tracking.{run_tracked}
+use Rattle.apple_substitution.specs.Metamorphosis.{metamorphosed}
+use Rattle.apple_substitution.specs.Substitution.{substituted}
+use Rattle.shape_items.specs.Buffer.{Buffer}
 use Rattle.shape_items.specs.Items.{Item, new_item, new_properties}
 use Rattle.shape_buffer.specs.MapBuilder.{Builder}
 use Rattle.shape_buffer.specs.declared.interfaces.map_request.MapRequest.TheVariants.{Feature}
 use Rattle.shape_buffer.specs.declared.interfaces.map_request.TableIndex.TheVariants.{GSUB, GPOS}
 use Rattle.shape_common.specs.declared.text_types.hb_tag_t.{hb_tag_t}
 use Rattle.shape_common.specs.declared.text_types.Script.{Script}
+use Rattle.kern_table.specs.Headers.{first_start, header_size, length_of, format_of, coverage_of}
 use Rattle.layout_map.specs.Map.{OtMap, compiled}
 use Rattle.layout_map.specs.declared.lookups.LookupMap.{LookupMap}
 use Rattle.layout_matching.specs.declared.lookup.Lookup.{Lookup}
 use Rattle.shape_font.specs.Directory.{bytes_of}
+use Rattle.opentype_layout.specs.Apple.{morx_of, kerx_of}
 use Rattle.opentype_layout.specs.Chosen.{script_in, chosen_in}
 use Rattle.opentype_layout.specs.Classes.{begun}
 use Rattle.opentype_layout.specs.Engine.{gsub_tables, gpos_tables, opentype_layout, opentype_lookups}
@@ -91,7 +98,12 @@ pub record WorkedEngine : Type 0 where
   pub read : (f : OpenTypeFace) → f.gsub.now ≡ gsub → (tables_of f).gsub ≡ true
   pub not_read : (f : OpenTypeFace) → f.gpos.now ≡ words (2 ∷ 0 ∷ []) → (tables_of f).gpos ≡ false
   pub no_table : (f : OpenTypeFace) → f.gpos.now ≡ [] → (tables_of f).gpos ≡ false
-  pub no_others : (f : OpenTypeFace) → (tables_of f).morx ∷ (tables_of f).kerx ∷ (tables_of f).trak ∷ [] ≡ false ∷ false ∷ false ∷ []
+  pub some_morx : (f : OpenTypeFace) → f.font.apple.morx.now ≡ words (2 ∷ []) → (tables_of f).morx ≡ true
+  pub no_morx : (f : OpenTypeFace) → f.font.apple.morx.now ≡ [] → (tables_of f).morx ≡ false
+  pub new_kerx : (f : OpenTypeFace) → f.font.apple.kerx.now ≡ words (2 ∷ []) → (tables_of f).kerx ≡ true
+  pub old_kerx : (f : OpenTypeFace) → f.font.apple.kerx.now ≡ words (1 ∷ []) → (tables_of f).kerx ≡ false
+  pub trak : (f : OpenTypeFace) → f.font.apple.trak.now ≡ words (1 ∷ []) → (tables_of f).trak ≡ true
+  pub other_trak : (f : OpenTypeFace) → f.font.apple.trak.now ≡ words (2 ∷ []) → (tables_of f).trak ≡ false
   pub face_says_so : (f : OpenTypeFace) → (opentype_face f).tables ≡ tables_of f
   -- a font of 1000 units
   pub units : units_of font 0 ≡ 1000
@@ -120,8 +132,34 @@ pub record WorkedEngine : Type 0 where
   pub classes : (f : OpenTypeFace) → f.gdef.now ≡ gdef → (opentype_layout f).has_glyph_classes ≡ true
   pub kerns : (f : OpenTypeFace) → f.font.kern.now ≡ kern → (opentype_layout f).has_kerning ≡ true
   pub no_kern : (f : OpenTypeFace) → f.font.kern.now ≡ [] → (opentype_layout f).has_kerning ≡ false
-  -- neither state machines nor kerning across the line
-  pub no_machines : (f : OpenTypeFace) → (opentype_layout f).has_machine_kerning ∷ (opentype_layout f).has_cross_kerning ∷ [] ≡ false ∷ false ∷ []
+  -- neither a state table nor kerning across the line, or one of them
+  pub no_machines : (f : OpenTypeFace) → f.font.kern.now ≡ words (0 ∷ 1 ∷ 0 ∷ 6 ∷ 0x0001 ∷ [])
+      → (opentype_layout f).has_machine_kerning ∷ (opentype_layout f).has_cross_kerning ∷ [] ≡ false ∷ false ∷ []
+  pub machine : (f : OpenTypeFace) → f.font.kern.now ≡ words (1 ∷ 0 ∷ 0 ∷ 1 ∷ 0 ∷ 8 ∷ 0x0001 ∷ 0 ∷ [])
+      → (opentype_layout f).has_machine_kerning ∷ (opentype_layout f).has_cross_kerning ∷ [] ≡ true ∷ false ∷ []
+  pub across : (f : OpenTypeFace) → f.font.kern.now ≡ words (1 ∷ 0 ∷ 0 ∷ 1 ∷ 0 ∷ 8 ∷ 0x4000 ∷ 0 ∷ [])
+      → (opentype_layout f).has_machine_kerning ∷ (opentype_layout f).has_cross_kerning ∷ [] ≡ false ∷ true ∷ []
+  pub kerns_by : (m : OtMap) (f : OpenTypeFace) (b : Buffer) → (opentype_lookups m f).kern 7 b
+      ≡ kern_run (record { kern = f.font.kern.now; scale = f.scale; mask = 7 }) b
+  -- Apple's tables of the font, its `GDEF`, and how many glyphs and points it has
+  pub substitutes : (m : OtMap) (f : OpenTypeFace) (b : Buffer) → f.font.apple.morx.now ≡ []
+      → (opentype_lookups m f).aat_substitute [] b ≡ b
+  pub by_morx : (f : OpenTypeFace) → morx_of f ≡ record {
+    morx = f.font.apple.morx.now;
+    feat = f.font.apple.feat.now;
+    ltag = f.font.apple.ltag.now;
+    gdef = f.gdef.now;
+    glyphs = f.font.glyph_count;
+  }
+  pub by_kerx : (f : OpenTypeFace) → kerx_of f 7 ≡ record {
+    kerx = f.font.apple.kerx.now;
+    ankr = f.font.apple.ankr.now;
+    glyphs = f.font.glyph_count;
+    scale = f.scale;
+    mask = 7;
+  }
+  pub tracks : (m : OtMap) (f : OpenTypeFace) (b : Buffer)
+      → (opentype_lookups m f).aat_track 7 b ≡ run_tracked f.font.apple.trak.now f.scale f.font.points 7 b
   -- by the first lookup, by the second, by none; for a feature that wasn't asked for
   pub first_would : Would 0x6C696761 (5 ∷ []) true
   pub second_would : Would 0x6C696761 (5 ∷ 6 ∷ []) true
@@ -138,7 +176,7 @@ pub record WorkedEngine : Type 0 where
   pub not_taken_apart : (begun gdef (taken_apart 5)).properties.multiplied ≡ false
 
 pub worked_engine : WorkedEngine
-unfolding lib.Count.count_trailing_zeros bytes_of
+unfolding lib.Count.count_trailing_zeros bytes_of substituted metamorphosed first_start header_size length_of format_of coverage_of
 worked_engine = record {
   script = refl;
   other_script = refl;
@@ -146,7 +184,12 @@ worked_engine = record {
   lang_sys = refl;
   read = λ f e. rw e refl;
   not_read = λ f e. rw e refl;
-  no_others = λ f. refl;
+  some_morx = λ f e. rw e refl;
+  no_morx = λ f e. rw e refl;
+  new_kerx = λ f e. rw e refl;
+  old_kerx = λ f e. rw e refl;
+  trak = λ f e. rw e refl;
+  other_trak = λ f e. rw e refl;
   face_says_so = λ f. refl;
   units = refl;
   no_second_font = refl;
@@ -165,7 +208,14 @@ worked_engine = record {
   classes = λ f e. rw e refl;
   kerns = λ f e. rw e refl;
   no_kern = λ f e. rw e refl;
-  no_machines = λ f. refl;
+  no_machines = λ f e. rw e refl;
+  machine = λ f e. rw e refl;
+  across = λ f e. rw e refl;
+  kerns_by = λ m f b. refl;
+  substitutes = λ m f b e. rw e refl;
+  by_morx = λ f. refl;
+  by_kerx = λ f. refl;
+  tracks = λ m f b. refl;
   first_would = refl;
   second_would = refl;
   none_would = refl;

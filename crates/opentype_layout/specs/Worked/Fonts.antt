@@ -25,7 +25,7 @@ gsub_of_two = words (1 ∷ 0 ∷ 10 ∷ 30 ∷ 46 ∷ [])
 abbrev pub gdef : List ℕ
 gdef = words (1 ∷ 0 ∷ 12 ∷ 0 ∷ 0 ∷ 22 ∷ 1 ∷ 5 ∷ 2 ∷ 1 ∷ 3 ∷ 1 ∷ 6 ∷ 1 ∷ 2 ∷ [])
 
--- one subtable, of a format that isn't read
+-- one subtable, of format 1, which OpenType's version hasn't
 abbrev pub kern : List ℕ
 kern = words (0 ∷ 1 ∷ 0 ∷ 6 ∷ 0x0100 ∷ [])
 
