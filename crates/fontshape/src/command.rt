@@ -103,7 +103,7 @@ static INPUT_CHOICES: [Choice; 13] = [
     Choice("eot", ' ', Takes::Nothing, "Each text ends a paragraph"),
 ];
 
-static SHAPING_CHOICES: [Choice; 16] = [
+static SHAPING_CHOICES: [Choice; 17] = [
     Choice(
         "features",
         ' ',
@@ -134,6 +134,12 @@ static SHAPING_CHOICES: [Choice; 16] = [
         ' ',
         Takes::Word("SIZE"),
         "Units of the em square, or of its width and height (the font's)",
+    ),
+    Choice(
+        "font-ptem",
+        ' ',
+        Takes::Word("POINTS"),
+        "Points of the em square, for fonts that track by size (0, not known)",
     ),
     Choice(
         "cluster-level",

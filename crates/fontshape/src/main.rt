@@ -308,7 +308,7 @@ fn run_to<W: Write + Drop>(
         return list_axes(alloc, options, bytes, output);
     }
     let coordinates = coordinates_of(alloc, bytes, index, &options.wanted())?;
-    let face = face.at(coordinates.as_slice());
+    let face = face.at(coordinates.as_slice()).at_points(options.points());
     let drawn = begin_drawing(alloc, options, bytes, &face)?;
     warn_of_boxes(rt, options, bytes)?;
     warn_of_unvaried(rt, options, bytes, coordinates.as_slice())?;

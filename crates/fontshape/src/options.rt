@@ -57,6 +57,7 @@ pub struct Options {
     script: Option<Script>,
     language: Option<String>,
     size: Option<Size>,
+    points: f32,
     level: BufferClusterLevel,
     mode: Option<u32>,
     fallback: bool,
@@ -93,6 +94,7 @@ impl Options {
             script: values::script(alloc, matches)?,
             language: values::word(alloc, matches, "language")?,
             size: values::size(alloc, matches)?,
+            points: values::points(alloc, matches)?,
             level: values::level(matches),
             mode: matches.get_one::<u32>("mode"),
             fallback: values::fallback(alloc, matches)?,
@@ -166,6 +168,11 @@ impl Options {
     /// How many units wide and high the em square is to be; none for those of the font.
     pub fn size(&self) -> Option<Size> {
         self.size
+    }
+
+    /// How many points the em square has; 0 if that is not known.
+    pub fn points(&self) -> f32 {
+        self.points
     }
 
     /// How clusters are merged.

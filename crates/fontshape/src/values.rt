@@ -245,6 +245,15 @@ pub fn size(alloc: Global, matches: &ArgMatches) -> Result<Option<Size>, Failure
     }
 }
 
+/// How many points the em square has, 0 if that is not known.
+pub fn points(alloc: Global, matches: &ArgMatches) -> Result<f32, Failure> {
+    let value = matches.get_str("font-ptem").unwrap_or("0");
+    match fast_float::parse::<f32, &str>(value) {
+        Ok(points) if points.is_finite() => Ok(points),
+        _ => Err(Failure::value(alloc, "font-ptem", value, "a number of points")),
+    }
+}
+
 /// How clusters are merged.
 pub fn level(matches: &ArgMatches) -> BufferClusterLevel {
     match matches.get_one::<u32>("cluster-level") {
