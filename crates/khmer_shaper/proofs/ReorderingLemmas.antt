@@ -13,7 +13,8 @@ use Rattle.syllabic.proofs.CircleLemmas.{Preserved-circles}
 use Rattle.syllabic.proofs.PreservationLemmas.{Keeps, Keeps-same, Keeps-then, Keeps-set, Keeps-brought_before, Keeps-each_syllable, KeepsSyllables, JoinedIf, LeavesBoth, Preserved, Preserved-then, Preserved-kept}
 use Rattle.syllabic.proofs.ReversingLemmas.{Keeps-reversed, Keeps-run_joined}
 use Rattle.syllables.specs.IndicCategories.{H, VPre}
-use Rattle.khmer_shaper.specs.Reordering.{with_mask, mask_added, masks_added, has_category, turned_at, turned, ros_moved, is_coeng, is_ro, pair_follows, from_of, pair_moved, moved_at, moved_to, each_moved, reordered, reordered_some, each_reordered, circled, all_reordered}
+use Rattle.khmer_shaper.specs.Reordering.{with_mask, mask_added, masks_added, has_category, turned_at, turned, ros_moved, is_coeng, is_ro, pair_follows, from_of, pair_moved, moved_at, moved_to}
+use Rattle.khmer_shaper.specs.Reordering.{each_moved, reordered, reordered_some, each_reordered, circled, all_reordered}
 use Rattle.khmer_shaper.specs.declared.reordering.KhmerMasks.{KhmerMasks}
 use Rattle.khmer_shaper.specs.declared.reordering.Seen.{Seen}
 

@@ -21,7 +21,8 @@ use Rattle.layout_matching.specs.Seeking.{fits}
 use Rattle.layout_matching.specs.Sifted.{nearest_glance, second_glance, begins_with_another, is_out, AreOut}
 use Rattle.layout_matching.specs.Skipping.{nth, is_skipped}
 use Rattle.layout_matching.specs.Work.{glances_at, has_classes, rule_tried, set_tries, tries_made, tries_step}
-use Rattle.layout_matching.specs.Work.{charged, counts_tallied, counts_work, counted, ligature_counts, null_counted, beside, part_counts, part_counted, part_rule, rule_counted, passed, passed_charged, set_counted, set_passed, set_charged, SUBTABLE_WORK, whole_list, begun_charged, parts_charged, numbered_charged, subtable_charged, charged_at_subtable}
+use Rattle.layout_matching.specs.Work.{charged, counts_tallied, counts_work, counted, ligature_counts, null_counted, beside, part_counts, part_counted, part_rule, rule_counted, passed, passed_charged}
+use Rattle.layout_matching.specs.Work.{set_counted, set_passed, set_charged, SUBTABLE_WORK, whole_list, begun_charged, parts_charged, numbered_charged, subtable_charged, charged_at_subtable}
 use Rattle.layout_matching.specs.declared.firsts.First.{First}
 use Rattle.layout_matching.specs.declared.glance.Glance.{Glance}
 use Rattle.layout_matching.specs.declared.glance.Glance.TheVariants.{Closed, Only}

@@ -1,5 +1,6 @@
 -- What is stored of the one rule of a subtable of format 3: what it costs, and which glyphs may stand right beside its place.
-use Rattle.std.specs.Prelude.{◌≡◌, ℕ, List, Bool, true, false, Option, Some, None, ◌+◌, ◌-◌, ◌<◌, ◌^◌, min, nat_eq, nat_lt, slice_index_or, length, if◌then◌else◌}
+use Rattle.std.specs.Prelude.{◌≡◌, ℕ, List, Bool, true, false, Option, Some, None, ◌+◌, ◌-◌, ◌<◌, ◌^◌, min, nat_eq, nat_lt, slice_index_or, length}
+use Rattle.std.specs.Prelude.{if◌then◌else◌}
 use Rattle.std.specs.Global.{Vec}
 use Rattle.std.specs.Option.{ForSome, option_and_then, option_map}
 use Rattle.shape_font.specs.Bytes.{u16_of}

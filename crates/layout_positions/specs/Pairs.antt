@@ -1,5 +1,6 @@
 -- Single and pair adjustment (OpenType, `GPOS`, lookup types 1 and 2).
-use Rattle.std.specs.Prelude.{ℕ, ℤ, pos, false, List, Bool, Option, Some, None, ◌+◌, ◌*◌, ◌&&◌, ◌||◌, not, min, length, nat_eq, nat_lt, nat_le, is_some, if◌then◌else◌}
+use Rattle.std.specs.Prelude.{ℕ, ℤ, pos, false, List, Bool, Option, Some, None, ◌+◌, ◌*◌, ◌&&◌, ◌||◌, not, min, length, nat_eq, nat_lt, nat_le}
+use Rattle.std.specs.Prelude.{is_some, if◌then◌else◌}
 use Rattle.std.specs.Option.{option_map, option_map_or, option_and_then}
 use Rattle.std.specs.declared.cmp.Ordering.{Ordering}
 use Rattle.shape_common.specs.Direction.{is_horizontal}

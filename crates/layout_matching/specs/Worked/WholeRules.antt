@@ -1,6 +1,6 @@
 -- What is stored of rules of format 3, computed by hand.
 use Rattle.std.specs.Prelude.{◌≡◌, ℕ, List, [], ◌∷◌, Some, None, true, false, refl}
-use Rattle.std.proofs.Common.{ap, lit<}
+use Rattle.std.proofs.Common.{lit<}
 use Rattle.shape_font.specs.Worked.Glyphs.{words}
 use Rattle.layout_matching.specs.Firsts.{has_bit, no_first}
 use Rattle.layout_matching.specs.Found.{whole_rule}
