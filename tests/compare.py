@@ -8,7 +8,7 @@ models print, and libraries with Unicode's test files (Debian's package `unicode
 Status 0: no difference. 1: there are some, which are shown. 77: something is not installed.
 """
 from checks import (
-    bidi, bitmaps, colors, cuts, hovering, items, line_breaks, normalising, normalization, options, outlines,
+    apple, bidi, bitmaps, colors, cuts, hovering, items, line_breaks, normalising, normalization, options, outlines,
     paragraphs, random_fonts, scripts, sizes, suite, syllables, texts, traces, variations,
 )
 from checks.command import run_kind
@@ -25,6 +25,7 @@ KINDS = {
     "bitmaps": bitmaps,
     "colors": colors,
     "sizes": sizes,
+    "apple": apple,
     "suite": suite,
     "options": options,
     "fonts": random_fonts,

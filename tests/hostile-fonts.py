@@ -6,7 +6,7 @@
 
 Status 0: each run ended as it should. 1: some did not. 77: something is not installed.
 """
-from checks import bombs, broken_bytes, broken_tables, cff, search, variable_bytes
+from checks import apple_bytes, bombs, broken_bytes, broken_tables, cff, search, variable_bytes
 from checks.command import run_kind
 
 KINDS = {
@@ -16,6 +16,7 @@ KINDS = {
     "bytes": broken_bytes,
     "cff": cff,
     "variable": variable_bytes,
+    "apple": apple_bytes,
 }
 
 if __name__ == "__main__":

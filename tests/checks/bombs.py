@@ -7,10 +7,12 @@ apply themselves, substitutions that grow, parts of tables that are shared, kern
 parts, origins and names that are searched for, long names. Those that use up what a run may ask for take
 longer, in step with the text (docs/SAFE_AND_TOTAL.md): they stand in SPENT, and run over a fifth
 of it. Texts that are hard to cut into syllables, or to put in order, are those of `syllable_bombs`; fonts
-whose metrics take many steps at coordinates are those of `varied_bombs`.
+whose metrics take many steps at coordinates are those of `varied_bombs`, those with Apple's tables
+those of `apple_bombs`.
 
 The worst fonts of earlier searches are named in tests/hostile/worst.txt (`search`).
 """
+from checks.apple_bombs import APPLE, APPLE_SPENT, apple_bomb
 from checks.bomb_tables import (EVERY, LOOP, ONE_AXIS, ROW, all_null, alternates, among_none, apart,
                                 becomes, class_behind, context, cursive, deletes, features, gdef,
                                 gdef_of_set, grows, joins, kern, kern_heads, layout,
@@ -321,6 +323,10 @@ def take_varied(runs, name, length):
     runs.take(name, *varied_bomb(name, length))
 
 
+def take_apple(runs, name, length):
+    runs.take(name, *apple_bomb(name, length))
+
+
 def take_worst(runs):
     """The worst fonts of earlier searches."""
     bases = load_bases()
@@ -331,8 +337,16 @@ def take_worst(runs):
                 runs.take(*mutated_font(bases, seed, index, length))
 
 
+def bytes_of_bomb(name):
+    """The font of a bomb."""
+    if name in BOMBS:
+        return bomb_font(*BOMBS[name])
+    make = syllable_bomb if name in TEXTS else varied_bomb if name in VARIED else apple_bomb
+    return make(name, LENGTH)[0]
+
+
 def add_options(parser):
-    parser.add_argument("--bomb", metavar="NAME", choices=[*BOMBS, *TEXTS, *VARIED],
+    parser.add_argument("--bomb", metavar="NAME", choices=[*BOMBS, *TEXTS, *VARIED, *APPLE],
                         help="one bomb alone, over the whole text")
     parser.add_argument("--write", metavar="FILE", help="writes the font of that bomb")
     add_run_options(parser)
@@ -343,13 +357,11 @@ def run(args):
     with Runs(args.program, GATE_SECONDS) as runs:
         if args.bomb:
             if args.write:
-                data = (bomb_font(*BOMBS[args.bomb]) if args.bomb in BOMBS
-                        else syllable_bomb(args.bomb, LENGTH)[0] if args.bomb in TEXTS
-                        else varied_bomb(args.bomb, LENGTH)[0])
                 with open(args.write, "wb") as file:
-                    file.write(data)
-            take = (take_bomb if args.bomb in BOMBS else take_syllables if args.bomb in TEXTS
-                    else take_varied)
+                    file.write(bytes_of_bomb(args.bomb))
+            kinds = [(BOMBS, take_bomb), (TEXTS, take_syllables), (VARIED, take_varied),
+                     (APPLE, take_apple)]
+            take = next(take for names, take in kinds if args.bomb in names)
             take(runs, args.bomb, LENGTH)
         else:
             for name in BOMBS:
@@ -358,6 +370,8 @@ def run(args):
                 take_syllables(runs, name, LENGTH)
             for name in VARIED:
                 take_varied(runs, name, LENGTH)
+            for name in APPLE:
+                take_apple(runs, name, LENGTH // 5 if name in APPLE_SPENT else LENGTH)
             take_worst(runs)
         runs.print_counts()
         if args.keep:

@@ -11,6 +11,7 @@ The tests are fetched from Debian's source package (`tests/harfbuzz-suite.sh`), 
 name the folder.
 """
 import collections
+import contextlib
 import re
 import struct
 import subprocess
@@ -206,13 +207,22 @@ def add_options(parser):
     parser.add_argument("--program", default=str(FONTSHAPE), help="the fontshape that is tried")
 
 
-def run(args):
-    need_fontshape(args.program)
-    if args.suite:
-        return compare(Path(args.suite), args)
-    with tempfile.TemporaryDirectory() as folder:
-        done = subprocess.run([TESTS / "harfbuzz-suite.sh", folder], stdout=subprocess.DEVNULL,
+@contextlib.contextmanager
+def harfbuzz_suite(folder):
+    """HarfBuzz's folder test/shape/data: `folder`, or if that is empty the one of Debian's source
+    package, fetched for as long as it is used. The check is skipped if it can't be had."""
+    if folder:
+        yield Path(folder)
+        return
+    with tempfile.TemporaryDirectory() as fetched:
+        done = subprocess.run([TESTS / "harfbuzz-suite.sh", fetched], stdout=subprocess.DEVNULL,
                               stderr=subprocess.PIPE)
         if done.returncode:
             raise Skipped("HarfBuzz's source package can't be fetched from Debian's archive")
-        return compare(Path(folder), args)
+        yield Path(fetched)
+
+
+def run(args):
+    need_fontshape(args.program)
+    with harfbuzz_suite(args.suite) as folder:
+        return compare(folder, args)

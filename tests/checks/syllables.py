@@ -1,8 +1,8 @@
 """Scripts whose texts are cut into syllables, beside `hb-shape` of HarfBuzz 10.2.0.
 
 These are the nine of India, Khmer, Myanmar, and some sixty of the Universal Shaping Engine. The
-fonts are those of six packages that have a letter of the script, but for those with Apple's table
-`morx`, which HarfBuzz reads and `fontshape` doesn't; some drawn at random, with `--all` each that
+fonts are those of six packages that have a letter of the script, but for those with Apple's old table
+`mort`, which HarfBuzz reads and `fontshape` doesn't; some drawn at random, with `--all` each that
 is installed. Every second font is tried without GSUB and GPOS, too.
 
 The texts are real lines of the translations in /usr/share/locale and of Unicode's CLDR, if they are
@@ -165,14 +165,14 @@ class Syllables:
 
 
 def fonts_of(script, known):
-    """The paths of the installed fonts with letters of a script, without Apple's tables."""
+    """The paths of the installed fonts with letters of a script, without the table `mort`."""
     start = next(c for c in range(*SPANS[script][0]) if unicodedata.category(chr(c))[0] in "LS")
-    return [path for path, (characters, apple) in known.items()
-            if not apple and any(c in characters for c in range(start, start + 24))]
+    return [path for path, (characters, old) in known.items()
+            if not old and any(c in characters for c in range(start, start + 24))]
 
 
 def characters_of_fonts(patterns):
-    """What characters each font has, and whether it has Apple's table of lookups."""
+    """What characters each font has, and whether it has Apple's table `mort`."""
     from fontTools.ttLib import TTFont, TTLibError
     known = {}
     for path in installed(patterns):
@@ -180,7 +180,7 @@ def characters_of_fonts(patterns):
             continue
         try:
             font = TTFont(path, lazy=True)
-            known[path] = font.getBestCmap() or {}, "morx" in font or "mort" in font
+            known[path] = font.getBestCmap() or {}, "mort" in font
         except (TTLibError, AssertionError, KeyError, OSError):
             continue  # broken, or without a character map
     return known
