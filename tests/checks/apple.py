@@ -5,6 +5,8 @@ characters, and fonts that are made at random (`apple_fonts`), alone and beside 
 Each is tried with some lists of options: directions, levels of clusters, flags, features, sizes and
 points. Each font depends on the seed and its number alone.
 
+Each text has a language: `hb-shape` gives one without that of the locale, and `fontshape` none.
+
 Where the table `kern` may kern, the flags UNSAFE_TO_CONCAT aren't compared: HarfBuzz gives them to
 texts in which it kerns nothing, too (docs/DIFFERENCES.md).
 """
@@ -74,8 +76,7 @@ def form(chance, directions):
     if chance.random() < 0.3:
         sizes = [str(chance.choice([12, 500, 1000, 1537, 2048, 65536])) for _ in range(2)]
         options.append("--font-size=" + chance.choice([sizes[0], " ".join(sizes)]))
-    if chance.random() < 0.2:
-        options.append("--language=" + chance.choice(LANGUAGES))
+    options.append("--language=" + chance.choice(LANGUAGES if chance.random() < 0.2 else ["en"]))
     return options
 
 
